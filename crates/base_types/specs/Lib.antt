@@ -1,0 +1,5 @@
+pub mod Grown
+pub mod ItemLends
+pub mod Name
+pub mod Seen
+pub mod Tells

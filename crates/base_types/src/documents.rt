@@ -1,0 +1,176 @@
+//! Job streams, their jobs and what these depend on.
+//!
+//! A *draft* is what a plan is made of: it has no numbers yet, and follows others by their names. A *document* is a
+//! draft with its numbers, as it stands in the plan.
+use crate::lists::Items;
+use crate::numbers::{JobNo, Moment, StreamNo, Ws};
+use crate::texts::Text;
+
+/// A condition on a return code, in postfix order. The empty one asks for the return code 0.
+pub type Cond = Items<CondOp>;
+
+pub type Deps = Items<Dep>;
+
+pub type DraftDeps = Items<DraftDep>;
+
+pub type Jobs = Items<JobDoc>;
+
+pub type JobDrafts = Items<JobDraft>;
+
+pub type StreamNos = Items<StreamNo>;
+
+pub type StreamDocs = Items<StreamDoc>;
+
+pub type StreamDrafts = Items<StreamDraft>;
+
+/// A job or a job stream.
+#[derive(Clone, Copy, Debug, PartialEq, Eq, PartialOrd, Ord, Hash)]
+pub enum Obj {
+    Job(JobNo),
+    Stream(StreamNo),
+}
+
+/// What comes when the time of an UNTIL has passed before its object began.
+#[derive(Clone, Copy, Debug, PartialEq, Eq)]
+pub enum OnUntil {
+    /// The object begins no more.
+    Suppr,
+    /// The object may begin all the same.
+    Cont,
+    /// The object is cancelled.
+    Canc,
+}
+
+/// The prompt that a dependency asks.
+#[derive(Debug, PartialEq, Eq, Drop)]
+pub enum PromptRef {
+    /// A prompt of the network, by its number from 1.
+    Global(u16),
+    /// A text of the dependency's own.
+    Own(Text),
+}
+
+/// What a job or a stream depends on.
+#[derive(Debug, PartialEq, Eq, Drop)]
+pub enum Dep {
+    FollowsJob(JobNo),
+    FollowsStream(StreamNo),
+    /// A resource, by its number from 1, and the units that are needed of it.
+    Needs(u16, u16),
+    Prompt(PromptRef),
+    At(Moment),
+    Until(Moment, OnUntil),
+    /// A file that has to be there, by its path.
+    Outside(Text),
+}
+
+/// What a draft depends on.
+#[derive(Debug, PartialEq, Eq, Drop)]
+pub enum DraftDep {
+    /// A stream by its workstation and name, or a job of it by its name.
+    Follows(Ws, Text, Option<Text>),
+    /// A dependency that names no stream and no job.
+    Plain(Dep),
+}
+
+/// What a job runs.
+#[derive(Debug, PartialEq, Eq, Drop)]
+pub enum Work {
+    Command(Text),
+    Script(Text),
+}
+
+/// What comes after a job that ended badly.
+#[derive(Clone, Copy, Debug, PartialEq, Eq)]
+pub enum Recovery {
+    Stop,
+    Continue,
+    Rerun,
+}
+
+/// How a return code is compared.
+#[derive(Clone, Copy, Debug, PartialEq, Eq)]
+pub enum Rel {
+    Eq,
+    Ne,
+    Lt,
+    Le,
+    Gt,
+    Ge,
+}
+
+/// An operation of a condition in postfix order.
+#[derive(Clone, Copy, Debug, PartialEq, Eq)]
+pub enum CondOp {
+    /// The return code compared with this number.
+    Cmp(Rel, i32),
+    And,
+    Or,
+    Not,
+}
+
+/// A job of a plan.
+#[derive(Debug, PartialEq, Eq, Drop)]
+pub struct JobDoc {
+    /// From 1, over the life of the network.
+    pub no: JobNo,
+    pub ws: Ws,
+    pub name: Text,
+    /// From 0 to 101. 100 is HI and 101 is GO.
+    pub priority: u8,
+    pub work: Work,
+    /// The user that the definitions name. It is kept and printed.
+    pub logon: Text,
+    /// When an end is a good one.
+    pub cond: Cond,
+    pub recovery: Recovery,
+    pub deps: Deps,
+}
+
+/// A job stream of a plan.
+#[derive(Debug, PartialEq, Eq, Drop)]
+pub struct StreamDoc {
+    /// From 1, over the life of the network.
+    pub no: StreamNo,
+    pub ws: Ws,
+    pub name: Text,
+    /// From 0 to 101. 100 is HI and 101 is GO.
+    pub priority: u8,
+    /// How many of its jobs may have an open launch at once, if that is bounded.
+    pub limit: Option<u16>,
+    /// Whether an unfinished stream is carried into the next plan.
+    pub carry: bool,
+    pub deps: Deps,
+    pub jobs: Jobs,
+}
+
+/// A job before it is planned.
+#[derive(Debug, PartialEq, Eq, Drop)]
+pub struct JobDraft {
+    pub ws: Ws,
+    pub name: Text,
+    /// From 0 to 101. 100 is HI and 101 is GO.
+    pub priority: u8,
+    pub work: Work,
+    /// The user that the definitions name. It is kept and printed.
+    pub logon: Text,
+    /// When an end is a good one.
+    pub cond: Cond,
+    pub recovery: Recovery,
+    pub deps: DraftDeps,
+}
+
+/// A job stream before it is planned.
+#[derive(Debug, PartialEq, Eq, Drop)]
+pub struct StreamDraft {
+    pub ws: Ws,
+    pub name: Text,
+    /// From 0 to 101. 100 is HI and 101 is GO.
+    pub priority: u8,
+    /// How many of its jobs may have an open launch at once, if that is bounded.
+    pub limit: Option<u16>,
+    /// Whether an unfinished stream is carried into the next plan.
+    pub carry: bool,
+    pub deps: DraftDeps,
+    pub jobs: JobDrafts,
+}

@@ -1,0 +1,65 @@
+//! The entries of the feeds, and the packets that carry them.
+use crate::commands::{Cmd, Why};
+use crate::documents::{Obj, OnUntil, StreamDoc, StreamDocs, StreamNos};
+use crate::lists::Items;
+use crate::numbers::{JobNo, Moment, StreamNo, Ws};
+use crate::sightings::Seen;
+
+pub type Entries = Items<Entry>;
+
+/// A list of entries that one workstation makes.
+#[derive(Clone, Copy, Debug, PartialEq, Eq, PartialOrd, Ord, Hash)]
+pub enum Feed {
+    /// What the workstation decided or saw.
+    Events(Ws),
+    /// The commands typed at the first workstation for the second.
+    Orders(Ws, Ws),
+}
+
+/// What an entry says. The number of a launch counts from 1 for each job.
+#[derive(Debug, PartialEq, Eq, Drop)]
+pub enum Body {
+    /// The run, what the master knew, the carried streams and the fresh ones.
+    NewPlan(u32, Seen, StreamNos, StreamDocs),
+    /// The issuer and the place of the order that submitted this stream.
+    Added(Ws, u32, StreamDoc),
+    Clock(Moment),
+    Released(StreamNo, Seen),
+    StreamEnded(StreamNo, Seen),
+    /// The UNTIL of this number, from 1, has passed.
+    UntilPassed(Obj, u16, OnUntil),
+    /// A job, the number of its launch, and what the launch stands on.
+    Launched(JobNo, u32, Seen),
+    Started(JobNo, u32),
+    /// The launch could not be started.
+    Failed(JobNo, u32),
+    /// The return code, and whether it meets the job's condition.
+    Ended(JobNo, u32, i32, bool),
+    /// The workstation stopped while the launch was open.
+    Lost(JobNo, u32),
+    /// The file of the dependency of this number, from 1, was seen.
+    Fulfilled(Obj, u16),
+    /// The issuer and the place of the order, and its command.
+    Obeyed(Ws, u32, Cmd),
+    /// The issuer and the place of the order, and why not.
+    Declined(Ws, u32, Why),
+    Order(Cmd),
+}
+
+/// An entry of a feed.
+#[derive(Debug, PartialEq, Eq, Drop)]
+pub struct Entry {
+    pub feed: Feed,
+    /// From 1, in its feed.
+    pub place: u32,
+    pub body: Body,
+}
+
+/// What one workstation sends to its neighbour.
+#[derive(Clone, Copy, Debug, PartialEq, Eq, PartialOrd, Ord, Hash)]
+pub enum Packet {
+    /// The entry of this feed and place.
+    Mail(Feed, u32),
+    /// The sender holds so many entries of the feed.
+    Ack(Feed, u32),
+}

@@ -1,5 +1,5 @@
 // A sink into memory.
-ghost use Rattle.std.specs.Prelude.{◌≡◌, ◌≤◌, ◌<◌, ◌+◌, ◌||◌, [], Some, length, nat_lt, IfOk, IfErr, vec_len, vec_capacity, is_err};
+ghost use Rattle.std.specs.Prelude.{◌≡◌, ◌≤◌, ◌<◌, ◌||◌, [], Some, length, IfOk, is_err};
 ghost use Rattle.std.specs.Io.KnownBytes.{WriteAppends};
 ghost use Rattle.outside.specs.Causes.{HasCause};
 ghost use Rattle.outside_mem.specs.Memory as spec;

@@ -45,10 +45,10 @@ impl From<Failed> for ReadError {
 /// How many bytes are asked for in one read.
 const PIECE: usize = 16 * 1024;
 
-#[tactic(auto, using(outside::proofs::Taking::taking))]
 /// Reads the input to its end. It takes at most one byte past the limit, by which an input is found to be too long.
 ///
 /// Where the source fails or memory runs out, what was read till then is lost.
+#[tactic(auto, using(outside::proofs::Taking::taking))]
 pub fn read_whole<I: Source>(alloc: Global, input: &mut I, limit: u32) -> Result<Vec<u8>, ReadError>
     ensures all { IfOk result (λ v. TakesAll (I.stream input.old) (I.stream input.new) v.items) }
     ensures short { IfOk result (λ v. length v.items ≤ limit) }

@@ -16,9 +16,9 @@ returns-in_err-at-clause-front g c =
 pub loop-at-preserved : goal.loop-at-preserved
 loop-at-preserved g c = record {
   written =
-    let taken = rw take_rest at c.in_ok-at.ensures.taken in
-    rw (take-add c.loop-at.at c.in_ok-at.field-0 c.args.text.now)
-        (Appends-trans _ _ _ _ _ c.loop-at.invariant.written taken);
+      let taken = rw take_rest at c.in_ok-at.ensures.taken in
+      rw (take-add c.loop-at.at c.in_ok-at.field-0 c.args.text.now)
+      (Appends-trans _ _ _ _ _ c.loop-at.invariant.written taken);
   within = grind arith;
   quiet = search rules;
 }

@@ -1,0 +1,14 @@
+//! The outside in memory: a source and a sink that tell all that they hold, and whose failing calls are listed.
+//!
+//! Calls are numbered from 1. A call fails exactly where its number is listed or it would pass the room that the object
+//! took when it was made; the object's count of faults then rises by one, and nothing else of what it holds changes.
+#![tactic(auto)]
+
+mod calls;
+mod sink;
+mod source;
+#[cfg(test)]
+mod tests;
+
+pub use sink::MemSink;
+pub use source::MemSource;

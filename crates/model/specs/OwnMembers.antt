@@ -1,7 +1,7 @@
 -- What a workstation decides of its own members: release, end, and an UNTIL that is due.
 use Rattle.std.specs.List.{list_all}
 use Rattle.std.specs.Option.{option_map_or, option_or}
-use Rattle.std.specs.Prelude.{[], if◌then◌else◌, ℕ, ◌&&◌, ◌++◌, ◌+◌, ◌==◌, ◌||◌, ◌∷◌, Bool, List, None, Option}
+use Rattle.std.specs.Prelude.{[], if◌then◌else◌, ℕ, ◌&&◌, ◌++◌, ◌==◌, ◌||◌, ◌∷◌, Bool, List, None, Option}
 use Rattle.std.specs.Prelude.{Some, false, filter, is_some, map, nat_le, not, option_and_then, option_map}
 use Rattle.std.specs.Prelude.{slice_get}
 use Rattle.model.specs.Types.{Body, Dep, Events, Job, Net, Obj, OnUntil, Stream, StreamDoc, Until}

@@ -1,12 +1,11 @@
 -- A node's session: what it knows from its start to its stop, and forgets then.
-use Rattle.std.specs.Prelude.{[], if◌then◌else◌, ℕ, ◌++◌, ◌+◌, ◌==◌, ◌∷◌, Bool, List, None, Option, Some, false}
+use Rattle.std.specs.Prelude.{[], if◌then◌else◌, ℕ, ◌++◌, ◌==◌, ◌∷◌, Bool, List, None, Option, Some, false}
 use Rattle.std.specs.Prelude.{filter, find, length, map, max, min, not, true}
 use Rattle.model.specs.Types.{Body, Entry, Feed, Fulfil, Input, Launched, Linked, LiveJob, Local, Next}
 use Rattle.model.specs.Types.{StartFailed, Turn, Typed, Unlinked}
 use Rattle.model.specs.Words.{with_at}
 use Rattle.model.specs.Equalities.{feed_eq}
 use Rattle.model.specs.History.{Holding, View}
-use Rattle.model.specs.Catalogue.{job}
 
 -- what a node forgets when it stops
 pub record Session : Type 0 where

@@ -1,7 +1,7 @@
 -- Why a workstation declines a command: the first reason that applies.
 use Rattle.std.specs.List.{list_any}
 use Rattle.std.specs.Option.{option_map_or}
-use Rattle.std.specs.Prelude.{[], ℕ, ◌&&◌, ◌++◌, ◌+◌, ◌==◌, ◌||◌, ◌∷◌, Bool, List, Option, false, is_none, length}
+use Rattle.std.specs.Prelude.{[], ℕ, ◌&&◌, ◌++◌, ◌==◌, ◌||◌, ◌∷◌, Bool, List, Option, false, is_none, length}
 use Rattle.std.specs.Prelude.{nat_le, nat_lt, not, true}
 use Rattle.model.specs.Types.{AddDep, AlreadyThere, AltPri, At, Body, Cancel, Cmd, Confirm, DelDep, Dep, Events}
 use Rattle.model.specs.Types.{Fence, FollowsJob, FollowsStream, Global, Job, Kill, Limit, Needs, Net, NotBuilt}

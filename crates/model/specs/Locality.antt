@@ -11,6 +11,7 @@ use Rattle.model.specs.Turn.{end_witnesses, witnesses}
 abbrev pub AgreeOn : List ℕ → View → View → Type 0
 AgreeOn ws V U = (w : ℕ) → IsTrue (has ws w) → V (Events w) ≡ U (Events w)
 
+-- readiness, release and end read no other events than those that their counts name
 abbrev pub ReadyIsLocal : Net → View → View → ℕ → ℕ → Type 0
 ReadyIsLocal net V U w j = AgreeOn (witnesses V w (Job j)) V U → is_ready net V w j ≡ is_ready net U w j
 

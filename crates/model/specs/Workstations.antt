@@ -1,5 +1,5 @@
 -- The workstations that an input names.
-use Rattle.std.specs.Prelude.{[], ℕ, ◌++◌, ◌∷◌, List, None, Option, Some, flat_map, map}
+use Rattle.std.specs.Prelude.{[], ℕ, ◌++◌, ◌+◌, ◌∷◌, List, None, Option, Some, flat_map, map}
 use Rattle.model.specs.Types.{AddDep, Added, AltPri, Body, Cancel, Clock, Cmd, Confirm, Declined, DelDep, DraftDep}
 use Rattle.model.specs.Types.{Ended, Events, Failed, Feed, Fence, Follows, Fulfil, Fulfilled, Input, JobDoc}
 use Rattle.model.specs.Types.{JobDraft, Kill, Launched, Limit, Linked, Local, Lost, NewPlan, Next, Obeyed, Order}

@@ -133,8 +133,8 @@ module _ (net : Net) (x : World) (h : Invariant net x) where
           sound = later_sound;
         }
 
-pub kept_step : (net : Net) (x y : World) (s : WorldStep) → Invariant net x → step net x s ≡ Ok y → Invariant net y
-kept_step net x y s h e = subst (λ (r : Result World StepRefused). Invariant net (or_as_before x r)) e (kept net x h s)
+pub invariant_step : (net : Net) (x y : World) (s : WorldStep) → Invariant net x → step net x s ≡ Ok y → Invariant net y
+invariant_step net x y s h e = subst (λ (r : Result World StepRefused). Invariant net (or_as_before x r)) e (kept net x h s)
 
 none_yet : (f : Feed) → list_of [] f ≡ []
 unfolding list_of
@@ -162,5 +162,5 @@ at_start net =
       sound = record { places = tt; prefixes = tt; answers = tt; ends = tt; plans = tt; in_time = tt; started = record { once = refl; launched = refl } };
     }
 
-pub always_kept : (net : Net) (steps : List WorldStep) → Invariant net (run net steps empty_world)
-always_kept net steps = always net (Invariant net) (λ x s h. kept net x h s) steps empty_world (at_start net)
+pub always_invariant : (net : Net) (steps : List WorldStep) → Invariant net (run net steps empty_world)
+always_invariant net steps = always net (Invariant net) (λ x s h. kept net x h s) steps empty_world (at_start net)

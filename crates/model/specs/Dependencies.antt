@@ -114,9 +114,9 @@ unfoldable pub job_lets_followers_go : View → ℕ → Bool
 job_lets_followers_go V j =
     option_map_or
     (λ (p : StreamJob).
-      is_good j (V (Events p.doc.ws))
-      || (is_cancelled (Job j) (V (Events p.doc.ws))
-      || is_cancelled (Stream p.parent.no) (V (Events p.parent.ws))))
+    is_good j (V (Events p.doc.ws))
+    || (is_cancelled (Job j) (V (Events p.doc.ws))
+    || is_cancelled (Stream p.parent.no) (V (Events p.parent.ws))))
     (job V j) false
 
 -- the stream is ended or cancelled

@@ -10,22 +10,26 @@ text_eq (x ∷ xs) (y ∷ ys) = (x == y) && text_eq xs ys
 text_eq [] (y ∷ ys) = false
 text_eq (x ∷ xs) [] = false
 
+-- one feed
 abbrev pub feed_eq : Feed → Feed → Bool
 feed_eq (Events w) (Events v) = w == v
 feed_eq (Orders a w) (Orders b v) = (a == b) && (w == v)
 feed_eq (Events w) (Orders b v) = false
 feed_eq (Orders a w) (Events v) = false
 
+-- one object
 abbrev pub obj_eq : Obj → Obj → Bool
 obj_eq (Job j) (Job k) = j == k
 obj_eq (Stream s) (Stream t) = s == t
 obj_eq (Job j) (Stream t) = false
 obj_eq (Stream s) (Job k) = false
 
+-- the object is one of these
 abbrev pub obj_among : List Obj → Obj → Bool
 obj_among [] o = false
-obj_among (p ∷ ps) o = Rattle.model.specs.Equalities.obj_eq p o || obj_among ps o
+obj_among (p ∷ ps) o = obj_eq p o || obj_among ps o
 
+-- one mark
 abbrev pub until_eq : OnUntil → OnUntil → Bool
 until_eq Suppr Suppr = true
 until_eq Suppr _ = false
@@ -34,6 +38,7 @@ until_eq Cont _ = false
 until_eq Canc Canc = true
 until_eq Canc _ = false
 
+-- one dependency
 abbrev pub dep_eq : Dep → Dep → Bool
 dep_eq (FollowsJob j) (FollowsJob k) = j == k
 dep_eq (FollowsJob j) _ = false

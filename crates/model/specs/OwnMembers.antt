@@ -1,7 +1,7 @@
 -- What a workstation decides of its own members: release, end, and an UNTIL that is due.
 use Rattle.std.specs.List.{list_all}
 use Rattle.std.specs.Option.{option_map_or, option_or}
-use Rattle.std.specs.Prelude.{[], if◌then◌else◌, ℕ, ◌&&◌, ◌++◌, ◌+◌, ◌==◌, ◌||◌, ◌∷◌, Bool, List, None, Option}
+use Rattle.std.specs.Prelude.{[], if◌then◌else◌, ℕ, ◌&&◌, ◌++◌, ◌==◌, ◌||◌, ◌∷◌, Bool, List, None, Option}
 use Rattle.std.specs.Prelude.{Some, false, filter, is_some, map, nat_le, not, option_and_then, option_map}
 use Rattle.std.specs.Prelude.{slice_get}
 use Rattle.model.specs.Types.{At, Body, Dep, Events, FollowsJob, FollowsStream, Job, Needs, Net, Obj, OnUntil}
@@ -21,10 +21,11 @@ own_streams V w = filter (λ (d : StreamDoc). is_member V d.no) (streams_of V w)
 unfoldable pub own_jobs : View → ℕ → List StreamJob
 own_jobs V w = filter (λ (p : StreamJob). is_member V p.parent.no) (jobs_of V w)
 
--- the numbers of w's own members, and of their jobs
+-- the numbers of w's own members
 abbrev pub own_numbers : View → ℕ → List ℕ
 own_numbers V w = map (λ (d : StreamDoc). d.no) (own_streams V w)
 
+-- the numbers of own members' jobs
 abbrev pub own_job_numbers : View → ℕ → List ℕ
 own_job_numbers V w = map (λ (p : StreamJob). p.doc.no) (own_jobs V w)
 
@@ -44,6 +45,7 @@ may_release_in net V w doc =
     ∷ all_satisfied net V w (Stream doc.no)
     ∷ [])
 
+-- stream s may be released at w
 unfoldable pub may_release : Net → View → ℕ → ℕ → Bool
 may_release net V w s = option_map_or (may_release_in net V w) (stream V s) false
 
@@ -63,6 +65,7 @@ may_end_in V w doc =
     ∷ list_all (lets_stream_end V) (jobs_of_stream V doc.no)
     ∷ [])
 
+-- stream s may end at w
 unfoldable pub may_end : View → ℕ → ℕ → Bool
 may_end V w s = option_map_or (may_end_in V w) (stream V s) false
 
@@ -76,6 +79,7 @@ pub record UntilTime : Type 0 where
   pub time : ℕ
   pub mark : OnUntil
 
+-- the time and mark of a dependency that is an UNTIL
 abbrev pub until_in : Dep → Option UntilTime
 until_in (Until t then_) = Some (record { time = t; mark = then_ })
 until_in (At t) = None

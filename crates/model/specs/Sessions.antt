@@ -1,12 +1,11 @@
 -- A node's session: what it knows from its start to its stop, and forgets then.
-use Rattle.std.specs.Prelude.{[], if◌then◌else◌, ℕ, ◌++◌, ◌+◌, ◌==◌, ◌∷◌, Bool, List, None, Option, Some, false}
+use Rattle.std.specs.Prelude.{[], if◌then◌else◌, ℕ, ◌++◌, ◌==◌, ◌∷◌, Bool, List, None, Option, Some, false}
 use Rattle.std.specs.Prelude.{filter, find, length, map, max, min, not, true}
 use Rattle.model.specs.Types.{Body, Entry, Feed, Fulfil, Input, Launched, Linked, LiveJob, Local, Next}
 use Rattle.model.specs.Types.{StartFailed, Turn, Typed, Unlinked}
 use Rattle.model.specs.Words.{with_at}
 use Rattle.model.specs.Equalities.{feed_eq}
 use Rattle.model.specs.History.{Holding, View}
-use Rattle.model.specs.Catalogue.{job}
 
 -- the greatest count of each feed that a neighbour acknowledged; the neighbours whose own end of the link is up; the
 -- launches that live
@@ -32,9 +31,11 @@ new_live (Some e) = launched e.body
     launched (Launched j n seen) = record { job = j; number = n; started = false } ∷ []
     launched _ = []
 
+-- the start of job j is told
 abbrev pub mark_started : ℕ → LiveJob → LiveJob
 mark_started j l = if l.job == j then record { job = l.job; number = l.number; started = true } else l
 
+-- the live launches of other jobs
 abbrev pub without_job : ℕ → List LiveJob → List LiveJob
 without_job j live = filter (λ (l : LiveJob). not (l.job == j)) live
 

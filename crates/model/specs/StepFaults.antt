@@ -20,11 +20,13 @@ use Rattle.model.specs.Sessions.{Session, live_launch}
 use Rattle.model.specs.NewEntry.{makes}
 use Rattle.model.specs.Workstations.{peer_of, ws_in}
 
+-- why there is no plan: its run or numbers are spent, or it is full at 4096 streams or 16384 jobs
 pub data CarryFault : Type 0 where
   RunsSpent : CarryFault
   NumbersSpent : CarryFault
   PlanFull : ℕ → CarryFault
 
+-- why a node refuses an input
 pub data StepFault : Type 0 where
   NotInNetwork : StepFault
   NotNeighbour : StepFault
@@ -45,10 +47,12 @@ carry_fault V drafts =
     ∷ (are_jobs_too_many V (carried_members V) drafts, (CarryFault.PlanFull 16384))
     ∷ [])
 
+-- the day ends
 abbrev pub is_next : Input → Bool
 is_next (Input.Local (Next drafts)) = true
 is_next _ = false
 
+-- why there is no plan of this input
 abbrev pub plan_fault : View → Input → Option CarryFault
 plan_fault V (Input.Local (Next drafts)) = carry_fault V drafts
 plan_fault V _ = None
@@ -62,6 +66,7 @@ lacks_process live (Input.Local (StartFailed j)) =
 lacks_process live (Input.Local (Local.Ended j rc)) = is_none (live_launch live j)
 lacks_process live _ = false
 
+-- it waits for a file
 abbrev pub is_outside : Dep → Bool
 is_outside (Outside path) = true
 is_outside _ = false

@@ -1,7 +1,7 @@
 -- Why a workstation declines a command: the first reason that applies.
 use Rattle.std.specs.List.{list_any}
 use Rattle.std.specs.Option.{option_map_or}
-use Rattle.std.specs.Prelude.{[], ℕ, ◌&&◌, ◌++◌, ◌+◌, ◌==◌, ◌||◌, ◌∷◌, Bool, List, Option, false, is_none, length}
+use Rattle.std.specs.Prelude.{[], ℕ, ◌&&◌, ◌++◌, ◌==◌, ◌||◌, ◌∷◌, Bool, List, Option, false, is_none, length}
 use Rattle.std.specs.Prelude.{nat_le, nat_lt, not, true}
 use Rattle.model.specs.Types.{AddDep, AlreadyThere, AltPri, At, Body, Cancel, Cmd, Confirm, DelDep, Dep, Events}
 use Rattle.model.specs.Types.{Fence, FollowsJob, FollowsStream, Global, Job, Kill, Limit, Needs, Net, NotBuilt}
@@ -74,11 +74,12 @@ asks_too_much (At t) = false
 asks_too_much (Until t then_) = false
 asks_too_much (Outside path) = false
 
--- it is an own prompt, and one that is only shown
+-- it is an own prompt
 abbrev pub is_own_prompt : Dep → Bool
 is_own_prompt (Prompt (Own text)) = true
 is_own_prompt _ = false
 
+-- it is an own prompt that is only shown
 abbrev pub is_shown_prompt : Dep → Bool
 is_shown_prompt (Prompt (Own text)) = is_only_shown text
 is_shown_prompt _ = false
@@ -140,8 +141,11 @@ reasons net V me (Total r n) =
 reasons net V me (ReplyGlobal p yes_) =
     (not (me == 0), NotMaster)
     ∷ (is_none (nth net.prompts p), NotThere)
-    ∷ (is_yes (global_reply p (V (Events 0)))
-    || option_map_or (λ (q : PromptDef). is_only_shown q.text) (nth net.prompts p) false, AlreadyThere)
+    ∷ (
+      is_yes (global_reply p (V (Events 0)))
+          || option_map_or (λ (q : PromptDef). is_only_shown q.text) (nth net.prompts p) false,
+      AlreadyThere,
+    )
     ∷ []
 reasons net V me (ReplyOwn o i yes_) =
     object_reasons V me o

@@ -1,5 +1,5 @@
 -- The workstations that an input names.
-use Rattle.std.specs.Prelude.{[], ℕ, ◌++◌, ◌+◌, ◌∷◌, List, None, Option, Some, flat_map, map}
+use Rattle.std.specs.Prelude.{[], ℕ, ◌++◌, ◌∷◌, List, None, Option, Some, flat_map, map}
 use Rattle.model.specs.Types.{AddDep, Added, AltPri, Body, Cancel, Clock, Cmd, Confirm, Declined, DelDep, DraftDep}
 use Rattle.model.specs.Types.{Ended, Events, Failed, Feed, Fence, Follows, Fulfil, Fulfilled, Input, JobDoc}
 use Rattle.model.specs.Types.{JobDraft, Kill, Launched, Limit, Linked, Local, Lost, NewPlan, Next, Obeyed, Order}
@@ -13,16 +13,20 @@ abbrev pub ws_in_feed : Feed → List ℕ
 ws_in_feed (Events w) = w ∷ []
 ws_in_feed (Orders a w) = a ∷ w ∷ []
 
+-- that of a FOLLOWS by name
 abbrev pub ws_in_draft_dep : DraftDep → List ℕ
 ws_in_draft_dep (Follows w name of_job) = w ∷ []
 ws_in_draft_dep (Plain d) = []
 
+-- those of a job's draft
 abbrev pub ws_in_job_draft : JobDraft → List ℕ
 ws_in_job_draft d = d.ws ∷ flat_map ws_in_draft_dep d.deps
 
+-- those of a stream's draft
 abbrev pub ws_in_draft : StreamDraft → List ℕ
 ws_in_draft d = d.ws ∷ (flat_map ws_in_draft_dep d.deps ++ flat_map ws_in_job_draft d.jobs)
 
+-- those of a command
 abbrev pub ws_in_cmd : Cmd → List ℕ
 ws_in_cmd (Submit d) = ws_in_draft d
 ws_in_cmd (SwitchMgr w) = w ∷ []
@@ -43,12 +47,15 @@ ws_in_cmd (ReplyOwn o i yes_) = []
 ws_in_cmd Cmd.Start = []
 ws_in_cmd Stop = []
 
+-- those that are counted
 abbrev pub ws_in_seen : Seen → List ℕ
 ws_in_seen seen = map (λ (p : ℕ × ℕ). p.0) seen
 
+-- those of a document
 abbrev pub ws_in_doc : StreamDoc → List ℕ
 ws_in_doc d = d.ws ∷ map (λ (j : JobDoc). j.ws) d.jobs
 
+-- those of an entry
 abbrev pub ws_in_body : Body → List ℕ
 ws_in_body (NewPlan run cut carried docs) = ws_in_seen cut ++ flat_map ws_in_doc docs
 ws_in_body (Added a k doc) = a ∷ ws_in_doc doc
@@ -66,6 +73,7 @@ ws_in_body (Ended j n rc good) = []
 ws_in_body (Lost j n) = []
 ws_in_body (Fulfilled o i) = []
 
+-- those of an input
 abbrev pub ws_in : Input → List ℕ
 ws_in (Input.Local (Linked x)) = x ∷ []
 ws_in (Input.Local (Unlinked x)) = x ∷ []
@@ -79,6 +87,7 @@ ws_in (Input.Local (Fulfil o i)) = []
 ws_in (Input.Mail from e) = from ∷ (ws_in_feed e.feed ++ ws_in_body e.body)
 ws_in (Input.Ack from f n) = from ∷ ws_in_feed f
 
+-- the neighbour that an input names first
 abbrev pub peer_of : Input → Option ℕ
 peer_of (Input.Local (Linked x)) = Some x
 peer_of (Input.Local (Unlinked x)) = Some x

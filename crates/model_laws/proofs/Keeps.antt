@@ -1,28 +1,28 @@
 -- What a step keeps: from a world that meets the invariant, a step that is taken leads to one that meets it.
-use Rattle.std.proofs.Common.{◌≡◌, ℕ, ◌≤◌, true, List, [], refl, subst, arith}
+use Rattle.std.proofs.Common.{◌≡◌, ℕ, true, List, [], refl, subst, arith}
 use Rattle.std.specs.Prelude.{Result, Ok}
-use Rattle.std.specs.List.{AllByRecursion, list_all}
-use Rattle.model.specs.Types.{Events, Orders, Net, WorldStep, Feed}
-use Rattle.model.specs.History.{list_of, view}
+use Rattle.std.specs.List.{list_all}
+use Rattle.model.specs.Types.{Events, Net, WorldStep, Feed}
+use Rattle.model.specs.History.{list_of}
 use Rattle.model.specs.World.{World, StepRefused, empty_world, step, or_as_before, run, view_at}
 use Rattle.model.specs.Facts.{answered}
-use Rattle.model.specs.Sound.{Each, OfEvents, IsSound, HasItsPlace, StandsOnItsPrefix, AnswersItsOrder}
+use Rattle.model.specs.Sound.{Each, OfEvents, IsSound, StandsOnItsPrefix, AnswersItsOrder}
 use Rattle.model.specs.Sound.{NamesItsLaunch}
 use Rattle.model.specs.Sound.{CarriesTheUnfinished, IsInTime}
 use Rattle.model.specs.Invariant.{Invariant, is_well_formed, keeps_its_size, is_inside}
-use Rattle.model_laws.proofs.Answered.{Answering, answering_step}
+use Rattle.model_laws.proofs.Answered.{answering_step}
 use Rattle.model_laws.proofs.Each.{both_step}
 use Rattle.model_laws.proofs.Formed.{entry_formed}
 use Rattle.model_laws.proofs.Launches.{owned_from, all_tidy, all_started, all_live}
-use Rattle.model_laws.proofs.Limits.{Sized, sized_step}
+use Rattle.model_laws.proofs.Limits.{sized_step}
 use Rattle.model_laws.proofs.Lively.{Knows, knows_step, entry_names}
-use Rattle.model_laws.proofs.Numbers.{Catalogued, catalogued_step}
+use Rattle.model_laws.proofs.Numbers.{catalogued_step}
 use Rattle.model_laws.proofs.Orders.{entry_answers}
 use Rattle.model_laws.proofs.Owned.{LaunchOwned, Owning, owning_step}
 use Rattle.model_laws.proofs.Packets.{Posted, posted_step}
-use Rattle.model_laws.proofs.Parts.{InOrder, in_order_step}
-use Rattle.model_laws.proofs.Places.{Holds, holds_step, Placed, placed_step, each_of_all, all_of_each}
-use Rattle.model_laws.proofs.Plans.{Inside, Known, known_step, entry_carries}
+use Rattle.model_laws.proofs.Parts.{in_order_step}
+use Rattle.model_laws.proofs.Places.{Holds, holds_step, placed_step, each_of_all, all_of_each}
+use Rattle.model_laws.proofs.Plans.{Known, known_step, entry_carries}
 use Rattle.model_laws.proofs.Prefixes.{right_entry}
 use Rattle.model_laws.proofs.Single.{Once, once_step, open_at}
 use Rattle.model_laws.proofs.Starts.{StartsHold, starts_step, all_launched}

@@ -33,6 +33,7 @@ AreFit IsFitItem xs = IsFitLength xs × All IsFitItem xs
 abbrev pub IsFitSeen : Seen → Type 0
 IsFitSeen seen = IsFitLength seen × IsTrue (ascends_from 0 seen)
 
+-- the text of a prompt and the path of a file are fit; the others have no text
 abbrev pub IsFitDep : Dep → Type 0
 IsFitDep (Prompt (Own text)) = IsFitText text
 IsFitDep (Outside path) = IsFitText path
@@ -43,14 +44,17 @@ IsFitDep (Needs r n) = Unit {0}
 IsFitDep (At t) = Unit {0}
 IsFitDep (Until t then_) = Unit {0}
 
+-- names are fit texts
 abbrev pub IsFitDraftDep : DraftDep → Type 0
 IsFitDraftDep (Follows w name of_job) = IsFitText name × IfSome of_job IsFitText
 IsFitDraftDep (Plain d) = IsFitDep d
 
+-- a command and the path of a script are fit texts
 abbrev pub IsFitWork : Work → Type 0
 IsFitWork (Command text) = IsFitText text
 IsFitWork (Script text) = IsFitText text
 
+-- a job's texts, condition and dependencies
 pub record IsFitJob (d : JobDoc) : Type 0 where
   pub name_ : IsFitText d.name
   pub work_ : IsFitWork d.work
@@ -58,11 +62,13 @@ pub record IsFitJob (d : JobDoc) : Type 0 where
   pub cond_ : IsFitCond d.cond
   pub deps_ : AreFit IsFitDep d.deps
 
+-- a stream's name, dependencies and jobs
 pub record IsFitStream (d : StreamDoc) : Type 0 where
   pub name_ : IsFitText d.name
   pub deps_ : AreFit IsFitDep d.deps
   pub jobs_ : AreFit IsFitJob d.jobs
 
+-- a draft's job is fit as a document's is
 pub record IsFitJobDraft (d : JobDraft) : Type 0 where
   pub name_ : IsFitText d.name
   pub work_ : IsFitWork d.work
@@ -70,11 +76,13 @@ pub record IsFitJobDraft (d : JobDraft) : Type 0 where
   pub cond_ : IsFitCond d.cond
   pub deps_ : AreFit IsFitDraftDep d.deps
 
+-- a draft is fit as a document is
 pub record IsFitDraft (d : StreamDraft) : Type 0 where
   pub name_ : IsFitText d.name
   pub deps_ : AreFit IsFitDraftDep d.deps
   pub jobs_ : AreFit IsFitJobDraft d.jobs
 
+-- a command that brings a dependency or a draft brings a fit one
 abbrev pub IsFitCmd : Cmd → Type 0
 IsFitCmd (AddDep o d) = IsFitDep d
 IsFitCmd (Submit draft) = IsFitDraft draft
@@ -95,6 +103,7 @@ IsFitCmd Cmd.Start = Unit {0}
 IsFitCmd Stop = Unit {0}
 IsFitCmd (SwitchMgr w) = Unit {0}
 
+-- the counts, documents and commands of a body are fit
 abbrev pub IsFitBody : Body → Type 0
 IsFitBody (NewPlan run cut carried docs) = IsFitSeen cut × IsFitLength carried × AreFit IsFitStream docs
 IsFitBody (Added a k doc) = IsFitStream doc
@@ -112,6 +121,7 @@ IsFitBody (Lost j n) = Unit {0}
 IsFitBody (Fulfilled o i) = Unit {0}
 IsFitBody (Declined a k why) = Unit {0}
 
+-- what an entry has to be to be written
 pub record IsFit (e : Entry) : Type 0 where
   pub in_its_feed : IsTrue (has_its_feed e.feed e.body)
   pub has_place : 0 < e.place
@@ -135,6 +145,7 @@ IsFitInput (Input.Local l) = IsFitLocal l
 IsFitInput (Input.Mail from e) = IsFit e
 IsFitInput (Input.Ack from f n) = Unit {0}
 
+-- what a step brings to a node is fit; deliveries and crashes bring nothing of their own
 abbrev pub IsFitStep : WorldStep → Type 0
 IsFitStep (Take w l) = IsFitLocal l
 IsFitStep (CrashTake w l kept) = IsFitLocal l

@@ -10,16 +10,19 @@ use Rattle.model.specs.Types.{Stream, Dep, FollowsJob, FollowsStream, Needs, Pro
 use Rattle.model.specs.Types.{Own, DraftDep, Follows, Plain, Work, Command, Script, CondOp, Cmp, And, Or, Not}
 use Rattle.model.specs.Types.{JobDoc, StreamDoc, JobDraft, StreamDraft}
 
--- numbers of one, two, four and eight bytes
+-- a number of one byte
 abbrev pub IsU8 : ℕ → Type 0
 IsU8 n = n < 2 ^ 8
 
+-- a number of two bytes
 abbrev pub IsU16 : ℕ → Type 0
 IsU16 n = n < 2 ^ 16
 
+-- a number of four bytes
 abbrev pub IsU32 : ℕ → Type 0
 IsU32 n = n < 2 ^ 32
 
+-- a number of eight bytes
 abbrev pub IsU64 : ℕ → Type 0
 IsU64 n = n < 2 ^ 64
 
@@ -27,6 +30,7 @@ IsU64 n = n < 2 ^ 64
 abbrev pub IsI32 : ℤ → Type 0
 IsI32 z = FitsSigned w32 z
 
+-- workstations have two bytes
 abbrev pub FeedInRange : Feed → Type 0
 FeedInRange (Events w) = IsU16 w
 FeedInRange (Orders a w) = IsU16 a × IsU16 w
@@ -35,10 +39,12 @@ FeedInRange (Orders a w) = IsU16 a × IsU16 w
 abbrev pub CountInRange : ℕ × ℕ → Type 0
 CountInRange p = IsU16 p.0 × IsU32 p.1
 
+-- numbers of jobs and streams have four bytes
 abbrev pub ObjInRange : Obj → Type 0
 ObjInRange (Job j) = IsU32 j
 ObjInRange (Stream s) = IsU32 s
 
+-- resources, units and prompts have two bytes, times eight; texts are UTF-8
 abbrev pub DepInRange : Dep → Type 0
 DepInRange (FollowsJob j) = IsU32 j
 DepInRange (FollowsStream s) = IsU32 s
@@ -49,20 +55,24 @@ DepInRange (At t) = IsU64 t
 DepInRange (Until t then_) = IsU64 t
 DepInRange (Outside path) = IsUtf8 path
 
+-- names are UTF-8
 abbrev pub DraftDepInRange : DraftDep → Type 0
 DraftDepInRange (Follows w name of_job) = IsU16 w × IsUtf8 name × IfSome of_job IsUtf8
 DraftDepInRange (Plain d) = DepInRange d
 
+-- a return code has four bytes and a sign
 abbrev pub OpInRange : CondOp → Type 0
 OpInRange (Cmp r n) = IsI32 n
 OpInRange And = Unit {0}
 OpInRange Or = Unit {0}
 OpInRange Not = Unit {0}
 
+-- commands and paths are UTF-8
 abbrev pub WorkInRange : Work → Type 0
 WorkInRange (Command text) = IsUtf8 text
 WorkInRange (Script text) = IsUtf8 text
 
+-- the fields of a job's document
 pub record JobInRange (d : JobDoc) : Type 0 where
   pub no_ : IsU32 d.no
   pub ws_ : IsU16 d.ws
@@ -73,6 +83,7 @@ pub record JobInRange (d : JobDoc) : Type 0 where
   pub cond_ : All OpInRange d.cond
   pub deps_ : All DepInRange d.deps
 
+-- the fields of a stream's document
 pub record StreamInRange (d : StreamDoc) : Type 0 where
   pub no_ : IsU32 d.no
   pub ws_ : IsU16 d.ws
@@ -82,6 +93,7 @@ pub record StreamInRange (d : StreamDoc) : Type 0 where
   pub deps_ : All DepInRange d.deps
   pub jobs_ : All JobInRange d.jobs
 
+-- a draft's job, as its document without the number
 pub record JobDraftInRange (d : JobDraft) : Type 0 where
   pub ws_ : IsU16 d.ws
   pub name_ : IsUtf8 d.name
@@ -91,6 +103,7 @@ pub record JobDraftInRange (d : JobDraft) : Type 0 where
   pub cond_ : All OpInRange d.cond
   pub deps_ : All DraftDepInRange d.deps
 
+-- a draft, as its document without the number
 pub record DraftInRange (d : StreamDraft) : Type 0 where
   pub ws_ : IsU16 d.ws
   pub name_ : IsUtf8 d.name
@@ -99,6 +112,7 @@ pub record DraftInRange (d : StreamDraft) : Type 0 where
   pub deps_ : All DraftDepInRange d.deps
   pub jobs_ : All JobDraftInRange d.jobs
 
+-- priorities have one byte, limits, units and numbers of dependencies two
 abbrev pub CmdInRange : Cmd → Type 0
 CmdInRange (AddDep o d) = ObjInRange o × DepInRange d
 CmdInRange (DelDep o i) = ObjInRange o × IsU16 i
@@ -119,6 +133,7 @@ CmdInRange Stop = Unit {0}
 CmdInRange (Submit draft) = DraftInRange draft
 CmdInRange (SwitchMgr w) = IsU16 w
 
+-- runs, launches and orders have four bytes
 abbrev pub BodyInRange : Body → Type 0
 BodyInRange (NewPlan run cut carried docs) =
     IsU32 run × All CountInRange cut × All IsU32 carried × All StreamInRange docs
@@ -137,6 +152,7 @@ BodyInRange (Obeyed a k c) = IsU16 a × IsU32 k × CmdInRange c
 BodyInRange (Declined a k why) = IsU16 a × IsU32 k
 BodyInRange (Order c) = CmdInRange c
 
+-- the fields of an entry; a place has four bytes
 pub record InRange (e : Entry) : Type 0 where
   pub feed_ : FeedInRange e.feed
   pub place_ : IsU32 e.place

@@ -22,18 +22,22 @@ feed_bytes (Orders a w) = 1 ∷ u16_bytes a ++ u16_bytes w
 abbrev pub count_bytes : ℕ × ℕ → List ℕ
 count_bytes p = u16_bytes p.0 ++ u32_bytes p.1
 
+-- the counts in their order
 abbrev pub seen_bytes : Seen → List ℕ
 seen_bytes seen = list_bytes count_bytes seen
 
+-- a job or a stream, and its number
 abbrev pub obj_bytes : Obj → List ℕ
 obj_bytes (Job j) = 0 ∷ u32_bytes j
 obj_bytes (Stream s) = 1 ∷ u32_bytes s
 
+-- what an UNTIL does once its time has passed
 abbrev pub until_code : OnUntil → ℕ
 until_code Suppr = 0
 until_code Cont = 1
 until_code Canc = 2
 
+-- the choice of a dependency is 1 to 8, and a prompt has two
 unfoldable pub dep_bytes : Dep → List ℕ
 dep_bytes (FollowsJob j) = 1 ∷ u32_bytes j
 dep_bytes (FollowsStream s) = 2 ∷ u32_bytes s
@@ -49,6 +53,7 @@ unfoldable pub draft_dep_bytes : DraftDep → List ℕ
 draft_dep_bytes (Follows w name of_job) = 0 ∷ u16_bytes w ++ text_bytes name ++ option_bytes text_bytes of_job
 draft_dep_bytes (Plain d) = dep_bytes d
 
+-- a comparison
 abbrev pub rel_code : Rel → ℕ
 rel_code Eq = 0
 rel_code Ne = 1
@@ -57,6 +62,7 @@ rel_code Le = 3
 rel_code Gt = 4
 rel_code Ge = 5
 
+-- a comparison with its code, or an operation
 abbrev pub op_bytes : CondOp → List ℕ
 op_bytes (Cmp r n) = rel_code r ∷ i32_bytes n
 op_bytes And = 6 ∷ []
@@ -67,21 +73,25 @@ op_bytes Not = 8 ∷ []
 unfoldable pub cond_bytes : List CondOp → List ℕ
 cond_bytes ops = u8_bytes (length ops) ++ flat_map op_bytes ops
 
+-- a command line or the path of a script
 abbrev pub work_bytes : Work → List ℕ
 work_bytes (Command text) = 0 ∷ text_bytes text
 work_bytes (Script text) = 1 ∷ text_bytes text
 
+-- what follows a bad end
 abbrev pub recovery_code : Recovery → ℕ
 recovery_code Recovery.Stop = 0
 recovery_code Recovery.Continue = 1
 recovery_code Recovery.Rerun = 2
 
+-- a job's document, field by field in the order of its type
 unfoldable pub job_doc_bytes : JobDoc → List ℕ
 job_doc_bytes d =
     u32_bytes d.no ++ u16_bytes d.ws ++ text_bytes d.name ++ u8_bytes d.priority ++ work_bytes d.work ++ text_bytes
     d.logon
     ++ cond_bytes d.cond ++ u8_bytes (recovery_code d.recovery) ++ list_bytes dep_bytes d.deps
 
+-- a stream's document, field by field in the order of its type
 unfoldable pub stream_doc_bytes : StreamDoc → List ℕ
 stream_doc_bytes d =
     u32_bytes d.no ++ u16_bytes d.ws ++ text_bytes d.name ++ u8_bytes d.priority ++ option_bytes u16_bytes d.limit
@@ -94,11 +104,13 @@ job_draft_bytes d =
     u16_bytes d.ws ++ text_bytes d.name ++ u8_bytes d.priority ++ work_bytes d.work ++ text_bytes d.logon
     ++ cond_bytes d.cond ++ u8_bytes (recovery_code d.recovery) ++ list_bytes draft_dep_bytes d.deps
 
+-- a stream's draft likewise
 unfoldable pub stream_draft_bytes : StreamDraft → List ℕ
 stream_draft_bytes d =
     u16_bytes d.ws ++ text_bytes d.name ++ u8_bytes d.priority ++ option_bytes u16_bytes d.limit ++ flag_bytes d.carry
     ++ list_bytes draft_dep_bytes d.deps ++ list_bytes job_draft_bytes d.jobs
 
+-- the choice of a command is 1 to 18
 unfoldable pub cmd_bytes : Cmd → List ℕ
 cmd_bytes (AddDep o d) = 1 ∷ obj_bytes o ++ dep_bytes d
 cmd_bytes (DelDep o i) = 2 ∷ obj_bytes o ++ u16_bytes i
@@ -119,6 +131,7 @@ cmd_bytes Stop = 16 ∷ []
 cmd_bytes (Submit draft) = 17 ∷ stream_draft_bytes draft
 cmd_bytes (SwitchMgr w) = 18 ∷ u16_bytes w
 
+-- the reason of a declined order
 abbrev pub why_code : Why → ℕ
 why_code NotMine = 1
 why_code NotThere = 2

@@ -12,7 +12,7 @@ use Rattle.std.proofs.lemmas.List.Elements.{All-nil, All-cons, All-push, All-fil
 use Rattle.std.proofs.lemmas.List.Elements.{recursion_from_All, All-from_recursion, All-weaker}
 use Rattle.std.specs.Prelude.{IfSome, Ok, sum_by, filter, filter_map, slice_get, option_and_then, nat_lt, nat_le}
 use Rattle.std.specs.List.{All, AllByRecursion, enumerate_from, cons_option}
-use Rattle.model.specs.Types.{Feed, Events, Orders, Entry, Body, Order, Cmd, Submit, Net, StreamDoc, StreamDraft}
+use Rattle.model.specs.Types.{Feed, Events, Orders, Entry, Body, Order, Cmd, Submit, Net, StreamDraft}
 use Rattle.model.specs.Types.{JobDraft, DraftDep, Follows, Plain, FollowsJob, FollowsStream, Needs, Prompt, At}
 use Rattle.model.specs.Types.{Until, Outside, Local, Input, WorldStep}
 use Rattle.model.specs.Equalities.{feed_eq}

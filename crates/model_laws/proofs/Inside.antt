@@ -76,6 +76,7 @@ all_in net ws h = list_all-from_AllPass (λ w. nat_lt w (node_count net)) ws (Al
 abbrev pub EntryIsIn : Net → Entry → Type 0
 EntryIsIn net e = AreIn net (ws_in_feed e.feed ++ ws_in_body e.body)
 
+-- a view whose bodies name workstations of the network alone
 pub record ViewIsIn (net : Net) (V : View) : Type 0 where
   pub bodies : (f : Feed) → AllByRecursion (λ b. AreIn net (ws_in_feed f ++ ws_in_body b)) (V f)
 

@@ -229,6 +229,7 @@ unfolding kept_in cut_short
 kept_took_cut net x v w l kept limit none =
     ap (λ m. only_if (eqb v w) (only_if kept m)) (made_is net x w (Input.Local l) limit none)
 
+-- None, where its type has to be told
 abbrev no_entry : Option Entry
 no_entry = None
 

@@ -11,6 +11,7 @@ use Rattle.model.specs.World.{result_map, node_effect, step, or_as_before, run, 
 use Rattle.model.specs.World.{within_limits}
 use Rattle.model_laws.proofs.Steps.{IsFaultless, step_of, nothing}
 
+-- how a world moves by each step that it takes
 pub data Moved (net : Net) (x : World) : WorldStep → World → Type 0 where
   took : (w : ℕ) (l : Local) → reached_limit x ≡ None → IsFaultless net x w (Input.Local l)
       → Moved net x (Take w l) (apply_effect x w Origin.Own (step_of net x w (Input.Local l)))

@@ -19,6 +19,7 @@ use Rattle.model_laws.proofs.Codes.{i32_code, flag_code, list_code}
 use Rattle.model_laws.proofs.PartCodes.{feed_code, SeenFits, seen_code, obj_code, until_spelled, why_spelled}
 use Rattle.model_laws.proofs.PartCodes.{dep_code, StreamFits, stream_code, draft_code, both_fit}
 
+-- a command that is fit, with its numbers in range
 abbrev CmdFits : Cmd → Type 0
 CmdFits c = IsFitCmd c × CmdInRange c
 
@@ -27,6 +28,7 @@ abbrev Holds : Bool → Type 0
 Holds true = Unit {0}
 Holds false = ⊥
 
+-- two numbers that are the same, as a type that computes
 abbrev Agrees : ℕ → ℕ → Type 0
 Agrees m n = Holds (eqb m n)
 
@@ -231,6 +233,7 @@ cmd_code = record { same = cmd_same }
 seen_fits : (seen : Seen) → IsFitSeen seen → All CountInRange seen → SeenFits seen
 seen_fits seen h k = (h.0, recursion_from_All CountInRange seen k)
 
+-- a body that is fit, with its numbers in range
 abbrev BodyFits : Body → Type 0
 BodyFits b = IsFitBody b × BodyInRange b
 
@@ -430,6 +433,7 @@ body_same x y r t h k e =
 body_code : IsCode BodyFits body_bytes
 body_code = record { same = body_same }
 
+-- an entry from its parts
 abbrev entry_of : (Feed × ℕ) × Body → Entry
 entry_of p = record { feed = p.0.0; place = p.0.1; body = p.1 }
 

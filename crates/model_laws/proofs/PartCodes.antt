@@ -84,6 +84,7 @@ feed_same _ _ r t h k e = cc
 pub feed_code : IsCode FeedInRange feed_bytes
 feed_code = record { same = feed_same }
 
+-- counts that are as many as can be told, each in range
 abbrev pub SeenFits : Seen → Type 0
 SeenFits seen = IsFitLength seen × AllByRecursion CountInRange seen
 
@@ -138,6 +139,7 @@ no_zero (At u) l r e = cc
 no_zero (Until u what) l r e = cc
 no_zero (Outside path) l r e = cc
 
+-- a draft's dependency that is fit and in range
 abbrev DraftDepFits : DraftDep → Type 0
 DraftDepFits d = IsFitDraftDep d × DraftDepInRange d
 
@@ -191,6 +193,7 @@ op_same _ _ r t h k e = cc
 op_code : IsCode OpInRange op_bytes
 op_code = record { same = op_same }
 
+-- each operation in range
 abbrev OpsInRange : List CondOp → Type 0
 OpsInRange ops = AllByRecursion OpInRange ops
 
@@ -215,12 +218,15 @@ work_same _ _ r t h k e = cc
 work_code : IsCode IsFitWork work_bytes
 work_code = record { same = work_same }
 
+-- a job's fields in the order of their bytes
 abbrev JobFields : Type 0
 JobFields = (((((((ℕ × ℕ) × List ℕ) × ℕ) × Work) × List ℕ) × List CondOp) × Recovery) × List Dep
 
+-- the fields of a job
 abbrev job_fields : JobDoc → JobFields
 job_fields d = ((((((((d.no, d.ws), d.name), d.priority), d.work), d.logon), d.cond), d.recovery), d.deps)
 
+-- the job of these fields
 abbrev job_of_fields : JobFields → JobDoc
 job_of_fields p =
     record {
@@ -235,6 +241,7 @@ job_of_fields p =
       deps = p.1;
     }
 
+-- a job that is fit and in range
 abbrev JobFits : JobDoc → Type 0
 JobFits d = IsFitJob d × JobInRange d
 
@@ -266,12 +273,15 @@ job_same x y r t h k e =
 job_code : IsCode JobFits job_doc_bytes
 job_code = record { same = job_same }
 
+-- a stream's fields in the order of their bytes
 abbrev StreamFields : Type 0
 StreamFields = ((((((ℕ × ℕ) × List ℕ) × ℕ) × Option ℕ) × Bool) × List Dep) × List JobDoc
 
+-- the fields of a stream
 abbrev stream_fields : StreamDoc → StreamFields
 stream_fields d = (((((((d.no, d.ws), d.name), d.priority), d.limit), d.carry), d.deps), d.jobs)
 
+-- the stream of these fields
 abbrev stream_of_fields : StreamFields → StreamDoc
 stream_of_fields p =
     record {
@@ -285,6 +295,7 @@ stream_of_fields p =
       jobs = p.1;
     }
 
+-- a stream that is fit and in range
 abbrev pub StreamFits : StreamDoc → Type 0
 StreamFits d = IsFitStream d × StreamInRange d
 
@@ -313,12 +324,15 @@ stream_same x y r t h k e =
 pub stream_code : IsCode StreamFits stream_doc_bytes
 stream_code = record { same = stream_same }
 
+-- a job draft's fields in the order of their bytes
 abbrev JobDraftFields : Type 0
 JobDraftFields = ((((((ℕ × List ℕ) × ℕ) × Work) × List ℕ) × List CondOp) × Recovery) × List DraftDep
 
+-- the fields of a job draft
 abbrev job_draft_fields : JobDraft → JobDraftFields
 job_draft_fields d = (((((((d.ws, d.name), d.priority), d.work), d.logon), d.cond), d.recovery), d.deps)
 
+-- the job draft of these fields
 abbrev job_draft_of_fields : JobDraftFields → JobDraft
 job_draft_of_fields p =
     record {
@@ -332,6 +346,7 @@ job_draft_of_fields p =
       deps = p.1;
     }
 
+-- a job draft that is fit and in range
 abbrev JobDraftFits : JobDraft → Type 0
 JobDraftFits d = IsFitJobDraft d × JobDraftInRange d
 
@@ -359,12 +374,15 @@ job_draft_same x y r t h k e =
 job_draft_code : IsCode JobDraftFits job_draft_bytes
 job_draft_code = record { same = job_draft_same }
 
+-- a stream draft's fields in the order of their bytes
 abbrev DraftFields : Type 0
 DraftFields = (((((ℕ × List ℕ) × ℕ) × Option ℕ) × Bool) × List DraftDep) × List JobDraft
 
+-- the fields of a stream draft
 abbrev draft_fields : StreamDraft → DraftFields
 draft_fields d = ((((((d.ws, d.name), d.priority), d.limit), d.carry), d.deps), d.jobs)
 
+-- the stream draft of these fields
 abbrev draft_of_fields : DraftFields → StreamDraft
 draft_of_fields p =
     record {
@@ -377,6 +395,7 @@ draft_of_fields p =
       jobs = p.1;
     }
 
+-- a stream draft that is fit and in range
 abbrev pub DraftFits : StreamDraft → Type 0
 DraftFits d = IsFitDraft d × DraftInRange d
 

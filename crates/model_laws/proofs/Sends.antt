@@ -158,6 +158,7 @@ done_few : (net : Net) (V : View) (w : ℕ) (s : Session) (i : Input) → step_f
 unfolding effect
 done_few net V w s i none = outs_few net V _ w s _ i _ none
 
+-- the answer of a step that is taken
 abbrev pub taken_as : Effect → Result Effect StepFault
 taken_as d = Ok d
 
@@ -204,6 +205,7 @@ entry_few net x w i none = go (makes net w (view_at x w) (x.sessions w) i) refl
         leb-true (entry_size f) 4194304 (and_right (nat_le f.place 4294967295) _
         (made_sized net (view_at x w) w (x.sessions w) i f none e))
 
+-- y comes from x, where no limit was reached, by at most eight packets for each of m neighbours and one entry
 pub record Adds (x y : World) (m : ℕ) : Type 0 where
   pub sent_few : y.sent ≤ x.sent + 8 * m
   pub kept_few : y.kept ≤ x.kept + 4194304

@@ -13,6 +13,7 @@ use Rattle.model.specs.Spelling.{job_draft_bytes, stream_draft_bytes, cmd_bytes,
 abbrev digit : ℕ → ℕ
 digit c = cond (nat_le c 57) (c - 48) (c - 87)
 
+-- bytes from digits in pairs
 abbrev pairs : List ℕ → List ℕ
 pairs [] = []
 pairs (c ∷ []) = []
@@ -22,6 +23,7 @@ pairs (c ∷ d ∷ cs) = (digit c * 16 + digit d) ∷ pairs cs
 abbrev pub hex : List ℕ → List ℕ
 hex text = pairs (filter (λ c. not (c == 32)) text)
 
+-- an event of the master
 abbrev pub event : ℕ → Body → Entry
 event place body = record { feed = Events 0; place = place; body = body }
 
@@ -47,6 +49,7 @@ deps =
     ∷ Outside (codes "/x")
     ∷ []
 
+-- a job with a condition
 abbrev job_doc : JobDoc
 job_doc =
     record {
@@ -61,6 +64,7 @@ job_doc =
       deps = [];
     }
 
+-- a stream with that job and each dependency
 abbrev stream_doc : StreamDoc
 stream_doc =
     record {
@@ -88,6 +92,7 @@ planned : entry_bytes (event 4 (NewPlan 2 ((0, 3) ∷ (1, 256) ∷ []) (258 ∷ 
 unfolding entry_bytes body_bytes
 planned = refl
 
+-- a job draft with a script
 abbrev job_draft : JobDraft
 job_draft =
     record {
@@ -101,6 +106,7 @@ job_draft =
       deps = Plain (At 3) ∷ [];
     }
 
+-- a stream draft that follows a stream and a job by name
 abbrev stream_draft : StreamDraft
 stream_draft =
     record {

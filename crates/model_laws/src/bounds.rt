@@ -1,5 +1,6 @@
 //! The laws of a world's limits: what they bound, and which steps they refuse.
-ghost use Rattle.std.specs.Prelude.{◌≡◌, ◌≢◌, ◌↔◌, ℕ, ◌+◌, ◌*◌, ◌<◌, ◌≤◌, IsTrue, List, Ok, Err, Some, length, count_by};
+ghost use Rattle.std.specs.Prelude.{◌≡◌, ◌≢◌, ◌↔◌, ℕ, ◌+◌, ◌*◌, ◌<◌, ◌≤◌, IsTrue, List, Ok, Err, Some};
+ghost use Rattle.std.specs.Prelude.{length, count_by};
 ghost use Rattle.model.specs.Types.{Input, Net, WorldStep, LimitName};
 ghost use Rattle.model.specs.Network.{node_count, hop};
 ghost use Rattle.model.specs.History.{View};
@@ -32,7 +33,8 @@ pub fn worlds_keep_few_bytes()
 /// 200,000 steps, else 20,000,000 packets, else 268,435,456 bytes.
 pub fn limits_refuse_once_reached()
     ensures steps { (net : Net) (x : World) (s : WorldStep)
-        → (step net x s ≡ Err (StepRefused.Limit LimitName.Steps)) ↔ (IsTrue (has_its_packet x s) × (200000 ≤ x.taken)) }
+        → (step net x s ≡ Err (StepRefused.Limit LimitName.Steps))
+        ↔ (IsTrue (has_its_packet x s) × (200000 ≤ x.taken)) }
     ensures packets { (net : Net) (x : World) (s : WorldStep)
         → (step net x s ≡ Err (StepRefused.Limit LimitName.Packets))
         ↔ (IsTrue (has_its_packet x s) × ((x.taken < 200000) × (20000000 ≤ x.sent))) }

@@ -1,0 +1,5 @@
+pub mod Digits
+pub mod Escapes
+pub mod Feeds
+pub mod Minus
+pub mod Openings

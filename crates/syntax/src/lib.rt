@@ -1,0 +1,17 @@
+//! Lines, words, names, numbers and quoted texts, each read exactly.
+//!
+//! Each call says what its text holds by one definition on bytes. What allocates answers `NoMemory` where memory runs
+//! out, and for no other cause.
+#![tactic(auto)]
+
+mod names;
+mod numbers;
+mod quotes;
+mod splits;
+#[cfg(test)]
+mod tests;
+
+pub use names::name;
+pub use numbers::{number_i32, number_u32, number_u64};
+pub use quotes::quoted;
+pub use splits::{first_word, lines, words};

@@ -1,0 +1,5 @@
+pub mod Dues
+pub mod Nights
+pub mod RecordLoop
+pub mod RecordSpelling
+pub mod RecordText

@@ -1,0 +1,12 @@
+//! The top call of the program: its words, its input, what it writes and what it answers.
+#![tactic(auto)]
+
+mod night;
+mod record;
+mod replies;
+mod report;
+#[cfg(test)]
+mod tests;
+mod top;
+
+pub use top::tws;

@@ -1,0 +1,179 @@
+//! What the program answers over sources and sinks in memory.
+use crate::tws;
+use base_types::{Bytes, Items, Text};
+use outside_mem::{MemSink, MemSource};
+use std::alloc::Global;
+use std::test::Fail;
+
+const NIGHT: &str =
+    "$NETWORK\nws M\n$PLAN\nstream M S\njob M A\ndo \"echo a\"\n$STEPS\nnext\nturn M 100\nturn M 100\nended M 1 0\nturn M 100\n";
+
+const NIGHT_REPORT: &str =
+    "events 5\nM 1 newplan 1 cut - carried - fresh 1\nM 2 released 1 seen M:1\nM 3 launched 1 1 seen M:2\nM 4 ended 1 1 rc 0 good\nM 5 streamended 1 seen M:4\nstarts 1\nM 1 1\nnode M\nholds M 5\nplan 1\ncpu M fence 0 limit 10 clock 0 running\nstream 1 M#S SUCC\njob 1 M#S.A SUCC 1\n";
+
+const FOLLOWED: &str =
+    "$NETWORK\nws M\n$PLAN\nstream M S\njob M A\njob M B\nfollows A\n$STEPS\nnext\nturn M 1\nturn M 1\nturn M 1\nended M 1 0\nturn M 1\nended M 2 0\nturn M 1\n";
+
+const FOLLOWED_REPORT: &str =
+    "events 7\nM 1 newplan 1 cut - carried - fresh 1\nM 2 released 1 seen M:1\nM 3 launched 1 1 seen M:2\nM 4 ended 1 1 rc 0 good\nM 5 launched 2 1 seen M:4\nM 6 ended 2 1 rc 0 good\nM 7 streamended 1 seen M:6\nstarts 2\nM 1 1\nM 2 1\nnode M\nholds M 7\nplan 1\ncpu M fence 0 limit 10 clock 0 running\nstream 1 M#S SUCC\njob 1 M#S.A SUCC 1\njob 2 M#S.B SUCC 1\n";
+
+const REFUSED: &str = "record refused\n";
+
+/// The n-th call to fail, 0 for none.
+fn calls(alloc: Global, n: u32) -> Result<Items<u32>, Fail> {
+    let mut calls = Items::new(alloc);
+    if n > 0 {
+        calls.push(n)?;
+    }
+    Ok(calls)
+}
+
+fn bytes_of(alloc: Global, text: &str) -> Result<Bytes, Fail> {
+    let mut bytes = Items::new(alloc);
+    for b in text.as_bytes() {
+        bytes.push(*b)?;
+    }
+    Ok(bytes)
+}
+
+/// The status, and whether this text was written and no other, where the n-th read and the m-th write fail.
+fn says(
+    alloc: Global,
+    words: &str,
+    input: Bytes,
+    failing: (u32, u32),
+    text: &str,
+) -> Result<(u8, bool), Fail> {
+    let mut list = Vec::new(alloc);
+    for word in words.split(' ') {
+        list.push(Text::of(alloc, word)?)?;
+    }
+    let mut source = MemSource::new(input, calls(alloc, failing.0)?);
+    let mut sink = MemSink::new(alloc, calls(alloc, failing.1)?, 4096)?;
+    let status = tws(alloc, list.as_slice(), &mut source, &mut sink);
+    Ok((status, sink.bytes() == text.as_bytes()))
+}
+
+fn replays(alloc: Global, input: &str, text: &str) -> Result<(u8, bool), Fail> {
+    says(alloc, "replay", bytes_of(alloc, input)?, (0, 0), text)
+}
+
+#[test]
+fn a_night_is_reported(rt: HostRuntime) -> Result<(), Fail> {
+    let alloc = rt.alloc();
+    assert_eq!(rt; replays(alloc, NIGHT, NIGHT_REPORT)?, (0, true));
+    assert_eq!(rt; replays(alloc, FOLLOWED, FOLLOWED_REPORT)?, (0, true));
+    Ok(())
+}
+
+#[test]
+fn comments_and_empty_lines_are_skipped(rt: HostRuntime) -> Result<(), Fail> {
+    let alloc = rt.alloc();
+    let input =
+        "# a night\n\n$NETWORK\nws m\n#\n$PLAN\nstream m s\njob M a\n\ndo \"echo a\"\n$STEPS\nnext\n# turns\nturn m 100\nturn M 100\n\nended m 1 0\nturn M 100";
+    assert_eq!(rt; replays(alloc, input, NIGHT_REPORT)?, (0, true));
+    Ok(())
+}
+
+#[test]
+fn what_is_no_record_is_refused(rt: HostRuntime) -> Result<(), Fail> {
+    let alloc = rt.alloc();
+    assert_eq!(rt; replays(alloc, "", REFUSED)?, (3, true));
+    assert_eq!(rt;
+        replays(alloc, "$NETWORK\nws M\n$STEPS\n", REFUSED)?,
+        (3, true)
+    );
+    let twice = "$NETWORK\nws M\n$PLAN\nstream M S\njob M A\n$STEPS\nnext\nnext\n";
+    assert_eq!(rt; replays(alloc, twice, REFUSED)?, (3, true));
+    let not_launched = "$NETWORK\nws M\n$PLAN\nstream M S\njob M A\n$STEPS\nnext\nended M 1 0\n";
+    assert_eq!(rt; replays(alloc, not_launched, REFUSED)?, (3, true));
+    Ok(())
+}
+
+#[test]
+fn other_words_are_refused(rt: HostRuntime) -> Result<(), Fail> {
+    let alloc = rt.alloc();
+    let night = bytes_of(alloc, NIGHT)?;
+    let said = says(alloc, "replay now", night, (1, 0), "words refused\n")?;
+    assert_eq!(rt; said, (2, true));
+    let said = says(
+        alloc,
+        "REPLAY",
+        Items::new(alloc),
+        (0, 0),
+        "words refused\n",
+    )?;
+    assert_eq!(rt; said, (2, true));
+    let said = says(alloc, "replay now", Items::new(alloc), (0, 1), "")?;
+    assert_eq!(rt; said, (5, true));
+    Ok(())
+}
+
+/// The whole input is read by the first call, its end by the second, and the report is written by one call.
+#[test]
+fn each_call_may_fail(rt: HostRuntime) -> Result<(), Fail> {
+    let alloc = rt.alloc();
+    for n in 1..6 {
+        let night = bytes_of(alloc, NIGHT)?;
+        let (text, status) = if n < 3 { ("", 4) } else { (NIGHT_REPORT, 0) };
+        assert_eq!(rt; says(alloc, "replay", night, (n, 0), text)?, (status, true));
+        let night = bytes_of(alloc, NIGHT)?;
+        let (text, status) = if n < 2 { ("", 5) } else { (NIGHT_REPORT, 0) };
+        assert_eq!(rt; says(alloc, "replay", night, (0, n), text)?, (status, true));
+    }
+    Ok(())
+}
+
+/// An input of comments, of this many bytes.
+fn comments(alloc: Global, count: u32) -> Result<Bytes, Fail> {
+    let mut bytes = Items::new(alloc);
+    for _ in 0..count {
+        bytes.push(b'#')?;
+    }
+    Ok(bytes)
+}
+
+#[test]
+fn an_input_has_a_limit(rt: HostRuntime) -> Result<(), Fail> {
+    let alloc = rt.alloc();
+    let said = says(
+        alloc,
+        "replay",
+        comments(alloc, 16_777_216)?,
+        (0, 0),
+        REFUSED,
+    )?;
+    assert_eq!(rt; said, (3, true));
+    let limit = "limit: input 16777216\n";
+    let said = says(alloc, "replay", comments(alloc, 16_777_217)?, (0, 0), limit)?;
+    assert_eq!(rt; said, (10, true));
+    Ok(())
+}
+
+/// A record whose steps are the plan, so many turns, and the end of a job that is not launched.
+fn turns(alloc: Global, count: u32) -> Result<Bytes, Fail> {
+    let mut bytes = bytes_of(
+        alloc,
+        "$NETWORK\nws M\n$PLAN\nstream M S\njob M A\nfollows A\n$STEPS\nnext\n",
+    )?;
+    for _ in 0..count {
+        for b in b"turn M 1\n" {
+            bytes.push(*b)?;
+        }
+    }
+    for b in b"ended M 1 0\n" {
+        bytes.push(*b)?;
+    }
+    Ok(bytes)
+}
+
+#[test]
+fn steps_have_a_limit(rt: HostRuntime) -> Result<(), Fail> {
+    let alloc = rt.alloc();
+    let said = says(alloc, "replay", turns(alloc, 199_998)?, (0, 0), REFUSED)?;
+    assert_eq!(rt; said, (3, true));
+    let limit = "limit: steps 200000\n";
+    let said = says(alloc, "replay", turns(alloc, 199_999)?, (0, 0), limit)?;
+    assert_eq!(rt; said, (10, true));
+    Ok(())
+}

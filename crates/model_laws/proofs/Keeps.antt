@@ -15,7 +15,7 @@ use Rattle.model_laws.proofs.Each.{both_step}
 use Rattle.model_laws.proofs.Formed.{entry_formed}
 use Rattle.model_laws.proofs.Launches.{owned_from, all_tidy, all_started, all_live}
 use Rattle.model_laws.proofs.Limits.{sized_step}
-use Rattle.model_laws.proofs.Lively.{Knows, knows_step, entry_names}
+use Rattle.model_laws.proofs.LiveSteps.{Knows, knows_step, entry_names}
 use Rattle.model_laws.proofs.Numbers.{catalogued_step}
 use Rattle.model_laws.proofs.Orders.{entry_answers}
 use Rattle.model_laws.proofs.Owned.{LaunchOwned, Owning, owning_step}

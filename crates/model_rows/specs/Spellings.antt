@@ -5,7 +5,9 @@ use Rattle.model.specs.Types.{Entry, Events, Orders, Body, Added, Clock, Release
 use Rattle.model.specs.Types.{UntilPassed, Fulfilled, Order, ReplyOwn, Submit, Why, NotBuilt, Job, Stream, Canc}
 use Rattle.model.specs.Types.{Cont, Dep, FollowsJob, FollowsStream, Needs, Prompt, At, Until, Outside, Global, Own}
 use Rattle.model.specs.Types.{Follows, Plain, Command, Script, Recovery, Cmp, Le, Ne, And, Not, JobDoc, StreamDoc}
-use Rattle.model.specs.Types.{JobDraft, StreamDraft, Stop, SwitchMgr, Obeyed, Launched}
+use Rattle.model.specs.Types.{JobDraft, StreamDraft, Stop, SwitchMgr, Obeyed, Launched, StreamEnded, Started, Failed}
+use Rattle.model.specs.Types.{Lost, Cmd, AddDep, DelDep, Release, AltPri, Cancel, Confirm, Kill, Rerun, Fence, Limit}
+use Rattle.model.specs.Types.{StreamLimit, Total, ReplyGlobal}
 use Rattle.model.specs.Spelling.{dep_bytes, draft_dep_bytes, cond_bytes, job_doc_bytes, stream_doc_bytes}
 use Rattle.model.specs.Spelling.{job_draft_bytes, stream_draft_bytes, cmd_bytes, body_bytes, entry_bytes}
 
@@ -160,6 +162,80 @@ declined_over : entry_bytes (event 11 (Declined 3 6 Why.Ended))
     ≡ hex (codes "01 00 0000 0000000b 0e 0003 00000006 06")
 unfolding entry_bytes body_bytes
 declined_over = refl
+
+stream_ended : entry_bytes (event 12 (StreamEnded 258 ((0, 5) ∷ (2, 1) ∷ [])))
+    ≡ hex (codes "01 00 0000 0000000c 05 00000102 00000002 0000 00000005 0002 00000001")
+unfolding entry_bytes body_bytes
+stream_ended = refl
+
+started : entry_bytes (event 13 (Started 9 1)) ≡ hex (codes "01 00 0000 0000000d 08 00000009 00000001")
+unfolding entry_bytes body_bytes
+started = refl
+
+failed : entry_bytes (event 14 (Failed 9 2)) ≡ hex (codes "01 00 0000 0000000e 09 00000009 00000002")
+unfolding entry_bytes body_bytes
+failed = refl
+
+lost : entry_bytes (event 15 (Lost 9 3)) ≡ hex (codes "01 00 0000 0000000f 0b 00000009 00000003")
+unfolding entry_bytes body_bytes
+lost = refl
+
+-- the commands in their order, but for those above and below
+add_a_dependency : cmd_bytes (AddDep (Stream 258) (Needs 3 2)) ≡ hex (codes "01 01 00000102 03 0003 0002")
+unfolding cmd_bytes dep_bytes
+add_a_dependency = refl
+
+waive_a_dependency : cmd_bytes (DelDep (Job 9) 260) ≡ hex (codes "02 00 00000009 0104")
+unfolding cmd_bytes
+waive_a_dependency = refl
+
+release_a_stream : cmd_bytes (Release (Stream 258)) ≡ hex (codes "03 01 00000102")
+unfolding cmd_bytes
+release_a_stream = refl
+
+alter_a_priority : cmd_bytes (AltPri (Job 9) 101) ≡ hex (codes "04 00 00000009 65")
+unfolding cmd_bytes
+alter_a_priority = refl
+
+cancel_a_stream : cmd_bytes (Cancel (Stream 258)) ≡ hex (codes "05 01 00000102")
+unfolding cmd_bytes
+cancel_a_stream = refl
+
+confirm_a_job : cmd_bytes (Confirm 65538) ≡ hex (codes "06 00010002")
+unfolding cmd_bytes
+confirm_a_job = refl
+
+kill_a_job : cmd_bytes (Kill 9) ≡ hex (codes "07 00000009")
+unfolding cmd_bytes
+kill_a_job = refl
+
+rerun_a_job : cmd_bytes (Rerun 9) ≡ hex (codes "08 00000009")
+unfolding cmd_bytes
+rerun_a_job = refl
+
+set_the_fence : cmd_bytes (Fence 100) ≡ hex (codes "09 64")
+unfolding cmd_bytes
+set_the_fence = refl
+
+set_the_limit : cmd_bytes (Limit 1024) ≡ hex (codes "0a 0400")
+unfolding cmd_bytes
+set_the_limit = refl
+
+set_a_streams_limit : cmd_bytes (StreamLimit 258 3) ≡ hex (codes "0b 00000102 0003")
+unfolding cmd_bytes
+set_a_streams_limit = refl
+
+set_a_total : cmd_bytes (Total 2 1024) ≡ hex (codes "0c 0002 0400")
+unfolding cmd_bytes
+set_a_total = refl
+
+reply_to_a_global_prompt : cmd_bytes (ReplyGlobal 2 false) ≡ hex (codes "0d 0002 00")
+unfolding cmd_bytes
+reply_to_a_global_prompt = refl
+
+start_a_workstation : cmd_bytes Cmd.Start ≡ hex (codes "0f")
+unfolding cmd_bytes
+start_a_workstation = refl
 
 -- the last of the commands
 switched : body_bytes (Order (SwitchMgr 1)) ≡ hex (codes "0f 12 0001")

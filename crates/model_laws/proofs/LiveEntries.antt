@@ -11,7 +11,6 @@ use Rattle.std.specs.Prelude.{IfSome, find, eqb, ℤ}
 use Rattle.model.specs.Types.{Feed, Events, Orders, Entry, Body, Started, Failed, Ended, Lost, Order, Net, LiveJob}
 use Rattle.model.specs.Types.{Local, StreamDraft, Cmd}
 use Rattle.model.specs.History.{list_of, view, Holding}
-use Rattle.model.specs.Catalogue.{job}
 use Rattle.model.specs.Facts.{launches, open_launch, is_open, is_start_of}
 use Rattle.model.specs.NewPlan.{plan_of}
 use Rattle.model.specs.Turn.{is_alive}

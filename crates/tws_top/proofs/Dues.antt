@@ -3,6 +3,7 @@ use Rattle.std.proofs.Common.{◌≡◌, ◌==◌, ◌+◌, ◌<◌, ◌≤◌, 
 use Rattle.std.specs.Prelude.{nat_le}
 use Rattle.std.specs.Io.KnownBytes.{Appends}
 use Rattle.std.proofs.lemmas.Bool.Decides.{nat_tests, Decides-eqb}
+use Rattle.outside.specs.Causes.{Rose}
 use Rattle.outside.specs.Streams.{Stream, TakesAll}
 use Rattle.whole_io.specs.Whole.{TakesCount}
 use Rattle.tws_top.specs.declared.record.Record.{Record}
@@ -202,3 +203,12 @@ module _ (words : List (List ℕ)) (old new : Option Stream) (status : ℕ) (tex
 pub due_input : (words : List (List ℕ)) (old new : Option Stream) (status : ℕ) (text said : List ℕ)
     → is_replay words ≡ true → ReadCallsFor old new status text → said ≡ text → Due words old new status said
 due_input words old new status text said replay called same = rw same (Due.by_input replay called)
+
+-- a report that is due is said, where the sink does not fail
+pub report_said : (source : Stream) (new : Option Stream) (r : Record) (w : World) (text : List ℕ) (status result : ℕ)
+    (written written' : Option (List ℕ)) (faults faults' : ℕ)
+    → ReadCallsFor (Some source) new status text → length source.left ≤ 16777216 → IsRecord source.left r → run_of r ≡ Ran w
+    → Says status text result written written' faults faults' → (Rose faults faults' → ⊥) → result ≡ 0
+report_said source new r w text status result written written' faults faults' called short spelled run says calm =
+    let due = read_left source new text (report_of r w) status 0 called (LeftCallsFor.read short (ran r w spelled run)) in
+    (says.all (λ e. calm (says.fault e))).0 ∙ due.0

@@ -1,8 +1,13 @@
 //! The top call.
-ghost use Rattle.std.specs.Prelude.{◌≡◌, ◌≢◌, ◌⊎◌, ◌≤◌, ℕ, List, Some, true, false};
+ghost use Rattle.std.specs.Prelude.{◌≡◌, ◌≢◌, ◌⊎◌, ◌≤◌, ℕ, List, length, Some, true, false};
 ghost use Rattle.std.specs.Io.KnownBytes.{Keeps};
 ghost use Rattle.outside.specs.Causes.{Rose};
 ghost use Rattle.outside.specs.Streams.{Stream};
+ghost use Rattle.tws_top.specs.declared.record.Record.{Record};
+ghost use Rattle.tws_top.specs.declared.night.world.World.{World};
+ghost use Rattle.tws_top.specs.declared.night.world.Outcome.TheVariants.{Ran};
+ghost use Rattle.tws_top.specs.Record.{IsRecord};
+ghost use Rattle.tws_top.specs.Night.Steps.{run_of};
 ghost use Rattle.tws_top.specs.Answer.{is_replay, Due, Says, Replays, Refuses, PassesLimit, LeftCallsFor};
 
 use crate::replies::{Silence, reply_to_input};
@@ -58,6 +63,12 @@ pub fn tws<I: Source, O: Sink>(alloc: Global, words: &[Text], input: &mut I, out
     ensures exact { (source : Stream) → I.stream input.old ≡ Some source → is_replay words.now ≡ true
         → (status : ℕ) (text : List ℕ) → LeftCallsFor source.left status text → result ≢ 4 → result ≢ 9
         → Says status text result (O.written out.old) (O.written out.new) (O.faults out.old) (O.faults out.new) }
+
+    // With none of the causes, the answer is 0, or 9 for want of memory.
+    ensures complete { (source : Stream) (r : Record) (w : World) → I.stream input.old ≡ Some source
+        → is_replay words.now ≡ true → length source.left ≤ 16777216 → IsRecord source.left r → run_of r ≡ Ran w
+        → (Rose (I.faults input.old) (I.faults input.new) → ⊥) → (Rose (O.faults out.old) (O.faults out.new) → ⊥)
+        → (result ≡ 0) ⊎ (result ≡ 9) }
 
     // The statuses one by one.
     ensures done { result ≡ 0 → Replays (I.stream input.old) (I.stream input.new) (O.written out.old) (O.written out.new) }

@@ -1,5 +1,6 @@
 -- Reading one line after another.
-use Rattle.std.proofs.Common.{◌≡◌, ◌<◌, ◌≤◌, ◌+◌, ℕ, List, length, map, drop, get_or, Option, Some, None, refl, add-one, drop-cons}
+use Rattle.std.proofs.Common.{◌≡◌, ◌<◌, ◌≤◌, ◌+◌, ℕ, List, length, map, drop, get_or, Option, Some, None, refl}
+use Rattle.std.proofs.Common.{add-one, drop-cons}
 use Rattle.std.proofs.Math.ListN.{get_or-map, drop_of_length-le}
 use Rattle.std.proofs.lemmas.List.{length-map}
 use Rattle.tws_top.specs.declared.record.places.SoFar.{SoFar}

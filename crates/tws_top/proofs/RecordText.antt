@@ -1,5 +1,6 @@
 -- The machine finds a record exactly where the bytes are one.
-use Rattle.std.proofs.Common.{◌≡◌, ◌≢◌, ◌≤◌, ℕ, List, [], ◌∷◌, map, length, Option, Some, None, Bool, true, false, cond, not, sym, ap, ◌∙◌, refl, arith, IfSome, IsNone}
+use Rattle.std.proofs.Common.{◌≡◌, ◌≢◌, ◌≤◌, ℕ, List, [], ◌∷◌, map, length, Option, Some, None, Bool, true, false}
+use Rattle.std.proofs.Common.{cond, not, sym, ap, ◌∙◌, refl, arith, IfSome, IsNone}
 use Rattle.std.specs.List.{filter}
 use Rattle.std.specs.Str.{IsUtf8}
 use Rattle.std.proofs.lemmas.Bool.Decides.{nat_tests}

@@ -56,7 +56,8 @@ keeps_bounds r =
 abbrev pub read_lines : List ℕ → List (List ℕ)
 read_lines bytes = filter (λ text. not (is_skipped text)) (lines_of bytes)
 
--- The bytes are this record: they are UTF-8, what their lines say is the record's lines, and its jobs keep the bounds.
+-- The bytes are this record: they are UTF-8, what their lines say is the record's lines, and its jobs keep the
+-- bounds.
 pub record IsRecord (bytes : List ℕ) (r : Record) : Type 0 where
   pub utf8 : IsUtf8 bytes
   pub lines : map line_of (read_lines bytes) ≡ map Some (record_lines r)

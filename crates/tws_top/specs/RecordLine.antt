@@ -1,5 +1,6 @@
 -- What a line of a record says.
-use Rattle.std.specs.Prelude.{ℕ, Bool, ◌||◌, ◌==◌, List, length, slice_index, Some, None, codes, option_map, option_and_then, if◌then◌else◌}
+use Rattle.std.specs.Prelude.{ℕ, Bool, ◌||◌, ◌==◌, List, length, slice_index, Some, None, codes, option_map}
+use Rattle.std.specs.Prelude.{option_and_then, if◌then◌else◌}
 use Rattle.std.specs.Str.{bytes_eq}
 use Rattle.std.specs.declared.option.Option.{Option}
 use Rattle.syntax.specs.Names.{name_of}
@@ -7,7 +8,8 @@ use Rattle.syntax.specs.Numbers.{number_of, signed_of}
 use Rattle.syntax.specs.Quotes.{quoted_of}
 use Rattle.syntax.specs.Splits.{first_word, after_word}
 use Rattle.tws_top.specs.declared.record.lines.Line.{Line}
-use Rattle.tws_top.specs.declared.record.lines.Line.TheVariants.{Network, Workstation, Plan, Stream, Job, Do, Follows, Steps, Next, Turn, Ended}
+use Rattle.tws_top.specs.declared.record.lines.Line.TheVariants.{Network, Workstation, Plan, Stream, Job, Do}
+use Rattle.tws_top.specs.declared.record.lines.Line.TheVariants.{Follows, Steps, Next, Turn, Ended}
 
 -- the second answer, of what the first one found
 infixl 10 ◌>>=◌

@@ -5,17 +5,73 @@ use outside_mem::{MemSink, MemSource};
 use std::alloc::Global;
 use std::test::Fail;
 
-const NIGHT: &str =
-    "$NETWORK\nws M\n$PLAN\nstream M S\njob M A\ndo \"echo a\"\n$STEPS\nnext\nturn M 100\nturn M 100\nended M 1 0\nturn M 100\n";
+const NIGHT: &str = "$NETWORK
+ws M
+$PLAN
+stream M S
+job M A
+do \"echo a\"
+$STEPS
+next
+turn M 100
+turn M 100
+ended M 1 0
+turn M 100
+";
 
-const NIGHT_REPORT: &str =
-    "events 5\nM 1 newplan 1 cut - carried - fresh 1\nM 2 released 1 seen M:1\nM 3 launched 1 1 seen M:2\nM 4 ended 1 1 rc 0 good\nM 5 streamended 1 seen M:4\nstarts 1\nM 1 1\nnode M\nholds M 5\nplan 1\ncpu M fence 0 limit 10 clock 0 running\nstream 1 M#S SUCC\njob 1 M#S.A SUCC 1\n";
+const NIGHT_REPORT: &str = "events 5
+M 1 newplan 1 cut - carried - fresh 1
+M 2 released 1 seen M:1
+M 3 launched 1 1 seen M:2
+M 4 ended 1 1 rc 0 good
+M 5 streamended 1 seen M:4
+starts 1
+M 1 1
+node M
+holds M 5
+plan 1
+cpu M fence 0 limit 10 clock 0 running
+stream 1 M#S SUCC
+job 1 M#S.A SUCC 1
+";
 
-const FOLLOWED: &str =
-    "$NETWORK\nws M\n$PLAN\nstream M S\njob M A\njob M B\nfollows A\n$STEPS\nnext\nturn M 1\nturn M 1\nturn M 1\nended M 1 0\nturn M 1\nended M 2 0\nturn M 1\n";
+const FOLLOWED: &str = "$NETWORK
+ws M
+$PLAN
+stream M S
+job M A
+job M B
+follows A
+$STEPS
+next
+turn M 1
+turn M 1
+turn M 1
+ended M 1 0
+turn M 1
+ended M 2 0
+turn M 1
+";
 
-const FOLLOWED_REPORT: &str =
-    "events 7\nM 1 newplan 1 cut - carried - fresh 1\nM 2 released 1 seen M:1\nM 3 launched 1 1 seen M:2\nM 4 ended 1 1 rc 0 good\nM 5 launched 2 1 seen M:4\nM 6 ended 2 1 rc 0 good\nM 7 streamended 1 seen M:6\nstarts 2\nM 1 1\nM 2 1\nnode M\nholds M 7\nplan 1\ncpu M fence 0 limit 10 clock 0 running\nstream 1 M#S SUCC\njob 1 M#S.A SUCC 1\njob 2 M#S.B SUCC 1\n";
+const FOLLOWED_REPORT: &str = "events 7
+M 1 newplan 1 cut - carried - fresh 1
+M 2 released 1 seen M:1
+M 3 launched 1 1 seen M:2
+M 4 ended 1 1 rc 0 good
+M 5 launched 2 1 seen M:4
+M 6 ended 2 1 rc 0 good
+M 7 streamended 1 seen M:6
+starts 2
+M 1 1
+M 2 1
+node M
+holds M 7
+plan 1
+cpu M fence 0 limit 10 clock 0 running
+stream 1 M#S SUCC
+job 1 M#S.A SUCC 1
+job 2 M#S.B SUCC 1
+";
 
 const REFUSED: &str = "record refused\n";
 
@@ -69,8 +125,24 @@ fn a_night_is_reported(rt: HostRuntime) -> Result<(), Fail> {
 #[test]
 fn comments_and_empty_lines_are_skipped(rt: HostRuntime) -> Result<(), Fail> {
     let alloc = rt.alloc();
-    let input =
-        "# a night\n\n$NETWORK\nws m\n#\n$PLAN\nstream m s\njob M a\n\ndo \"echo a\"\n$STEPS\nnext\n# turns\nturn m 100\nturn M 100\n\nended m 1 0\nturn M 100";
+    let input = "# a night
+
+$NETWORK
+ws m
+#
+$PLAN
+stream m s
+job M a
+
+do \"echo a\"
+$STEPS
+next
+# turns
+turn m 100
+turn M 100
+
+ended m 1 0
+turn M 100";
     assert_eq!(rt; replays(alloc, input, NIGHT_REPORT)?, (0, true));
     Ok(())
 }
@@ -83,9 +155,25 @@ fn what_is_no_record_is_refused(rt: HostRuntime) -> Result<(), Fail> {
         replays(alloc, "$NETWORK\nws M\n$STEPS\n", REFUSED)?,
         (3, true)
     );
-    let twice = "$NETWORK\nws M\n$PLAN\nstream M S\njob M A\n$STEPS\nnext\nnext\n";
+    let twice = "$NETWORK
+ws M
+$PLAN
+stream M S
+job M A
+$STEPS
+next
+next
+";
     assert_eq!(rt; replays(alloc, twice, REFUSED)?, (3, true));
-    let not_launched = "$NETWORK\nws M\n$PLAN\nstream M S\njob M A\n$STEPS\nnext\nended M 1 0\n";
+    let not_launched = "$NETWORK
+ws M
+$PLAN
+stream M S
+job M A
+$STEPS
+next
+ended M 1 0
+";
     assert_eq!(rt; replays(alloc, not_launched, REFUSED)?, (3, true));
     Ok(())
 }

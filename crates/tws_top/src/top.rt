@@ -71,14 +71,18 @@ pub fn tws<I: Source, O: Sink>(alloc: Global, words: &[Text], input: &mut I, out
         → (result ≡ 0) ⊎ (result ≡ 9) }
 
     // The statuses one by one.
-    ensures done { result ≡ 0 → Replays (I.stream input.old) (I.stream input.new) (O.written out.old) (O.written out.new) }
+    ensures done { result ≡ 0
+        → Replays (I.stream input.old) (I.stream input.new) (O.written out.old) (O.written out.new) }
     ensures words { result ≡ 2 → is_replay words.now ≡ false }
     ensures no_words { is_replay words.now ≡ false → (result ≡ 2) ⊎ (result ≡ 5) }
-    ensures refused { result ≡ 3 → Refuses (I.stream input.old) (I.stream input.new) (O.written out.old) (O.written out.new) }
+    ensures refused { result ≡ 3
+        → Refuses (I.stream input.old) (I.stream input.new) (O.written out.old) (O.written out.new) }
     ensures source_failed { result ≡ 4 → Rose (I.faults input.old) (I.faults input.new) }
     ensures sink_failed { result ≡ 5 → Rose (O.faults out.old) (O.faults out.new) }
-    ensures limit { result ≡ 10 → PassesLimit (I.stream input.old) (I.stream input.new) (O.written out.old) (O.written out.new) }
-    ensures statuses { (result ≡ 0) ⊎ (result ≡ 2) ⊎ (result ≡ 3) ⊎ (result ≡ 4) ⊎ (result ≡ 5) ⊎ (result ≡ 9) ⊎ (result ≡ 10) }
+    ensures limit { result ≡ 10
+        → PassesLimit (I.stream input.old) (I.stream input.new) (O.written out.old) (O.written out.new) }
+    ensures statuses { (result ≡ 0) ⊎ (result ≡ 2) ⊎ (result ≡ 3) ⊎ (result ≡ 4) ⊎ (result ≡ 5)
+        ⊎ (result ≡ 9) ⊎ (result ≡ 10) }
     ensures silent { (result ≡ 4) ⊎ (result ≡ 9) → Keeps (O.written out.old) (O.written out.new) }
 
     // What is left alone, and what the counts of faults tell.

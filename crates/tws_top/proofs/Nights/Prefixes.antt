@@ -1,5 +1,6 @@
 -- A history that grows by one entry, and the prefix that its decision stands on.
-use Rattle.std.proofs.Common.{◌≡◌, ℕ, suc, Bool, true, false, eqb, arith, [], ◌∷◌, ◌++◌, length, refl, Some, append_assoc, append-nil}
+use Rattle.std.proofs.Common.{◌≡◌, ℕ, suc, Bool, true, false, eqb, arith, [], ◌∷◌, ◌++◌, length, refl, Some}
+use Rattle.std.proofs.Common.{append_assoc, append-nil}
 use Rattle.std.proofs.lemmas.Bool.Decides.{nat_tests}
 use Rattle.std.proofs.Math.Seq.{take-length}
 use Rattle.base_types.specs.declared.Entry.{Entry}
@@ -28,6 +29,7 @@ seen_all [] s h = cc
 seen_all (e ∷ es) s h = rw (some (length es)) refl
 
 -- a decision that holds in the whole history stands on it
-pub stands : (G : History) (s : StreamDoc) (held : History → Bool) → stream G ≡ Some s → held G ≡ true → StandsOn G (seen G) held
+pub stands : (G : History) (s : StreamDoc) (held : History → Bool) → stream G ≡ Some s → held G ≡ true
+    → StandsOn G (seen G) held
 stands G s held planned h =
     rw (seen_all G s planned) (record { counts = refl; held_there = rw (take-length G) h })

@@ -1,5 +1,6 @@
 -- Small facts of tests, options and lists.
-use Rattle.std.proofs.Common.{◌≡◌, Bool, true, false, ◌&&◌, ◌||◌, ◌⊎◌, inl, inr, List, [], ◌∷◌, refl, Option, Some, None, cond}
+use Rattle.std.proofs.Common.{◌≡◌, Bool, true, false, ◌&&◌, ◌||◌, ◌⊎◌, inl, inr, List, [], ◌∷◌, refl, Option, Some}
+use Rattle.std.proofs.Common.{None, cond}
 use Rattle.std.specs.Prelude.{option_map, option_and_then, find, if◌then◌else◌}
 use Rattle.std.specs.Option.{option_map_or}
 
@@ -28,20 +29,24 @@ neither true b h = cc
 neither false b h = (refl, h)
 
 -- a choice by a test, with the test's answer
-pub chosen : {X : Type 0} (b : Bool) (x : X) (o : Option X) (y : X) → (if b then Some x else o) ≡ Some y → ((b ≡ true) × (x ≡ y)) ⊎ (o ≡ Some y)
+pub chosen : {X : Type 0} (b : Bool) (x : X) (o : Option X) (y : X) → (if b then Some x else o) ≡ Some y
+    → ((b ≡ true) × (x ≡ y)) ⊎ (o ≡ Some y)
 chosen true x o y h = inl (refl, cc)
 chosen false x o y h = inr h
 
 -- what is mapped into a value that is there
-pub mapped : {X Y : Type 0} (f : X → Y) (o : Option X) (y : Y) → option_map f o ≡ Some y → (x : X) × (o ≡ Some x) × (f x ≡ y)
+pub mapped : {X Y : Type 0} (f : X → Y) (o : Option X) (y : Y) → option_map f o ≡ Some y
+    → (x : X) × (o ≡ Some x) × (f x ≡ y)
 mapped f None y h = cc
 mapped f (Some x) y h = (x, refl, cc)
 
-pub bound : {X Y : Type 0} (f : X → Option Y) (o : Option X) (y : Y) → option_and_then f o ≡ Some y → (x : X) × (o ≡ Some x) × (f x ≡ Some y)
+pub bound : {X Y : Type 0} (f : X → Option Y) (o : Option X) (y : Y) → option_and_then f o ≡ Some y
+    → (x : X) × (o ≡ Some x) × (f x ≡ Some y)
 bound f None y h = cc
 bound f (Some x) y h = (x, refl, h)
 
-pub tested : {X : Type 0} (p : X → Bool) (o : Option X) → option_map_or p o false ≡ true → (x : X) × (o ≡ Some x) × (p x ≡ true)
+pub tested : {X : Type 0} (p : X → Bool) (o : Option X) → option_map_or p o false ≡ true
+    → (x : X) × (o ≡ Some x) × (p x ≡ true)
 tested p None h = cc
 tested p (Some x) h = (x, refl, h)
 

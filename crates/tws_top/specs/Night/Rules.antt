@@ -1,5 +1,6 @@
 -- What the workstation decides, and what a turn keeps: the body of the first rule that applies.
-use Rattle.std.specs.Prelude.{ℕ, ◌+◌, Bool, false, ◌&&◌, ◌==◌, not, nat_lt, if◌then◌else◌, List, [], ◌∷◌, length, map, find, count_by, Option, Some, option_map, option_and_then, is_some}
+use Rattle.std.specs.Prelude.{ℕ, ◌+◌, Bool, false, ◌&&◌, ◌==◌, not, nat_lt, if◌then◌else◌, List, [], ◌∷◌, length}
+use Rattle.std.specs.Prelude.{map, find, count_by, Option, Some, option_map, option_and_then, is_some}
 use Rattle.std.specs.Option.{option_map_or}
 use Rattle.std.specs.List.{list_all}
 use Rattle.base_types.specs.declared.Body.{Body}
@@ -32,7 +33,8 @@ abbrev pub job_in : List JobDoc → ℕ → Option JobDoc
 job_in jobs j = find (λ (d : JobDoc). d.no == j) jobs
 
 unfoldable pub is_ready : History → ℕ → Bool
-is_ready G j = option_map_or (λ (s : StreamDoc). option_map_or (is_job_ready G s) (job_in s.jobs j) false) (stream G) false
+is_ready G j =
+    option_map_or (λ (s : StreamDoc). option_map_or (is_job_ready G s) (job_in s.jobs j) false) (stream G) false
 
 unfoldable pub may_release_in : History → StreamDoc → Bool
 may_release_in G s = not (is_released s.no G)

@@ -1,5 +1,6 @@
 -- The plan of a record, its steps, and what a list of steps comes to.
-use Rattle.std.specs.Prelude.{ℕ, ◌+◌, false, nat_le, if◌then◌else◌, List, [], ◌∷◌, ◌++◌, length, map, ℤ, pos, Option, Some, None, option_map, unwrap_or, is_some}
+use Rattle.std.specs.Prelude.{ℕ, ◌+◌, false, nat_le, if◌then◌else◌, List, [], ◌∷◌, ◌++◌, length, map, ℤ, pos}
+use Rattle.std.specs.Prelude.{Option, Some, None, option_map, unwrap_or, is_some}
 use Rattle.std.specs.Option.{option_map_or}
 use Rattle.std.specs.Str.{bytes_eq}
 use Rattle.std.specs.Ordering.{int_eq}
@@ -54,7 +55,17 @@ documents_from all n (job ∷ jobs) = document_of_job all n job ∷ documents_fr
 -- the stream of the record as a document of the plan
 abbrev pub document_of : Record → StreamDoc
 document_of r =
-    record { no = 1; ws = 0; name = r.stream; priority = 10; limit = None; carry = false; deps = []; jobs = documents_from r.jobs 1 r.jobs }
+    record {
+      no = 1;
+      ws = 0;
+      name = r.stream;
+      priority = 10;
+      limit = None;
+      carry = false;
+      deps = [];
+      jobs
+          = documents_from r.jobs 1 r.jobs;
+    }
 
 -- before the first step
 abbrev pub empty_world : World
@@ -70,7 +81,8 @@ starts_of (Launched j number seen_) = record { ws = 0; job = j; number = number 
 starts_of _ = []
 
 abbrev pub with_body : World → Body → World
-with_body w body = record { history = w.history ++ entry_after w.history body ∷ []; starts = w.starts ++ starts_of body }
+with_body w body =
+    record { history = w.history ++ entry_after w.history body ∷ []; starts = w.starts ++ starts_of body }
 
 -- a turn keeps the body of the first rule that applies, or nothing
 abbrev pub after_turn : World → World
@@ -79,11 +91,13 @@ after_turn w = option_map_or (with_body w) (turn_body w.history) w
 -- The first `next` makes the plan: run 1, which carries nothing. None where there is a plan already.
 abbrev pub after_next : Record → World → Option World
 after_next r w =
-    if is_some (stream w.history) then None else Some (with_body w (NewPlan 1 (seen w.history) [] (document_of r ∷ [])))
+    if is_some (stream w.history) then None else Some
+    (with_body w (NewPlan 1 (seen w.history) [] (document_of r ∷ [])))
 
 -- The end of the job's open launch, which is good where the return code is 0. None without an open launch.
 abbrev pub after_end : World → ℕ → ℤ → Option World
-after_end w j rc = option_map (λ number. with_body w (Ended j number rc (int_eq rc (pos 0)))) (open_launch j w.history)
+after_end w j rc =
+    option_map (λ number. with_body w (Ended j number rc (int_eq rc (pos 0)))) (open_launch j w.history)
 
 -- the world after a step, where it can be taken
 unfoldable pub take_step : Record → World → Step → Option World

@@ -11,7 +11,8 @@ abbrev pub end_word : Bool → List ℕ
 end_word true = codes "good"
 end_word false = codes "bad"
 
--- Each kind of body that a night of one workstation makes. No entry has a body of another kind, which has no text here.
+-- Each kind of body that a night of one workstation makes. No entry has a body of another kind, which has no text
+-- here.
 unfoldable pub body_text : List ℕ → Body → List ℕ
 body_text W (NewPlan run cut carried streams) =
     codes "newplan " ++ decimal run

@@ -1,5 +1,6 @@
 -- The listing of a plan: the run, the workstation, the stream and its jobs.
-use Rattle.std.specs.Prelude.{ℕ, List, ◌++◌, ◌==◌, if◌then◌else◌, length, codes, filter_map, flat_map, Option, Some, None}
+use Rattle.std.specs.Prelude.{ℕ, List, ◌++◌, ◌==◌, if◌then◌else◌, length, codes, filter_map, flat_map, Option, Some}
+use Rattle.std.specs.Prelude.{None}
 use Rattle.std.specs.Option.{option_map_or}
 use Rattle.std.specs.Fmt.{decimal}
 use Rattle.base_types.specs.declared.Entry.{Entry}

@@ -4,11 +4,17 @@ use Rattle.tws_top.proofs.Dues.{due_input, read_left, says_other, done_said, ref
 use Rattle.tws_top.proofs.top.tws.Goals as goal
 
 pub returns-then-not-is_replay-clause-due : goal.returns-then-not-is_replay-clause-due
-returns-then-not-is_replay-clause-due g c = λ _ _. (2, _, wrong_words (sym c.is_replay.ensures ∙ c.if-not-is_replay.true), c.say.ensures.said)
+returns-then-not-is_replay-clause-due g c =
+    λ _ _. (2, _, wrong_words (sym c.is_replay.ensures ∙ c.if-not-is_replay.true), c.say.ensures.said)
 
 pub returns-in-Ok-clause-due : goal.returns-in-Ok-clause-due
-returns-in-Ok-clause-due g c = λ _ _.
-    (_, _, due_input _ _ _ _ _ _ (sym c.is_replay.ensures ∙ c.if-not-is_replay.false) c.in-Ok.ensures.called (c.as_bytes.ensures.value ∙ c.as_str.ensures), c.say-in-Ok.ensures.said)
+returns-in-Ok-clause-due g c = λ _ _. (
+  _,
+  _,
+  due_input _ _ _ _ _ _ (sym c.is_replay.ensures ∙ c.if-not-is_replay.false) c.in-Ok.ensures.called
+      (c.as_bytes.ensures.value ∙ c.as_str.ensures),
+  c.say-in-Ok.ensures.said,
+)
 
 pub returns-in-Ok-clause-exact : goal.returns-in-Ok-clause-exact
 returns-in-Ok-clause-exact g c = λ source told replay status text left _ _.
@@ -25,14 +31,17 @@ returns-in-Ok-clause-complete g c = λ source r w told replay short spelled run 
 pub returns-in-Ok-clause-done : goal.returns-in-Ok-clause-done
 returns-in-Ok-clause-done g c =
     done_said c.args.words.now _ _ _ _ _ _ _ _ _
-    (due_input _ _ _ _ _ _ (sym c.is_replay.ensures ∙ c.if-not-is_replay.false) c.in-Ok.ensures.called (c.as_bytes.ensures.value ∙ c.as_str.ensures)) c.say-in-Ok.ensures.said
+    (due_input _ _ _ _ _ _ (sym c.is_replay.ensures ∙ c.if-not-is_replay.false) c.in-Ok.ensures.called
+    (c.as_bytes.ensures.value ∙ c.as_str.ensures)) c.say-in-Ok.ensures.said
 
 pub returns-in-Ok-clause-refused : goal.returns-in-Ok-clause-refused
 returns-in-Ok-clause-refused g c =
     refused_said c.args.words.now _ _ _ _ _ _ _ _ _
-    (due_input _ _ _ _ _ _ (sym c.is_replay.ensures ∙ c.if-not-is_replay.false) c.in-Ok.ensures.called (c.as_bytes.ensures.value ∙ c.as_str.ensures)) c.say-in-Ok.ensures.said
+    (due_input _ _ _ _ _ _ (sym c.is_replay.ensures ∙ c.if-not-is_replay.false) c.in-Ok.ensures.called
+    (c.as_bytes.ensures.value ∙ c.as_str.ensures)) c.say-in-Ok.ensures.said
 
 pub returns-in-Ok-clause-limit : goal.returns-in-Ok-clause-limit
 returns-in-Ok-clause-limit g c =
     limit_said c.args.words.now _ _ _ _ _ _ _ _ _
-    (due_input _ _ _ _ _ _ (sym c.is_replay.ensures ∙ c.if-not-is_replay.false) c.in-Ok.ensures.called (c.as_bytes.ensures.value ∙ c.as_str.ensures)) c.say-in-Ok.ensures.said
+    (due_input _ _ _ _ _ _ (sym c.is_replay.ensures ∙ c.if-not-is_replay.false) c.in-Ok.ensures.called
+    (c.as_bytes.ensures.value ∙ c.as_str.ensures)) c.say-in-Ok.ensures.said

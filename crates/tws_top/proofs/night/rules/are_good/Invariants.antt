@@ -6,4 +6,5 @@ use Rattle.tws_top.proofs.night.rules.are_good.Given as goal
 
 abbrev pub invariant-loop-job : goal.invariant-loop-job
 invariant-loop-job l =
-    list_all (λ (d : JobDoc). is_good d.no l.history) l.jobs ≡ list_all (λ (d : JobDoc). is_good d.no l.history) (drop l.job-index l.jobs)
+    list_all (λ (d : JobDoc). is_good d.no l.history) l.jobs ≡ list_all (λ (d : JobDoc). is_good d.no l.history)
+    (drop l.job-index l.jobs)

@@ -6,4 +6,5 @@ use Rattle.tws_top.proofs.night.rules.best.Given as goal
 
 abbrev pub invariant-loop-job : goal.invariant-loop-job
 invariant-loop-job l =
-    find (is_ready l.history) (map (λ (d : JobDoc). d.no) l.stream.jobs) ≡ find (is_ready l.history) (map (λ (d : JobDoc). d.no) (drop l.job-index l.stream.jobs))
+    find (is_ready l.history) (map (λ (d : JobDoc). d.no) l.stream.jobs) ≡ find (is_ready l.history)
+    (map (λ (d : JobDoc). d.no) (drop l.job-index l.stream.jobs))

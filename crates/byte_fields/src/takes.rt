@@ -93,8 +93,10 @@ pub fn take_i32(from: &[u8], at: usize) -> Result<(i32, usize), FieldFault>
     ensures short { IsErr result ↔ (length from.now < at + 4) }
     ensures fault { IfErr result (λ fault. fault ≡ Short) }
 {
-    let (bits, next) = take_u32(from, at)?;
-    Ok((bits as i32, next))
+    match &from[at..] {
+        [a, b, c, d, ..] => Ok((i32::from_be_bytes([*a, *b, *c, *d]), at + 4)),
+        _ => Err(FieldFault::Short),
+    }
 }
 
 /// The text at a place, behind its length in two bytes, and the place behind it.

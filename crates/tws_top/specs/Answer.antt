@@ -45,9 +45,8 @@ pub data Due (words : List (List ℕ)) (old new : Option Stream) : ℕ → List 
   by_input : {status : ℕ} {text : List ℕ} → is_replay words ≡ true → ReadCallsFor old new status text
       → Due words old new status text
 
--- The status is answered and the whole text was written; or 5 is answered, the sink failed, and a front of the text
--- was
--- written.
+-- The status is answered and the whole text was written; or 5 is answered, the sink failed, and a front of the
+-- text was written.
 pub record Says (status : ℕ) (text : List ℕ) (result : ℕ) (written written' : Option (List ℕ)) (faults faults' : ℕ)
     : Type 0 where
   pub all : result ≢ 5 → (result ≡ status) × Appends written written' text
@@ -55,8 +54,7 @@ pub record Says (status : ℕ) (text : List ℕ) (result : ℕ) (written written
   pub front : result ≡ 5 → WritesFront written written' text
 
 -- The input was read to its end as a record, the report of its run was written and nothing else, and the history
--- and the
--- starts of that run are sound.
+-- and the starts of that run are sound.
 pub record Replays (old new : Option Stream) (written written' : Option (List ℕ)) : Type 0 where
   pub bytes : List ℕ
   pub «record» : Record

@@ -32,7 +32,8 @@ pub(crate) fn report(alloc: Global, record: &Record, world: &World) -> Result<St
 
 #[tactic(auto, unfolding(crate::specs::Report::events_part))]
 fn write_events(out: &mut String, workstation: &Text, history: &[Entry]) -> Result<(), AllocError>
-    ensures { OnOk result (string_bytes out.new ≡ string_bytes out.old ++ spec.events_part workstation.now history.now) }
+    ensures { OnOk result (string_bytes out.new ≡ string_bytes out.old
+        ++ spec.events_part workstation.now history.now) }
 {
     write!(out, "events {}\n", history.len())?;
     for entry in history {

@@ -36,7 +36,8 @@ fn is_replay(words: &[Text]) -> bool
 /// Writes the text of a status, and answers the status, or 5 where the sink failed.
 fn say<O: Sink>(out: &mut O, text: &[u8], status: u8) -> u8
     requires { status ≢ 5 }
-    ensures said { Says status text.now result (O.written out.old) (O.written out.new) (O.faults out.old) (O.faults out.new) }
+    ensures said { Says status text.now result (O.written out.old) (O.written out.new)
+        (O.faults out.old) (O.faults out.new) }
     ensures no_fault { result ≢ 5 → O.faults out.new ≡ O.faults out.old }
     ensures later { O.faults out.old ≤ O.faults out.new }
 {

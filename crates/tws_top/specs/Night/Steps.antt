@@ -63,8 +63,7 @@ document_of r =
       limit = None;
       carry = false;
       deps = [];
-      jobs
-          = documents_from r.jobs 1 r.jobs;
+      jobs = documents_from r.jobs 1 r.jobs;
     }
 
 -- before the first step

@@ -1,5 +1,6 @@
 //! The steps of a night, and what a list of steps comes to.
-ghost use Rattle.std.specs.Prelude.{◌≡◌, ◌+◌, ◌-◌, ◌<◌, ◌≤◌, ◌^◌, [], length, IfOk, OnOk, true, false, Some, None, IsTrue, ℕ};
+ghost use Rattle.std.specs.Prelude.{◌≡◌, ◌+◌, ◌-◌, ◌<◌, ◌≤◌, ◌^◌, ℕ};
+ghost use Rattle.std.specs.Prelude.{[], length, IfOk, OnOk, true, false, Some, None, IsTrue};
 ghost use Rattle.tws_top.specs.Night.Rules.{turn_body as turn_body_of};
 ghost use Rattle.tws_top.specs.Night.Steps as steps;
 ghost use Rattle.tws_top.specs.Night.Taking.{Comes};
@@ -136,7 +137,8 @@ fn take_step(
 }
 
 fn is_turn(step: &Step) -> bool
-    ensures { IsTrue result → (t : ℕ) × (step.now ≡ TurnOf t) }
+    ensures turn { IsTrue result → (t : ℕ) × (step.now ≡ TurnOf t) }
+    ensures every { (t : ℕ) → step.now ≡ TurnOf t → IsTrue result }
 {
     matches!(step, Step::Turn(_))
 }

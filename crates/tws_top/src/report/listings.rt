@@ -65,7 +65,8 @@ fn write_stream(
     history: &[Entry],
     stream: &StreamDoc,
 ) -> Result<(), AllocError>
-    ensures { OnOk result (string_bytes out.new ≡ string_bytes out.old ++ spec.stream_lines workstation.now history.now stream.now) }
+    ensures { OnOk result (string_bytes out.new ≡ string_bytes out.old
+        ++ spec.stream_lines workstation.now history.now stream.now) }
 {
     write_stream_line(out, workstation, history, stream)?;
     for job in stream.jobs.as_slice() {
@@ -81,7 +82,8 @@ fn write_stream_line(
     history: &[Entry],
     stream: &StreamDoc,
 ) -> Result<(), AllocError>
-    ensures { OnOk result (string_bytes out.new ≡ string_bytes out.old ++ spec.stream_line workstation.now history.now stream.now) }
+    ensures { OnOk result (string_bytes out.new ≡ string_bytes out.old
+        ++ spec.stream_line workstation.now history.now stream.now) }
 {
     let state = stream_state_word(stream_state(history, stream));
     write!(
@@ -111,7 +113,8 @@ fn write_job_line(
     stream: &StreamDoc,
     job: &JobDoc,
 ) -> Result<(), AllocError>
-    ensures { OnOk result (string_bytes out.new ≡ string_bytes out.old ++ spec.job_line workstation.now history.now stream.now job.now) }
+    ensures { OnOk result (string_bytes out.new ≡ string_bytes out.old
+        ++ spec.job_line workstation.now history.now stream.now job.now) }
 {
     write!(out, "job {} ", job.no.0)?;
     write_full_name(out, workstation, stream, job)?;
@@ -127,7 +130,8 @@ fn write_full_name(
     stream: &StreamDoc,
     job: &JobDoc,
 ) -> Result<(), AllocError>
-    ensures { OnOk result (string_bytes out.new ≡ string_bytes out.old ++ spec.full_name workstation.now stream.now job.now) }
+    ensures { OnOk result (string_bytes out.new ≡ string_bytes out.old
+        ++ spec.full_name workstation.now stream.now job.now) }
 {
     write!(out, "{workstation}#{}.{}", stream.name, job.name)
 }
@@ -139,7 +143,8 @@ fn write_progress(
     stream: &StreamDoc,
     job: &JobDoc,
 ) -> Result<(), AllocError>
-    ensures { OnOk result (string_bytes out.new ≡ string_bytes out.old ++ spec.progress history.now stream.now job.now) }
+    ensures { OnOk result (string_bytes out.new ≡ string_bytes out.old
+        ++ spec.progress history.now stream.now job.now) }
 {
     let state = job_state_word(job_state(history, stream, job));
     let count = launches(history, job.no);

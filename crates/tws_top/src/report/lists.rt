@@ -25,7 +25,8 @@ pub(crate) fn write_numbers(out: &mut String, numbers: &[StreamNo]) -> Result<()
 /// Writes the numbers that streams of a plan have.
 #[tactic(auto, unfolding(crate::specs::Report::Lists::numbers_text))]
 pub(crate) fn write_numbers_of(out: &mut String, streams: &[StreamDoc]) -> Result<(), AllocError>
-    ensures { OnOk result (string_bytes out.new ≡ string_bytes out.old ++ spec.numbers_text (map (λ (s : StreamDoc). s.no) streams.now)) }
+    ensures { OnOk result (string_bytes out.new ≡ string_bytes out.old
+        ++ spec.numbers_text (map (λ (s : StreamDoc). s.no) streams.now)) }
 {
     let [first, rest @ ..] = streams else {
         return out.push_str("-");

@@ -19,7 +19,7 @@ loop-i-preserved-then-is_turn c =
       run =
           c.loop-i.invariant.run ∙ run_taken _ c.loop-i.world c.loop-i.world _ c.loop-i.i c.step-item.result inside
           is c.if-i-ge-STEP_LIMIT.false
-          (quiet_turn _ c.loop-i.world c.step-item.result quiet (c.is_turn.ensures c.if-is_turn.true));
+          (quiet_turn _ c.loop-i.world c.step-item.result quiet (c.is_turn.ensures.turn c.if-is_turn.true));
       few = omega (arith, c.loop-i.invariant.few);
       quiet = c.loop-i.invariant.quiet;
     }

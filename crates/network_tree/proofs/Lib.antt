@@ -3,3 +3,4 @@ pub mod Climbs
 pub mod Trees
 pub mod Fills
 pub mod Lookups
+pub mod Keys

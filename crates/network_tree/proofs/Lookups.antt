@@ -1,18 +1,19 @@
 -- What the calls of a network answer, as the definitions say it.
 use Rattle.std.proofs.Common.{◌≡◌, ◌≢◌, ◌+◌, ◌<◌, ℕ, List, None, Option, Some, ap, arith, get_or, length, map, refl}
 use Rattle.std.proofs.Common.{option_and_then, slice_get, subst, sym, unwrap_or, ◌∙◌, IfSome, IsNone, IsTrue, eqb, inl, inr}
-use Rattle.std.proofs.Common.{is_some, true, false}
-use Rattle.std.proofs.lemmas.Bool.Decides.{eqb_tells}
+use Rattle.std.proofs.Common.{false, is_some, not, true}
+use Rattle.std.proofs.lemmas.Bool.Decides.{eqb_tells, nat_tests}
 use Rattle.std.proofs.lemmas.List.FromFn.{get_or-map-range_with_len, length-map-range_with_len}
 use Rattle.std.proofs.lemmas.Option.{slice_get-get_or}
 use Rattle.std.specs.List.{range_with_len}
-use Rattle.model.specs.Network.{are_neighbours, hop, is_manager, node_count, towards}
+use Rattle.std.specs.Option.{option_eq}
+use Rattle.model.specs.Network.{are_neighbours, hop, is_behind, is_manager, node_count, towards}
 use Rattle.model.specs.Types.{Net}
 use Rattle.model.specs.Words.{below}
 use Rattle.network_tree.specs.Ways.{row, table, way}
 use Rattle.network_tree.proofs.Belows.{numbers-range}
 use Rattle.network_tree.proofs.Trees.{IsTree, are_so, hop_inside, hop_manager, hop_there, root, way_inside, way_there}
-use Rattle.network_tree.proofs.Trees.{way_to_neighbour}
+use Rattle.network_tree.proofs.Trees.{behind_tells, way_to_neighbour}
 
 -- an item of a list over the numbers below
 below_at : {X : Type 0} (f : ℕ → X) (n k : ℕ) → k < n → slice_get (map f (below n)) k ≡ Some (f k)
@@ -91,3 +92,25 @@ module _ (net : Net) (t : IsTree net) where
             inl h ↦ absurd (let none = stays a b h.0 in cc)
           | inr h ↦ are_so net a x (way_to_neighbour net a b x h.1 e)
           ]
+
+  -- one is behind m where the way from m to it is not the hop of m
+  pub behind_is : (n m : ℕ) → n < node_count net → m < node_count net → n ≢ m
+      → not (option_eq eqb (towards net m n) (hop net m)) ≡ is_behind net n m
+  behind_is n m low_n low_m apart =
+      elim (behind_tells net t n m low_n low_m apart) [
+        inl e ↦ ap not (unlike (towards net m n) (hop net m) e.1) ∙ sym e.0
+      | inr e ↦ ap not (alike (towards net m n) (hop net m) e.1) ∙ sym e.0
+      ]
+    where
+      alike : (o p : Option ℕ) → o ≡ p → option_eq eqb o p ≡ true
+      alike None None h = refl
+      alike None (Some y) h = cc
+      alike (Some x) None h = cc
+      alike (Some x) (Some y) h = let k : x ≡ y = cc in grind (arith, nat_tests)
+
+      unlike : (o p : Option ℕ) → (o ≡ p → ⊥) → option_eq eqb o p ≡ false
+      unlike None None h = absurd (h refl)
+      unlike None (Some y) h = refl
+      unlike (Some x) None h = refl
+      unlike (Some x) (Some y) h =
+          elim (eqb_tells x y) [ inl e ↦ absurd (h (ap Some e.1)) | inr e ↦ e.0 ]

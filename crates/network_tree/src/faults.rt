@@ -1,11 +1,14 @@
 //! Why a net is refused.
 ghost use Rattle.std.specs.Prelude.{◌≡◌, ◌≢◌, ◌<◌, ◌≤◌, ◌⊎◌, length, IfErr, OnOk, Some, None};
+ghost use Rattle.std.specs.List.{list_any};
+ghost use Rattle.std.specs.Str.{bytes_eq};
+ghost use Rattle.network_tree.specs.declared.faults.NetFault.TheVariants.{NoMemory as NoRoom};
 ghost use Rattle.network_tree.specs.Faults as spec;
 ghost use Rattle.network_tree.specs.Faults.{first_ws, misses_the_master, net_fault, repeats_a_name};
 
 use crate::hops::{ends_at_master, hop, is_manager};
 use crate::ranges::is_out_of_range;
-use base_types::{Net, NoMemory, Ws};
+use base_types::{Net, NoMemory, Node, Text, Ws};
 use std::alloc::Global;
 
 /// Why a net is refused, in the order in which the causes are tested.
@@ -30,22 +33,29 @@ pub enum NetFault {
 }
 
 impl From<NoMemory> for NetFault {
-    ghost use Rattle.network_tree.specs.declared.faults.NetFault.TheVariants.{NoMemory as WantOfMemory};
+    ghost from_gives = { λ _ fault. fault ≡ NoRoom };
 
     fn from(_error: NoMemory) -> NetFault {
         NetFault::NoMemory
     }
 }
 
+/// Whether one of the nodes has a name.
+fn is_taken(name: &Text, nodes: &[Node]) -> bool
+    ensures { result ≡ list_any (λ n. bytes_eq name.now n.name) nodes.now }
+{
+    nodes.iter().any(|node| *name == node.name)
+}
+
 /// Whether a workstation has the name of one before it.
 fn repeats_name(net: &Net, w: Ws) -> bool
-    requires { w < length net.now.nodes }
     ensures { result ≡ repeats_a_name net.now w }
 {
-    let nodes = net.nodes.as_slice();
     let place = usize::from(w.0);
-    let name = &nodes[place].name;
-    nodes[..place].iter().any(|node| *name == node.name)
+    match net.nodes.get(place) {
+        Some(node) => is_taken(&node.name, &net.nodes.as_slice()[..place]),
+        None => false,
+    }
 }
 
 /// Whether the hop of a workstation is not what the tree asks for.
@@ -98,6 +108,7 @@ fn first_that_misses_master(net: &Net) -> Option<Ws>
 }
 
 /// Tests a net. Want of memory comes in place of `OutOfRange` alone, or of the answer that there is no fault.
+#[tactic(auto, unfolding(crate::specs::Faults::net_fault))]
 pub fn check(alloc: Global, net: &Net) -> Result<(), NetFault>
     ensures faultless { OnOk result (net_fault net.now ≡ None) }
     ensures first { IfErr result (λ f. f ≢ NetFault.NoMemory → net_fault net.now ≡ Some f) }

@@ -103,7 +103,8 @@ impl Network {
         requires upper { m < node_count self.now }
         ensures { result ≡ is_behind self.now n m }
     {
-        n != m && self.towards(m, n) != self.hop(m)
+        let net = self.net();
+        n != m && self.towards(m, n) != hops::hop(net, m)
     }
 
     /// Whether one of two workstations is the hop of the other.

@@ -6,7 +6,7 @@ ghost use Rattle.network_tree.specs.Repeats.{has_repeat};
 ghost use Rattle.network_tree.specs.Faults as spec;
 ghost use Rattle.network_tree.specs.Faults.{are_one_prompt, are_one_resource, is_bad_resource};
 
-use base_types::{Net, NoMemory, PromptDef, Resource};
+use base_types::{Net, NoMemory, PromptDef, Resource, Text};
 use indexmap::IndexSet;
 use std::alloc::Global;
 
@@ -27,13 +27,21 @@ fn has_bad_resource(net: &Net) -> bool
         .any(|resource| count <= usize::from(resource.ws.0) || resource.total > GREATEST_TOTAL)
 }
 
+/// By what two resources are one: the workstation and the name.
+fn key(resource: &Resource) -> (u16, &Text)
+    ensures ws { result.0 ≡ resource.now.ws }
+    ensures name { result.1.now ≡ resource.now.name }
+{
+    (resource.ws.0, &resource.name)
+}
+
 /// Whether a resource of one workstation is named twice.
 fn repeats_resource(alloc: Global, resources: &[Resource]) -> Result<bool, NoMemory>
     ensures { IfOk result (λ b. b ≡ has_repeat are_one_resource resources.now) }
 {
     let mut seen = IndexSet::new(alloc);
     for resource in resources {
-        match seen.insert((resource.ws.0, &resource.name)) {
+        match seen.insert(key(resource)) {
             Ok(true) => {}
             Ok(false) => return Ok(true),
             Err(_) => return Err(NoMemory),
@@ -42,13 +50,20 @@ fn repeats_resource(alloc: Global, resources: &[Resource]) -> Result<bool, NoMem
     Ok(false)
 }
 
+/// The name of a prompt.
+fn name(prompt: &PromptDef) -> &Text
+    ensures { result.now ≡ prompt.now.name }
+{
+    &prompt.name
+}
+
 /// Whether a prompt is named twice.
 fn repeats_prompt(alloc: Global, prompts: &[PromptDef]) -> Result<bool, NoMemory>
     ensures { IfOk result (λ b. b ≡ has_repeat are_one_prompt prompts.now) }
 {
     let mut seen = IndexSet::new(alloc);
     for prompt in prompts {
-        match seen.insert(&prompt.name) {
+        match seen.insert(name(prompt)) {
             Ok(true) => {}
             Ok(false) => return Ok(true),
             Err(_) => return Err(NoMemory),

@@ -1,13 +1,6 @@
-use Rattle.std.proofs.Common.{◌≡◌, ◌<◌, ℕ, Bor, List, false, map, take}
-use Rattle.model.specs.Types.{PromptDef}
-use Rattle.network_tree.specs.Faults.{are_one_prompt}
-use Rattle.network_tree.specs.Repeats.{stands_before}
+use Rattle.std.proofs.Common.{bytes_eq}
+use Rattle.network_tree.proofs.Keys.{Seen, prompt_name, text_of}
 use Rattle.network_tree.proofs.ranges.repeats_prompt.Given as goal
 
 abbrev pub invariant-loop-prompt : goal.invariant-loop-prompt
-invariant-loop-prompt l =
-    record {
-      seen : map (λ (k : Bor (List ℕ)). k.now) l.seen.keys
-          ≡ map (λ (p : PromptDef). p.name) (take l.prompt-index l.prompts);
-      once : (k : ℕ) → k < l.prompt-index → stands_before are_one_prompt l.prompts k ≡ false;
-    }
+invariant-loop-prompt l = Seen text_of prompt_name bytes_eq l.seen.keys l.prompts l.prompt-index

@@ -25,9 +25,9 @@ module _ (test : ℕ → Bool) where
   find_first from zero w low high none here = absurd (omega arith)
   find_first from (suc n) w low high none here =
       elim (eqb_tells from w) [
-        inl e ↦ subst (λ v. find test (numbers_from v (suc n)) ≡ Some w) (sym e.1)
+        | inl e ↦ subst (λ v. find test (numbers_from v (suc n)) ≡ Some w) (sym e.1)
             (subst (λ b. cond b (Some w) (find test (numbers_from (w + 1) n)) ≡ Some w) (sym here) refl)
-      | inr e ↦
+        | inr e ↦
             rw (none from (omega arith) (omega (arith, e.1)))
             (find_first (from + 1) n w (omega (arith, e.1)) (omega arith) (λ k l h. none k (omega arith) h) here)
       ]
@@ -38,8 +38,8 @@ module _ (test : ℕ → Bool) where
   nothing_found from zero k none low high = absurd (omega arith)
   nothing_found from (suc n) k none low high =
       elim (eqb_tells from k) [
-        inl e ↦ subst (λ v. test v ≡ false) e.1 (here (test from) refl)
-      | inr e ↦ nothing_found (from + 1) n k (rest (test from) none) (omega (arith, e.1)) (omega arith)
+        | inl e ↦ subst (λ v. test v ≡ false) e.1 (here (test from) refl)
+        | inr e ↦ nothing_found (from + 1) n k (rest (test from) none) (omega (arith, e.1)) (omega arith)
       ]
     where
       here : (b : Bool) → test from ≡ b → test from ≡ false
@@ -65,8 +65,8 @@ module _ (test : ℕ → Bool) where
   any_here from zero w low high here = absurd (omega arith)
   any_here from (suc n) w low high here =
       elim (eqb_tells from w) [
-        inl e ↦ rw (ap test e.1 ∙ here) refl
-      | inr e ↦ later (test from) (any_here (from + 1) n w (omega (arith, e.1)) (omega arith) here)
+        | inl e ↦ rw (ap test e.1 ∙ here) refl
+        | inr e ↦ later (test from) (any_here (from + 1) n w (omega (arith, e.1)) (omega arith) here)
       ]
     where
       later : (b : Bool) → list_any test (numbers_from (from + 1) n) ≡ true

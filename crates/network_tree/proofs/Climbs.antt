@@ -56,8 +56,8 @@ module _ (net : Net) where
   has_up zero w x h = cc
   has_up (suc m) w x h =
       elim (eqb_tells w x) [
-        inl e ↦ (0, ap Some e.1)
-      | inr e ↦
+        | inl e ↦ (0, ap Some e.1)
+        | inr e ↦
             let there =
             go (hop net w)
             (subst (λ b. (b || has (above net m (hop net w)) x) ≡ true) e.0 h)
@@ -96,12 +96,12 @@ module _ (net : Net) where
       go None e h each = cc
       go (Some v) e h each =
           elim (eqb_tells v a) [
-            inl t ↦
+            | inl t ↦
                 let first : Some w ≡ Some c =
                 sym (ap (λ b. if b then Some w else one_before a (climb net (suc m) v)) t.0) ∙ h in
                 let same : w ≡ c = cc in
                 subst (λ x. hop net x ≡ Some a) same (e ∙ ap Some t.1)
-          | inr t ↦ each v (sym (ap (λ b. if b then Some w else one_before a (climb net (suc m) v)) t.0) ∙ h)
+            | inr t ↦ each v (sym (ap (λ b. if b then Some w else one_before a (climb net (suc m) v)) t.0) ∙ h)
           ]
 
 -- one stands before a where a stands behind the first place
@@ -120,8 +120,8 @@ pub last_has : (d v : ℕ) (xs : List ℕ) → last_or d xs ≡ v → (d ≡ v) 
 last_has d v [] h = inl h
 last_has d v (x ∷ xs) h =
     elim (last_has x v xs h) [
-      inl e ↦ inr (elim (eqb_tells x v) [ inl t ↦ rw t.0 refl | inr t ↦ absurd (t.1 e) ])
-    | inr e ↦ inr (go (eqb x v) e)
+      | inl e ↦ inr (elim (eqb_tells x v) [ inl t ↦ rw t.0 refl | inr t ↦ absurd (t.1 e) ])
+      | inr e ↦ inr (go (eqb x v) e)
     ]
   where
     go : (b : Bool) → has xs v ≡ true → (b || has xs v) ≡ true

@@ -89,7 +89,7 @@ module _ (net : Net) (b : ℕ) where
           ≡ unwrap_or (rest a) (get_or (set cells next last) a 0)
       step a inside =
           elim (eqb_tells next a) [
-            inl h ↦
+            | inl h ↦
                 let now : unwrap_or (one_before a (climb net (suc (suc k)) last)) (get_or cells a 0) ≡ last =
                 ap (λ p. unwrap_or p (get_or cells a 0))
                 (shape a ∙ ap (λ c. if c then Some last else rest a) h.0) in
@@ -101,7 +101,7 @@ module _ (net : Net) (b : ℕ) where
                 subst (λ v. get_or (set cells next last) v 0 ≡ last) h.1
                 (get_or-set_same cells next last 0 (omega (arith, low, f.wide))) in
                 now ∙ sym (ap (λ p. unwrap_or p (get_or (set cells next last) a 0)) none ∙ there)
-          | inr h ↦
+            | inr h ↦
                 let stays : get_or (set cells next last) a 0 ≡ get_or cells a 0 =
                 get_or-set_other cells next a last 0 (λ z. h.1 (sym z)) in
                 ap (λ p. unwrap_or p (get_or cells a 0)) (shape a ∙ ap (λ c. if c then Some last else rest a) h.0)
@@ -136,10 +136,10 @@ module _ (net : Net) (b : ℕ) where
       each : (a : ℕ) → a < node_count net → get_or (set cells b b) a 0 ≡ way net a b
       each a inside =
           elim (eqb_tells a b) [
-            inl h ↦
+            | inl h ↦
                 subst (λ v. get_or (set cells b b) v 0 ≡ way net v b) (sym h.1)
                 (get_or-set_same cells b b 0 (omega (arith, f.wide)) ∙ sym own_way)
-          | inr h ↦
+            | inr h ↦
                 get_or-set_other cells b a b 0 h.1
                 ∙ (sym (f.whole a inside ∙ ap (λ o. unwrap_or o (get_or cells a 0)) (ended a m over))
                 ∙ ap (λ o. unwrap_or o a) (sym (way_is net a b h.1)))

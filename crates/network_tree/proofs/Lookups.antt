@@ -37,8 +37,8 @@ module _ (net : Net) (t : IsTree net) where
   pub no_hop : (w : ℕ) → w < node_count net → (IsNone (hop net w) → w ≡ 0) × (w ≡ 0 → IsNone (hop net w))
   no_hop w low =
       elim (eqb_tells w 0) [
-        inl e ↦ (λ h. e.1, λ z. ap is_some (ap (hop net) z ∙ root net t))
-      | inr e ↦
+        | inl e ↦ (λ h. e.1, λ z. ap is_some (ap (hop net) z ∙ root net t))
+        | inr e ↦
             let there : is_some (hop net w) ≡ true = ap is_some (hop_there net t w low e.1).1 in
             (λ h. (cc), λ z. absurd (e.1 z))
       ]
@@ -65,8 +65,8 @@ module _ (net : Net) (t : IsTree net) where
       → (IsNone (towards net a b) → a ≡ b) × (a ≡ b → IsNone (towards net a b))
   no_way a b low_a low_b =
       elim (eqb_tells a b) [
-        inl e ↦ (λ h. e.1, λ z. ap is_some (stays a b e.0))
-      | inr e ↦
+        | inl e ↦ (λ h. e.1, λ z. ap is_some (stays a b e.0))
+        | inr e ↦
             let there : is_some (towards net a b) ≡ true = ap is_some (way_there net t a b low_a low_b e.1).1 in
             (λ h. (cc), λ z. absurd (e.1 z))
       ]
@@ -78,8 +78,8 @@ module _ (net : Net) (t : IsTree net) where
       go None e = tt
       go (Some x) e =
           elim (eqb_tells a b) [
-            inl h ↦ absurd (let none = stays a b h.0 in cc)
-          | inr h ↦ way_inside net t a b x h.1 e
+            | inl h ↦ absurd (let none = stays a b h.0 in cc)
+            | inr h ↦ way_inside net t a b x h.1 e
           ]
 
   pub way_near : (a b : ℕ) → IfSome (towards net a b) (λ x. IsTrue (are_neighbours net a x))
@@ -89,8 +89,8 @@ module _ (net : Net) (t : IsTree net) where
       go None e = tt
       go (Some x) e =
           elim (eqb_tells a b) [
-            inl h ↦ absurd (let none = stays a b h.0 in cc)
-          | inr h ↦ are_so net a x (way_to_neighbour net a b x h.1 e)
+            | inl h ↦ absurd (let none = stays a b h.0 in cc)
+            | inr h ↦ are_so net a x (way_to_neighbour net a b x h.1 e)
           ]
 
   -- one is behind m where the way from m to it is not the hop of m
@@ -98,8 +98,8 @@ module _ (net : Net) (t : IsTree net) where
       → not (option_eq eqb (towards net m n) (hop net m)) ≡ is_behind net n m
   behind_is n m low_n low_m apart =
       elim (behind_tells net t n m low_n low_m apart) [
-        inl e ↦ ap not (unlike (towards net m n) (hop net m) e.1) ∙ sym e.0
-      | inr e ↦ ap not (alike (towards net m n) (hop net m) e.1) ∙ sym e.0
+        | inl e ↦ ap not (unlike (towards net m n) (hop net m) e.1) ∙ sym e.0
+        | inr e ↦ ap not (alike (towards net m n) (hop net m) e.1) ∙ sym e.0
       ]
     where
       alike : (o p : Option ℕ) → o ≡ p → option_eq eqb o p ≡ true

@@ -87,8 +87,8 @@ module _ (net : Net) where
   pub way_is : (a b : ℕ) → a ≢ b → towards net a b ≡ option_or (one_before a (chain net b)) (hop net a)
   way_is a b apart =
       elim (eqb_tells a b) [
-        inl e ↦ absurd (apart e.1)
-      | inr e ↦
+        | inl e ↦ absurd (apart e.1)
+        | inr e ↦
             rw (e.0, ← before_has a (chain net b))
             (go (one_before a (chain net b)))
       ]
@@ -131,8 +131,8 @@ module _ (net : Net) (t : IsTree net) where
       → (h : ℕ) × (hop net w ≡ Some h) × (is_manager net h ≡ true)
   hop_there w low other =
       elim (eqb_tells w 0) [
-        inl e ↦ absurd (other e.1)
-      | inr e ↦
+        | inl e ↦ absurd (other e.1)
+        | inr e ↦
             let good : not (option_map_or (is_manager net) (hop net w) false) ≡ false =
             sym (ap (λ b. if b then is_some (hop net w) || not (is_manager net w)
             else not (option_map_or (is_manager net) (hop net w) false)) e.0) ∙ t.hops w low in
@@ -161,8 +161,8 @@ module _ (net : Net) (t : IsTree net) where
   pub reaches : (w : ℕ) → w < node_count net → (j : ℕ) × (up net j w ≡ Some 0)
   reaches w low =
       elim (last_has w 0 (chain net w) (t.ends w low)) [
-        inl e ↦ (0, ap Some e)
-      | inr e ↦ has_up net (node_count net) w 0 e
+        | inl e ↦ (0, ap Some e)
+        | inr e ↦ has_up net (node_count net) w 0 e
       ]
 
   pub not_back : (i w : ℕ) → w < node_count net → up net (suc i) w ≡ Some w → ⊥
@@ -204,8 +204,8 @@ module _ (net : Net) (t : IsTree net) where
   pub way_inside : (a b x : ℕ) → a ≢ b → towards net a b ≡ Some x → x < node_count net
   way_inside a b x apart e =
       elim (way_to_neighbour net a b x apart e) [
-        inl f ↦ hop_inside a x f
-      | inr f ↦ hop_within net x a f
+        | inl f ↦ hop_inside a x f
+        | inr f ↦ hop_within net x a f
       ]
 
   -- one is behind m where the way from m to it is not the hop of m
@@ -228,5 +228,5 @@ module _ (net : Net) (t : IsTree net) where
             λ f.
                 let to : hop net m ≡ Some c = sym f ∙ (way ∙ ap (λ o. option_or o (hop net m)) e) in
                 let back : hop net c ≡ Some m = before_hop net (node_count net) n m c e in
-                not_back 1 m low_m (ap (option_and_then (up net 1)) to ∙ ap (option_and_then (up net 0)) back)
+                not_back 1 m low_m (ap (option_and_then (up net 1)) to ∙ ap (option_and_then (up net 0)) back),
           )

@@ -1,5 +1,5 @@
 //! Why a net is refused.
-ghost use Rattle.std.specs.Prelude.{◌≡◌, ◌≢◌, ◌<◌, ◌≤◌, ◌⊎◌, length, IfErr, OnOk, Some, None};
+ghost use Rattle.std.specs.Prelude.{◌≡◌, ◌≢◌, ◌<◌, ◌^◌, ◌⊎◌, length, IfErr, OnOk, Some, None};
 ghost use Rattle.std.specs.List.{list_any};
 ghost use Rattle.std.specs.Str.{bytes_eq};
 ghost use Rattle.network_tree.specs.declared.faults.NetFault.TheVariants.{NoMemory as NoRoom};
@@ -71,8 +71,9 @@ fn has_bad_hop(net: &Net, w: Ws) -> bool
     }
 }
 
+/// The first workstation whose name stands before.
 fn first_repeated_name(net: &Net) -> Option<Ws>
-    requires { length net.now.nodes ≤ 256 }
+    requires { length net.now.nodes < 2 ^ 16 }
     ensures { result ≡ first_ws net.now (repeats_a_name net.now) }
 {
     for w in 0..net.nodes.len() as u16 {
@@ -83,8 +84,9 @@ fn first_repeated_name(net: &Net) -> Option<Ws>
     None
 }
 
+/// The first workstation whose hop is not what the tree asks for.
 fn first_bad_hop(net: &Net) -> Option<Ws>
-    requires { length net.now.nodes ≤ 256 }
+    requires { length net.now.nodes < 2 ^ 16 }
     ensures { result ≡ first_ws net.now (spec.has_bad_hop net.now) }
 {
     for w in 0..net.nodes.len() as u16 {
@@ -95,8 +97,9 @@ fn first_bad_hop(net: &Net) -> Option<Ws>
     None
 }
 
+/// The first workstation whose chain of hops does not end at the master.
 fn first_that_misses_master(net: &Net) -> Option<Ws>
-    requires { length net.now.nodes ≤ 256 }
+    requires { length net.now.nodes < 2 ^ 16 }
     ensures { result ≡ first_ws net.now (misses_the_master net.now) }
 {
     for w in 0..net.nodes.len() as u16 {
@@ -112,7 +115,8 @@ fn first_that_misses_master(net: &Net) -> Option<Ws>
 pub fn check(alloc: Global, net: &Net) -> Result<(), NetFault>
     ensures faultless { OnOk result (net_fault net.now ≡ None) }
     ensures first { IfErr result (λ f. f ≢ NetFault.NoMemory → net_fault net.now ≡ Some f) }
-    ensures late { result ≡ Err NetFault.NoMemory → (net_fault net.now ≡ None) ⊎ (net_fault net.now ≡ Some NetFault.OutOfRange) }
+    ensures late { result ≡ Err NetFault.NoMemory
+        → (net_fault net.now ≡ None) ⊎ (net_fault net.now ≡ Some NetFault.OutOfRange) }
 {
     let count = net.nodes.len();
     if count == 0 {

@@ -7,8 +7,7 @@ ghost use Rattle.network_tree.specs.Faults.{net_fault};
 ghost use Rattle.network_tree.specs.Ways.{table};
 
 use crate::faults::{NetFault, check};
-use crate::hops;
-use crate::rows;
+use crate::{hops, rows};
 use base_types::{Copied, Items, Net, NoMemory, Ws};
 use std::alloc::Global;
 use std::marker::Model;
@@ -40,7 +39,8 @@ impl Network {
     pub fn new(alloc: Global, net: Net) -> Result<Network, NetFault>
         ensures value { IfOk result (λ network. network ≡ net) }
         ensures accepted { net_fault net ≡ None → (result ≡ Ok net) ⊎ (result ≡ Err NetFault.NoMemory) }
-        ensures refused { (f : NetFault) → net_fault net ≡ Some f → (result ≡ Err f) ⊎ (result ≡ Err NetFault.NoMemory) }
+        ensures refused { (f : NetFault) → net_fault net ≡ Some f
+            → (result ≡ Err f) ⊎ (result ≡ Err NetFault.NoMemory) }
         ensures at_once { (f : NetFault) → net_fault net ≡ Some f → f ≢ NetFault.OutOfRange → result ≡ Err f }
         ensures causes { (f : NetFault) → result ≡ Err f → f ≢ NetFault.NoMemory → net_fault net ≡ Some f }
     {
@@ -94,7 +94,10 @@ impl Network {
         ensures value { result ≡ option_and_then (λ row. slice_get row a) (slice_get (table self.now) b) }
         ensures faultless { net_fault self.now ≡ None }
     {
-        self.ways.get(usize::from(b.0))?.get(usize::from(a.0)).copied()
+        self.ways
+            .get(usize::from(b.0))?
+            .get(usize::from(a.0))
+            .copied()
     }
 
     /// Whether `m` is in the chain of hops of `n`, `n` itself left out.

@@ -21,10 +21,8 @@ fn has_bad_resource(net: &Net) -> bool
     ensures { result ≡ list_any (is_bad_resource net.now) net.now.resources }
 {
     let count = net.nodes.len();
-    net.resources
-        .as_slice()
-        .iter()
-        .any(|resource| count <= usize::from(resource.ws.0) || resource.total > GREATEST_TOTAL)
+    net.resources.as_slice().iter().any(|resource| count <= usize::from(resource.ws.0)
+        || resource.total > GREATEST_TOTAL)
 }
 
 /// By what two resources are one: the workstation and the name.

@@ -11,7 +11,7 @@ use base_types::{Items, Net, NoMemory, Ws};
 use std::alloc::Global;
 
 /// The hop of each workstation, and the master itself at its own place.
-fn hops(alloc: Global, net: &Net) -> Result<Items<Ws>, NoMemory>
+fn own_hops(alloc: Global, net: &Net) -> Result<Items<Ws>, NoMemory>
     requires { net_fault net.now ≡ None }
     ensures { IfOk result (λ row. row ≡ map (λ w. unwrap_or (spec.hop net.now w) w) (below (node_count net.now))) }
 {
@@ -29,7 +29,7 @@ fn row(alloc: Global, net: &Net, b: Ws) -> Result<Items<Ws>, NoMemory>
     requires inside { b < node_count net.now }
     ensures { IfOk result (λ row. row ≡ ways.row net.now b) }
 {
-    let mut row = hops(alloc, net)?;
+    let mut row = own_hops(alloc, net)?;
     let mut last = b;
     for _step in 1..net.nodes.len() {
         let Some(next) = hop(net, last) else {

@@ -36,7 +36,7 @@ returns c =
     written
     ∙ fills_all net c.args.b c.loop-step.row _ c.loop-step.last c.loop-step.invariant
     (elim c.loop-step-test.branch [
-      else-loop-step-test w ↦ inl (omega arith)
-    | then-loop-step-test+in_default w ↦ inr (let h = w.in_default.ensures in cc)
+      | else-loop-step-test w ↦ inl (omega arith)
+      | then-loop-step-test+in_default w ↦ inr (let h = w.in_default.ensures in cc)
     ])
     c.requires.inside

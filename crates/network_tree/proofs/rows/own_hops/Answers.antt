@@ -2,7 +2,7 @@ use Rattle.std.proofs.Common.{arith, unwrap_or}
 use Rattle.model.specs.Network.{hop}
 use Rattle.network_tree.proofs.Fills.{map_below_more}
 use Rattle.network_tree.proofs.Trees.{tree}
-use Rattle.network_tree.proofs.rows.hops.Goals as goal
+use Rattle.network_tree.proofs.rows.own_hops.Goals as goal
 
 pub overflow_cast-w-end : goal.overflow_cast-w-end
 overflow_cast-w-end c = omega (arith, (tree c.args.net.now c.requires).few)

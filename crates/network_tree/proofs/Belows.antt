@@ -43,7 +43,10 @@ module _ (test : ℕ → Bool) where
       ]
     where
       here : (b : Bool) → test from ≡ b → test from ≡ false
-      here true e = absurd (let h : Some from ≡ None = sym (ap (λ b. cond b (Some from) (find test (numbers_from (from + 1) n))) e) ∙ none in cc)
+      here true e =
+          let found : Some from ≡ None =
+          sym (ap (λ b. cond b (Some from) (find test (numbers_from (from + 1) n))) e) ∙ none in
+          cc
       here false e = e
 
       rest : (b : Bool) → cond b (Some from) (find test (numbers_from (from + 1) n)) ≡ None

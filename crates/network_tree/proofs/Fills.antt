@@ -1,5 +1,6 @@
 -- How a row of the table is filled: up the chain of hops, each hop is given the one before it.
-use Rattle.std.proofs.Common.{◌≡◌, ◌≢◌, ◌⊎◌, ◌+◌, ◌<◌, ℕ, [], ◌∷◌, ◌++◌, ◌==◌, Bool, List, None, Option, Some, ap, arith}
+use Rattle.std.proofs.Common.{◌≡◌, ◌≢◌, ◌⊎◌, ◌+◌, ◌<◌, ℕ, [], ◌∷◌, ◌++◌, ◌==◌, Bool, List, None, Option, Some, ap}
+use Rattle.std.proofs.Common.{arith}
 use Rattle.std.proofs.Common.{eqb, get_or, get_or-set_other, get_or-set_same, false, if◌then◌else◌, inl, inr, is_some}
 use Rattle.std.proofs.Common.{drop, length, length-set, map, refl, set, subst, suc, sym, true, unwrap_or, zero, ◌∙◌}
 use Rattle.std.proofs.lemmas.Bool.Decides.{eqb_tells, nat_tests}

@@ -1,5 +1,6 @@
 -- A walk over a list with a set of the keys that were seen.
-use Rattle.std.proofs.Common.{◌≡◌, ◌+◌, ◌<◌, ◌≤◌, ℕ, [], ◌∷◌, ◌++◌, ◌||◌, Bool, List, Option, Some, ap, arith, below_more}
+use Rattle.std.proofs.Common.{◌≡◌, ◌+◌, ◌<◌, ◌≤◌, ℕ, [], ◌∷◌, ◌++◌, ◌||◌, Bool, List, Option, Some, ap, arith}
+use Rattle.std.proofs.Common.{below_more}
 use Rattle.std.proofs.Common.{false, get_or, length, map, not, refl, slice_get, sym, take, true, ◌∙◌, if◌then◌else◌}
 use Rattle.std.proofs.lemmas.List.{map-append, take_more}
 use Rattle.std.proofs.lemmas.Option.{slice_get_read}
@@ -10,6 +11,22 @@ use Rattle.model.specs.Types.{PromptDef, Resource}
 use Rattle.model.specs.Words.{below}
 use Rattle.network_tree.specs.Repeats.{has_repeat, stands_before}
 use Rattle.network_tree.proofs.Belows.{any_here, any_nothing}
+
+-- resources are one by workstation and name, prompts by name
+abbrev pub key_of : ℕ × Bor (List ℕ) → ℕ × List ℕ
+key_of k = (k.0, k.1.now)
+
+abbrev pub resource_key : Resource → ℕ × List ℕ
+resource_key r = (r.ws, r.name)
+
+abbrev pub are_one_key : ℕ × List ℕ → ℕ × List ℕ → Bool
+are_one_key a b = eqb a.0 b.0 && bytes_eq a.1 b.1
+
+abbrev pub text_of : Bor (List ℕ) → List ℕ
+text_of k = k.now
+
+abbrev pub prompt_name : PromptDef → List ℕ
+prompt_name p = p.name
 
 list_any-map : {K A : Type 0} (f : K → A) (test : A → Bool) (ks : List K)
     → list_any (λ k. test (f k)) ks ≡ list_any test (map f ks)
@@ -75,19 +92,3 @@ module _ {K X A : Type 0} (f : K → A) (g : X → A) (same : A → A → Bool) 
   seen_all ks xs i s all =
       any_nothing (stands_before (λ (v w : X). same (g v) (g w)) xs) 0 (length xs)
       (λ k low high. s.once k (omega arith))
-
--- resources are one by workstation and name, prompts by name
-abbrev pub key_of : ℕ × Bor (List ℕ) → ℕ × List ℕ
-key_of k = (k.0, k.1.now)
-
-abbrev pub resource_key : Resource → ℕ × List ℕ
-resource_key r = (r.ws, r.name)
-
-abbrev pub are_one_key : ℕ × List ℕ → ℕ × List ℕ → Bool
-are_one_key a b = eqb a.0 b.0 && bytes_eq a.1 b.1
-
-abbrev pub text_of : Bor (List ℕ) → List ℕ
-text_of k = k.now
-
-abbrev pub prompt_name : PromptDef → List ℕ
-prompt_name p = p.name

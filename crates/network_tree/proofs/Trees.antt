@@ -1,6 +1,7 @@
 -- What a net without faults is: a tree, in which there is a way from each workstation to each other.
 use Rattle.std.proofs.Common.{◌≡◌, ◌≢◌, ◌⊎◌, ◌<◌, ◌≤◌, ℕ, [], ◌∷◌, ◌||◌, ◌==◌, Bool, List, None, Option, Some, ap}
-use Rattle.std.proofs.Common.{arith, drop, eqb, false, if◌then◌else◌, inl, inr, is_some, not, option_and_then, option_map}
+use Rattle.std.proofs.Common.{arith, drop, eqb, false, if◌then◌else◌, inl, inr, is_some, not, option_and_then}
+use Rattle.std.proofs.Common.{option_map}
 use Rattle.std.proofs.Common.{refl, slice_get, subst, suc, sym, true, zero, ◌∙◌}
 use Rattle.std.proofs.lemmas.Bool.Decides.{eqb_tells, leb_tells, nat_tests}
 use Rattle.std.proofs.lemmas.Option.{slice_get_within}
@@ -22,7 +23,8 @@ pub record IsTree (net : Net) : Type 0 where
   pub hops : (w : ℕ) → w < node_count net → has_bad_hop net w ≡ false
   pub ends : (w : ℕ) → w < node_count net → last_or w (chain net w) ≡ 0
 
-none_there : {X : Type 0} (os : List (Option X)) → first_there os ≡ None → AllByRecursion (λ (o : Option X). o ≡ None) os
+none_there : {X : Type 0} (os : List (Option X)) → first_there os ≡ None
+    → AllByRecursion (λ (o : Option X). o ≡ None) os
 none_there [] h = tt
 none_there (None ∷ os) h = (refl, none_there os h)
 none_there (Some x ∷ os) h = cc

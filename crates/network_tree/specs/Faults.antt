@@ -10,7 +10,8 @@ use Rattle.model.specs.Types.{Net, Node, PromptDef, Resource}
 use Rattle.model.specs.Words.{below, last_or}
 use Rattle.network_tree.specs.Repeats.{has_repeat, stands_before}
 use Rattle.network_tree.specs.declared.faults.NetFault.{NetFault}
-use Rattle.network_tree.specs.declared.faults.NetFault.TheVariants.{BadHop, Duplicate, Empty, OutOfRange, TooMany, Tree}
+use Rattle.network_tree.specs.declared.faults.NetFault.TheVariants.{BadHop, Duplicate, Empty, OutOfRange, TooMany}
+use Rattle.network_tree.specs.declared.faults.NetFault.TheVariants.{Tree}
 
 -- two workstations of one name
 abbrev pub have_one_name : Node → Node → Bool
@@ -20,7 +21,7 @@ have_one_name a b = bytes_eq a.name b.name
 abbrev pub repeats_a_name : Net → ℕ → Bool
 repeats_a_name net w = stands_before have_one_name net.nodes w
 
--- the master has a hop or is no manager; another has no hop, or one that is no manager or outside the network
+-- the master has a hop or is no manager; another one has no hop, or one that is no manager or outside
 abbrev pub has_bad_hop : Net → ℕ → Bool
 has_bad_hop net w =
     if w == 0 then is_some (hop net w) || not (is_manager net w)

@@ -1,5 +1,6 @@
 //! A net that was tested, with its table of ways.
-ghost use Rattle.std.specs.Prelude.{◌≡◌, ◌≢◌, ◌<◌, ◌≤◌, ◌↔◌, ◌⊎◌, Ok, Err, None, Some, IfOk, IsNone, IsTrue, slice_get};
+ghost use Rattle.std.specs.Prelude.{◌≡◌, ◌≢◌, ◌<◌, ◌≤◌, ◌↔◌, ◌⊎◌, Ok, Err, None, Some, IfOk};
+ghost use Rattle.std.specs.Prelude.{IsNone, IsTrue, slice_get};
 ghost use Rattle.std.specs.Option.{IfSome, option_and_then};
 ghost use Rattle.model.specs.Network as spec;
 ghost use Rattle.model.specs.Network.{are_neighbours, is_behind, is_manager, node_count};
@@ -34,8 +35,8 @@ impl Model for Network {
 }
 
 impl Network {
-    /// Tests a net and takes it. Where it has a fault, the first is answered and the net is dropped. Want of memory may
-    /// come in place of `OutOfRange` and of the network, and of nothing else.
+    /// Tests a net and takes it. Where it has faults, the first is answered and the net is dropped. Want of memory may
+    /// come in place of `OutOfRange` and of the network, and of no other answer.
     pub fn new(alloc: Global, net: Net) -> Result<Network, NetFault>
         ensures value { IfOk result (λ network. network ≡ net) }
         ensures accepted { net_fault net ≡ None → (result ≡ Ok net) ⊎ (result ≡ Err NetFault.NoMemory) }

@@ -1,5 +1,5 @@
 //! The ranges of resources and prompts.
-ghost use Rattle.std.specs.Prelude.{◌≡◌, IfOk};
+ghost use Rattle.std.specs.Prelude.{◌≡◌, ◌||◌, IfOk, nat_le, nat_lt};
 ghost use Rattle.std.specs.List.{list_any};
 ghost use Rattle.model.specs.Network.{node_count};
 ghost use Rattle.network_tree.specs.Repeats.{has_repeat};
@@ -16,13 +16,21 @@ const MOST: usize = 65_535;
 /// The greatest total of a resource.
 const GREATEST_TOTAL: u16 = 1024;
 
-/// Whether a resource is of a workstation outside the net, or its total is too great.
+/// Whether a resource is of a workstation outside a net of `count` ones, or its total is too great.
+fn is_bad(resource: &Resource, count: usize) -> bool
+    ensures { result ≡ (nat_le count resource.now.ws || nat_lt 1024 resource.now.total) }
+{
+    count <= usize::from(resource.ws.0) || resource.total > GREATEST_TOTAL
+}
+
 fn has_bad_resource(net: &Net) -> bool
     ensures { result ≡ list_any (is_bad_resource net.now) net.now.resources }
 {
     let count = net.nodes.len();
-    net.resources.as_slice().iter().any(|resource| count <= usize::from(resource.ws.0)
-        || resource.total > GREATEST_TOTAL)
+    net.resources
+        .as_slice()
+        .iter()
+        .any(|resource| is_bad(resource, count))
 }
 
 /// By what two resources are one: the workstation and the name.

@@ -12,21 +12,25 @@ loop-resource-init c =
 pub returns-in-Ok-false : goal.returns-in-Ok-false
 returns-in-Ok-false c =
     let ks = c.loop-resource.seen.keys in
-    let there : list_any (λ (l : (ℕ × Bor (List ℕ))). are_one_key (key_of c.key.result) (key_of l)) ks ≡ true =
+    let key : key_of c.key.result ≡ resource_key c.resource-item.result =
+    λ j. (c.key.ensures.ws j, c.key.ensures.name j) in
+    let there : list_any (λ (l : ℕ × Bor (List ℕ)). are_one_key (key_of c.key.result) (key_of l)) ks ≡ true =
     was_there _ c.in-Ok-false.field-0 c.in-Ok-false.ensures.added c.in-Ok-false.field-0-test in
-    sym (seen_twice key_of resource_key are_one_key ks c.args.resources.now c.loop-resource.resource-index c.key.result
-    c.resource-item.result c.loop-resource.invariant (omega arith) c.resource-item.is (λ j. (c.key.ensures.ws j, c.key.ensures.name j)) there)
+    sym (seen_twice key_of resource_key are_one_key ks c.args.resources.now c.loop-resource.resource-index
+    c.key.result c.resource-item.result c.loop-resource.invariant (omega arith) c.resource-item.is key there)
 
 pub loop-resource-preserved : goal.loop-resource-preserved
 loop-resource-preserved c =
     let ks = c.loop-resource.seen.keys in
-    let absent : list_any (λ (l : (ℕ × Bor (List ℕ))). are_one_key (key_of c.key.result) (key_of l)) ks ≡ false =
+    let key : key_of c.key.result ≡ resource_key c.resource-item.result =
+    λ j. (c.key.ensures.ws j, c.key.ensures.name j) in
+    let absent : list_any (λ (l : ℕ × Bor (List ℕ)). are_one_key (key_of c.key.result) (key_of l)) ks ≡ false =
     was_absent _ c.in-Ok-true.field-0 c.in-Ok-true.ensures.added c.in-Ok-true.field-0-test in
-    seen_more key_of resource_key are_one_key ks c.insert.new.self.keys c.args.resources.now c.loop-resource.resource-index
-    c.key.result c.resource-item.result c.loop-resource.invariant (omega arith) c.resource-item.is (λ j. (c.key.ensures.ws j, c.key.ensures.name j)) absent
-    c.in-Ok-true.ensures.keys
+    seen_more key_of resource_key are_one_key ks c.insert.new.self.keys c.args.resources.now
+    c.loop-resource.resource-index c.key.result c.resource-item.result c.loop-resource.invariant (omega arith)
+    c.resource-item.is key absent c.in-Ok-true.ensures.keys
 
 pub returns : goal.returns
 returns c =
-    sym (seen_all key_of resource_key are_one_key c.loop-resource.seen.keys c.args.resources.now c.loop-resource.resource-index
-    c.loop-resource.invariant (omega arith))
+    sym (seen_all key_of resource_key are_one_key c.loop-resource.seen.keys c.args.resources.now
+    c.loop-resource.resource-index c.loop-resource.invariant (omega arith))

@@ -1,0 +1,6 @@
+pub mod Belows
+pub mod Climbs
+pub mod Trees
+pub mod Fills
+pub mod Lookups
+pub mod Keys

@@ -40,7 +40,8 @@ impl<T> Model for Items<T> {
 }
 
 impl<T> Items<T> {
-    pub(crate) fn of_vec(items: Vec<T>) -> Self
+    /// The list of a vector's items, which takes no memory.
+    pub fn of_vec(items: Vec<T>) -> Self
         ensures { result ≡ items.items }
     {
         Items { items }
@@ -98,6 +99,11 @@ impl<T> Items<T> {
         Items {
             items: Vec::new(*self.items.allocator()),
         }
+    }
+
+    /// The allocator on which the list grows.
+    pub fn allocator(&self) -> Global {
+        *self.items.allocator()
     }
 
     /// How many items there are.

@@ -2,40 +2,56 @@
 use Rattle.std.specs.Prelude.{ℕ, List, ◌++◌, ◌==◌, if◌then◌else◌, codes, slice_index}
 use Rattle.std.specs.Fmt.{decimal}
 
--- `streams STATE N` or `jobs STATE N`, where there are any; the count of the state is at this place, 0 where it is
--- missing
-unfoldable pub state_line : List ℕ → List ℕ → ℕ → List ℕ
-state_line state counts place =
-    if slice_index counts place == 0 then codes "" else
-    state ++ codes " " ++ decimal (slice_index counts place) ++ codes "\n"
+-- what is counted, its state and the number, where there are any
+abbrev pub state_line : List ℕ → List ℕ → ℕ → List ℕ
+state_line what state n =
+    if n == 0 then codes "" else what ++ codes " " ++ state ++ codes " " ++ decimal n ++ codes "\n"
 
--- the states of streams, in their order
-unfoldable pub streams_part : List ℕ → List ℕ
-streams_part counts =
-    state_line (codes "streams HOLD") counts 0
-    ++ state_line (codes "streams READY") counts 1
-    ++ state_line (codes "streams EXEC") counts 2
-    ++ state_line (codes "streams STUCK") counts 3
-    ++ state_line (codes "streams SUCC") counts 4
-    ++ state_line (codes "streams ABEND") counts 5
-    ++ state_line (codes "streams CANCEL") counts 6
+-- `streams STATE N`; the count of the state stands at this place, and is 0 where it is missing
+unfoldable pub streams_line : List ℕ → List ℕ → ℕ → List ℕ
+streams_line state counts place = state_line (codes "streams") state (slice_index counts place)
 
--- the states of jobs, in their order
-unfoldable pub jobs_part : List ℕ → List ℕ
-jobs_part counts =
-    state_line (codes "jobs HOLD") counts 0
-    ++ state_line (codes "jobs FENCE") counts 1
-    ++ state_line (codes "jobs READY") counts 2
-    ++ state_line (codes "jobs INTRO") counts 3
-    ++ state_line (codes "jobs EXEC") counts 4
-    ++ state_line (codes "jobs SUCC") counts 5
-    ++ state_line (codes "jobs ABEND") counts 6
-    ++ state_line (codes "jobs FAIL") counts 7
-    ++ state_line (codes "jobs CANCEL") counts 8
+-- `jobs STATE N`, likewise
+unfoldable pub jobs_line : List ℕ → List ℕ → ℕ → List ℕ
+jobs_line state counts place = state_line (codes "jobs") state (slice_index counts place)
+
+-- streams that have not ended, in the order of their states
+unfoldable pub unended_streams : List ℕ → List ℕ
+unended_streams counts =
+    streams_line (codes "HOLD") counts 0
+    ++ streams_line (codes "READY") counts 1
+    ++ streams_line (codes "EXEC") counts 2
+    ++ streams_line (codes "STUCK") counts 3
+
+-- and those that have
+unfoldable pub ended_streams : List ℕ → List ℕ
+ended_streams counts =
+    streams_line (codes "SUCC") counts 4
+    ++ streams_line (codes "ABEND") counts 5
+    ++ streams_line (codes "CANCEL") counts 6
+
+-- jobs that have not ended, in the order of their states
+unfoldable pub unended_jobs : List ℕ → List ℕ
+unended_jobs counts =
+    jobs_line (codes "HOLD") counts 0
+    ++ jobs_line (codes "FENCE") counts 1
+    ++ jobs_line (codes "READY") counts 2
+    ++ jobs_line (codes "INTRO") counts 3
+    ++ jobs_line (codes "EXEC") counts 4
+
+-- and those that have
+unfoldable pub ended_jobs : List ℕ → List ℕ
+ended_jobs counts =
+    jobs_line (codes "SUCC") counts 5
+    ++ jobs_line (codes "ABEND") counts 6
+    ++ jobs_line (codes "FAIL") counts 7
+    ++ jobs_line (codes "CANCEL") counts 8
 
 -- `events N`, `starts N`, and the states
 unfoldable pub summary_of : List ℕ → List ℕ → ℕ → ℕ → List ℕ
 summary_of streams jobs events starts =
     codes "events " ++ decimal events ++ codes "\nstarts " ++ decimal starts ++ codes "\n"
-    ++ streams_part streams
-    ++ jobs_part jobs
+    ++ unended_streams streams
+    ++ ended_streams streams
+    ++ unended_jobs jobs
+    ++ ended_jobs jobs

@@ -31,7 +31,9 @@ pub(crate) fn write_body(out: &mut Vec<u8>, net: &Net, body: &Body) -> io::Resul
         Body::Clock(time) => write!(out, "clock {}", time.0),
         Body::Released(stream, seen) => write_with_seen(out, net, "released ", stream.0, seen),
         Body::StreamEnded(stream, seen) => write_with_seen(out, net, "streamended ", stream.0, seen),
-        Body::UntilPassed(obj, number, then) => write_until_passed(out, obj, *number, *then),
+        Body::UntilPassed(obj, number, then) => {
+            write_passed(out, "untilpassed ", obj, *number, *then)
+        }
         Body::Launched(job, number, seen) => write_launched(out, net, job.0, *number, seen),
         Body::Started(job, number) => write!(out, "started {} {number}", job.0),
         Body::Failed(job, number) => write!(out, "failed {} {number}", job.0),
@@ -39,7 +41,7 @@ pub(crate) fn write_body(out: &mut Vec<u8>, net: &Net, body: &Body) -> io::Resul
             write!(out, "ended {} {number} rc {rc} {}", job.0, end_word(*good))
         }
         Body::Lost(job, number) => write!(out, "lost {} {number}", job.0),
-        Body::Fulfilled(obj, number) => write_fulfilled(out, obj, *number),
+        Body::Fulfilled(obj, number) => write_with_dep(out, "fulfilled ", obj, *number),
         Body::Obeyed(from, place, cmd) => write_obeyed(out, net, from, *place, cmd),
         Body::Declined(from, place, why) => {
             write!(out, "declined {} {place} {}", name(net, from), why_word(*why))
@@ -56,7 +58,11 @@ fn write_new_plan(
     carried: &StreamNos,
     streams: &StreamDocs,
 ) -> io::Result<()>
-    ensures { OnOk result (out.new.items ≡ out.old.items ++ codes "newplan " ++ decimal run ++ codes " cut " ++ seen_text net.now cut.now ++ codes " carried " ++ numbers_text carried.now ++ codes " fresh " ++ numbers_text (map (λ (s : StreamDoc). s.no) streams.now)) }
+    ensures { OnOk result (out.new.items ≡ out.old.items ++
+        (codes "newplan " ++ decimal run
+        ++ codes " cut " ++ seen_text net.now cut.now
+        ++ codes " carried " ++ numbers_text carried.now
+        ++ codes " fresh " ++ numbers_text (map (λ (s : StreamDoc). s.no) streams.now))) }
 {
     write!(out, "newplan {run} cut ")?;
     write_seen(out, net, cut.as_slice())?;
@@ -73,7 +79,8 @@ fn write_with_seen(
     stream: u32,
     seen: &Seen,
 ) -> io::Result<()>
-    ensures { OnOk result (out.new.items ≡ out.old.items ++ word.now ++ decimal stream ++ codes " seen " ++ seen_text net.now seen.now) }
+    ensures { OnOk result (out.new.items ≡ out.old.items ++
+        (word.now ++ decimal stream ++ codes " seen " ++ seen_text net.now seen.now)) }
 {
     write!(out, "{word}{stream} seen ")?;
     write_seen(out, net, seen.as_slice())
@@ -86,42 +93,46 @@ fn write_launched(
     number: u32,
     seen: &Seen,
 ) -> io::Result<()>
-    ensures { OnOk result (out.new.items ≡ out.old.items ++ codes "launched " ++ decimal job ++ codes " " ++ decimal number ++ codes " seen " ++ seen_text net.now seen.now) }
+    ensures { OnOk result (out.new.items ≡ out.old.items ++
+        (codes "launched " ++ decimal job ++ codes " " ++ decimal number ++ codes " seen " ++ seen_text net.now seen.now)) }
 {
     write!(out, "launched {job} {number} seen ")?;
     write_seen(out, net, seen.as_slice())
 }
 
-fn write_until_passed(
+fn write_passed(
     out: &mut Vec<u8>,
+    word: &str,
     obj: &Obj,
     number: u16,
     then: OnUntil,
 ) -> io::Result<()>
-    ensures { OnOk result (out.new.items ≡ out.old.items ++ codes "untilpassed " ++ obj_text obj.now ++ codes " dep " ++ decimal number ++ codes " " ++ until_text then) }
+    ensures { OnOk result (out.new.items ≡ out.old.items ++
+        (word.now ++ obj_text obj.now ++ codes " dep " ++ decimal number ++ codes " " ++ until_text then)) }
 {
-    write!(out, "untilpassed ")?;
-    write_obj(out, obj)?;
-    write!(out, " dep {number} {}", until_word(then))
+    write_with_dep(out, word, obj, number)?;
+    write!(out, " {}", until_word(then))
 }
 
-fn write_fulfilled(out: &mut Vec<u8>, obj: &Obj, number: u16) -> io::Result<()>
-    ensures { OnOk result (out.new.items ≡ out.old.items ++ codes "fulfilled " ++ obj_text obj.now ++ codes " dep " ++ decimal number) }
+fn write_with_dep(out: &mut Vec<u8>, word: &str, obj: &Obj, number: u16) -> io::Result<()>
+    ensures { OnOk result (out.new.items ≡ out.old.items ++
+        (word.now ++ obj_text obj.now ++ codes " dep " ++ decimal number)) }
 {
-    write!(out, "fulfilled ")?;
+    write!(out, "{word}")?;
     write_obj(out, obj)?;
     write!(out, " dep {number}")
 }
 
 fn write_obeyed(out: &mut Vec<u8>, net: &Net, from: &Ws, place: u32, cmd: &Cmd) -> io::Result<()>
-    ensures { OnOk result (out.new.items ≡ out.old.items ++ codes "obeyed " ++ name_of net.now from.now ++ codes " " ++ decimal place ++ codes " " ++ cmd_text net.now cmd.now) }
+    ensures { OnOk result (out.new.items ≡ out.old.items ++
+        (codes "obeyed " ++ name_of net.now from.now ++ codes " " ++ decimal place ++ codes " " ++ cmd_text net.now cmd.now)) }
 {
     write!(out, "obeyed {} {place} ", name(net, from))?;
     write_cmd(out, net, cmd)
 }
 
 fn write_order(out: &mut Vec<u8>, net: &Net, cmd: &Cmd) -> io::Result<()>
-    ensures { OnOk result (out.new.items ≡ out.old.items ++ codes "order " ++ cmd_text net.now cmd.now) }
+    ensures { OnOk result (out.new.items ≡ out.old.items ++ (codes "order " ++ cmd_text net.now cmd.now)) }
 {
     write!(out, "order ")?;
     write_cmd(out, net, cmd)

@@ -25,8 +25,8 @@ pub(crate) fn write_cmd(out: &mut Vec<u8>, net: &Net, cmd: &Cmd) -> io::Result<(
         Cmd::Rerun(job) => write!(out, "rerun job {}", job.0),
         Cmd::Fence(priority) => write!(out, "fence {priority}"),
         Cmd::Limit(limit) => write!(out, "limit {limit}"),
-        Cmd::StreamLimit(stream, limit) => write!(out, "limit stream {} {limit}", stream.0),
-        Cmd::Total(resource, units) => write!(out, "total {resource} {units}"),
+        Cmd::StreamLimit(stream, limit) => write_amount(out, "limit stream ", stream.0, *limit),
+        Cmd::Total(resource, units) => write_amount(out, "total ", u32::from(*resource), *units),
         Cmd::ReplyGlobal(prompt, yes) => {
             write!(out, "reply prompt {prompt} {}", answer_word(*yes))
         }
@@ -39,29 +39,38 @@ pub(crate) fn write_cmd(out: &mut Vec<u8>, net: &Net, cmd: &Cmd) -> io::Result<(
 }
 
 fn write_add_dep(out: &mut Vec<u8>, obj: &Obj, dep: &Dep) -> io::Result<()>
-    ensures { OnOk result (out.new.items ≡ out.old.items ++ codes "adddep " ++ obj_text obj.now ++ codes " " ++ dep_text dep.now) }
+    ensures { OnOk result (out.new.items ≡ out.old.items ++
+        (codes "adddep " ++ obj_text obj.now ++ codes " " ++ dep_text dep.now)) }
 {
     write_with_obj(out, "adddep ", obj)?;
     write!(out, " ")?;
     write_dep(out, dep)
 }
 
+fn write_amount(out: &mut Vec<u8>, word: &str, no: u32, amount: u16) -> io::Result<()>
+    ensures { OnOk result (out.new.items ≡ out.old.items ++ (word.now ++ decimal no ++ codes " " ++ decimal amount)) }
+{
+    write!(out, "{word}{no} {amount}")
+}
+
 fn write_reply(out: &mut Vec<u8>, obj: &Obj, number: u16, yes: bool) -> io::Result<()>
-    ensures { OnOk result (out.new.items ≡ out.old.items ++ codes "reply " ++ obj_text obj.now ++ codes " " ++ decimal number ++ codes " " ++ spec.answer_word yes) }
+    ensures { OnOk result (out.new.items ≡ out.old.items ++
+        (codes "reply " ++ obj_text obj.now ++ codes " " ++ decimal number ++ codes " " ++ spec.answer_word yes)) }
 {
     write_with_obj(out, "reply ", obj)?;
     write!(out, " {number} {}", answer_word(yes))
 }
 
 fn write_with_number(out: &mut Vec<u8>, word: &str, obj: &Obj, number: u16) -> io::Result<()>
-    ensures { OnOk result (out.new.items ≡ out.old.items ++ word.now ++ obj_text obj.now ++ codes " " ++ decimal number) }
+    ensures { OnOk result (out.new.items ≡ out.old.items ++
+        (word.now ++ obj_text obj.now ++ codes " " ++ decimal number)) }
 {
     write_with_obj(out, word, obj)?;
     write!(out, " {number}")
 }
 
 fn write_with_obj(out: &mut Vec<u8>, word: &str, obj: &Obj) -> io::Result<()>
-    ensures { OnOk result (out.new.items ≡ out.old.items ++ word.now ++ obj_text obj.now) }
+    ensures { OnOk result (out.new.items ≡ out.old.items ++ (word.now ++ obj_text obj.now)) }
 {
     write!(out, "{word}")?;
     write_obj(out, obj)

@@ -47,14 +47,14 @@ pub(crate) fn write_dep(out: &mut Vec<u8>, dep: &Dep) -> io::Result<()>
 }
 
 fn write_prompt(out: &mut Vec<u8>, text: &Text) -> io::Result<()>
-    ensures { OnOk result (out.new.items ≡ out.old.items ++ codes "prompt " ++ quoted_text text.now) }
+    ensures { OnOk result (out.new.items ≡ out.old.items ++ (codes "prompt " ++ quoted_text text.now)) }
 {
     write!(out, "prompt ")?;
     write_quoted(out, text)
 }
 
 fn write_outside(out: &mut Vec<u8>, path: &Text) -> io::Result<()>
-    ensures { OnOk result (out.new.items ≡ out.old.items ++ codes "outside " ++ quoted_text path.now) }
+    ensures { OnOk result (out.new.items ≡ out.old.items ++ (codes "outside " ++ quoted_text path.now)) }
 {
     write!(out, "outside ")?;
     write_quoted(out, path)

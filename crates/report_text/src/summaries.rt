@@ -38,47 +38,73 @@ fn write_summary(
     ensures { OnOk result (out.new.items ≡ out.old.items ++ spec.summary_of streams.now jobs.now events starts) }
 {
     write!(out, "events {events}\nstarts {starts}\n")?;
-    write_streams(out, streams)?;
-    write_jobs(out, jobs)
+    write_unended_streams(out, streams)?;
+    write_ended_streams(out, streams)?;
+    write_unended_jobs(out, jobs)?;
+    write_ended_jobs(out, jobs)
 }
 
-#[tactic(auto, unfolding(crate::specs::Summaries::streams_part))]
-fn write_streams(out: &mut Vec<u8>, counts: &Counts) -> io::Result<()>
-    ensures { OnOk result (out.new.items ≡ out.old.items ++ spec.streams_part counts.now) }
+#[tactic(auto, unfolding(crate::specs::Summaries::unended_streams))]
+fn write_unended_streams(out: &mut Vec<u8>, counts: &Counts) -> io::Result<()>
+    ensures { OnOk result (out.new.items ≡ out.old.items ++ spec.unended_streams counts.now) }
 {
-    write_state(out, "streams HOLD", counts, 0)?;
-    write_state(out, "streams READY", counts, 1)?;
-    write_state(out, "streams EXEC", counts, 2)?;
-    write_state(out, "streams STUCK", counts, 3)?;
-    write_state(out, "streams SUCC", counts, 4)?;
-    write_state(out, "streams ABEND", counts, 5)?;
-    write_state(out, "streams CANCEL", counts, 6)
+    write_streams(out, "HOLD", counts, 0)?;
+    write_streams(out, "READY", counts, 1)?;
+    write_streams(out, "EXEC", counts, 2)?;
+    write_streams(out, "STUCK", counts, 3)
 }
 
-#[tactic(auto, unfolding(crate::specs::Summaries::jobs_part))]
-fn write_jobs(out: &mut Vec<u8>, counts: &Counts) -> io::Result<()>
-    ensures { OnOk result (out.new.items ≡ out.old.items ++ spec.jobs_part counts.now) }
+#[tactic(auto, unfolding(crate::specs::Summaries::ended_streams))]
+fn write_ended_streams(out: &mut Vec<u8>, counts: &Counts) -> io::Result<()>
+    ensures { OnOk result (out.new.items ≡ out.old.items ++ spec.ended_streams counts.now) }
 {
-    write_state(out, "jobs HOLD", counts, 0)?;
-    write_state(out, "jobs FENCE", counts, 1)?;
-    write_state(out, "jobs READY", counts, 2)?;
-    write_state(out, "jobs INTRO", counts, 3)?;
-    write_state(out, "jobs EXEC", counts, 4)?;
-    write_state(out, "jobs SUCC", counts, 5)?;
-    write_state(out, "jobs ABEND", counts, 6)?;
-    write_state(out, "jobs FAIL", counts, 7)?;
-    write_state(out, "jobs CANCEL", counts, 8)
+    write_streams(out, "SUCC", counts, 4)?;
+    write_streams(out, "ABEND", counts, 5)?;
+    write_streams(out, "CANCEL", counts, 6)
 }
 
-#[tactic(auto, unfolding(crate::specs::Summaries::state_line))]
-fn write_state(out: &mut Vec<u8>, state: &str, counts: &Counts, place: usize) -> io::Result<()>
-    ensures { OnOk result (out.new.items ≡ out.old.items ++ spec.state_line state.now counts.now place) }
+#[tactic(auto, unfolding(crate::specs::Summaries::unended_jobs))]
+fn write_unended_jobs(out: &mut Vec<u8>, counts: &Counts) -> io::Result<()>
+    ensures { OnOk result (out.new.items ≡ out.old.items ++ spec.unended_jobs counts.now) }
 {
-    let count = count_at(counts, place);
+    write_jobs(out, "HOLD", counts, 0)?;
+    write_jobs(out, "FENCE", counts, 1)?;
+    write_jobs(out, "READY", counts, 2)?;
+    write_jobs(out, "INTRO", counts, 3)?;
+    write_jobs(out, "EXEC", counts, 4)
+}
+
+#[tactic(auto, unfolding(crate::specs::Summaries::ended_jobs))]
+fn write_ended_jobs(out: &mut Vec<u8>, counts: &Counts) -> io::Result<()>
+    ensures { OnOk result (out.new.items ≡ out.old.items ++ spec.ended_jobs counts.now) }
+{
+    write_jobs(out, "SUCC", counts, 5)?;
+    write_jobs(out, "ABEND", counts, 6)?;
+    write_jobs(out, "FAIL", counts, 7)?;
+    write_jobs(out, "CANCEL", counts, 8)
+}
+
+#[tactic(auto, unfolding(crate::specs::Summaries::streams_line))]
+fn write_streams(out: &mut Vec<u8>, state: &str, counts: &Counts, place: usize) -> io::Result<()>
+    ensures { OnOk result (out.new.items ≡ out.old.items ++ spec.streams_line state.now counts.now place) }
+{
+    write_state(out, "streams", state, count_at(counts, place))
+}
+
+#[tactic(auto, unfolding(crate::specs::Summaries::jobs_line))]
+fn write_jobs(out: &mut Vec<u8>, state: &str, counts: &Counts, place: usize) -> io::Result<()>
+    ensures { OnOk result (out.new.items ≡ out.old.items ++ spec.jobs_line state.now counts.now place) }
+{
+    write_state(out, "jobs", state, count_at(counts, place))
+}
+
+fn write_state(out: &mut Vec<u8>, what: &str, state: &str, count: u32) -> io::Result<()>
+    ensures { OnOk result (out.new.items ≡ out.old.items ++ spec.state_line what.now state.now count) }
+{
     if count == 0 {
         return Ok(());
     }
-    write!(out, "{state} {count}\n")
+    write!(out, "{what} {state} {count}\n")
 }
 
 fn count_at(counts: &Counts, place: usize) -> u32

@@ -5,7 +5,6 @@ use Rattle.base_types.specs.declared.Obj.{Obj}
 use Rattle.base_types.specs.declared.Obj.TheVariants.{Job, Stream}
 use Rattle.base_types.specs.declared.OnUntil.{OnUntil}
 use Rattle.base_types.specs.declared.OnUntil.TheVariants.{Suppr, Cont, Canc}
-use Rattle.base_types.specs.declared.PromptRef.{PromptRef}
 use Rattle.base_types.specs.declared.PromptRef.TheVariants.{Global, Own}
 use Rattle.base_types.specs.declared.Dep.{Dep}
 use Rattle.base_types.specs.declared.Dep.TheVariants.{FollowsJob, FollowsStream, Needs, Prompt, At, Until, Outside}

@@ -15,33 +15,33 @@ streams_line state counts place = state_line (codes "streams") state (slice_inde
 unfoldable pub jobs_line : List ℕ → List ℕ → ℕ → List ℕ
 jobs_line state counts place = state_line (codes "jobs") state (slice_index counts place)
 
--- streams that have not ended, in the order of their states
-unfoldable pub unended_streams : List ℕ → List ℕ
-unended_streams counts =
+-- the first four states of streams, in their order
+unfoldable pub first_streams : List ℕ → List ℕ
+first_streams counts =
     streams_line (codes "HOLD") counts 0
     ++ streams_line (codes "READY") counts 1
     ++ streams_line (codes "EXEC") counts 2
     ++ streams_line (codes "STUCK") counts 3
 
--- and those that have
-unfoldable pub ended_streams : List ℕ → List ℕ
-ended_streams counts =
+-- the last three states of streams
+unfoldable pub last_streams : List ℕ → List ℕ
+last_streams counts =
     streams_line (codes "SUCC") counts 4
     ++ streams_line (codes "ABEND") counts 5
     ++ streams_line (codes "CANCEL") counts 6
 
--- jobs that have not ended, in the order of their states
-unfoldable pub unended_jobs : List ℕ → List ℕ
-unended_jobs counts =
+-- the first five states of jobs, in their order
+unfoldable pub first_jobs : List ℕ → List ℕ
+first_jobs counts =
     jobs_line (codes "HOLD") counts 0
     ++ jobs_line (codes "FENCE") counts 1
     ++ jobs_line (codes "READY") counts 2
     ++ jobs_line (codes "INTRO") counts 3
     ++ jobs_line (codes "EXEC") counts 4
 
--- and those that have
-unfoldable pub ended_jobs : List ℕ → List ℕ
-ended_jobs counts =
+-- the last four states of jobs
+unfoldable pub last_jobs : List ℕ → List ℕ
+last_jobs counts =
     jobs_line (codes "SUCC") counts 5
     ++ jobs_line (codes "ABEND") counts 6
     ++ jobs_line (codes "FAIL") counts 7
@@ -51,7 +51,7 @@ ended_jobs counts =
 unfoldable pub summary_of : List ℕ → List ℕ → ℕ → ℕ → List ℕ
 summary_of streams jobs events starts =
     codes "events " ++ decimal events ++ codes "\nstarts " ++ decimal starts ++ codes "\n"
-    ++ unended_streams streams
-    ++ ended_streams streams
-    ++ unended_jobs jobs
-    ++ ended_jobs jobs
+    ++ first_streams streams
+    ++ last_streams streams
+    ++ first_jobs jobs
+    ++ last_jobs jobs

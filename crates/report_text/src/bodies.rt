@@ -29,8 +29,8 @@ pub(crate) fn write_body(out: &mut Vec<u8>, net: &Net, body: &Body) -> io::Resul
             write!(out, "added {} {place} stream {no}", name(net, from))
         }
         Body::Clock(time) => write!(out, "clock {}", time.0),
-        Body::Released(stream, seen) => write_with_seen(out, net, "released ", stream.0, seen),
-        Body::StreamEnded(stream, seen) => write_with_seen(out, net, "streamended ", stream.0, seen),
+        Body::Released(no, seen) => write_with_seen(out, net, "released ", no.0, seen),
+        Body::StreamEnded(no, seen) => write_with_seen(out, net, "streamended ", no.0, seen),
         Body::UntilPassed(obj, number, then) => {
             write_passed(out, "untilpassed ", obj, *number, *then)
         }
@@ -44,7 +44,8 @@ pub(crate) fn write_body(out: &mut Vec<u8>, net: &Net, body: &Body) -> io::Resul
         Body::Fulfilled(obj, number) => write_with_dep(out, "fulfilled ", obj, *number),
         Body::Obeyed(from, place, cmd) => write_obeyed(out, net, from, *place, cmd),
         Body::Declined(from, place, why) => {
-            write!(out, "declined {} {place} {}", name(net, from), why_word(*why))
+            let why = why_word(*why);
+            write!(out, "declined {} {place} {why}", name(net, from))
         }
         Body::Order(cmd) => write_order(out, net, cmd),
     }
@@ -94,7 +95,8 @@ fn write_launched(
     seen: &Seen,
 ) -> io::Result<()>
     ensures { OnOk result (out.new.items ≡ out.old.items ++
-        (codes "launched " ++ decimal job ++ codes " " ++ decimal number ++ codes " seen " ++ seen_text net.now seen.now)) }
+        (codes "launched " ++ decimal job ++ codes " " ++ decimal number
+        ++ codes " seen " ++ seen_text net.now seen.now)) }
 {
     write!(out, "launched {job} {number} seen ")?;
     write_seen(out, net, seen.as_slice())
@@ -125,7 +127,8 @@ fn write_with_dep(out: &mut Vec<u8>, word: &str, obj: &Obj, number: u16) -> io::
 
 fn write_obeyed(out: &mut Vec<u8>, net: &Net, from: &Ws, place: u32, cmd: &Cmd) -> io::Result<()>
     ensures { OnOk result (out.new.items ≡ out.old.items ++
-        (codes "obeyed " ++ name_of net.now from.now ++ codes " " ++ decimal place ++ codes " " ++ cmd_text net.now cmd.now)) }
+        (codes "obeyed " ++ name_of net.now from.now ++ codes " " ++ decimal place
+        ++ codes " " ++ cmd_text net.now cmd.now)) }
 {
     write!(out, "obeyed {} {place} ", name(net, from))?;
     write_cmd(out, net, cmd)

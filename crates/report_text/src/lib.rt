@@ -1,8 +1,9 @@
-//! The report that a replay prints, as text, made from its parts.
+//! The report that a replay prints and its summary, as text, made from their parts.
 //!
-//! The parts are the entries, the launches that were started, the counts of packets, and what each workstation holds
-//! with the listing of its plan. `print_report` gives exactly the bytes that `specs/Reports.antt` and the files that it
-//! stands on define: a line for each of these, with each kind of entry, command and dependency.
+//! The parts of a report are the entries, the launches that were started, the counts of packets, and what each
+//! workstation holds with the listing of its plan. `print_report` gives exactly the bytes that `specs/Reports.antt`
+//! defines, over the files that stand before it: a line for each part, with each kind of entry, command and dependency.
+//! `print_summary` gives those of `specs/Summaries.antt`.
 #![tactic(auto)]
 
 mod bodies;

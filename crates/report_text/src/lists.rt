@@ -25,7 +25,8 @@ pub(crate) fn write_numbers(out: &mut Vec<u8>, numbers: &[StreamNo]) -> io::Resu
 /// Writes the numbers that streams of a plan have.
 #[tactic(auto, unfolding(crate::specs::Lists::numbers_text))]
 pub(crate) fn write_numbers_of(out: &mut Vec<u8>, streams: &[StreamDoc]) -> io::Result<()>
-    ensures { OnOk result (out.new.items ≡ out.old.items ++ spec.numbers_text (map (λ (s : StreamDoc). s.no) streams.now)) }
+    ensures { OnOk result (out.new.items ≡ out.old.items ++
+        spec.numbers_text (map (λ (s : StreamDoc). s.no) streams.now)) }
 {
     let [first, rest @ ..] = streams else {
         return write!(out, "-");

@@ -7,9 +7,9 @@ use std::io::{self, Write};
 
 /// The summary of so many entries and starts, and of streams and jobs by the counts of their states.
 ///
-/// The states of streams are HOLD, READY, EXEC, STUCK, SUCC, ABEND and CANCEL in this order, those of jobs HOLD, FENCE,
-/// READY, INTRO, EXEC, SUCC, ABEND, FAIL and CANCEL. A count of 0 has no line, and a count that is missing is 0. What
-/// stands behind these counts is not printed, nor is anything of the network. `NoMemory` where memory runs out.
+/// The states of streams are HOLD, READY, EXEC, STUCK, SUCC, ABEND and CANCEL in this order, those of jobs HOLD,
+/// FENCE, READY, INTRO, EXEC, SUCC, ABEND, FAIL and CANCEL. A count of 0 has no line, and a count that is missing is 0.
+/// What stands behind these counts is not printed, nor is anything of the network. `NoMemory` where memory runs out.
 #[tactic(auto, unfolding(crate::specs::Summaries::summary_of))]
 pub fn print_summary(
     _net: &Net,
@@ -38,15 +38,15 @@ fn write_summary(
     ensures { OnOk result (out.new.items ≡ out.old.items ++ spec.summary_of streams.now jobs.now events starts) }
 {
     write!(out, "events {events}\nstarts {starts}\n")?;
-    write_unended_streams(out, streams)?;
-    write_ended_streams(out, streams)?;
-    write_unended_jobs(out, jobs)?;
-    write_ended_jobs(out, jobs)
+    write_first_streams(out, streams)?;
+    write_last_streams(out, streams)?;
+    write_first_jobs(out, jobs)?;
+    write_last_jobs(out, jobs)
 }
 
-#[tactic(auto, unfolding(crate::specs::Summaries::unended_streams))]
-fn write_unended_streams(out: &mut Vec<u8>, counts: &Counts) -> io::Result<()>
-    ensures { OnOk result (out.new.items ≡ out.old.items ++ spec.unended_streams counts.now) }
+#[tactic(auto, unfolding(crate::specs::Summaries::first_streams))]
+fn write_first_streams(out: &mut Vec<u8>, counts: &Counts) -> io::Result<()>
+    ensures { OnOk result (out.new.items ≡ out.old.items ++ spec.first_streams counts.now) }
 {
     write_streams(out, "HOLD", counts, 0)?;
     write_streams(out, "READY", counts, 1)?;
@@ -54,18 +54,18 @@ fn write_unended_streams(out: &mut Vec<u8>, counts: &Counts) -> io::Result<()>
     write_streams(out, "STUCK", counts, 3)
 }
 
-#[tactic(auto, unfolding(crate::specs::Summaries::ended_streams))]
-fn write_ended_streams(out: &mut Vec<u8>, counts: &Counts) -> io::Result<()>
-    ensures { OnOk result (out.new.items ≡ out.old.items ++ spec.ended_streams counts.now) }
+#[tactic(auto, unfolding(crate::specs::Summaries::last_streams))]
+fn write_last_streams(out: &mut Vec<u8>, counts: &Counts) -> io::Result<()>
+    ensures { OnOk result (out.new.items ≡ out.old.items ++ spec.last_streams counts.now) }
 {
     write_streams(out, "SUCC", counts, 4)?;
     write_streams(out, "ABEND", counts, 5)?;
     write_streams(out, "CANCEL", counts, 6)
 }
 
-#[tactic(auto, unfolding(crate::specs::Summaries::unended_jobs))]
-fn write_unended_jobs(out: &mut Vec<u8>, counts: &Counts) -> io::Result<()>
-    ensures { OnOk result (out.new.items ≡ out.old.items ++ spec.unended_jobs counts.now) }
+#[tactic(auto, unfolding(crate::specs::Summaries::first_jobs))]
+fn write_first_jobs(out: &mut Vec<u8>, counts: &Counts) -> io::Result<()>
+    ensures { OnOk result (out.new.items ≡ out.old.items ++ spec.first_jobs counts.now) }
 {
     write_jobs(out, "HOLD", counts, 0)?;
     write_jobs(out, "FENCE", counts, 1)?;
@@ -74,9 +74,9 @@ fn write_unended_jobs(out: &mut Vec<u8>, counts: &Counts) -> io::Result<()>
     write_jobs(out, "EXEC", counts, 4)
 }
 
-#[tactic(auto, unfolding(crate::specs::Summaries::ended_jobs))]
-fn write_ended_jobs(out: &mut Vec<u8>, counts: &Counts) -> io::Result<()>
-    ensures { OnOk result (out.new.items ≡ out.old.items ++ spec.ended_jobs counts.now) }
+#[tactic(auto, unfolding(crate::specs::Summaries::last_jobs))]
+fn write_last_jobs(out: &mut Vec<u8>, counts: &Counts) -> io::Result<()>
+    ensures { OnOk result (out.new.items ≡ out.old.items ++ spec.last_jobs counts.now) }
 {
     write_jobs(out, "SUCC", counts, 5)?;
     write_jobs(out, "ABEND", counts, 6)?;

@@ -152,7 +152,10 @@ fn two_agents(rt: HostRuntime) -> Result<(), Fail> {
     let net = net_of(alloc, &["M", "P", "Q"])?;
     let mut parts = two_agents_parts(alloc)?;
     add_two_agents(alloc, &mut parts)?;
-    assert_eq!(rt; print_report(&net, &parts)?.as_slice(), TWO_AGENTS.as_bytes());
+    assert_eq!(rt;
+        print_report(&net, &parts)?.as_slice(),
+        TWO_AGENTS.as_bytes()
+    );
     Ok(())
 }
 
@@ -227,10 +230,19 @@ fn command_over_two_hops(rt: HostRuntime) -> Result<(), Fail> {
     let net = net_of(alloc, &["M", "D", "L"])?;
     let mut parts = two_hops_parts(alloc)?;
     let below = [(events(0), 2), (orders(2, 0), 1)];
-    node(alloc, &mut parts, 0, &[(events(0), 4), (orders(2, 0), 1)], AT_MASTER)?;
+    node(
+        alloc,
+        &mut parts,
+        0,
+        &[(events(0), 4), (orders(2, 0), 1)],
+        AT_MASTER,
+    )?;
     node(alloc, &mut parts, 1, &below, BELOW_MASTER)?;
     node(alloc, &mut parts, 2, &below, BELOW_MASTER)?;
-    assert_eq!(rt; print_report(&net, &parts)?.as_slice(), OVER_TWO_HOPS.as_bytes());
+    assert_eq!(rt;
+        print_report(&net, &parts)?.as_slice(),
+        OVER_TWO_HOPS.as_bytes()
+    );
     Ok(())
 }
 
@@ -318,7 +330,13 @@ fn add_next_day(alloc: Global, parts: &mut ReportParts) -> Result<(), Fail> {
     packets(parts, 0, 1, 9)?;
     packets(parts, 1, 0, 9)?;
     node(alloc, parts, 0, &[(events(0), 7), (events(1), 4)], NEXT_DAY)?;
-    node(alloc, parts, 1, &[(events(0), 2), (events(1), 4)], DAY_BEFORE)
+    node(
+        alloc,
+        parts,
+        1,
+        &[(events(0), 2), (events(1), 4)],
+        DAY_BEFORE,
+    )
 }
 
 #[test]

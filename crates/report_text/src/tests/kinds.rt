@@ -1,8 +1,7 @@
 //! Each kind of entry, command, dependency and reason once.
 use crate::print_report;
 use crate::tests::samples::{
-    empty_parts, event, launched, net_of, new_plan, order, released, seen, stream_doc,
-    stream_draft,
+    empty_parts, event, launched, net_of, new_plan, order, released, seen, stream_doc, stream_draft,
 };
 use base_types::{
     Body, Cmd, Dep, JobNo, Moment, Obj, OnUntil, PromptRef, ReportParts, StreamNo, Text, Why, Ws,
@@ -26,7 +25,12 @@ fn plan_bodies(alloc: Global, parts: &mut ReportParts) -> Result<(), Fail> {
     event(parts, 0, 3, Body::Added(Ws(1), 9, stream_doc(alloc, 6)))?;
     event(parts, 0, 4, Body::Clock(Moment(18446744073709551615)))?;
     event(parts, 0, 5, released(alloc, 4, &[(0, 2)])?)?;
-    event(parts, 0, 6, Body::StreamEnded(StreamNo(4), seen(alloc, &[])?))?;
+    event(
+        parts,
+        0,
+        6,
+        Body::StreamEnded(StreamNo(4), seen(alloc, &[])?),
+    )?;
     event(parts, 0, 7, Body::UntilPassed(job(8), 2, OnUntil::Suppr))?;
     event(parts, 0, 8, Body::UntilPassed(stream(4), 1, OnUntil::Cont))?;
     event(parts, 0, 9, Body::UntilPassed(job(9), 65535, OnUntil::Canc))
@@ -89,7 +93,11 @@ fn ask(parts: &mut ReportParts, place: u32, cmd: Cmd) -> Result<(), Fail> {
 }
 
 fn object_commands(parts: &mut ReportParts) -> Result<(), Fail> {
-    ask(parts, 1, Cmd::AddDep(job(2), Dep::FollowsStream(StreamNo(3))))?;
+    ask(
+        parts,
+        1,
+        Cmd::AddDep(job(2), Dep::FollowsStream(StreamNo(3))),
+    )?;
     ask(parts, 2, Cmd::DelDep(stream(3), 64))?;
     ask(parts, 3, Cmd::Release(job(2)))?;
     ask(parts, 4, Cmd::AltPri(stream(3), 101))?;
@@ -151,7 +159,12 @@ fn commands(rt: HostRuntime) -> Result<(), Fail> {
 
 // One more entry of M, that the order of this place to depend on more was obeyed.
 fn depend(parts: &mut ReportParts, place: u32, dep: Dep) -> Result<(), Fail> {
-    event(parts, 0, place, Body::Obeyed(Ws(1), place, Cmd::AddDep(job(2), dep)))
+    event(
+        parts,
+        0,
+        place,
+        Body::Obeyed(Ws(1), place, Cmd::AddDep(job(2), dep)),
+    )
 }
 
 fn own_prompt(alloc: Global, text: &str) -> Result<Dep, Fail> {
@@ -199,7 +212,10 @@ fn dependencies(rt: HostRuntime) -> Result<(), Fail> {
     let mut parts = empty_parts(alloc);
     plain_dependencies(&mut parts)?;
     quoted_dependencies(alloc, &mut parts)?;
-    assert_eq!(rt; print_report(&net, &parts)?.as_slice(), DEPENDENCIES.as_bytes());
+    assert_eq!(rt;
+        print_report(&net, &parts)?.as_slice(),
+        DEPENDENCIES.as_bytes()
+    );
     Ok(())
 }
 

@@ -60,24 +60,23 @@ pub(crate) fn order(
 }
 
 pub(crate) fn start(parts: &mut ReportParts, ws: u16, job: u32, number: u32) -> Result<(), Fail> {
-    Ok(parts.starts.push(Start {
-        ws: Ws(ws),
-        job: JobNo(job),
-        number,
-    })?)
+    Ok(
+        parts.starts.push(Start {
+            ws: Ws(ws),
+            job: JobNo(job),
+            number,
+        })?,
+    )
 }
 
-pub(crate) fn packets(
-    parts: &mut ReportParts,
-    from: u16,
-    to: u16,
-    count: u32,
-) -> Result<(), Fail> {
-    Ok(parts.packets.push(PairCount {
-        from: Ws(from),
-        to: Ws(to),
-        count,
-    })?)
+pub(crate) fn packets(parts: &mut ReportParts, from: u16, to: u16, count: u32) -> Result<(), Fail> {
+    Ok(
+        parts.packets.push(PairCount {
+            from: Ws(from),
+            to: Ws(to),
+            count,
+        })?,
+    )
 }
 
 fn bytes(alloc: Global, text: &str) -> Result<Bytes, Fail> {
@@ -103,11 +102,13 @@ pub(crate) fn node(
             count: held.1,
         })?;
     }
-    Ok(parts.nodes.push(NodePart {
-        ws: Ws(ws),
-        holds: counts,
-        listing: bytes(alloc, listing)?,
-    })?)
+    Ok(
+        parts.nodes.push(NodePart {
+            ws: Ws(ws),
+            holds: counts,
+            listing: bytes(alloc, listing)?,
+        })?,
+    )
 }
 
 pub(crate) fn seen(alloc: Global, counts: &[(u16, u32)]) -> Result<Seen, Fail> {

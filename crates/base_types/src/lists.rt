@@ -40,8 +40,7 @@ impl<T> Model for Items<T> {
 }
 
 impl<T> Items<T> {
-    /// The list of a vector's items, which takes no memory.
-    pub fn of_vec(items: Vec<T>) -> Self
+    pub(crate) fn of_vec(items: Vec<T>) -> Self
         ensures { result ≡ items.items }
     {
         Items { items }
@@ -99,11 +98,6 @@ impl<T> Items<T> {
         Items {
             items: Vec::new(*self.items.allocator()),
         }
-    }
-
-    /// The allocator on which the list grows.
-    pub fn allocator(&self) -> Global {
-        *self.items.allocator()
     }
 
     /// How many items there are.

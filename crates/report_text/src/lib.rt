@@ -7,6 +7,7 @@
 #![tactic(auto)]
 
 mod bodies;
+mod bytes;
 mod commands;
 mod dependencies;
 mod lists;

@@ -3,10 +3,10 @@ ghost use Rattle.std.specs.Prelude.{◌≡◌, ◌++◌, IfOk, OnOk, flat_map};
 ghost use Rattle.report_text.specs.Reports as spec;
 
 use crate::bodies::write_body;
+use crate::bytes::bytes_of;
 use crate::names::{name, write_feed};
-use base_types::{
-    Bytes, Entry, FeedCount, Items, Net, NoMemory, NodePart, PairCount, ReportParts, Start,
-};
+use base_types::{Bytes, Entry, FeedCount, Net, NoMemory, NodePart, PairCount, ReportParts, Start};
+use std::alloc::Global;
 use std::io::{self, Write};
 
 /// The report that these parts make, in UTF-8 where the listings are.
@@ -14,12 +14,12 @@ use std::io::{self, Write};
 /// Each list is printed in the order of the parts; a count of 0 has no line. A workstation that is not in the network
 /// has no name, and nothing stands in its place. `NoMemory` where memory runs out.
 #[tactic(auto, unfolding(crate::specs::Reports::report_of))]
-pub fn print_report(net: &Net, parts: &ReportParts) -> Result<Bytes, NoMemory>
+pub fn print_report(alloc: Global, net: &Net, parts: &ReportParts) -> Result<Bytes, NoMemory>
     ensures { IfOk result (λ bytes. bytes ≡ spec.report_of net.now parts.now) }
 {
-    let mut out = Vec::new(parts.events.allocator());
+    let mut out = Vec::new(alloc);
     match write_report(&mut out, net, parts) {
-        Ok(()) => Ok(Items::of_vec(out)),
+        Ok(()) => bytes_of(alloc, &out),
         Err(_) => Err(NoMemory),
     }
 }

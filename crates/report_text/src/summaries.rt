@@ -2,7 +2,9 @@
 ghost use Rattle.std.specs.Prelude.{◌≡◌, ◌++◌, IfOk, OnOk, slice_index};
 ghost use Rattle.report_text.specs.Summaries as spec;
 
-use base_types::{Bytes, Counts, Items, Net, NoMemory};
+use crate::bytes::bytes_of;
+use base_types::{Bytes, Counts, Net, NoMemory};
+use std::alloc::Global;
 use std::io::{self, Write};
 
 /// The summary of so many entries and starts, and of streams and jobs by the counts of their states.
@@ -12,6 +14,7 @@ use std::io::{self, Write};
 /// What stands behind these counts is not printed, nor is anything of the network. `NoMemory` where memory runs out.
 #[tactic(auto, unfolding(crate::specs::Summaries::summary_of))]
 pub fn print_summary(
+    alloc: Global,
     _net: &Net,
     streams: &Counts,
     jobs: &Counts,
@@ -20,9 +23,9 @@ pub fn print_summary(
 ) -> Result<Bytes, NoMemory>
     ensures { IfOk result (λ bytes. bytes ≡ spec.summary_of streams.now jobs.now events starts) }
 {
-    let mut out = Vec::new(streams.allocator());
+    let mut out = Vec::new(alloc);
     match write_summary(&mut out, streams, jobs, events, starts) {
-        Ok(()) => Ok(Items::of_vec(out)),
+        Ok(()) => bytes_of(alloc, &out),
         Err(_) => Err(NoMemory),
     }
 }

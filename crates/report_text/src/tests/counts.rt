@@ -40,12 +40,12 @@ fn summaries(rt: HostRuntime) -> Result<(), Fail> {
     let streams = counts_of(alloc, &[0, 0, 0, 0, 4, 0, 0])?;
     let jobs = counts_of(alloc, &[0, 0, 0, 0, 0, 40, 0, 0, 0])?;
     let expected = "events 89\nstarts 40\nstreams SUCC 4\njobs SUCC 40\n";
-    let text = print_summary(&net, &streams, &jobs, 89, 40)?;
+    let text = print_summary(alloc, &net, &streams, &jobs, 89, 40)?;
     assert_eq!(rt; text.as_slice(), expected.as_bytes());
 
     let streams = counts_of(alloc, &[1, 2, 3, 4, 5, 6, 7])?;
     let jobs = counts_of(alloc, &[11, 12, 13, 14, 15, 16, 17, 18, 19])?;
-    let text = print_summary(&net, &streams, &jobs, 4294967295, 0)?;
+    let text = print_summary(alloc, &net, &streams, &jobs, 4294967295, 0)?;
     assert_eq!(rt; text.as_slice(), EACH_STATE.as_bytes());
     Ok(())
 }

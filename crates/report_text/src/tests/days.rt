@@ -15,7 +15,10 @@ fn without_any_entry(rt: HostRuntime) -> Result<(), Fail> {
     let mut parts = empty_parts(alloc);
     node(alloc, &mut parts, 0, &[], "no plan\n")?;
     let expected = "events 0\nstarts 0\nnode M\nno plan\n";
-    assert_eq!(rt; print_report(&net, &parts)?.as_slice(), expected.as_bytes());
+    assert_eq!(rt;
+        print_report(alloc, &net, &parts)?.as_slice(),
+        expected.as_bytes()
+    );
     Ok(())
 }
 
@@ -53,7 +56,10 @@ fn one_job(rt: HostRuntime) -> Result<(), Fail> {
     event(&mut parts, 0, 5, stream_ended(alloc, 1, &[(0, 4)])?)?;
     start(&mut parts, 0, 1, 1)?;
     node(alloc, &mut parts, 0, &[(events(0), 5)], ONE_JOB_LISTING)?;
-    assert_eq!(rt; print_report(&net, &parts)?.as_slice(), ONE_JOB.as_bytes());
+    assert_eq!(rt;
+        print_report(alloc, &net, &parts)?.as_slice(),
+        ONE_JOB.as_bytes()
+    );
     Ok(())
 }
 
@@ -153,7 +159,7 @@ fn two_agents(rt: HostRuntime) -> Result<(), Fail> {
     let mut parts = two_agents_parts(alloc)?;
     add_two_agents(alloc, &mut parts)?;
     assert_eq!(rt;
-        print_report(&net, &parts)?.as_slice(),
+        print_report(alloc, &net, &parts)?.as_slice(),
         TWO_AGENTS.as_bytes()
     );
     Ok(())
@@ -240,7 +246,7 @@ fn command_over_two_hops(rt: HostRuntime) -> Result<(), Fail> {
     node(alloc, &mut parts, 1, &below, BELOW_MASTER)?;
     node(alloc, &mut parts, 2, &below, BELOW_MASTER)?;
     assert_eq!(rt;
-        print_report(&net, &parts)?.as_slice(),
+        print_report(alloc, &net, &parts)?.as_slice(),
         OVER_TWO_HOPS.as_bytes()
     );
     Ok(())
@@ -345,6 +351,9 @@ fn days_end(rt: HostRuntime) -> Result<(), Fail> {
     let net = net_of(alloc, &["M", "P"])?;
     let mut parts = first_day_parts(alloc)?;
     add_next_day(alloc, &mut parts)?;
-    assert_eq!(rt; print_report(&net, &parts)?.as_slice(), DAYS_END.as_bytes());
+    assert_eq!(rt;
+        print_report(alloc, &net, &parts)?.as_slice(),
+        DAYS_END.as_bytes()
+    );
     Ok(())
 }

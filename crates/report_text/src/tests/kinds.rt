@@ -83,7 +83,10 @@ fn bodies(rt: HostRuntime) -> Result<(), Fail> {
     let mut parts = empty_parts(alloc);
     plan_bodies(alloc, &mut parts)?;
     launch_bodies(alloc, &mut parts)?;
-    assert_eq!(rt; print_report(&net, &parts)?.as_slice(), BODIES.as_bytes());
+    assert_eq!(rt;
+        print_report(alloc, &net, &parts)?.as_slice(),
+        BODIES.as_bytes()
+    );
     Ok(())
 }
 
@@ -153,7 +156,10 @@ fn commands(rt: HostRuntime) -> Result<(), Fail> {
     let mut parts = empty_parts(alloc);
     object_commands(&mut parts)?;
     other_commands(alloc, &mut parts)?;
-    assert_eq!(rt; print_report(&net, &parts)?.as_slice(), COMMANDS.as_bytes());
+    assert_eq!(rt;
+        print_report(alloc, &net, &parts)?.as_slice(),
+        COMMANDS.as_bytes()
+    );
     Ok(())
 }
 
@@ -213,7 +219,7 @@ fn dependencies(rt: HostRuntime) -> Result<(), Fail> {
     plain_dependencies(&mut parts)?;
     quoted_dependencies(alloc, &mut parts)?;
     assert_eq!(rt;
-        print_report(&net, &parts)?.as_slice(),
+        print_report(alloc, &net, &parts)?.as_slice(),
         DEPENDENCIES.as_bytes()
     );
     Ok(())
@@ -254,6 +260,9 @@ fn reasons(rt: HostRuntime) -> Result<(), Fail> {
     for why in REASONS {
         event(&mut parts, 0, 1, Body::Declined(Ws(1), 3, why))?;
     }
-    assert_eq!(rt; print_report(&net, &parts)?.as_slice(), DECLINED.as_bytes());
+    assert_eq!(rt;
+        print_report(alloc, &net, &parts)?.as_slice(),
+        DECLINED.as_bytes()
+    );
     Ok(())
 }

@@ -1,0 +1,5 @@
+pub mod Spelling
+pub mod Streams
+pub mod Decoding
+pub mod Nexts
+pub mod Places

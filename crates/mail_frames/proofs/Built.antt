@@ -1,9 +1,13 @@
 -- A frame from its bytes: the kind is the fifth of them, and the content what follows.
-use Rattle.std.proofs.Common.{◌≡◌, ℕ, suc, ◌+◌, ◌-◌, ◌<◌, ◌≤◌, List, [], ◌∷◌, ◌++◌, length, take, drop, get_or, refl, sym, ◌∙◌, subst, ap, arith, length-append}
+use Rattle.std.proofs.Common.{◌≡◌, ℕ, zero, suc, ◌+◌, ◌-◌, ◌<◌, ◌≤◌, List, [], ◌∷◌, ◌++◌, length, take, drop, get_or, refl, sym, ◌∙◌, subst, ap, arith, length-append}
 use Rattle.std.proofs.lemmas.List.{take_rest}
+use Rattle.std.specs.List.{AllByRecursion}
 use Rattle.std.specs.Str.{IsUtf8}
 use Rattle.model.specs.Fields.{u32_bytes}
-use Rattle.mail_frames.specs.Spelling.{kind_of, content_of, frame_bytes, IsFrame, FrameBytes, IsSpelled, IsAckContent, IsAckOf}
+use Rattle.model.specs.Ranges.{IsU8, IsU32, FeedInRange}
+use Rattle.model.specs.Spelling.{feed_bytes}
+use Rattle.model.specs.Types.{Feed}
+use Rattle.mail_frames.specs.Spelling.{kind_of, content_of, frame_bytes, IsSendable, FrameBytes, IsSpelled, IsAckContent, IsAckOf}
 use Rattle.mail_frames.specs.declared.frames.Frame.{Frame}
 use Rattle.mail_frames.specs.declared.frames.Frame.TheVariants.{Mail, Ack, Command, Reply}
 use Rattle.mail_frames.proofs.Spelled.{content_short, frame_length}
@@ -101,3 +105,25 @@ ack_of_by bytes content f (Reply text) h k e i = absurd (omega (arith, i.0))
 
 pub ack_built : (bytes content : List ℕ) (g : Frame) → IsSpelled bytes → get_or bytes 4 0 ≡ 2 → content ≡ drop 5 bytes → IsAckOf content g → FrameBytes g bytes
 ack_built bytes content g h k e i = ack_of_by bytes content h.0 g h.1 k e i
+
+-- ---- a frame that was written
+
+pub all_bytes : (l : List ℕ) → ((i : ℕ) → get_or l i 0 < 256) → AllByRecursion IsU8 l
+all_bytes [] h = tt
+all_bytes (x ∷ l) h = (h zero, all_bytes l (λ i. h (suc i)))
+
+pub mail_written : (f : Frame) (entry content bytes : List ℕ) → f ≡ Mail entry → content ≡ entry
+    → AllByRecursion IsU8 content → IsSendable f
+    → bytes ≡ u32_bytes (1 + length content) ++ 1 ∷ content → FrameBytes f bytes
+mail_written f entry content bytes is same range short e =
+    let whole : FrameBytes (Mail content) bytes =
+        ((range, subst IsSendable (is ∙ ap Mail (sym same)) short), e) in
+    subst (λ (g : Frame). FrameBytes g bytes) (ap Mail same ∙ sym is) whole
+
+pub ack_written : (f : Frame) (feed : Feed) (count : ℕ) (content bytes : List ℕ) → f ≡ Ack feed count
+    → content ≡ feed_bytes feed ++ u32_bytes count → FeedInRange feed × IsU32 count
+    → bytes ≡ u32_bytes (1 + length content) ++ 2 ∷ content → FrameBytes f bytes
+ack_written f feed count content bytes is same range e =
+    let whole : FrameBytes (Ack feed count) bytes =
+        ((range, tt), e ∙ ap (λ (c : List ℕ). u32_bytes (1 + length c) ++ 2 ∷ c) same) in
+    subst (λ (g : Frame). FrameBytes g bytes) (sym is) whole

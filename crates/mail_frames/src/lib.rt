@@ -19,7 +19,7 @@ mod writes;
 
 pub use decoders::{Decoder, Fed};
 pub use frames::{Frame, Frames};
-pub use laws::{no_frame_begins_another, one_reading};
+pub use laws::{no_frame_begins_another, one_reading, what_was_written_is_read};
 pub use writes::write_frame;
 
 /// The byte that tells what a frame holds.

@@ -1,11 +1,62 @@
 //! Frames and faults with bytes worked out by hand.
-use crate::{Decoder, Frame, Frames, write_frame};
-use base_types::{Feed, Items, NoMemory, Text, Ws};
+use crate::{Decoder, Fed, Frame, Frames, write_frame};
+use base_types::{Bytes, Feed, Items, NoMemory, Text, Ws};
 use std::alloc::Global;
 use std::test::Fail;
 
 /// The acknowledgement of one entry of the first workstation's events.
 const ACKNOWLEDGED: [u8; 12] = [0, 0, 0, 8, 2, 0, 0, 0, 0, 0, 0, 1];
+
+/// The first event of a workstation, as an entry's bytes.
+const ENTRY: [u8; 17] = [1, 0, 0, 0, 0, 0, 0, 1, 3, 0, 0, 0, 0, 0, 0, 0, 100];
+
+/// A frame of each kind, an acknowledgement of each kind of feed, and three frames without content.
+const STREAM: [u8; 80] = [
+    0, 0, 0, 18, 1, 1, 0, 0, 0, 0, 0, 0, 1, 3, 0, 0, 0, 0, 0, 0, 0, 100, // an entry
+    0, 0, 0, 8, 2, 0, 0, 0, 0, 0, 0, 1, // events
+    0, 0, 0, 10, 2, 1, 1, 2, 0, 3, 4, 5, 6, 7, // orders
+    0, 0, 0, 5, 3, 0x5A, 0x6F, 0xC3, 0xAB, // a command
+    0, 0, 0, 1, 1, 0, 0, 0, 1, 3, 0, 0, 0, 1, 4, // nothing in them
+    0, 0, 0, 4, 4, 0xE2, 0x82, 0xAC, // a reply
+];
+
+/// The frames that `STREAM` is.
+fn stream_frames(alloc: Global) -> Result<Frames, NoMemory> {
+    let mut entry: Bytes = Items::new(alloc);
+    for byte in ENTRY {
+        entry.push(byte)?;
+    }
+    let mut frames = Items::new(alloc);
+    frames.push(Frame::Mail(entry))?;
+    frames.push(Frame::Ack(Feed::Events(Ws(0)), 1))?;
+    frames.push(Frame::Ack(Feed::Orders(Ws(258), Ws(3)), 0x0405_0607))?;
+    frames.push(Frame::Command(Text::of(alloc, "Zoë")?))?;
+    frames.push(Frame::Mail(Items::new(alloc)))?;
+    frames.push(Frame::Command(Text::new(alloc)))?;
+    frames.push(Frame::Reply(Text::new(alloc)))?;
+    frames.push(Frame::Reply(Text::of(alloc, "€")?))?;
+    Ok(frames)
+}
+
+/// What a piece brings. Where memory runs out it is fed again.
+fn feed(decoder: &mut Decoder, piece: &[u8]) -> Result<Fed, NoMemory> {
+    match decoder.feed(piece) {
+        Ok(fed) => Ok(fed),
+        Err(NoMemory) => decoder.feed(piece),
+    }
+}
+
+/// How many frames came, where they are the next of those.
+fn next_of(frames: &Frames, count: usize, fed: &Fed) -> Option<usize> {
+    let mut count = count;
+    for frame in fed.frames.as_slice() {
+        if frames.get(count) != Some(frame) {
+            return None;
+        }
+        count = count.saturating_add(1);
+    }
+    Some(count)
+}
 
 /// Where a stream that comes in one piece goes wrong.
 fn fault(alloc: Global, bytes: &[u8]) -> Result<Option<u64>, NoMemory> {
@@ -68,5 +119,98 @@ fn faults_stand_at_their_first_byte(rt: HostRuntime) -> Result<(), Fail> {
     for (bytes, place) in cases {
         assert_eq!(rt; fault(alloc, bytes)?, Some(place));
     }
+    Ok(())
+}
+
+#[test]
+fn the_frames_come_however_the_stream_is_cut(rt: HostRuntime) -> Result<(), Fail> {
+    let alloc = rt.alloc();
+    let frames = stream_frames(alloc)?;
+    for size in [1, 2, 3, 5, 7, 11, 79, 80] {
+        let mut decoder = Decoder::new(alloc);
+        let mut count = Some(0);
+        for piece in STREAM.chunks(size) {
+            let fed = feed(&mut decoder, piece)?;
+            assert_eq!(rt; fed.bad, None);
+            count = count.and_then(|n| next_of(&frames, n, &fed));
+        }
+        assert_eq!(rt; count, Some(8));
+    }
+    Ok(())
+}
+
+#[test]
+fn the_frames_come_for_a_cut_at_each_place(rt: HostRuntime) -> Result<(), Fail> {
+    let alloc = rt.alloc();
+    let frames = stream_frames(alloc)?;
+    for place in 0..81 {
+        let mut decoder = Decoder::new(alloc);
+        let (front, back) = STREAM.split_at(place);
+        let first = feed(&mut decoder, front)?;
+        let second = feed(&mut decoder, back)?;
+        let count = next_of(&frames, 0, &first).and_then(|n| next_of(&frames, n, &second));
+        assert_eq!(rt; count, Some(8));
+        assert_eq!(rt; second.bad, None);
+    }
+    Ok(())
+}
+
+#[test]
+fn a_frame_comes_with_its_last_byte(rt: HostRuntime) -> Result<(), Fail> {
+    let mut decoder = Decoder::new(rt.alloc());
+    for byte in &ACKNOWLEDGED[..11] {
+        let fed = feed(&mut decoder, &[*byte])?;
+        assert!(rt; fed.frames.is_empty());
+        assert_eq!(rt; fed.bad, None);
+    }
+    let fed = feed(&mut decoder, &ACKNOWLEDGED[11..])?;
+    let acknowledged = Frame::Ack(Feed::Events(Ws(0)), 1);
+    assert_eq!(rt; fed.frames.as_slice(), [acknowledged].as_slice());
+    assert_eq!(rt; fed.bad, None);
+    Ok(())
+}
+
+#[test]
+fn a_fault_stays(rt: HostRuntime) -> Result<(), Fail> {
+    let mut decoder = Decoder::new(rt.alloc());
+    let broken = feed(&mut decoder, &[0, 0, 0, 8, 5])?;
+    assert_eq!(rt; broken.bad, Some(4));
+    for piece in [ACKNOWLEDGED.as_slice(), &[], &[0]] {
+        let fed = feed(&mut decoder, piece)?;
+        assert_eq!(rt; fed.bad, Some(4));
+        assert!(rt; fed.frames.is_empty());
+    }
+    Ok(())
+}
+
+#[test]
+fn frames_before_a_fault_are_given(rt: HostRuntime) -> Result<(), Fail> {
+    let mut decoder = Decoder::new(rt.alloc());
+    let fed = feed(
+        &mut decoder,
+        &[0, 0, 0, 8, 2, 0, 0, 0, 0, 0, 0, 1, 1],
+    )?;
+    assert_eq!(rt; fed.frames.len(), 1);
+    assert_eq!(rt; fed.bad, Some(12));
+    Ok(())
+}
+
+#[test]
+fn the_longest_mail_is_taken(rt: HostRuntime) -> Result<(), Fail> {
+    let mut decoder = Decoder::new(rt.alloc());
+    let head = feed(&mut decoder, &[0, 0x40, 0, 1, 1])?;
+    assert_eq!(rt; head.bad, None);
+    let piece = [0xFF; 4096];
+    for _ in 1..1024 {
+        let fed = feed(&mut decoder, &piece)?;
+        assert!(rt; fed.frames.is_empty());
+        assert_eq!(rt; fed.bad, None);
+    }
+    let fed = feed(&mut decoder, &piece)?;
+    let whole = matches!(fed.frames.get(0), Some(Frame::Mail(entry)) if entry.len() == 4_194_304);
+    assert!(rt; whole);
+    assert_eq!(rt; fed.bad, None);
+    let further = feed(&mut decoder, &[0xFF])?;
+    assert_eq!(rt; further.bad, Some(4_194_309));
     Ok(())
 }

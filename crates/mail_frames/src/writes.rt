@@ -1,8 +1,10 @@
 //! Frames written as bytes.
 ghost use Rattle.std.specs.Prelude.{◌≡◌, ◌+◌, ◌≤◌, ◌++◌, length, IfOk, OnOk};
+ghost use Rattle.std.specs.List.{AllByRecursion};
 ghost use Rattle.model.specs.Fields.{u8_bytes, u32_bytes};
+ghost use Rattle.model.specs.Ranges.{FeedInRange, IsU8, IsU32};
 ghost use Rattle.model.specs.Spelling.{feed_bytes};
-ghost use Rattle.mail_frames.specs.Spelling.{IsSendable, frame_bytes};
+ghost use Rattle.mail_frames.specs.Spelling.{IsSendable, FrameBytes};
 
 use crate::frames::Frame;
 use crate::{ACK, COMMAND, MAIL, REPLY};
@@ -13,7 +15,7 @@ use std::alloc::Global;
 /// The bytes of the frame: its length, its kind and its content.
 pub fn write_frame(alloc: Global, f: &Frame) -> Result<Bytes, NoMemory>
     requires { IsSendable f.now }
-    ensures { IfOk result (λ bytes. bytes ≡ frame_bytes f.now) }
+    ensures { IfOk result (λ bytes. FrameBytes f.now bytes) }
 {
     match f {
         Frame::Mail(entry) => framed(alloc, MAIL, entry.as_slice()),
@@ -28,7 +30,8 @@ pub fn write_frame(alloc: Global, f: &Frame) -> Result<Bytes, NoMemory>
 
 /// A feed and a count.
 fn ack_content(alloc: Global, feed: &Feed, count: u32) -> Result<Bytes, NoMemory>
-    ensures { IfOk result (λ bytes. bytes ≡ feed_bytes feed.now ++ u32_bytes count) }
+    ensures ok { IfOk result (λ bytes. bytes ≡ feed_bytes feed.now ++ u32_bytes count) }
+    ensures range { IfOk result (λ bytes. FeedInRange feed.now × IsU32 count) }
 {
     let mut out = Items::new(alloc);
     put_feed(&mut out, feed)?;
@@ -37,7 +40,8 @@ fn ack_content(alloc: Global, feed: &Feed, count: u32) -> Result<Bytes, NoMemory
 }
 
 fn put_feed(out: &mut Bytes, feed: &Feed) -> Result<(), NoMemory>
-    ensures { OnOk result (out.new ≡ out.old ++ feed_bytes feed.now) }
+    ensures ok { OnOk result (out.new ≡ out.old ++ feed_bytes feed.now) }
+    ensures range { OnOk result (FeedInRange feed.now) }
 {
     match feed {
         Feed::Events(w) => {
@@ -55,8 +59,9 @@ fn put_feed(out: &mut Bytes, feed: &Feed) -> Result<(), NoMemory>
 /// The length, the kind and the content, for which room is made at once.
 fn framed(alloc: Global, kind: u8, content: &[u8]) -> Result<Bytes, NoMemory>
     requires { length content.now ≤ 4194304 }
-    ensures { IfOk result (λ bytes.
+    ensures ok { IfOk result (λ bytes.
         bytes ≡ u32_bytes (1 + length content.now) ++ u8_bytes kind ++ content.now) }
+    ensures range { OnOk result (AllByRecursion IsU8 content.now) }
 {
     let length = content.len() as u32 + 1;
     let mut list = Growing::new(alloc);

@@ -1,5 +1,6 @@
 -- What may come of a content: how many bytes at least, and that there are such.
-use Rattle.std.proofs.Common.{◌≡◌, ℕ, zero, suc, ◌+◌, ◌-◌, ◌<◌, ◌≤◌, ◌↔◌, List, [], ◌∷◌, ◌++◌, length, replicate, refl, subst, arith, length-append}
+use Rattle.std.proofs.Common.{◌≡◌, ℕ, zero, suc, ◌+◌, ◌-◌, ◌<◌, ◌≤◌, ◌↔◌, List, [], ◌∷◌, ◌++◌, length, replicate}
+use Rattle.std.proofs.Common.{refl, subst, arith, length-append}
 use Rattle.std.proofs.lemmas.List.{length-replicate}
 use Rattle.std.proofs.lemmas.Str.{IsUtf8-from_ascii}
 use Rattle.std.specs.Prelude.{Some, None}
@@ -49,7 +50,8 @@ going_on : (n : ℕ) (bytes : List ℕ) → IsUtf8 bytes → Continues n (replic
 going_on zero bytes u = u
 going_on (suc n) bytes u = (omega arith, omega arith, going_on n bytes u)
 
-pub can_come : (next : Next) (left : ℕ) → IsOpen next → due next ≤ left → (bytes : List ℕ) × (length bytes ≡ left) × Follows next bytes
+pub can_come : (next : Next) (left : ℕ) → IsOpen next → due next ≤ left
+    → (bytes : List ℕ) × (length bytes ≡ left) × Follows next bytes
 can_come Any left o h = (replicate left 0, length-replicate left 0, zeros left)
 can_come (Exactly tag) left o h =
     (tag ∷ replicate (left - 1) 0, omega (arith, length-replicate {A = ℕ} (left - 1) 0), (refl, zeros (left - 1)))
@@ -57,7 +59,13 @@ can_come Lead left o h = (replicate left 0, length-replicate left 0, zeros_text 
 can_come (Within low high more) left o h =
     let others = replicate (left - (more + 1)) 0 in (
       low ∷ replicate more 128 ++ others,
-      omega (arith, length-append (replicate more 128) others, length-replicate {A = ℕ} more 128, length-replicate {A = ℕ} (left - (more + 1)) 0),
+      omega (
+        arith,
+        length-append (replicate more 128) others,
+        length-replicate {A = ℕ} more 128,
+        length-replicate {A =
+            ℕ} (left - (more + 1)) 0,
+      ),
       (omega arith, o.0, going_on more others (zeros_text (left - (more + 1)))),
     )
 
@@ -72,10 +80,12 @@ after_tag tag b e = (tt, λ s. (λ h. h.1, λ h. (e, h)))
 pub after_other : (tag b : ℕ) → (b ≡ tag → ⊥) → NextAfter (λ bytes. Follows (Exactly tag) (b ∷ bytes)) None
 after_other tag b n = λ s h. n h.0
 
-pub out_of_bounds : (low high more b : ℕ) → ((low ≤ b) × (b ≤ high) → ⊥) → NextAfter (λ bytes. Follows (Within low high more) (b ∷ bytes)) None
+pub out_of_bounds : (low high more b : ℕ) → ((low ≤ b) × (b ≤ high) → ⊥)
+    → NextAfter (λ bytes. Follows (Within low high more) (b ∷ bytes)) None
 out_of_bounds low high more b n = λ s h. n (h.0, h.1)
 
-pub after_last : (low high more b : ℕ) → more ≡ 0 → low ≤ b → b ≤ high → NextAfter (λ bytes. Follows (Within low high more) (b ∷ bytes)) (Some Lead)
+pub after_last : (low high more b : ℕ) → more ≡ 0 → low ≤ b → b ≤ high
+    → NextAfter (λ bytes. Follows (Within low high more) (b ∷ bytes)) (Some Lead)
 after_last low high zero b e l m = (tt, λ s. (λ h. h.2, λ h. (l, m, h)))
 after_last low high (suc n) b e l m = absurd (omega arith)
 
@@ -87,10 +97,12 @@ goes_from : (n : ℕ) (bytes : List ℕ) → GoesOn 128 191 n bytes → Continue
 goes_from n [] h = h
 goes_from n (b ∷ bytes) h = h
 
-later : (low high n b : ℕ) → suc n ≤ 2 → low ≤ b → b ≤ high → NextAfter (λ bytes. Follows (Within low high (suc n)) (b ∷ bytes)) (Some (Within 128 191 n))
+later : (low high n b : ℕ) → suc n ≤ 2 → low ≤ b → b ≤ high
+    → NextAfter (λ bytes. Follows (Within low high (suc n)) (b ∷ bytes)) (Some (Within 128 191 n))
 later low high n b o l m = ((omega arith, omega arith), λ s. (λ h. goes_to n s h.2, λ h. (l, m, goes_from n s h)))
 
-pub after_later : (low high more less b : ℕ) → more ≡ suc less → more ≤ 2 → low ≤ b → b ≤ high → NextAfter (λ bytes. Follows (Within low high more) (b ∷ bytes)) (Some (Within 128 191 less))
+pub after_later : (low high more less b : ℕ) → more ≡ suc less → more ≤ 2 → low ≤ b → b ≤ high
+    → NextAfter (λ bytes. Follows (Within low high more) (b ∷ bytes)) (Some (Within 128 191 less))
 after_later low high zero less b e o l m = absurd (omega arith)
 after_later low high (suc n) less b e o l m =
     let same : n ≡ less = omega arith in

@@ -1,5 +1,6 @@
 -- A text by its first byte: which bytes may follow that one.
-use Rattle.std.proofs.Common.{◌≡◌, ℕ, ◌+◌, ◌-◌, ◌*◌, ◌/◌, ◌<◌, ◌≤◌, ◌↔◌, ◌⊎◌, true, List, [], ◌∷◌, ◌++◌, refl, sym, ◌∙◌, subst, ap, inl, inr, arith, lt-ltb, le-ltb, le-leb}
+use Rattle.std.proofs.Common.{◌≡◌, ℕ, ◌+◌, ◌-◌, ◌*◌, ◌/◌, ◌<◌, ◌≤◌, ◌↔◌, ◌⊎◌, true, List, [], ◌∷◌, ◌++◌, refl, sym}
+use Rattle.std.proofs.Common.{◌∙◌, subst, ap, inl, inr, arith, lt-ltb, le-ltb, le-leb}
 use Rattle.std.proofs.lemmas.Bool.{cases_lt, cases_eq, and_parts}
 use Rattle.std.proofs.lemmas.Str.{encode_ascii}
 use Rattle.std.specs.Str.{IsUtf8}
@@ -21,8 +22,10 @@ IsSecond b c =
 data Starts (b : ℕ) (s : List ℕ) : Type 0 where
   single : b < 128 → IsUtf8 s → Starts b s
   double : (c : ℕ) (t : List ℕ) → (194 ≤ b) × (b ≤ 223) → IsLater c → s ≡ c ∷ t → IsUtf8 t → Starts b s
-  triple : (c d : ℕ) (t : List ℕ) → (224 ≤ b) × (b ≤ 239) → IsSecond b c → IsLater d → s ≡ c ∷ d ∷ t → IsUtf8 t → Starts b s
-  fourfold : (c d e : ℕ) (t : List ℕ) → (240 ≤ b) × (b ≤ 244) → IsSecond b c → IsLater d → IsLater e → s ≡ c ∷ d ∷ e ∷ t → IsUtf8 t → Starts b s
+  triple : (c d : ℕ) (t : List ℕ) → (224 ≤ b) × (b ≤ 239) → IsSecond b c → IsLater d → s ≡ c ∷ d ∷ t → IsUtf8 t
+      → Starts b s
+  fourfold : (c d e : ℕ) (t : List ℕ) → (240 ≤ b) × (b ≤ 244) → IsSecond b c → IsLater d → IsLater e
+      → s ≡ c ∷ d ∷ e ∷ t → IsUtf8 t → Starts b s
 
 -- ---- the bytes of a character
 
@@ -52,7 +55,8 @@ module _ (c b : ℕ) (r s : List ℕ) (u : IsUtf8 r) where
       let p = heads (192 + c / 64) b (next c ∷ r) s e in
       double (next c) r (omega arith, omega arith) (omega arith, omega arith) (sym p.1) u
 
-  of_three : 2048 ≤ c → c < 65536 → (c < 55296) ⊎ ((57344 ≤ c) × (c < 1114112)) → (224 + c / 4096) ∷ next (c / 64) ∷ next c ∷ r ≡ b ∷ s → Starts b s
+  of_three : 2048 ≤ c → c < 65536 → (c < 55296) ⊎ ((57344 ≤ c) × (c < 1114112))
+      → (224 + c / 4096) ∷ next (c / 64) ∷ next c ∷ r ≡ b ∷ s → Starts b s
   of_three l h range e =
       let p = heads (224 + c / 4096) b (next (c / 64) ∷ next c ∷ r) s e in
       let f : b ≡ 224 + c / 4096 = sym p.0 in
@@ -60,7 +64,8 @@ module _ (c b : ℕ) (r s : List ℕ) (u : IsUtf8 r) where
       (λ g. omega arith, λ g. omega arith, λ g. omega arith, λ g. omega arith, omega arith, omega arith)
       (omega arith, omega arith) (sym p.1) u
 
-  of_four : 65536 ≤ c → c < 1114112 → (240 + c / 262144) ∷ next (c / 4096) ∷ next (c / 64) ∷ next c ∷ r ≡ b ∷ s → Starts b s
+  of_four : 65536 ≤ c → c < 1114112 → (240 + c / 262144) ∷ next (c / 4096) ∷ next (c / 64) ∷ next c ∷ r ≡ b ∷ s
+      → Starts b s
   of_four l h e =
       let p = heads (240 + c / 262144) b (next (c / 4096) ∷ next (c / 64) ∷ next c ∷ r) s e in
       let f : b ≡ 240 + c / 262144 = sym p.0 in
@@ -76,10 +81,13 @@ module _ (c b : ℕ) (r s : List ℕ) (u : IsUtf8 r) where
             let p = heads c b r s (ap (λ (xs : List ℕ). xs ++ r) (sym (encode_ascii c a)) ∙ e) in
             single (omega arith) (subst IsUtf8 p.1 u)
         | inr a ↦ elim (cases_lt c 2048) [
-          | inl h ↦ of_two a h (ap (λ (xs : List ℕ). xs ++ r) (sym (two c a h)) ∙ e)
+          | inl h ↦ of_two a h (ap (λ (xs : List ℕ). xs ++ r) (sym (two c a h))
+              ∙ e)
           | inr g ↦ elim (cases_lt c 65536) [
-            | inl h ↦ of_three g h range (ap (λ (xs : List ℕ). xs ++ r) (sym (three c g h)) ∙ e)
-            | inr h ↦ of_four h (omega arith) (ap (λ (xs : List ℕ). xs ++ r) (sym (four c h)) ∙ e)
+            | inl h ↦ of_three g h range (ap (λ (xs : List ℕ). xs ++ r) (sym (three c g h))
+                ∙ e)
+            | inr h ↦ of_four h (omega arith) (ap (λ (xs : List ℕ). xs ++ r) (sym (four c h))
+                ∙ e)
           ]
         ]
       ]
@@ -113,15 +121,18 @@ three_bytes : (x y z : ℕ) → 224 ≤ x → IsLater y → IsLater z
 three_bytes x y z h f g = (omega arith, omega arith, omega arith)
 
 four_bytes : (x y z w : ℕ) → 240 ≤ x → IsLater y → IsLater z → IsLater w
-    → let c = (x - 240) * 262144 + (y - 128) * 4096 + (z - 128) * 64 + (w - 128) in (240 + c / 262144 ≡ x) × (next (c / 4096) ≡ y) × (next (c / 64) ≡ z) × (next c ≡ w)
+    → let c = (x - 240) * 262144 + (y - 128) * 4096 + (z - 128) * 64 + (w - 128) in (240 + c / 262144 ≡ x)
+    × (next (c / 4096) ≡ y) × (next (c / 64) ≡ z) × (next c ≡ w)
 four_bytes x y z w h f g j =
-    let e : ((x - 240) * 262144 + (y - 128) * 4096 + (z - 128) * 64 + (w - 128)) / 64 ≡ (x - 240) * 4096 + (y - 128) * 64 + (z - 128) = omega arith in
+    let c = (x - 240) * 262144 + (y - 128) * 4096 + (z - 128) * 64 + (w - 128) in
+    let e : c / 64 ≡ (x - 240) * 4096 + (y - 128) * 64 + (z - 128) = omega arith in
     (omega arith, omega arith, rw e (omega arith), omega arith)
 
 either : (b n : ℕ) (P : Type 0) → (b ≡ n → P) → (b ≡ n → ⊥) ⊎ P
 either b n P h = elim (cases_eq b n) [ inl e ↦ inr (h e) | inr g ↦ inl g ]
 
-cons_three : (x y z : ℕ) (bs : List ℕ) → 224 ≤ x → x ≤ 239 → IsSecond x y → IsLater z → IsUtf8 bs → IsUtf8 (x ∷ y ∷ z ∷ bs)
+cons_three : (x y z : ℕ) (bs : List ℕ) → 224 ≤ x → x ≤ 239 → IsSecond x y → IsLater z → IsUtf8 bs
+    → IsUtf8 (x ∷ y ∷ z ∷ bs)
 cons_three x y z bs l h f g u =
     let c = (x - 224) * 4096 + (y - 128) * 64 + (z - 128) in
     let bytes = three_bytes x y z l (f.4, f.5) g in
@@ -130,10 +141,12 @@ cons_three x y z bs l h f g u =
     let r = bytes.2 in
     let low = either x 224 (160 ≤ y) f.0 in
     let high = either x 237 (y ≤ 159) f.1 in
-    let ok : scalar c ≡ true = elim (cases_lt c 55296) [ inl a ↦ low_scalar c a | inr a ↦ high_scalar c (omega arith) (omega arith) ] in
+    let ok : scalar c ≡ true = elim (cases_lt c 55296)
+    [ inl a ↦ low_scalar c a | inr a ↦ high_scalar c (omega arith) (omega arith) ] in
     cons c (x ∷ y ∷ z ∷ []) bs ok (three c (omega arith) (omega arith) ∙ (λ k. p k ∷ q k ∷ r k ∷ [])) u
 
-cons_four : (x y z w : ℕ) (bs : List ℕ) → 240 ≤ x → x ≤ 244 → IsSecond x y → IsLater z → IsLater w → IsUtf8 bs → IsUtf8 (x ∷ y ∷ z ∷ w ∷ bs)
+cons_four : (x y z w : ℕ) (bs : List ℕ) → 240 ≤ x → x ≤ 244 → IsSecond x y → IsLater z → IsLater w → IsUtf8 bs
+    → IsUtf8 (x ∷ y ∷ z ∷ w ∷ bs)
 cons_four x y z w bs l h f g j u =
     let c = (x - 240) * 262144 + (y - 128) * 4096 + (z - 128) * 64 + (w - 128) in
     let bytes = four_bytes x y z w l (f.4, f.5) g j in
@@ -143,7 +156,8 @@ cons_four x y z w bs l h f g j u =
     let t = bytes.3 in
     let low = either x 240 (144 ≤ y) f.2 in
     let high = either x 244 (y ≤ 143) f.3 in
-    cons c (x ∷ y ∷ z ∷ w ∷ []) bs (high_scalar c (omega arith) (omega arith)) (four c (omega arith) ∙ (λ k. p k ∷ q k ∷ r k ∷ t k ∷ [])) u
+    cons c (x ∷ y ∷ z ∷ w ∷ []) bs (high_scalar c (omega arith) (omega arith))
+    (four c (omega arith) ∙ (λ k. p k ∷ q k ∷ r k ∷ t k ∷ [])) u
 
 -- ---- what comes after the first byte
 
@@ -180,12 +194,14 @@ to_three b low high s w l m (triple c d t h f g e u) =
     let p = (w c).1 f in subst (GoesOn low high 1) (sym e) (p.0, p.1, (g.0, g.1, u))
 to_three b low high s w l m (fourfold c d x t h f g j e u) = absurd (omega arith)
 
-from_three : (b low high : ℕ) (s : List ℕ) → AreBounds b low high → 224 ≤ b → b ≤ 239 → GoesOn low high 1 s → IsUtf8 (b ∷ s)
+from_three : (b low high : ℕ) (s : List ℕ) → AreBounds b low high → 224 ≤ b → b ≤ 239 → GoesOn low high 1 s
+    → IsUtf8 (b ∷ s)
 from_three b low high [] w l m g = absurd g
 from_three b low high (c ∷ []) w l m g = absurd g.2
 from_three b low high (c ∷ d ∷ s) w l m g = cons_three b c d s l m ((w c).0 (g.0, g.1)) (g.2.0, g.2.1) g.2.2
 
-after_three : (b low high : ℕ) → low ≤ high → AreBounds b low high → 224 ≤ b → b ≤ 239 → NextAfter (λ bytes. IsUtf8 (b ∷ bytes)) (Some (Within low high 1))
+after_three : (b low high : ℕ) → low ≤ high → AreBounds b low high → 224 ≤ b → b ≤ 239
+    → NextAfter (λ bytes. IsUtf8 (b ∷ bytes)) (Some (Within low high 1))
 after_three b low high o w l m =
     ((o, omega arith), λ s. (λ u. to_three b low high s w l m (starts b s u), λ g. from_three b low high s w l m g))
 
@@ -196,14 +212,16 @@ to_four b low high s w l m (triple c d t h f g e u) = absurd (omega arith)
 to_four b low high s w l m (fourfold c d x t h f g j e u) =
     let p = (w c).1 f in subst (GoesOn low high 2) (sym e) (p.0, p.1, (g.0, g.1, (j.0, j.1, u)))
 
-from_four : (b low high : ℕ) (s : List ℕ) → AreBounds b low high → 240 ≤ b → b ≤ 244 → GoesOn low high 2 s → IsUtf8 (b ∷ s)
+from_four : (b low high : ℕ) (s : List ℕ) → AreBounds b low high → 240 ≤ b → b ≤ 244 → GoesOn low high 2 s
+    → IsUtf8 (b ∷ s)
 from_four b low high [] w l m g = absurd g
 from_four b low high (c ∷ []) w l m g = absurd g.2
 from_four b low high (c ∷ d ∷ []) w l m g = absurd g.2.2
 from_four b low high (c ∷ d ∷ e ∷ s) w l m g =
     cons_four b c d e s l m ((w c).0 (g.0, g.1)) (g.2.0, g.2.1) (g.2.2.0, g.2.2.1) g.2.2.2
 
-after_four : (b low high : ℕ) → low ≤ high → AreBounds b low high → 240 ≤ b → b ≤ 244 → NextAfter (λ bytes. IsUtf8 (b ∷ bytes)) (Some (Within low high 2))
+after_four : (b low high : ℕ) → low ≤ high → AreBounds b low high → 240 ≤ b → b ≤ 244
+    → NextAfter (λ bytes. IsUtf8 (b ∷ bytes)) (Some (Within low high 2))
 after_four b low high o w l m =
     ((o, omega arith), λ s. (λ u. to_four b low high s w l m (starts b s u), λ g. from_four b low high s w l m g))
 
@@ -248,21 +266,28 @@ bounds_other b k l m n c =
 
 module _ (b : ℕ) where
   pub after_224 : b ≡ 224 → NextAfter (λ bytes. IsUtf8 (b ∷ bytes)) (Some (Within 160 191 1))
-  after_224 e = after_three b 160 191 (omega arith) (subst (λ (k : ℕ). AreBounds k 160 191) (sym e) bounds_224) (omega arith) (omega arith)
+  after_224 e = after_three b 160 191 (omega arith) (subst (λ (k : ℕ). AreBounds k 160 191) (sym e) bounds_224)
+      (omega arith) (omega arith)
 
   pub after_237 : b ≡ 237 → NextAfter (λ bytes. IsUtf8 (b ∷ bytes)) (Some (Within 128 159 1))
-  after_237 e = after_three b 128 159 (omega arith) (subst (λ (k : ℕ). AreBounds k 128 159) (sym e) bounds_237) (omega arith) (omega arith)
+  after_237 e = after_three b 128 159 (omega arith) (subst (λ (k : ℕ). AreBounds k 128 159) (sym e) bounds_237)
+      (omega arith) (omega arith)
 
-  pub after_other_three : 224 ≤ b → b ≤ 239 → (b ≡ 224 → ⊥) → (b ≡ 237 → ⊥) → NextAfter (λ bytes. IsUtf8 (b ∷ bytes)) (Some (Within 128 191 1))
-  after_other_three l m n o = after_three b 128 191 (omega arith) (bounds_other b n o (λ e. omega arith) (λ e. omega arith)) l m
+  pub after_other_three : 224 ≤ b → b ≤ 239 → (b ≡ 224 → ⊥) → (b ≡ 237 → ⊥)
+      → NextAfter (λ bytes. IsUtf8 (b ∷ bytes)) (Some (Within 128 191 1))
+  after_other_three l m n o = after_three b 128 191 (omega arith)
+      (bounds_other b n o (λ e. omega arith) (λ e. omega arith)) l m
 
   pub after_240 : b ≡ 240 → NextAfter (λ bytes. IsUtf8 (b ∷ bytes)) (Some (Within 144 191 2))
-  after_240 e = after_four b 144 191 (omega arith) (subst (λ (k : ℕ). AreBounds k 144 191) (sym e) bounds_240) (omega arith) (omega arith)
+  after_240 e = after_four b 144 191 (omega arith) (subst (λ (k : ℕ). AreBounds k 144 191) (sym e) bounds_240)
+      (omega arith) (omega arith)
 
   pub after_244 : b ≡ 244 → NextAfter (λ bytes. IsUtf8 (b ∷ bytes)) (Some (Within 128 143 2))
-  after_244 e = after_four b 128 143 (omega arith) (subst (λ (k : ℕ). AreBounds k 128 143) (sym e) bounds_244) (omega arith) (omega arith)
+  after_244 e = after_four b 128 143 (omega arith) (subst (λ (k : ℕ). AreBounds k 128 143) (sym e) bounds_244)
+      (omega arith) (omega arith)
 
   pub after_other_four : 241 ≤ b → b ≤ 243 → NextAfter (λ bytes. IsUtf8 (b ∷ bytes)) (Some (Within 128 191 2))
   after_other_four l m =
-      after_four b 128 191 (omega arith) (bounds_other b (λ e. omega arith) (λ e. omega arith) (λ e. omega arith) (λ e. omega arith))
+      after_four b 128 191 (omega arith)
+      (bounds_other b (λ e. omega arith) (λ e. omega arith) (λ e. omega arith) (λ e. omega arith))
       (omega arith) (omega arith)

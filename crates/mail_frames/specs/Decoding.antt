@@ -43,13 +43,14 @@ EndsAs from piece rest (Some place) kept =
     × (place ≡ told (from + at_byte))
 
 -- what a good decoder kept and the piece are these frames, and an unfinished one or a broken one
-pub record Feeds (old : Decoding) (piece : List ℕ) (frames : List Frame) (bad : Option ℕ) (new : Decoding) : Type 0 where
-  pub rest : List ℕ
-  pub each : AreFrames frames
-  pub stand : old.rest ++ piece ≡ spelling frames ++ rest
-  pub taken : new.taken ≡ told (old.taken + length piece)
-  pub says : bad ≡ new.bad
-  pub ends : EndsAs old.taken piece rest new.bad new.rest
+pub record Feeds (old : Decoding) (piece : List ℕ) (frames : List Frame) (bad : Option ℕ) (new : Decoding) : Type 0
+  where
+    pub rest : List ℕ
+    pub each : AreFrames frames
+    pub stand : old.rest ++ piece ≡ spelling frames ++ rest
+    pub taken : new.taken ≡ told (old.taken + length piece)
+    pub says : bad ≡ new.bad
+    pub ends : EndsAs old.taken piece rest new.bad new.rest
 
 -- the place of a fault that stands behind so many bytes of the piece
 abbrev pub told_behind : ℕ → ℕ → Option ℕ → Option ℕ

@@ -1,5 +1,6 @@
 //! A stream taken apart into its frames, in whatever pieces it comes.
-ghost use Rattle.std.specs.Prelude.{◌≡◌, ◌+◌, ◌≤◌, ℕ, List, [], ◌++◌, length, take, IfOk, IfErr, OnOk, OnErr, IsOk, None, Some};
+ghost use Rattle.std.specs.Prelude.{◌≡◌, ◌+◌, ◌≤◌, ℕ, List, [], ◌++◌, length, take, IfOk, IfErr, OnOk, OnErr, IsOk};
+ghost use Rattle.std.specs.Prelude.{None, Some};
 ghost use Rattle.mail_frames.specs.declared.frames.Frame.{Frame as AFrame};
 ghost use Rattle.mail_frames.specs.declared.places.Seen.TheVariants.{Open};
 ghost use Rattle.mail_frames.specs.Spelling.{IsSpelled};
@@ -128,12 +129,15 @@ impl Decoder {
         let mut frames = Items::new(self.alloc);
         frames.push(frame_of(self.alloc, self.kept.as_slice(), head)?)?;
         let Tail { kept, place, bad } = read_on(self.alloc, &mut frames, more)?;
-        let bad = place_behind(self.taken, count, bad);
+        let behind = place_behind(self.taken, count, bad);
         self.kept = kept;
         self.place = place;
         self.taken = self.taken.saturating_add(piece.len() as u64);
-        self.bad = bad;
-        Ok(Fed { frames, bad })
+        self.bad = behind;
+        Ok(Fed {
+            frames,
+            bad: behind,
+        })
     }
 
     /// Takes no more, since the byte of the piece at this place breaks the frame.

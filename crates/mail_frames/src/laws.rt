@@ -16,8 +16,7 @@ pub fn what_was_written_is_read()
         AreFramesOf (spelling frames ++ rest) frames }
     ensures good { (frames : List AFrame) → (rest : List ℕ) → AreFrames frames → IsFront rest →
         IsBadAt (spelling frames ++ rest) None }
-{
-}
+{}
 
 /// A stream has one list of frames, so it is told in the same way however it is cut.
 pub fn one_reading()

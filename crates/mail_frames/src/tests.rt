@@ -186,10 +186,7 @@ fn a_fault_stays(rt: HostRuntime) -> Result<(), Fail> {
 #[test]
 fn frames_before_a_fault_are_given(rt: HostRuntime) -> Result<(), Fail> {
     let mut decoder = Decoder::new(rt.alloc());
-    let fed = feed(
-        &mut decoder,
-        &[0, 0, 0, 8, 2, 0, 0, 0, 0, 0, 0, 1, 1],
-    )?;
+    let fed = feed(&mut decoder, &[0, 0, 0, 8, 2, 0, 0, 0, 0, 0, 0, 1, 1])?;
     assert_eq!(rt; fed.frames.len(), 1);
     assert_eq!(rt; fed.bad, Some(12));
     Ok(())

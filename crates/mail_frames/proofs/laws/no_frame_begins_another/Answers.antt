@@ -4,7 +4,8 @@ use Rattle.mail_frames.specs.declared.frames.Frame.{Frame}
 use Rattle.mail_frames.proofs.Spelled as spelled
 use Rattle.mail_frames.proofs.laws.no_frame_begins_another.Goals as goal
 
-law : (f g : Frame) → (bytes others x y : List ℕ) → FrameBytes f bytes → FrameBytes g others → bytes ++ x ≡ others ++ y → (f ≡ g) × (bytes ≡ others) × (x ≡ y)
+law : (f g : Frame) → (bytes others x y : List ℕ) → FrameBytes f bytes → FrameBytes g others
+    → bytes ++ x ≡ others ++ y → (f ≡ g) × (bytes ≡ others) × (x ≡ y)
 law f g bytes others x y h i e =
     let same : frame_bytes f ++ x ≡ frame_bytes g ++ y =
     ap (λ (b : List ℕ). b ++ x) (sym h.1) ∙ e ∙ ap (λ (b : List ℕ). b ++ y) i.1 in

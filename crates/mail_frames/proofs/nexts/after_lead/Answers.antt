@@ -1,5 +1,6 @@
 use Rattle.std.proofs.Common.{arith, inl, inr}
-use Rattle.mail_frames.proofs.Utf8.{after_ascii, after_two, after_224, after_237, after_other_three, after_240, after_244, after_other_four, after_no_lead}
+use Rattle.mail_frames.proofs.Utf8.{after_ascii, after_two, after_224, after_237, after_other_three, after_240}
+use Rattle.mail_frames.proofs.Utf8.{after_244, after_other_four, after_no_lead}
 use Rattle.mail_frames.proofs.nexts.after_lead.Goals as goal
 
 pub returns-in-0-to-127 : goal.returns-in-0-to-127
@@ -15,7 +16,8 @@ pub returns-in-237 : goal.returns-in-237
 returns-in-237 c = after_237 c.args.byte c.in-237.is
 
 pub returns-in-225-to-239 : goal.returns-in-225-to-239
-returns-in-225-to-239 c = after_other_three c.args.byte (omega arith) (omega arith) (λ e. omega arith) (λ e. omega arith)
+returns-in-225-to-239 c = after_other_three c.args.byte (omega arith) (omega arith) (λ e. omega arith)
+    (λ e. omega arith)
 
 pub returns-in-240 : goal.returns-in-240
 returns-in-240 c = after_240 c.args.byte c.in-240.is

@@ -30,7 +30,8 @@ returns-in-Some-clause-bad c = λ stream given took. (
     let old = c.args.self.now in
     let spent : old.bad ≡ Some c.in-Some.place = sym (ap (λ (d : Decoding). d.bad) c.self.view_is) ∙ c.in-Some.is in
     subst (λ (o : Option ℕ). IsBadAt (stream ++ c.args.piece.now) o) spent
-    (took_fault old (stream ++ c.args.piece.now) (given ++ c.new.result) (returns-in-Some-clause-takes c stream given took))
+    (took_fault old (stream ++ c.args.piece.now) (given ++ c.new.result)
+    (returns-in-Some-clause-takes c stream given took))
     )
 
 -- ---- what the scan says of the kept bytes and the piece
@@ -38,12 +39,15 @@ returns-in-Some-clause-bad c = λ stream given took. (
 pub finish-requires-clause-whole : goal.finish-requires-clause-whole
 finish-requires-clause-whole c =
     subst (λ (d : Decoding). IsSpelled (d.rest ++ take c.scan-found.result.count c.args.piece.now)) c.self.view_is
-    (piece_whole c.self.inside.place c.self.inside.kept.items c.args.piece.now c.scan-found.result.count c.scan-found.result.seen c.self.invariant c.scan-found.ensures c.in-Whole.is)
+    (piece_whole c.self.inside.place c.self.inside.kept.items c.args.piece.now c.scan-found.result.count
+    c.scan-found.result.seen c.self.invariant c.scan-found.ensures c.in-Whole.is)
 
 pub stop-requires-clause-broken : goal.stop-requires-clause-broken
 stop-requires-clause-broken c =
-    subst (λ (d : Decoding). Breaks (d.rest ++ c.args.piece.now) (length d.rest + c.scan-found.result.count)) c.self.view_is
-    (piece_broken c.self.inside.place c.self.inside.kept.items c.args.piece.now c.scan-found.result.count c.scan-found.result.seen c.self.invariant c.scan-found.ensures c.in-Bad.is)
+    subst (λ (d : Decoding). Breaks (d.rest ++ c.args.piece.now) (length d.rest + c.scan-found.result.count))
+    c.self.view_is
+    (piece_broken c.self.inside.place c.self.inside.kept.items c.args.piece.now c.scan-found.result.count
+    c.scan-found.result.seen c.self.invariant c.scan-found.ensures c.in-Bad.is)
 
 -- ---- the piece leaves a frame open
 

@@ -20,9 +20,11 @@ returns-clause-ok c =
     let rest = ap (λ (d : Decoding). d.rest) c.self.view_is in
     let whole : FrameBytes f (old.rest ++ take c.args.count piece) =
     subst (FrameBytes f) (λ i. (c.as_slice.ensures ∙ rest) i ++ c.split_at.ensures.front i) c.in_ok-frame_of.ensures in
-    feeds_whole old _ piece c.args.count f c.push.new.self c.read_on.new.frames tail.place tail.kept.items tail.bad _ c.requires.within whole
+    feeds_whole old _ piece c.args.count f c.push.new.self c.read_on.new.frames tail.place tail.kept.items tail.bad
+    _ c.requires.within whole
     (c.in_ok-push.ensures.ok ∙ ap (λ (fs : List Frame). fs ++ f ∷ []) c.new-frames.ensures)
-    (subst (λ (b : List ℕ). Reads b c.push.new.self c.read_on.new.frames tail.place tail.kept.items tail.bad) c.split_at.ensures.back c.in_ok-kept.ensures)
+    (subst (λ (b : List ℕ). Reads b c.push.new.self c.read_on.new.frames tail.place tail.kept.items tail.bad)
+    c.split_at.ensures.back c.in_ok-kept.ensures)
     refl refl
-    (c.place_behind-bad.ensures ∙ ap (λ (d : Decoding). told_behind d.taken c.args.count tail.bad) c.self.view_is)
+    (c.place_behind-behind.ensures ∙ ap (λ (d : Decoding). told_behind d.taken c.args.count tail.bad) c.self.view_is)
     (c.saturating_add-self-inside.ensures ∙ ap (λ (d : Decoding). told (d.taken + length piece)) c.self.view_is)

@@ -4,7 +4,8 @@ use Rattle.mail_frames.specs.declared.places.Place.{Place}
 use Rattle.mail_frames.specs.declared.places.Seen.{Seen}
 use Rattle.mail_frames.proofs.places.Place.after.Goals as goal
 
-at_place : (p q : Place) (b : ℕ) (seen : Seen) → p ≡ q → SeenAfter (λ bytes. Completes q (b ∷ bytes)) seen → SeenAfter (λ bytes. Completes p (b ∷ bytes)) seen
+at_place : (p q : Place) (b : ℕ) (seen : Seen) → p ≡ q → SeenAfter (λ bytes. Completes q (b ∷ bytes)) seen
+    → SeenAfter (λ bytes. Completes p (b ∷ bytes)) seen
 at_place p q b seen e h = subst (λ (r : Place). SeenAfter (λ bytes. Completes r (b ∷ bytes)) seen) (sym e) h
 
 pub returns-in-Start : goal.returns-in-Start

@@ -5,7 +5,8 @@ use Rattle.std.proofs.lemmas.List.{append-nil}
 use Rattle.std.specs.Prelude.{Option, Some, None}
 use Rattle.mail_frames.specs.Spelling.{frame_bytes, FrameBytes, IsSpelled}
 use Rattle.mail_frames.specs.Streams.{AreFrames, spelling, AreFramesOf, told, IsBadAt, IsFront}
-use Rattle.mail_frames.specs.Decoding.{Decoding, TookBy, Took, EndsAs, Feeds, Breaks, IsAt, Reads, TailIs, told_behind}
+use Rattle.mail_frames.specs.Decoding.{Decoding, TookBy, Took}
+use Rattle.mail_frames.specs.Pieces.{EndsAs, Feeds, Breaks, IsAt, Reads, TailIs, told_behind}
 use Rattle.mail_frames.specs.declared.frames.Frame.{Frame}
 use Rattle.mail_frames.specs.declared.places.Place.{Place}
 use Rattle.mail_frames.specs.declared.places.Place.TheVariants.{Start}

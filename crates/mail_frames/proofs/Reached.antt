@@ -12,7 +12,7 @@ use Rattle.mail_frames.specs.Spelling.{IsSpelled, FrameBytes, content_of, frame_
 use Rattle.mail_frames.specs.Streams.{IsFront}
 use Rattle.mail_frames.specs.Nexts.{Follows, due, IsOpen, NextAfter}
 use Rattle.mail_frames.specs.Places.{Completes, IsReached, SeenAfter, Scans}
-use Rattle.mail_frames.specs.Decoding.{IsAt, Breaks}
+use Rattle.mail_frames.specs.Pieces.{IsAt, Breaks}
 use Rattle.mail_frames.specs.declared.nexts.Next.{Next}
 use Rattle.mail_frames.specs.declared.nexts.Next.TheVariants.{Any, Exactly, Lead, Within}
 use Rattle.mail_frames.specs.declared.places.Place.{Place}

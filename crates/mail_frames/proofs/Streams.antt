@@ -9,7 +9,7 @@ use Rattle.std.specs.Prelude.{Option, Some, None}
 use Rattle.mail_frames.specs.Spelling.{frame_bytes, IsFrame, FrameBytes, IsSpelled}
 use Rattle.mail_frames.specs.Streams.{AreFrames, spelling, Begins, IsLongest, AreAllWhole, AreFramesOf, told}
 use Rattle.mail_frames.specs.Streams.{IsBadAt, IsFront}
-use Rattle.mail_frames.specs.Decoding.{Breaks}
+use Rattle.mail_frames.specs.Pieces.{Breaks}
 use Rattle.mail_frames.specs.declared.frames.Frame.{Frame}
 use Rattle.mail_frames.specs.declared.frames.Frame.TheVariants.{Mail}
 use Rattle.mail_frames.proofs.Spelled.{no_frame_begins_another, same_front, frame_long}

@@ -3,3 +3,4 @@ pub mod Streams
 pub mod Decoding
 pub mod Nexts
 pub mod Places
+pub mod Pieces

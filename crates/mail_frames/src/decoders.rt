@@ -6,7 +6,8 @@ ghost use Rattle.mail_frames.specs.declared.places.Seen.TheVariants.{Open};
 ghost use Rattle.mail_frames.specs.Spelling.{IsSpelled};
 ghost use Rattle.mail_frames.specs.Streams.{AreFramesOf, IsBadAt};
 ghost use Rattle.mail_frames.specs.Places.{SeenAfter};
-ghost use Rattle.mail_frames.specs.Decoding.{Took, Feeds, Reads, Breaks, told_behind};
+ghost use Rattle.mail_frames.specs.Decoding.{Took};
+ghost use Rattle.mail_frames.specs.Pieces.{Feeds, Reads, Breaks, told_behind};
 
 use crate::builds::frame_of;
 use crate::frames::Frames;
@@ -40,7 +41,8 @@ pub struct Decoder {
 }
 
 impl Model for Decoder {
-    ghost use Rattle.mail_frames.specs.Decoding.{Decoding, IsAt};
+    ghost use Rattle.mail_frames.specs.Decoding.{Decoding};
+    ghost use Rattle.mail_frames.specs.Pieces.{IsAt};
 
     ghost Value = { Decoding };
 

@@ -192,21 +192,36 @@ fn frames_before_a_fault_are_given(rt: HostRuntime) -> Result<(), Fail> {
     Ok(())
 }
 
+/// Feeds the piece so often. Whether it brought nothing each time.
+fn brings_nothing(decoder: &mut Decoder, piece: &[u8], times: u32) -> Result<bool, NoMemory> {
+    for _ in 0..times {
+        let fed = feed(decoder, piece)?;
+        if !fed.frames.is_empty() || fed.bad.is_some() {
+            return Ok(false);
+        }
+    }
+    Ok(true)
+}
+
+/// Whether one mail came, of so many bytes, and no fault.
+fn is_mail_of(fed: &Fed, length: usize) -> bool {
+    match fed.frames.get(0) {
+        Some(Frame::Mail(entry)) => entry.len() == length && fed.bad.is_none(),
+        _ => false,
+    }
+}
+
 #[test]
 fn the_longest_mail_is_taken(rt: HostRuntime) -> Result<(), Fail> {
     let mut decoder = Decoder::new(rt.alloc());
-    let head = feed(&mut decoder, &[0, 0x40, 0, 1, 1])?;
-    assert_eq!(rt; head.bad, None);
-    let piece = [0xFF; 4096];
-    for _ in 1..1024 {
-        let fed = feed(&mut decoder, &piece)?;
-        assert!(rt; fed.frames.is_empty());
-        assert_eq!(rt; fed.bad, None);
+    let mut piece: Bytes = Items::new(rt.alloc());
+    for _ in 0..4096 {
+        piece.push(0xFF)?;
     }
-    let fed = feed(&mut decoder, &piece)?;
-    let whole = matches!(fed.frames.get(0), Some(Frame::Mail(entry)) if entry.len() == 4_194_304);
-    assert!(rt; whole);
-    assert_eq!(rt; fed.bad, None);
+    assert!(rt; brings_nothing(&mut decoder, &[0, 0x40, 0, 1, 1], 1)?);
+    assert!(rt; brings_nothing(&mut decoder, piece.as_slice(), 1023)?);
+    let fed = feed(&mut decoder, piece.as_slice())?;
+    assert!(rt; is_mail_of(&fed, 4_194_304));
     let further = feed(&mut decoder, &[0xFF])?;
     assert_eq!(rt; further.bad, Some(4_194_309));
     Ok(())

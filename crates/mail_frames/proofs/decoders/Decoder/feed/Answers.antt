@@ -3,7 +3,8 @@ use Rattle.std.proofs.lemmas.Result.{IfOk-weaker}
 use Rattle.std.specs.Prelude.{Option, None, Some}
 use Rattle.mail_frames.specs.Spelling.{IsSpelled}
 use Rattle.mail_frames.specs.Streams.{IsBadAt}
-use Rattle.mail_frames.specs.Decoding.{Decoding, Took, Feeds, Breaks}
+use Rattle.mail_frames.specs.Decoding.{Decoding, Took}
+use Rattle.mail_frames.specs.Pieces.{Feeds, Breaks}
 use Rattle.mail_frames.specs.declared.frames.Frame.{Frame}
 use Rattle.mail_frames.specs.declared.decoders.Fed.{Fed}
 use Rattle.mail_frames.proofs.Reached.{piece_open, piece_whole, piece_broken}

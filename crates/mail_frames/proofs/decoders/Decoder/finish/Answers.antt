@@ -1,7 +1,8 @@
 use Rattle.std.proofs.Common.{ℕ, List, ◌≡◌, ◌++◌, ◌+◌, ◌∙◌, ◌∷◌, ap, refl, sym, subst, length, take, []}
 use Rattle.mail_frames.specs.Spelling.{FrameBytes}
 use Rattle.mail_frames.specs.Streams.{told}
-use Rattle.mail_frames.specs.Decoding.{Decoding, Reads, told_behind}
+use Rattle.mail_frames.specs.Decoding.{Decoding}
+use Rattle.mail_frames.specs.Pieces.{Reads, told_behind}
 use Rattle.mail_frames.specs.declared.frames.Frame.{Frame}
 use Rattle.mail_frames.proofs.Feeding.{feeds_whole, reads_at}
 use Rattle.mail_frames.proofs.decoders.Decoder.finish.Goals as goal

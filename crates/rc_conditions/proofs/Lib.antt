@@ -1,0 +1,13 @@
+pub mod Depths
+pub mod Ends
+pub mod Fronts
+pub mod Holes
+pub mod Meetings
+pub mod Newest
+pub mod Numbers
+pub mod Readings
+pub mod Runs
+pub mod Settling
+pub mod Steps
+pub mod Texts
+pub mod Walks

@@ -1,0 +1,37 @@
+-- Conditions asked of a return code, as far as the operations were carried out.
+use Rattle.std.proofs.Common.{◌≡◌, ◌≤◌, ◌<◌, ◌+◌, ℕ, ℤ, Bool, true, false, leb, List, [], ◌∷◌, length, drop, get_or, refl, ap, sym, ◌∙◌, arith}
+use Rattle.std.proofs.lemmas.List.{at_drop_more, at_drop_all}
+use Rattle.std.proofs.lemmas.Bool.Decides.{nat_tests}
+use Rattle.model.specs.Types.{CondOp}
+use Rattle.model.specs.Conditions.{meets, result_of}
+
+meets_by_result : (ops : List CondOp) (rc : ℤ) → 0 < length ops → length ops ≤ 64 → meets ops rc ≡ result_of rc [] ops
+meets_by_result [] rc some few = absurd (omega arith)
+meets_by_result (op ∷ ops) rc some few =
+    let is : leb (length (op ∷ ops)) 64 ≡ true = grind (arith, nat_tests) in rw is refl
+
+-- the operations, read through a slice, and the return code as it is passed on
+pub record Asked (ops items : List CondOp) (rc passed : ℤ) (so_far : List Bool) (i : ℕ) : Type 0 where
+  pub items_are : items ≡ ops
+  pub passed_is : passed ≡ rc
+  pub some : 0 < length ops
+  pub few : length ops ≤ 64
+  pub left : result_of passed so_far (drop i items) ≡ result_of passed [] items
+
+by_rest : {ops items : List CondOp} {rc passed : ℤ} {so_far : List Bool} {i : ℕ} → Asked ops items rc passed so_far i
+    → meets ops rc ≡ result_of passed so_far (drop i items)
+by_rest {ops} {items} {rc} {passed} {so_far} {i} a =
+    meets_by_result ops rc a.some a.few ∙ ap (λ xs. result_of rc [] xs) (sym a.items_are)
+    ∙ ap (λ z. result_of z [] items) (sym a.passed_is) ∙ sym a.left
+
+pub lacks_result : {ops items : List CondOp} {rc passed : ℤ} {so_far : List Bool} {i : ℕ}
+    → Asked ops items rc passed so_far i → (d : CondOp) → i < length items
+    → ((rest : List CondOp) → result_of passed so_far (get_or items i d ∷ rest) ≡ false) → false ≡ meets ops rc
+lacks_result {ops} {items} {rc} {passed} {so_far} {i} a d within lacks =
+    sym (by_rest a ∙ at_drop_more (λ xs. result_of passed so_far xs) items i d within ∙ lacks (drop (i + 1) items))
+
+pub only_result : {ops items : List CondOp} {rc passed : ℤ} {so_far : List Bool} {i : ℕ}
+    → Asked ops items rc passed so_far i → (r : Bool) → length items ≤ i → r ≡ result_of passed so_far []
+    → r ≡ meets ops rc
+only_result {ops} {items} {rc} {passed} {so_far} {i} a r end is =
+    is ∙ sym (by_rest a ∙ at_drop_all (λ xs. result_of passed so_far xs) items i end)

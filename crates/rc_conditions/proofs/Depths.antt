@@ -66,14 +66,20 @@ one_result (e ∷ es) (Not ∷ ops) h =
 one_result [] (And ∷ ops) h = cc
 one_result (e ∷ []) (And ∷ ops) h = cc
 one_result (f ∷ e ∷ es) (And ∷ ops) h =
-    rw (← append_assoc ((joined es ++ postfix e) ++ postfix f) (And ∷ []) ops,
-        append_assoc (joined es) (postfix e) (postfix f), append_assoc (joined es) (postfix e ++ postfix f) (And ∷ []))
+    rw (
+      ← append_assoc ((joined es ++ postfix e) ++ postfix f) (And ∷ []) ops,
+      append_assoc (joined es) (postfix e) (postfix f),
+      append_assoc (joined es) (postfix e ++ postfix f) (And ∷ []),
+    )
     (one_result (both e f ∷ es) ops h)
 one_result [] (Or ∷ ops) h = cc
 one_result (e ∷ []) (Or ∷ ops) h = cc
 one_result (f ∷ e ∷ es) (Or ∷ ops) h =
-    rw (← append_assoc ((joined es ++ postfix e) ++ postfix f) (Or ∷ []) ops,
-        append_assoc (joined es) (postfix e) (postfix f), append_assoc (joined es) (postfix e ++ postfix f) (Or ∷ []))
+    rw (
+      ← append_assoc ((joined es ++ postfix e) ++ postfix f) (Or ∷ []) ops,
+      append_assoc (joined es) (postfix e) (postfix f),
+      append_assoc (joined es) (postfix e ++ postfix f) (Or ∷ []),
+    )
     (one_result (either e f ∷ es) ops h)
 
 -- a list that leaves one result is a postfix expression
@@ -102,6 +108,7 @@ same_count n h = cc
 pub walk_ends : (ops : List CondOp) (n i : ℕ) → depth n (drop i ops) ≡ depth 0 ops → length ops ≤ i
     → (IsTrue (eqb n 1) → IsPostfix ops) × (IsPostfix ops → IsTrue (eqb n 1))
 walk_ends ops n i left end =
-    let all : depth 0 ops ≡ Some n = sym left ∙ at_drop_all (λ xs. depth n xs) ops i end in
-    (λ t. let one : n ≡ 1 = grind (arith, nat_tests) in postfix_from_depth ops (all ∙ ap (λ k. Some k) one),
-     λ is. eq-eqb n 1 (same_count n (sym all ∙ depth_from_postfix ops is)))
+    let all : depth 0 ops ≡ Some n = sym left ∙ at_drop_all (λ xs. depth n xs) ops i end in (
+      λ t. let one : n ≡ 1 = grind (arith, nat_tests) in postfix_from_depth ops (all ∙ ap (λ k. Some k) one),
+      λ is. eq-eqb n 1 (same_count n (sym all ∙ depth_from_postfix ops is)),
+    )

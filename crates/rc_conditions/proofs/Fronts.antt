@@ -23,19 +23,19 @@ by_last : (front before : List CondOp) (op : CondOp) (k : ℕ) (e : Expression) 
     → before ++ op ∷ [] ≡ front ++ (joined es ++ postfix e) → k ≡ length es + arity op → Lacks front k before
 by_last front before op k (compared r n) es is count =
     let s = same_from_push before (front ++ joined es) op (Cmp r n)
-        (is ∙ sym (append_assoc front (joined es) (Cmp r n ∷ []))) in
+    (is ∙ sym (append_assoc front (joined es) (Cmp r n ∷ []))) in
     let right = same_arity op (Cmp r n) k (length es) s.1 count in
     record { parts = es; number = omega (arith, right); is = s.0 }
 by_last front before op k (negated e) es is count =
     let s = same_from_push before (front ++ (joined es ++ postfix e)) op Not
-        (is ∙ ap (λ xs. front ++ xs) (sym (append_assoc (joined es) (postfix e) (Not ∷ [])))
-        ∙ sym (append_assoc front (joined es ++ postfix e) (Not ∷ []))) in
+    (is ∙ ap (λ xs. front ++ xs) (sym (append_assoc (joined es) (postfix e) (Not ∷ [])))
+    ∙ sym (append_assoc front (joined es ++ postfix e) (Not ∷ []))) in
     let right = same_arity op Not k (length es) s.1 count in
     record { parts = e ∷ es; number = omega (arith, right); is = s.0 }
 by_last front before op k (both e f) es is count =
     let s = same_from_push before (front ++ ((joined es ++ postfix e) ++ postfix f)) op And
-        (is ∙ ap (λ xs. front ++ xs) (two (joined es) (postfix e) (postfix f) (And ∷ []))
-        ∙ sym (append_assoc front ((joined es ++ postfix e) ++ postfix f) (And ∷ []))) in
+    (is ∙ ap (λ xs. front ++ xs) (two (joined es) (postfix e) (postfix f) (And ∷ []))
+    ∙ sym (append_assoc front ((joined es ++ postfix e) ++ postfix f) (And ∷ []))) in
     let right = same_arity op And k (length es) s.1 count in
     record { parts = f ∷ e ∷ es; number = omega (arith, right); is = s.0 }
   where
@@ -43,8 +43,8 @@ by_last front before op k (both e f) es is count =
     two xs ys zs us = simp append_assoc
 by_last front before op k (either e f) es is count =
     let s = same_from_push before (front ++ ((joined es ++ postfix e) ++ postfix f)) op Or
-        (is ∙ ap (λ xs. front ++ xs) (two (joined es) (postfix e) (postfix f) (Or ∷ []))
-        ∙ sym (append_assoc front ((joined es ++ postfix e) ++ postfix f) (Or ∷ []))) in
+    (is ∙ ap (λ xs. front ++ xs) (two (joined es) (postfix e) (postfix f) (Or ∷ []))
+    ∙ sym (append_assoc front ((joined es ++ postfix e) ++ postfix f) (Or ∷ []))) in
     let right = same_arity op Or k (length es) s.1 count in
     record { parts = f ∷ e ∷ es; number = omega (arith, right); is = s.0 }
   where
@@ -74,8 +74,13 @@ none_by_parts : (front rest : List CondOp) (count : ℕ) (parts : List Expressio
     → rest ≡ front ++ joined parts → length rest ≡ 0 → count ≡ 0
 none_by_parts front rest count [] number is none = sym number
 none_by_parts front rest count (e ∷ es) number is none =
-    absurd (omega (arith, some_ops e, length-append front (joined es ++ postfix e), length-append (joined es) (postfix e),
-        ap length is))
+    absurd (omega (
+      arith,
+      some_ops e,
+      length-append front (joined es ++ postfix e),
+      length-append (joined es) (postfix e),
+      ap length is,
+    ))
 
 -- where no operation is left no expression is
 pub none_left : (front rest : List CondOp) (count : ℕ) → Lacks front count rest → length rest ≡ 0 → count ≡ 0
@@ -98,4 +103,4 @@ walk_more front rest count k d some wanted is l =
     let P : ℕ → Type 0 = λ j. Lacks front (count - 1 + j) (take (length rest - 1) rest) in
     subst P (sym is)
     (lacks_more front rest (take (length rest - 1) rest) (get_or rest (length rest - 1) d) count (by_end rest d some)
-        wanted l)
+    wanted l)

@@ -6,6 +6,7 @@ pub mod Meetings
 pub mod Newest
 pub mod Numbers
 pub mod Readings
+pub mod Rereading
 pub mod Runs
 pub mod Settling
 pub mod Steps

@@ -1,9 +1,11 @@
 -- Conditions asked of a return code, as far as the operations were carried out.
-use Rattle.std.proofs.Common.{◌≡◌, ◌≤◌, ◌<◌, ◌+◌, ℕ, ℤ, Bool, true, false, leb, List, [], ◌∷◌, length, drop, get_or, refl, ap, sym, ◌∙◌, arith}
+use Rattle.std.proofs.Common.{◌≡◌, ◌≤◌, ◌<◌, ◌+◌, ℕ, ℤ, Bool, true, false, leb, List, [], ◌∷◌, ◌++◌, append_assoc, append-nil, length, drop, get_or, refl, ap, sym, ◌∙◌, arith}
 use Rattle.std.proofs.lemmas.List.{at_drop_more, at_drop_all}
 use Rattle.std.proofs.lemmas.Bool.Decides.{nat_tests}
-use Rattle.model.specs.Types.{CondOp}
+use Rattle.model.specs.Types.{CondOp, Cmp, And, Or, Not}
 use Rattle.model.specs.Conditions.{meets, result_of}
+use Rattle.rc_conditions.specs.Expressions.{Expression, compared, negated, both, either, postfix, is_met}
+use Rattle.rc_conditions.proofs.Fronts.{some_ops}
 
 meets_by_result : (ops : List CondOp) (rc : ℤ) → 0 < length ops → length ops ≤ 64 → meets ops rc ≡ result_of rc [] ops
 meets_by_result [] rc some few = absurd (omega arith)
@@ -35,3 +37,26 @@ pub only_result : {ops items : List CondOp} {rc passed : ℤ} {so_far : List Boo
     → r ≡ meets ops rc
 only_result {ops} {items} {rc} {passed} {so_far} {i} a r end is =
     is ∙ sym (by_rest a ∙ at_drop_all (λ xs. result_of passed so_far xs) items i end)
+
+-- an expression adds its result
+adds_result : (e : Expression) (rc : ℤ) (so_far : List Bool) (ops : List CondOp)
+    → result_of rc so_far (postfix e ++ ops) ≡ result_of rc (is_met e rc ∷ so_far) ops
+adds_result (compared r n) rc [] ops = refl
+adds_result (compared r n) rc (b ∷ []) ops = refl
+adds_result (compared r n) rc (b ∷ a ∷ so_far) ops = refl
+adds_result (negated e) rc so_far ops =
+    ap (λ xs. result_of rc so_far xs) (append_assoc (postfix e) (Not ∷ []) ops)
+    ∙ adds_result e rc so_far (Not ∷ ops)
+adds_result (both e f) rc so_far ops =
+    ap (λ xs. result_of rc so_far xs)
+    (append_assoc (postfix e ++ postfix f) (And ∷ []) ops ∙ append_assoc (postfix e) (postfix f) (And ∷ ops))
+    ∙ adds_result e rc so_far (postfix f ++ And ∷ ops) ∙ adds_result f rc (is_met e rc ∷ so_far) (And ∷ ops)
+adds_result (either e f) rc so_far ops =
+    ap (λ xs. result_of rc so_far xs)
+    (append_assoc (postfix e ++ postfix f) (Or ∷ []) ops ∙ append_assoc (postfix e) (postfix f) (Or ∷ ops))
+    ∙ adds_result e rc so_far (postfix f ++ Or ∷ ops) ∙ adds_result f rc (is_met e rc ∷ so_far) (Or ∷ ops)
+
+pub met_by_expression : (e : Expression) (rc : ℤ) → length (postfix e) ≤ 64 → meets (postfix e) rc ≡ is_met e rc
+met_by_expression e rc few =
+    meets_by_result (postfix e) rc (some_ops e) few
+    ∙ ap (λ xs. result_of rc [] xs) (sym (append-nil (postfix e))) ∙ adds_result e rc [] []

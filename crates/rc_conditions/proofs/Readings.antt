@@ -87,7 +87,7 @@ next_run before p s o is h =
 one_more : (text : List ℕ) (before : List Placed) (p : Placed) (ps : List Placed) (s : Read) (o : Option Read)
     → next s p.kind ≡ o → placed_tokens text ≡ before ++ p ∷ ps → from_start (tokens_in before) ≡ Some s
     → ((more : Read) → placed_tokens text ≡ (before ++ p ∷ []) ++ ps → from_start (tokens_in (before ++ p ∷ [])) ≡ Some more
-        → Cause text (read (reader_of more) ps (length text)))
+    → Cause text (read (reader_of more) ps (length text)))
     → Cause text (option_map_or (λ more. read (reader_of more) ps (length text)) o (Err (Bad p.place)))
 one_more text before p ps s None is all h rec =
     inl (record {
@@ -98,8 +98,8 @@ one_more text before p ps s None is all h rec =
       is_here = refl;
       begins = begins_read (tokens_in before) s h;
       stops = λ b.
-        let on = begins_run (tokens_in (before ++ p ∷ [])) b in
-        let both : None ≡ Some on.0 = sym (next_run before p s None is h) ∙ on.1 in cc;
+          let on = begins_run (tokens_in (before ++ p ∷ [])) b in
+          let both : None ≡ Some on.0 = sym (next_run before p s None is h) ∙ on.1 in cc;
     })
 one_more text before p ps s (Some more) is all h rec =
     rec more (all ∙ sym (append_assoc before (p ∷ []) ps)) (next_run before p s (Some more) is h)
@@ -122,7 +122,7 @@ read_has_cause text = sound (placed_tokens text) [] text (before_an_operand empt
 
 run_by_next : (p : Placed) (ps qs : List Placed) (s at : Read) (end : ℕ) (o : Option Read) → next s p.kind ≡ o
     → ((more : Read) → run more (tokens_in ps) ≡ Some at
-        → read (reader_of more) (ps ++ qs) end ≡ read (reader_of at) qs end)
+    → read (reader_of more) (ps ++ qs) end ≡ read (reader_of at) qs end)
     → option_and_then (λ more. run more (tokens_in ps)) o ≡ Some at
     → option_map_or (λ more. read (reader_of more) (ps ++ qs) end) o (Err (Bad p.place)) ≡ read (reader_of at) qs end
 run_by_next p ps qs s at end None is rec h = cc
@@ -166,7 +166,7 @@ stops_there : (text : List ℕ) (place : ℕ) → StopsAt text place → read_of
 stops_there text place f =
     let at = begins_run (tokens_in f.before) f.begins in
     let end : next at.0 f.here.kind ≡ None =
-        nothing_next f.before f.here at.0 (next at.0 f.here.kind) refl at.1 f.stops in
+    nothing_next f.before f.here at.0 (next at.0 f.here.kind) refl at.1 f.stops in
     ap (λ ps. read start ps (length text)) f.tokens
     ∙ read_run f.before (f.here ∷ f.behind) (before_an_operand empty_hole) at.0 (length text) at.1
     ∙ read_step at.0 f.here f.behind (length text) None end ∙ ap (λ n. Err (Bad n)) f.is_here
@@ -207,3 +207,19 @@ pub of_bytes : (bytes text : List ℕ) (result : Result (List CondOp) CondFault)
     → (result ≡ read_of bytes) ⊎ (result ≡ Err NoMemory) → (result ≡ read_of text) ⊎ (result ≡ Err NoMemory)
 of_bytes bytes text result e h =
     let P : List ℕ → Type 0 = λ bs. (result ≡ read_of bs) ⊎ (result ≡ Err NoMemory) in subst P e h
+
+-- the tokens of two conditions are those of one
+one_condition : (a b : Disjunction) → disjunction_tokens a ≡ disjunction_tokens b → a ≡ b
+one_condition a b same =
+    let first = reads_whole a in
+    let second = reads_whole b in
+    let at : first.0 ≡ second.0 =
+    one_read (from_start (disjunction_tokens b)) first.0 second.0 (ap from_start (sym same) ∙ first.1) second.1 in
+    one_whole (sym first.2 ∙ ap whole_read at ∙ second.2)
+  where
+    one_whole : {x y : Disjunction} → Some x ≡ Some y → x ≡ y
+    one_whole h = cc
+
+pub one_reading : (text : List ℕ) (a b : List CondOp) → Reads text a → Reads text b → a ≡ b
+one_reading text a b r s =
+    r.means ∙ ap ops_of (one_condition r.condition s.condition (sym r.spelled ∙ s.spelled)) ∙ sym s.means

@@ -85,10 +85,11 @@ mutual
 
 -- the tokens of a condition are read to it
 pub reads_whole : (d : Disjunction) → (s : Read) × (from_start (disjunction_tokens d) ≡ Some s) × (whole_read s ≡ Some d)
-reads_whole d =
-    (behind (disjunction_reached outermost d),
-     ap from_start (sym (append-nil (disjunction_tokens d))) ∙ run_disjunction d outermost [],
-     ap (λ f. outermost_part f.hole f.part) (disjunction_reached_back outermost d))
+reads_whole d = (
+  behind (disjunction_reached outermost d),
+  ap from_start (sym (append-nil (disjunction_tokens d))) ∙ run_disjunction d outermost [],
+  ap (λ f. outermost_part f.hole f.part) (disjunction_reached_back outermost d),
+)
 
 -- reading keeps its tokens
 kept_by_next : (s : Read) (t : Token) (o : Option Read) (ts : List Token) (end : Read)

@@ -67,10 +67,10 @@ pub read_more : (r next : Reader) (o : Option Reader) (text rest : List ℕ) (ki
     → read next (tokens_behind 0 (at + w) (drop (at + w) text)) end ≡ answer
 read_more r next o text rest kind at w end answer rest-is some here w-is more within kind-is is found before =
     let all : tokens_behind 0 at (drop at text)
-        ≡ record { kind = kind; place = at } ∷ tokens_behind 0 (at + w) (drop (at + w) text) =
-        ap (λ bs. tokens_behind 0 at bs) (sym rest-is)
-        ∙ token_here rest at some (sym here) (omega (arith, sym w-is)) (omega (arith, w-is))
-        ∙ same_token rest w kind at (drop (at + w) text) (sym w-is) kind-is
-        (ap (λ bs. drop w bs) rest-is ∙ drop-drop w at text) in
+    ≡ record { kind = kind; place = at } ∷ tokens_behind 0 (at + w) (drop (at + w) text) =
+    ap (λ bs. tokens_behind 0 at bs) (sym rest-is)
+    ∙ token_here rest at some (sym here) (omega (arith, sym w-is)) (omega (arith, w-is))
+    ∙ same_token rest w kind at (drop (at + w) text) (sym w-is) kind-is
+    (ap (λ bs. drop w bs) rest-is ∙ drop-drop w at text) in
     sym (read_token r next o kind at (tokens_behind 0 (at + w) (drop (at + w) text)) end is found)
     ∙ ap (λ ps. read r ps end) (sym all) ∙ before

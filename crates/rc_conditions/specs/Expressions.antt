@@ -1,5 +1,6 @@
 -- A condition as an expression, and its operations in postfix order.
-use Rattle.std.specs.Prelude.{◌≡◌, ℕ, ℤ, Bool, ◌&&◌, ◌||◌, not, List, [], ◌∷◌, ◌++◌}
+use Rattle.std.specs.Prelude.{◌≡◌, ℕ, ℤ, Bool, ◌&&◌, ◌||◌, not, List, [], ◌∷◌, ◌++◌, FitsSigned}
+use Rattle.std.specs.Int.{w32}
 use Rattle.model.specs.Types.{Rel, CondOp, Cmp, And, Or, Not}
 use Rattle.model.specs.Conditions.{compares}
 
@@ -27,6 +28,13 @@ arity Or = 2
 -- the list is a postfix expression
 abbrev pub IsPostfix : List CondOp → Type 0
 IsPostfix ops = (e : Expression) × (ops ≡ postfix e)
+
+-- each number has 32 bits
+abbrev pub NumbersFit : Expression → Type 0
+NumbersFit (compared r n) = FitsSigned w32 n
+NumbersFit (negated e) = NumbersFit e
+NumbersFit (both e f) = NumbersFit e × NumbersFit f
+NumbersFit (either e f) = NumbersFit e × NumbersFit f
 
 -- whether the condition is met by a return code
 abbrev pub is_met : Expression → ℤ → Bool

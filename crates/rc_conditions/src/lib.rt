@@ -6,6 +6,7 @@
 //! `model::specs::Conditions::meets`.
 #![tactic(auto)]
 
+mod laws;
 mod printing;
 mod readers;
 mod reading;
@@ -14,6 +15,9 @@ mod results;
 mod tests;
 mod tokens;
 
+pub use laws::{
+    conditions_hold_where_they_are_met, printed_texts_are_read_back, texts_have_one_reading,
+};
 pub use printing::print_cond;
 pub use reading::read_cond;
 pub use results::holds;

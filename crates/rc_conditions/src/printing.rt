@@ -2,7 +2,8 @@
 ghost use Rattle.std.specs.Prelude.{◌≡◌, ◌≢◌, ◌++◌, ◌+◌, ◌≤◌, ◌<◌, ◌↔◌, IsTrue, List, [], length, codes, IfOk, OnOk};
 ghost use Rattle.std.specs.String.{string_bytes};
 ghost use Rattle.model.specs.Types.{CondOp as Operation};
-ghost use Rattle.rc_conditions.specs.Expressions.{Expression as Tree, compared, IsPostfix, postfix};
+ghost use Rattle.rc_conditions.specs.Answers.{IsCondition};
+ghost use Rattle.rc_conditions.specs.Expressions.{Expression as Tree, compared, IsPostfix, NumbersFit, postfix};
 ghost use Rattle.rc_conditions.specs.Expressions as shape;
 ghost use Rattle.rc_conditions.specs.Printing as spec;
 ghost use Rattle.rc_conditions.specs.Printing.{printed};
@@ -17,6 +18,7 @@ use std::alloc::{AllocError, Global};
 pub fn print_cond(alloc: Global, cond: &Cond) -> Result<Text, NoMemory>
     ensures default { cond.now ≡ [] → IfOk result (λ t. t ≡ codes "RC = 0") }
     ensures canonical { (e : Tree) → cond.now ≡ postfix e → length cond.now ≤ 64 → IfOk result (λ t. t ≡ printed e) }
+    ensures read_back { IsPostfix cond.now → length cond.now ≤ 64 → IfOk result (λ t. IsCondition t cond.now) }
     ensures no_expression { cond.now ≢ [] → ¬ (IsPostfix cond.now) → IfOk result (λ t. t ≡ []) }
     ensures too_long { 64 < length cond.now → IfOk result (λ t. t ≡ []) }
 {
@@ -33,8 +35,9 @@ pub fn print_cond(alloc: Global, cond: &Cond) -> Result<Text, NoMemory>
 
 /// Writes a postfix expression.
 fn write_expression(out: &mut String, ops: &[CondOp]) -> Result<(), AllocError>
-    ensures { OnOk result ((e : Tree) → ops.now ≡ postfix e →
+    ensures text { OnOk result ((e : Tree) → ops.now ≡ postfix e →
         string_bytes out.new ≡ string_bytes out.old ++ printed e) }
+    ensures numbers { OnOk result ((e : Tree) → ops.now ≡ postfix e → NumbersFit e) }
 {
     let [before @ .., last] = ops else {
         return Ok(());

@@ -133,21 +133,7 @@ impl Reader {
     {
         let mut reader = self;
         match reader.wanted {
-            Wanted::Operand => match token {
-                Token::Rc => {
-                    reader.wanted = Wanted::Relation;
-                    Ok(Some(reader))
-                }
-                Token::Not => {
-                    reader.waiting.push(Pending::Not)?;
-                    Ok(Some(reader))
-                }
-                Token::Open => {
-                    reader.waiting.push(Pending::Open)?;
-                    Ok(Some(reader))
-                }
-                _ => Ok(None),
-            },
+            Wanted::Operand => reader.take_operand(token),
             Wanted::Relation => match token {
                 Token::Compare(rel) => {
                     reader.wanted = Wanted::Number(rel);
@@ -163,12 +149,36 @@ impl Reader {
                 }
                 _ => Ok(None),
             },
-            Wanted::Joint => reader.take_behind_operand(token),
+            Wanted::Joint => reader.take_joint(token),
+        }
+    }
+
+    /// The same where an operand is wanted.
+    fn take_operand(self, token: Token) -> Result<Option<Reader>, NoMemory>
+        ensures { IfOk result (λ o. o ≡ spec.step_at Wanted.Operand (parts self.waiting self.ops) token) }
+    {
+        let mut reader = self;
+        match token {
+            Token::Rc => {
+                reader.wanted = Wanted::Relation;
+                Ok(Some(reader))
+            }
+            Token::Not => {
+                reader.waiting.push(Pending::Not)?;
+                reader.wanted = Wanted::Operand;
+                Ok(Some(reader))
+            }
+            Token::Open => {
+                reader.waiting.push(Pending::Open)?;
+                reader.wanted = Wanted::Operand;
+                Ok(Some(reader))
+            }
+            _ => Ok(None),
         }
     }
 
     /// The same behind an operand.
-    fn take_behind_operand(self, token: Token) -> Result<Option<Reader>, NoMemory>
+    fn take_joint(self, token: Token) -> Result<Option<Reader>, NoMemory>
         ensures { IfOk result (λ o. o ≡ spec.step_at Wanted.Joint (parts self.waiting self.ops) token) }
     {
         let mut reader = self;

@@ -24,11 +24,23 @@ fn canonical_texts(rt: HostRuntime) -> Result<(), Fail> {
         ("NOT RC = 1", "NOT (RC = 1)"),
         ("not not rc = 1", "NOT (NOT (RC = 1))"),
         ("RC=1AND NOT(RC=2)", "(RC = 1) AND (NOT (RC = 2))"),
-        ("RC=1 AND RC=2 AND RC=3", "((RC = 1) AND (RC = 2)) AND (RC = 3)"),
-        ("RC=1 AND (RC=2 AND RC=3)", "(RC = 1) AND ((RC = 2) AND (RC = 3))"),
+        (
+            "RC=1 AND RC=2 AND RC=3",
+            "((RC = 1) AND (RC = 2)) AND (RC = 3)",
+        ),
+        (
+            "RC=1 AND (RC=2 AND RC=3)",
+            "(RC = 1) AND ((RC = 2) AND (RC = 3))",
+        ),
         ("RC=1 OR RC=2 OR RC=3", "((RC = 1) OR (RC = 2)) OR (RC = 3)"),
-        ("RC=1 OR RC=2 AND RC=3", "(RC = 1) OR ((RC = 2) AND (RC = 3))"),
-        ("RC=1 AND RC=2 OR RC=3", "((RC = 1) AND (RC = 2)) OR (RC = 3)"),
+        (
+            "RC=1 OR RC=2 AND RC=3",
+            "(RC = 1) OR ((RC = 2) AND (RC = 3))",
+        ),
+        (
+            "RC=1 AND RC=2 OR RC=3",
+            "((RC = 1) AND (RC = 2)) OR (RC = 3)",
+        ),
         ("NOT RC=1 AND RC=2", "(NOT (RC = 1)) AND (RC = 2)"),
         ("NOT(RC=1 OR RC=2)", "NOT ((RC = 1) OR (RC = 2))"),
         ("\tRC\r\n=\n1 ", "RC = 1"),
@@ -73,7 +85,10 @@ fn first_faults(rt: HostRuntime) {
         ("RC = 1 XOR RC = 2 é", 7),
     ] {
         let found = read_cond(alloc, text);
-        assert!(rt; found.is_err_and(|fault| fault == CondFault::Bad(place)), "at {text}");
+        assert!(rt;
+            found.is_err_and(|fault| fault == CondFault::Bad(place)),
+            "at {text}"
+        );
     }
 }
 

@@ -13,8 +13,8 @@ loop-missing-preserved c =
     let shorter = length-take (length c.loop-missing.rest.now - 1) c.loop-missing.rest.now in
     record {
       last = λ front e is.
-        walk_more front c.loop-missing.rest.now c.loop-missing.missing c.arity.result _ c.in-len1-up.len_at_least
-        c.loop-missing-test.true c.arity.ensures.value (c.loop-missing.invariant.last front e is);
+          walk_more front c.loop-missing.rest.now c.loop-missing.missing c.arity.result _ c.in-len1-up.len_at_least
+          c.loop-missing-test.true c.arity.ensures.value (c.loop-missing.invariant.last front e is);
       within = omega (arith, shorter);
       few = omega (arith, shorter, c.arity.ensures.few);
     }

@@ -18,7 +18,7 @@ loop-at-preserved c =
     let rest = take (length c.args.text.now - c.loop-at.at) (drop c.loop-at.at c.args.text.now) in
     let long = length-drop c.loop-at.at c.args.text.now in
     let whole : take (length c.args.text.now - c.loop-at.at) (drop c.loop-at.at c.args.text.now) ≡ drop c.loop-at.at c.args.text.now =
-        take_all (length c.args.text.now - c.loop-at.at) (drop c.loop-at.at c.args.text.now) (omega (arith, long)) in
+    take_all (length c.args.text.now - c.loop-at.at) (drop c.loop-at.at c.args.text.now) (omega (arith, long)) in
     let same = ap length whole in
     record {
       answer = read_more c.loop-at.reader c.in-Some.next c.in_ok-next.field-0 c.args.text.now rest c.token_of.result c.loop-at.at c.width-end.result

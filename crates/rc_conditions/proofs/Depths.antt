@@ -1,5 +1,7 @@
 -- Postfix expressions by the number of results that are there.
-use Rattle.std.proofs.Common.{◌≡◌, ◌≤◌, ◌<◌, ◌+◌, ◌-◌, ℕ, zero, suc, List, [], ◌∷◌, ◌++◌, length, Option, Some, None, append_assoc, append-nil, refl, ap, sym, subst, ◌∙◌, arith, drop, get_or, IsTrue, eqb, eq-eqb}
+use Rattle.std.proofs.Common.{◌≡◌, ◌≤◌, ◌<◌, ◌+◌, ◌-◌, ℕ, zero, suc, List, [], ◌∷◌, ◌++◌, length, Option, Some}
+use Rattle.std.proofs.Common.{None, append_assoc, append-nil, refl, ap, sym, subst, ◌∙◌, arith, drop, get_or}
+use Rattle.std.proofs.Common.{IsTrue, eqb, eq-eqb}
 use Rattle.std.proofs.lemmas.List.{at_drop_more, at_drop_all}
 use Rattle.std.proofs.lemmas.Bool.Decides.{nat_tests}
 use Rattle.model.specs.Types.{CondOp, Cmp, And, Or, Not}
@@ -99,7 +101,8 @@ some_is_not_none o h k =
 pub walk_lacks : (ops : List CondOp) (n i k : ℕ) (d : CondOp) → depth n (drop i ops) ≡ depth 0 ops → i < length ops
     → k ≡ arity (get_or ops i d) → n < k → ¬ (IsPostfix ops)
 walk_lacks ops n i k d left within is few all =
-    some_is_not_none (depth 0 ops) (depth_from_postfix ops all) (sym left ∙ at_drop_more (λ xs. depth n xs) ops i d within
+    some_is_not_none (depth 0 ops) (depth_from_postfix ops all)
+    (sym left ∙ at_drop_more (λ xs. depth n xs) ops i d within
     ∙ depth_lacks n (get_or ops i d) (drop (i + 1) ops) (omega arith))
 
 same_count : (n : ℕ) → Some n ≡ Some 1 → n ≡ 1

@@ -1,5 +1,6 @@
 -- Several postfix expressions at the end of a list, taken from the end.
-use Rattle.std.proofs.Common.{◌≡◌, ◌≢◌, ◌≤◌, ◌<◌, ◌-◌, ◌+◌, ℕ, zero, suc, List, [], ◌∷◌, ◌++◌, length, append_assoc, append-nil, refl, ap, sym, subst, ◌∙◌, arith, take, get_or, length-append}
+use Rattle.std.proofs.Common.{◌≡◌, ◌≤◌, ◌<◌, ◌-◌, ◌+◌, ℕ, List, [], ◌∷◌, ◌++◌, length, append_assoc, append-nil}
+use Rattle.std.proofs.Common.{refl, ap, sym, subst, ◌∙◌, arith, take, get_or, length-append}
 use Rattle.std.proofs.lemmas.List.{same_from_push}
 use Rattle.model.specs.Types.{CondOp, Cmp, And, Or, Not}
 use Rattle.rc_conditions.specs.Expressions.{Expression, compared, negated, both, either, postfix, arity}

@@ -1,16 +1,18 @@
 -- A condition as far as it was read: a part that lacks its last operand. Reading goes from hole to hole.
-use Rattle.std.proofs.Common.{◌≡◌, ℕ, ℤ, List, [], ◌∷◌, ◌++◌, Option, Some, None, option_map, append_assoc, append-nil, refl, ap, sym, ◌∙◌}
-use Rattle.model.specs.Types.{Rel, CondOp, Cmp, And, Or, Not}
+use Rattle.std.proofs.Common.{List, [], ◌∷◌, ◌++◌, Option, Some, None}
+use Rattle.model.specs.Types.{Rel, CondOp}
 use Rattle.rc_conditions.specs.declared.tokens.Token.{Token}
 use Rattle.rc_conditions.specs.declared.tokens.Token.TheVariants as token
-use Rattle.rc_conditions.specs.declared.readers.Joint.TheVariants as joint
 use Rattle.rc_conditions.specs.declared.readers.Pending.{Pending}
 use Rattle.rc_conditions.specs.declared.readers.Pending.TheVariants as pending
 use Rattle.rc_conditions.specs.declared.readers.Wanted.TheVariants as wanted
 use Rattle.rc_conditions.specs.declared.readers.Reader.{Reader}
 use Rattle.rc_conditions.specs.Expressions.{postfix}
-use Rattle.rc_conditions.specs.Grammar.{Disjunction, one_conjunction, joined_by_or, Conjunction, one_operand, joined_by_and, Operand, comparison, in_parentheses, not_operand, disjunction_tokens, conjunction_tokens, operand_tokens, disjunction_meaning, conjunction_meaning, operand_meaning}
-use Rattle.rc_conditions.specs.Machine.{Parts, parts, reader, settled, with_pending, step, finished, whole}
+use Rattle.rc_conditions.specs.Grammar.{Disjunction, one_conjunction, joined_by_or, Conjunction, one_operand}
+use Rattle.rc_conditions.specs.Grammar.{joined_by_and, Operand, comparison, in_parentheses, not_operand}
+use Rattle.rc_conditions.specs.Grammar.{disjunction_tokens, conjunction_tokens, operand_tokens, disjunction_meaning}
+use Rattle.rc_conditions.specs.Grammar.{conjunction_meaning, operand_meaning}
+use Rattle.rc_conditions.specs.Machine.{parts, reader}
 
 mutual
   -- where a condition is to come

@@ -1,8 +1,9 @@
 -- Conditions asked of a return code, as far as the operations were carried out.
-use Rattle.std.proofs.Common.{◌≡◌, ◌≤◌, ◌<◌, ◌+◌, ℕ, ℤ, Bool, true, false, leb, List, [], ◌∷◌, ◌++◌, append_assoc, append-nil, length, drop, get_or, refl, ap, sym, ◌∙◌, arith}
+use Rattle.std.proofs.Common.{◌≡◌, ◌≤◌, ◌<◌, ◌+◌, ℕ, ℤ, Bool, true, false, leb, List, [], ◌∷◌, ◌++◌, append_assoc}
+use Rattle.std.proofs.Common.{append-nil, length, drop, get_or, refl, ap, sym, ◌∙◌, arith}
 use Rattle.std.proofs.lemmas.List.{at_drop_more, at_drop_all}
 use Rattle.std.proofs.lemmas.Bool.Decides.{nat_tests}
-use Rattle.model.specs.Types.{CondOp, Cmp, And, Or, Not}
+use Rattle.model.specs.Types.{CondOp, And, Or, Not}
 use Rattle.model.specs.Conditions.{meets, result_of}
 use Rattle.rc_conditions.specs.Expressions.{Expression, compared, negated, both, either, postfix, is_met}
 use Rattle.rc_conditions.proofs.Fronts.{some_ops}

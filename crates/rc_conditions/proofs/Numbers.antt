@@ -1,11 +1,12 @@
 -- Bytes that are no text write no number.
-use Rattle.std.proofs.Common.{◌≡◌, ◌<◌, ℕ, zero, suc, Bool, true, false, eqb, ltb, cond, ◌&&◌, List, [], ◌∷◌, length, drop, get_or, Option, None, refl, sym, lit<, arith}
+use Rattle.std.proofs.Common.{◌≡◌, ◌<◌, ℕ, zero, suc, Bool, true, false, eqb, ◌&&◌, List, [], ◌∷◌, drop, get_or}
+use Rattle.std.proofs.Common.{None, refl, lit<, arith}
 use Rattle.std.specs.Char.{is_ascii_digit}
 use Rattle.std.specs.List.{list_all}
 use Rattle.std.specs.Str.{IsUtf8, IsAscii}
 use Rattle.std.proofs.lemmas.Bool.Decides.{nat_tests}
 use Rattle.std.proofs.lemmas.Str.{IsUtf8-from_ascii}
-use Rattle.syntax.specs.Numbers.{signed_of, number_of, is_number, below_zero, from_zero}
+use Rattle.syntax.specs.Numbers.{signed_of, number_of, is_number}
 
 low_digit : (d : ℕ) (rest : Bool) → (is_ascii_digit d && rest) ≡ true → (d < 128) × (rest ≡ true)
 low_digit d rest h = (grind (arith, nat_tests), grind (arith, nat_tests))

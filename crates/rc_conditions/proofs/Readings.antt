@@ -1,5 +1,7 @@
 -- What reading a text answers, against the grammar.
-use Rattle.std.proofs.Common.{◌≡◌, ◌≢◌, ◌≤◌, ◌<◌, ◌⊎◌, inl, inr, ℕ, Bool, true, false, leb, cond, List, [], ◌∷◌, ◌++◌, map, length, Option, Some, None, option_map, option_and_then, Result, Ok, Err, append_assoc, append-nil, refl, ap, sym, subst, ◌∙◌, arith}
+use Rattle.std.proofs.Common.{◌≡◌, ◌≢◌, ◌≤◌, ◌<◌, ◌⊎◌, inl, inr, ℕ, Bool, true, false, leb, cond, List, [], ◌∷◌}
+use Rattle.std.proofs.Common.{◌++◌, length, Option, Some, None, option_map, option_and_then, Result, Ok, Err}
+use Rattle.std.proofs.Common.{append_assoc, append-nil, refl, ap, sym, subst, ◌∙◌, arith}
 use Rattle.std.specs.Option.{option_map_or}
 use Rattle.std.proofs.lemmas.Bool.Decides.{nat_tests}
 use Rattle.std.proofs.lemmas.List.{map-append}
@@ -7,13 +9,15 @@ use Rattle.model.specs.Types.{CondOp}
 use Rattle.rc_conditions.specs.declared.CondFault.{CondFault}
 use Rattle.rc_conditions.specs.declared.CondFault.TheVariants.{Bad, TooLong, NoMemory}
 use Rattle.rc_conditions.specs.declared.tokens.Token.{Token}
-use Rattle.rc_conditions.specs.Tokens.{Placed, placed_tokens}
+use Rattle.rc_conditions.specs.Tokens.{Placed, placed_tokens, tokens_in}
 use Rattle.rc_conditions.specs.Grammar.{Disjunction, disjunction_tokens, Begins, Reads, text_tokens}
-use Rattle.rc_conditions.specs.Machine.{step, read, read_of, finished, or_bad, within_limit, start}
-use Rattle.rc_conditions.specs.Answers.{tokens_in, StopsAt, EndsTooSoon, IsFirstFault, IsCondition, IsTooLong, AnswersExactly}
-use Rattle.rc_conditions.proofs.Holes.{Read, before_an_operand, empty_hole, read_tokens, reader_of, next, whole_read}
+use Rattle.rc_conditions.specs.Machine.{read, read_of, or_bad, within_limit, start}
+use Rattle.rc_conditions.specs.Answers.{StopsAt, EndsTooSoon, IsFirstFault, IsCondition, IsTooLong}
+use Rattle.rc_conditions.specs.Answers.{AnswersExactly}
+use Rattle.rc_conditions.proofs.Holes.{Read, before_an_operand, empty_hole, reader_of, next, whole_read}
 use Rattle.rc_conditions.proofs.Steps.{same_step, same_end, ops_of}
-use Rattle.rc_conditions.proofs.Runs.{run, from_start, run_keeps, reads_whole, run_append, begins_run, begins_read, whole_tokens}
+use Rattle.rc_conditions.proofs.Runs.{run, from_start, run_keeps, reads_whole, run_append, begins_run, begins_read}
+use Rattle.rc_conditions.proofs.Runs.{whole_tokens}
 
 -- why an answer comes
 abbrev pub Cause : List ℕ → Result (List CondOp) CondFault → Type 0
@@ -86,7 +90,8 @@ next_run before p s o is h =
 
 one_more : (text : List ℕ) (before : List Placed) (p : Placed) (ps : List Placed) (s : Read) (o : Option Read)
     → next s p.kind ≡ o → placed_tokens text ≡ before ++ p ∷ ps → from_start (tokens_in before) ≡ Some s
-    → ((more : Read) → placed_tokens text ≡ (before ++ p ∷ []) ++ ps → from_start (tokens_in (before ++ p ∷ [])) ≡ Some more
+    → ((more : Read) → placed_tokens text ≡ (before ++ p ∷ []) ++ ps
+    → from_start (tokens_in (before ++ p ∷ [])) ≡ Some more
     → Cause text (read (reader_of more) ps (length text)))
     → Cause text (option_map_or (λ more. read (reader_of more) ps (length text)) o (Err (Bad p.place)))
 one_more text before p ps s None is all h rec =

@@ -1,5 +1,7 @@
 -- The canonical text of an expression has the tokens of the expression.
-use Rattle.std.proofs.Common.{◌≡◌, ◌≢◌, ◌≤◌, ◌<◌, ◌+◌, ◌-◌, ◌^◌, ◌&&◌, not, ℕ, zero, suc, ℤ, pos, negsuc, Bool, true, false, cond, eqb, leb, ltb, List, [], ◌∷◌, ◌++◌, map, length, take, drop, get_or, Option, Some, None, option_and_then, codes, append_assoc, append-nil, FitsSigned, length-append, refl, ap, sym, ◌∙◌, rules, arith}
+use Rattle.std.proofs.Common.{◌≡◌, ◌≢◌, ◌≤◌, ◌<◌, ◌+◌, ◌-◌, ◌^◌, ◌&&◌, ℕ, zero, suc, ℤ, pos, negsuc, Bool, true}
+use Rattle.std.proofs.Common.{false, cond, eqb, leb, ltb, List, [], ◌∷◌, ◌++◌, map, length, take, get_or, Some}
+use Rattle.std.proofs.Common.{codes, append_assoc, append-nil, FitsSigned, refl, ap, sym, ◌∙◌, rules, arith}
 use Rattle.std.specs.Char.{is_ascii_alphabetic, is_ascii_digit, to_ascii_lowercase}
 use Rattle.std.specs.Fmt.{decimal, signed_decimal}
 use Rattle.std.specs.Int.{w32}
@@ -9,17 +11,20 @@ use Rattle.std.specs.Str.{bytes_eq, str_eq_ignore_ascii_case}
 use Rattle.std.specs.Str.Parse.{digits_value}
 use Rattle.std.proofs.Math.Seq.{take-append_seam}
 use Rattle.std.proofs.lemmas.Bool.Decides.{nat_tests}
-use Rattle.std.proofs.lemmas.Fmt.{digits_decimal, digits_value-decimal, decimal_nonempty, decimal_digit, first_decimal}
-use Rattle.std.proofs.lemmas.Slice.Eq.{bytes_eq-Decides}
+use Rattle.std.proofs.lemmas.Fmt.{digits_decimal, digits_value-decimal, decimal_nonempty, decimal_digit}
+use Rattle.std.proofs.lemmas.Fmt.{first_decimal}
 use Rattle.std.proofs.lemmas.Str.Parse.{IsNumeralModel, numerals_by_value}
 use Rattle.model.specs.Types.{Rel, CondOp, Cmp, Eq, Ne, Lt, Le, Gt, Ge}
-use Rattle.syntax.specs.Numbers.{signed_of, number_of, is_number, has_leading_zero, below_zero, from_zero}
+use Rattle.syntax.specs.Numbers.{signed_of, number_of, is_number, has_leading_zero}
 use Rattle.rc_conditions.specs.declared.tokens.Token.{Token}
 use Rattle.rc_conditions.specs.declared.tokens.Token.TheVariants as token
 use Rattle.rc_conditions.specs.Expressions.{Expression, compared, negated, both, either, postfix, NumbersFit}
-use Rattle.rc_conditions.specs.Grammar.{Disjunction, one_conjunction, joined_by_or, Conjunction, one_operand, joined_by_and, Operand, comparison, in_parentheses, not_operand, disjunction_tokens, conjunction_tokens, operand_tokens, disjunction_meaning, conjunction_meaning, operand_meaning, Reads, text_tokens}
+use Rattle.rc_conditions.specs.Grammar.{Disjunction, one_conjunction, joined_by_or, one_operand, joined_by_and}
+use Rattle.rc_conditions.specs.Grammar.{comparison, in_parentheses, not_operand, disjunction_tokens}
+use Rattle.rc_conditions.specs.Grammar.{disjunction_meaning, Reads, text_tokens}
 use Rattle.rc_conditions.specs.Printing.{mark, printed}
-use Rattle.rc_conditions.specs.Tokens.{Placed, tokens_behind, placed_tokens, token_of, mark_or_number, width, is_blank, is_pair}
+use Rattle.rc_conditions.specs.Tokens.{Placed, tokens_behind, placed_tokens, token_of, mark_or_number, width}
+use Rattle.rc_conditions.specs.Tokens.{is_blank}
 
 -- the tokens without their places
 abbrev kinds : ℕ → List ℕ → List Token
@@ -208,7 +213,8 @@ word_read b bs rest n low high is long =
     (ap (λ w. token_of (take w ((b ∷ bs) ++ rest)) ∷ kinds (w - 1) (bs ++ rest)) long
     ∙ ap (λ xs. token_of xs ∷ kinds (length (b ∷ bs) - 1) (bs ++ rest)) (take-append_seam (b ∷ bs) rest)
     ∙ ap (λ t. t ∷ kinds (length (b ∷ bs) - 1) (bs ++ rest)) (number_token b bs n low high is)
-    ∙ ap (λ k. token.Number n ∷ kinds k (bs ++ rest)) (less (length bs)) ∙ ap (λ ts. token.Number n ∷ ts) (past bs rest))
+    ∙ ap (λ k. token.Number n ∷ kinds k (bs ++ rest)) (less (length bs))
+    ∙ ap (λ ts. token.Number n ∷ ts) (past bs rest))
   where
     less : (k : ℕ) → suc k - 1 ≡ k
     less k = omega arith
@@ -246,7 +252,8 @@ spelled_by (either e f) =
 means_again : (e : Expression) → disjunction_meaning (spelled_by e) ≡ e
 means_again (compared r n) = refl
 means_again (negated e) = ap negated (means_again e)
-means_again (both e f) = ap (λ x. both x (disjunction_meaning (spelled_by f))) (means_again e) ∙ ap (both e) (means_again f)
+means_again (both e f) =
+    ap (λ x. both x (disjunction_meaning (spelled_by f))) (means_again e) ∙ ap (both e) (means_again f)
 means_again (either e f) =
     ap (λ x. either x (disjunction_meaning (spelled_by f))) (means_again e) ∙ ap (either e) (means_again f)
 

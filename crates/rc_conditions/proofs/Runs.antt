@@ -1,11 +1,21 @@
 -- Reading goes through the tokens of every condition, and what was read goes on to a condition.
-use Rattle.std.proofs.Common.{◌≡◌, ◌≢◌, ℕ, ℤ, pos, List, [], ◌∷◌, ◌++◌, Option, Some, None, IfSome, option_map, option_and_then, append_assoc, append-nil, refl, ap, sym, ◌∙◌}
+use Rattle.std.proofs.Common.{◌≡◌, pos, List, [], ◌∷◌, ◌++◌, Option, Some, None, IfSome, option_and_then}
+use Rattle.std.proofs.Common.{append_assoc, append-nil, refl, ap, sym, ◌∙◌}
 use Rattle.model.specs.Types.{Eq}
 use Rattle.rc_conditions.specs.declared.tokens.Token.{Token}
 use Rattle.rc_conditions.specs.declared.tokens.Token.TheVariants as token
-use Rattle.rc_conditions.specs.Grammar.{Disjunction, one_conjunction, joined_by_or, Conjunction, one_operand, joined_by_and, Operand, comparison, in_parentheses, not_operand, disjunction_tokens, conjunction_tokens, operand_tokens, Begins}
-use Rattle.rc_conditions.proofs.Holes.{DisjunctionHole, outermost, parenthesis, ConjunctionHole, first_conjunction, after_or, OperandHole, first_operand, after_and, after_not, before_disjunction, before_conjunction, before_operand, FilledConjunction, FilledDisjunction, FilledOperand, filled_conjunction, filled_disjunction, filled_operand, conjunction_at, disjunction_at, disjunction_of, Read, before_an_operand, behind_rc, behind_relation, behind_operand, read_tokens, behind_and, behind_or, behind_close, next, whole_read, outermost_part, empty_hole}
-use Rattle.rc_conditions.proofs.Steps.{step_keeps, conjunction_tokens_at, disjunction_tokens_at, disjunction_tokens_of}
+use Rattle.rc_conditions.specs.Grammar.{Disjunction, one_conjunction, joined_by_or, Conjunction, one_operand}
+use Rattle.rc_conditions.specs.Grammar.{joined_by_and, Operand, comparison, in_parentheses, not_operand}
+use Rattle.rc_conditions.specs.Grammar.{disjunction_tokens, conjunction_tokens, operand_tokens, Begins}
+use Rattle.rc_conditions.proofs.Holes.{DisjunctionHole, outermost, parenthesis, ConjunctionHole, first_conjunction}
+use Rattle.rc_conditions.proofs.Holes.{after_or, OperandHole, first_operand, after_and, after_not}
+use Rattle.rc_conditions.proofs.Holes.{before_disjunction, before_conjunction, before_operand, FilledConjunction}
+use Rattle.rc_conditions.proofs.Holes.{FilledOperand, filled_conjunction, filled_disjunction, filled_operand}
+use Rattle.rc_conditions.proofs.Holes.{conjunction_at, disjunction_of, Read, before_an_operand, behind_rc}
+use Rattle.rc_conditions.proofs.Holes.{behind_relation, behind_operand, read_tokens, behind_and, behind_or}
+use Rattle.rc_conditions.proofs.Holes.{behind_close, next, whole_read, outermost_part, empty_hole}
+use Rattle.rc_conditions.proofs.Steps.{step_keeps, conjunction_tokens_at, disjunction_tokens_at}
+use Rattle.rc_conditions.proofs.Steps.{disjunction_tokens_of}
 
 -- reading several tokens
 abbrev pub run : Read → List Token → Option Read
@@ -84,7 +94,8 @@ mutual
   run_operand (not_operand o) h rest = run_operand o (after_not h) rest
 
 -- the tokens of a condition are read to it
-pub reads_whole : (d : Disjunction) → (s : Read) × (from_start (disjunction_tokens d) ≡ Some s) × (whole_read s ≡ Some d)
+pub reads_whole : (d : Disjunction)
+    → (s : Read) × (from_start (disjunction_tokens d) ≡ Some s) × (whole_read s ≡ Some d)
 reads_whole d = (
   behind (disjunction_reached outermost d),
   ap from_start (sym (append-nil (disjunction_tokens d))) ∙ run_disjunction d outermost [],
@@ -184,7 +195,8 @@ whole_tokens s d is = cc
 
 -- what was read begins a condition
 pub begins_read : (ts : List Token) (s : Read) → from_start ts ≡ Some s → Begins ts
-begins_read ts s h = same_begins ts (read_tokens s) (sym (run_keeps ts (before_an_operand empty_hole) s h)) (read_begins s)
+begins_read ts s h =
+    same_begins ts (read_tokens s) (sym (run_keeps ts (before_an_operand empty_hole) s h)) (read_begins s)
 
 append_by_next : (o : Option Read) (ts us : List Token) (at : Read)
     → ((more : Read) → run more ts ≡ Some at → run more (ts ++ us) ≡ run at us)

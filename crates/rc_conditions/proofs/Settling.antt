@@ -1,5 +1,5 @@
 -- Operations that a joint lets go first, one at a time.
-use Rattle.std.proofs.Common.{◌≡◌, List, [], ◌∷◌, ◌++◌, Option, Some, None, option_and_then, refl}
+use Rattle.std.proofs.Common.{◌≡◌, List, [], ◌∷◌, None, option_and_then, refl}
 use Rattle.std.specs.List.{slice_get}
 use Rattle.model.specs.Types.{CondOp}
 use Rattle.rc_conditions.specs.declared.readers.Joint.{Joint}

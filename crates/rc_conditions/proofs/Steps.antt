@@ -1,16 +1,24 @@
 -- A step of reading keeps its tokens, and the reader that stands for it takes the same step.
-use Rattle.std.proofs.Common.{◌≡◌, ℕ, ℤ, List, [], ◌∷◌, ◌++◌, Option, Some, None, IfSome, option_map, append_assoc, append-nil, refl, ap, sym, ◌∙◌}
-use Rattle.model.specs.Types.{Rel, CondOp, Cmp, And, Or, Not}
+use Rattle.std.proofs.Common.{◌≡◌, List, [], ◌∷◌, ◌++◌, Some, IfSome, option_map, append_assoc, refl, ap, sym, ◌∙◌}
+use Rattle.model.specs.Types.{CondOp, And, Or, Not}
 use Rattle.rc_conditions.specs.declared.tokens.Token.{Token}
 use Rattle.rc_conditions.specs.declared.tokens.Token.TheVariants as token
 use Rattle.rc_conditions.specs.declared.readers.Joint.TheVariants as joint
-use Rattle.rc_conditions.specs.declared.readers.Pending.{Pending}
 use Rattle.rc_conditions.specs.declared.readers.Pending.TheVariants as pending
 use Rattle.rc_conditions.specs.declared.readers.Wanted.TheVariants as wanted
 use Rattle.rc_conditions.specs.Expressions.{postfix}
-use Rattle.rc_conditions.specs.Grammar.{Disjunction, one_conjunction, joined_by_or, Conjunction, one_operand, joined_by_and, Operand, comparison, in_parentheses, not_operand, disjunction_tokens, conjunction_tokens, operand_tokens, disjunction_meaning, conjunction_meaning, operand_meaning}
+use Rattle.rc_conditions.specs.Grammar.{Disjunction, joined_by_or, Conjunction, joined_by_and, Operand, not_operand}
+use Rattle.rc_conditions.specs.Grammar.{disjunction_tokens, conjunction_tokens, operand_tokens, disjunction_meaning}
+use Rattle.rc_conditions.specs.Grammar.{conjunction_meaning, operand_meaning}
 use Rattle.rc_conditions.specs.Machine.{Parts, parts, reader, settled, with_pending, step, closed, finished, whole}
-use Rattle.rc_conditions.proofs.Holes.{DisjunctionHole, outermost, parenthesis, ConjunctionHole, first_conjunction, after_or, OperandHole, first_operand, after_and, after_not, before_disjunction, before_conjunction, before_operand, disjunction_waiting, conjunction_waiting, operand_waiting, disjunction_ops, conjunction_ops, operand_ops, FilledConjunction, FilledDisjunction, conjunction_at, disjunction_at, disjunction_of, Read, before_an_operand, behind_rc, behind_relation, behind_operand, read_tokens, reader_of, behind_close, behind_close_at, next, whole_read, outermost_part}
+use Rattle.rc_conditions.proofs.Holes.{DisjunctionHole, outermost, parenthesis, ConjunctionHole, first_conjunction}
+use Rattle.rc_conditions.proofs.Holes.{after_or, OperandHole, first_operand, after_and, after_not}
+use Rattle.rc_conditions.proofs.Holes.{before_disjunction, before_conjunction, before_operand, disjunction_waiting}
+use Rattle.rc_conditions.proofs.Holes.{conjunction_waiting, operand_waiting, disjunction_ops, conjunction_ops}
+use Rattle.rc_conditions.proofs.Holes.{operand_ops, FilledConjunction, FilledDisjunction, conjunction_at}
+use Rattle.rc_conditions.proofs.Holes.{disjunction_at, disjunction_of, Read, before_an_operand, behind_rc}
+use Rattle.rc_conditions.proofs.Holes.{behind_relation, behind_operand, read_tokens, reader_of, behind_close_at}
+use Rattle.rc_conditions.proofs.Holes.{next, whole_read, outermost_part}
 
 -- the tokens up to the end of what fills a hole
 abbrev conjunction_end : FilledConjunction → List Token

@@ -1,5 +1,6 @@
 -- The tokens of a text from a place on.
-use Rattle.std.proofs.Common.{◌≡◌, ◌≤◌, ◌<◌, ◌-◌, ◌+◌, ℕ, zero, suc, false, List, [], ◌∷◌, length, take, drop, get_or, Option, Some, Result, Err, refl, ap, sym, ◌∙◌, arith}
+use Rattle.std.proofs.Common.{◌≡◌, ◌≤◌, ◌<◌, ◌-◌, ◌+◌, ℕ, zero, suc, false, List, [], ◌∷◌, length, take, drop}
+use Rattle.std.proofs.Common.{get_or, Option, Some, Result, Err, ap, sym, ◌∙◌, arith}
 use Rattle.std.specs.Option.{option_map_or}
 use Rattle.std.proofs.lemmas.List.{drop-drop}
 use Rattle.model.specs.Types.{CondOp}
@@ -11,14 +12,15 @@ use Rattle.rc_conditions.specs.Machine.{read, step}
 use Rattle.rc_conditions.specs.Tokens.{Placed, tokens_behind, token_of, width, is_blank}
 
 -- the bytes of a token are passed over
-past_token : (n place : ℕ) (bs : List ℕ) → n ≤ length bs → tokens_behind n place bs ≡ tokens_behind 0 (place + n) (drop n bs)
+past_token : (n place : ℕ) (bs : List ℕ) → n ≤ length bs
+    → tokens_behind n place bs ≡ tokens_behind 0 (place + n) (drop n bs)
 past_token zero place bs h = let same : place ≡ place + 0 = omega arith in ap (λ p. tokens_behind 0 p bs) same
 past_token (suc n) place [] h = absurd (omega arith)
 past_token (suc n) place (b ∷ bs) h =
     let same : place + 1 + n ≡ place + suc n = omega arith in
     past_token n (place + 1) bs (omega arith) ∙ ap (λ p. tokens_behind 0 p (drop n bs)) same
 
-placed : List ℕ → ℕ → Placed
+abbrev pub placed : List ℕ → ℕ → Placed
 placed word place = record { kind = token_of word; place = place }
 
 by_width : (b : ℕ) (bs : List ℕ) (place w : ℕ) → 0 < w → w ≤ length (b ∷ bs)
@@ -34,11 +36,11 @@ by_width b bs place (suc w) some within =
 pub token_here : (bs : List ℕ) (place : ℕ) → 0 < length bs → is_blank (get_or bs 0 0) ≡ false → 0 < width bs
     → width bs ≤ length bs
     → tokens_behind 0 place bs
-    ≡ record { kind = token_of (take (width bs) bs); place = place } ∷ tokens_behind 0 (place + width bs) (drop (width bs) bs)
+    ≡ placed (take (width bs) bs) place ∷ tokens_behind 0 (place + width bs) (drop (width bs) bs)
 token_here [] place some here more within = absurd (omega arith)
 token_here (b ∷ bs) place some here more within =
     rw here
-    (ap (λ rest. record { kind = token_of (take (width (b ∷ bs)) (b ∷ bs)); place = place } ∷ rest)
+    (ap (λ rest. placed (take (width (b ∷ bs)) (b ∷ bs)) place ∷ rest)
     (by_width b bs place (width (b ∷ bs)) more within))
 
 -- what a reader answers before a token
@@ -50,10 +52,10 @@ read_token r next o kind place ps end is found =
 
 same_token : (bs : List ℕ) (w : ℕ) (kind : Token) (place : ℕ) (left : List ℕ) → width bs ≡ w
     → kind ≡ token_of (take w bs) → drop w bs ≡ left
-    → record { kind = token_of (take (width bs) bs); place = place } ∷ tokens_behind 0 (place + width bs) (drop (width bs) bs)
+    → placed (take (width bs) bs) place ∷ tokens_behind 0 (place + width bs) (drop (width bs) bs)
     ≡ record { kind = kind; place = place } ∷ tokens_behind 0 (place + w) left
 same_token bs w kind place left is kind-is left-is =
-    ap (λ n. record { kind = token_of (take n bs); place = place } ∷ tokens_behind 0 (place + n) (drop n bs)) is
+    ap (λ n. placed (take n bs) place ∷ tokens_behind 0 (place + n) (drop n bs)) is
     ∙ ap (λ k. record { kind = k; place = place } ∷ tokens_behind 0 (place + w) (drop w bs)) (sym kind-is)
     ∙ ap (λ xs. record { kind = kind; place = place } ∷ tokens_behind 0 (place + w) xs) left-is
 

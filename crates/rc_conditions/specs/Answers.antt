@@ -1,14 +1,10 @@
 -- What reading a text answers.
-use Rattle.std.specs.Prelude.{◌≡◌, ◌≢◌, ◌⊎◌, ◌≤◌, ◌<◌, ℕ, List, [], ◌∷◌, ◌++◌, map, length, Result, Ok, Err}
+use Rattle.std.specs.Prelude.{◌≡◌, ◌≢◌, ◌⊎◌, ◌≤◌, ◌<◌, ℕ, List, [], ◌∷◌, ◌++◌, length, Result, Err}
 use Rattle.model.specs.Types.{CondOp}
 use Rattle.rc_conditions.specs.declared.CondFault.{CondFault}
 use Rattle.rc_conditions.specs.declared.CondFault.TheVariants.{NoMemory}
-use Rattle.rc_conditions.specs.declared.tokens.Token.{Token}
-use Rattle.rc_conditions.specs.Tokens.{Placed, placed_tokens}
+use Rattle.rc_conditions.specs.Tokens.{Placed, placed_tokens, tokens_in}
 use Rattle.rc_conditions.specs.Grammar.{Disjunction, disjunction_tokens, Reads, Begins, text_tokens}
-
-abbrev pub tokens_in : List Placed → List Token
-tokens_in placed = map (λ (p : Placed). p.kind) placed
 
 -- At the place stands a token that nothing in the grammar has behind the tokens before it, while some condition begins
 -- with those.

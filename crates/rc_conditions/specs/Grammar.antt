@@ -1,10 +1,10 @@
 -- The grammar of conditions: what each part consists of, its tokens, and the expression that it stands for.
-use Rattle.std.specs.Prelude.{◌≡◌, ℕ, ℤ, List, [], ◌∷◌, ◌++◌, map}
+use Rattle.std.specs.Prelude.{◌≡◌, ℕ, ℤ, List, [], ◌∷◌, ◌++◌}
 use Rattle.model.specs.Types.{Rel, CondOp}
 use Rattle.rc_conditions.specs.declared.tokens.Token.{Token}
 use Rattle.rc_conditions.specs.declared.tokens.Token.TheVariants as token
 use Rattle.rc_conditions.specs.Expressions.{Expression, compared, negated, both, either, postfix}
-use Rattle.rc_conditions.specs.Tokens.{Placed, placed_tokens}
+use Rattle.rc_conditions.specs.Tokens.{placed_tokens, tokens_in}
 
 -- NOT binds closest, then AND, then OR. What stands to the left of an AND or OR is joined first.
 mutual
@@ -56,7 +56,7 @@ abbrev mutual
 
 -- the tokens of a text, without their places
 abbrev pub text_tokens : List ℕ → List Token
-text_tokens text = map (λ (p : Placed). p.kind) (placed_tokens text)
+text_tokens text = tokens_in (placed_tokens text)
 
 -- The grammar relates the text to the condition.
 pub record Reads (text : List ℕ) (ops : List CondOp) : Type 0 where

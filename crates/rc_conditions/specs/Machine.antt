@@ -1,5 +1,8 @@
--- How reading goes, token by token. No promise of the crate cites this: the laws in `proofs/` tie it to the grammar.
-use Rattle.std.specs.Prelude.{ℕ, List, [], ◌∷◌, ◌++◌, length, nat_le, Option, Some, None, Result, Ok, Err, if◌then◌else◌}
+-- How reading goes, token by token: the way of the private functions that read. No promise of the crate cites it, since
+-- `proofs/Readings.antt` ties it to the grammar.
+use Rattle.std.specs.Prelude.{ℕ, List, [], ◌∷◌, ◌++◌, length, nat_le, Option, Some, None, Result, Ok, Err}
+use Rattle.std.specs.Prelude.{if◌then◌else◌}
+use Rattle.std.specs.Option.{option_map_or}
 use Rattle.model.specs.Types.{CondOp, Cmp, And, Or, Not}
 use Rattle.rc_conditions.specs.declared.CondFault.{CondFault}
 use Rattle.rc_conditions.specs.declared.CondFault.TheVariants.{Bad, TooLong}
@@ -12,7 +15,6 @@ use Rattle.rc_conditions.specs.declared.readers.Pending.TheVariants as pending
 use Rattle.rc_conditions.specs.declared.readers.Wanted.{Wanted}
 use Rattle.rc_conditions.specs.declared.readers.Wanted.TheVariants as wanted
 use Rattle.rc_conditions.specs.declared.readers.Reader.{Reader}
-use Rattle.std.specs.Option.{option_map_or}
 use Rattle.rc_conditions.specs.Tokens.{Placed, placed_tokens}
 
 -- what waits, the newest first, and the operations so far

@@ -1,5 +1,6 @@
 -- The tokens of a text, each with the place of its first byte.
-use Rattle.std.specs.Prelude.{ℕ, zero, suc, ◌+◌, ◌-◌, Bool, ◌&&◌, ◌||◌, ◌==◌, if◌then◌else◌, List, [], ◌∷◌, take, drop, slice_index, codes, Option, Some, None}
+use Rattle.std.specs.Prelude.{ℕ, zero, suc, ◌+◌, ◌-◌, Bool, ◌&&◌, ◌||◌, ◌==◌, if◌then◌else◌, List, [], ◌∷◌, take}
+use Rattle.std.specs.Prelude.{drop, slice_index, codes, map}
 use Rattle.std.specs.Char.{is_ascii_alphabetic, is_ascii_digit}
 use Rattle.std.specs.List.{prefix_len}
 use Rattle.std.specs.Option.{option_map_or}
@@ -53,6 +54,10 @@ token_of w =
 pub record Placed : Type 0 where
   pub kind : Token
   pub place : ℕ
+
+-- the tokens without their places
+abbrev pub tokens_in : List Placed → List Token
+tokens_in placed = map (λ (p : Placed). p.kind) placed
 
 -- The tokens of a text that stands at a place and whose first bytes, so many, belong to the token before them. At a
 -- byte that belongs to none and is no blank a token begins.

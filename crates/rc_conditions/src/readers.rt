@@ -1,5 +1,6 @@
 //! A condition as far as it was read, and its next token.
-ghost use Rattle.std.specs.Prelude.{◌≡◌, List, [], ◌∷◌, drop, length, ◌==◌, slice_get, option_and_then, IfOk, OnOk, IfErr, ◌⊎◌, ◌^◌, ◌<◌, Err};
+ghost use Rattle.std.specs.Prelude.{◌≡◌, List, [], ◌∷◌, drop, length, ◌==◌, slice_get, option_and_then, IfOk, OnOk};
+ghost use Rattle.std.specs.Prelude.{IfErr, ◌⊎◌, ◌^◌, ◌<◌, Err};
 ghost use Rattle.model.specs.Types.{CondOp as Operation};
 ghost use Rattle.rc_conditions.specs.declared.CondFault.TheVariants.{NoMemory as NoRoom};
 ghost use Rattle.rc_conditions.specs.Machine as spec;

@@ -1,7 +1,6 @@
-use Rattle.std.proofs.Common.{◌≡◌, ◌-◌, ◌+◌, List, length, take, ap, sym, subst, arith}
+use Rattle.std.proofs.Common.{◌-◌, length, arith}
 use Rattle.std.proofs.lemmas.List.{length-take}
-use Rattle.rc_conditions.proofs.Ends.{by_end}
-use Rattle.rc_conditions.proofs.Fronts.{Lacks, lacks_one, walk_more}
+use Rattle.rc_conditions.proofs.Fronts.{lacks_one, walk_more}
 use Rattle.rc_conditions.proofs.printing.last_begins.Goals as goal
 
 pub loop-missing-init : goal.loop-missing-init

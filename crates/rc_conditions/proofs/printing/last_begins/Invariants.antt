@@ -1,7 +1,6 @@
 use Rattle.std.proofs.Common.{◌≡◌, ◌≤◌, ◌+◌, List, ◌++◌, length}
 use Rattle.base_types.specs.declared.CondOp.{CondOp}
 use Rattle.rc_conditions.specs.Expressions.{Expression, postfix}
-use Rattle.rc_conditions.proofs.Depths.{joined}
 use Rattle.rc_conditions.proofs.Fronts.{Lacks}
 use Rattle.rc_conditions.proofs.printing.last_begins.Given as goal
 

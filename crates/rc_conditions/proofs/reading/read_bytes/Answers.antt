@@ -15,14 +15,18 @@ loop-at-init c =
 
 pub loop-at-preserved : goal.loop-at-preserved
 loop-at-preserved c =
-    let rest = take (length c.args.text.now - c.loop-at.at) (drop c.loop-at.at c.args.text.now) in
-    let long = length-drop c.loop-at.at c.args.text.now in
-    let whole : take (length c.args.text.now - c.loop-at.at) (drop c.loop-at.at c.args.text.now) ≡ drop c.loop-at.at c.args.text.now =
-    take_all (length c.args.text.now - c.loop-at.at) (drop c.loop-at.at c.args.text.now) (omega (arith, long)) in
+    let text = c.args.text.now in
+    let at = c.loop-at.at in
+    let w = c.width-end.ensures in
+    let long = length-drop at text in
+    let whole : take (length text - at) (drop at text) ≡ drop at text =
+    take_all (length text - at) (drop at text) (omega (arith, long)) in
     let same = ap length whole in
     record {
-      answer = read_more c.loop-at.reader c.in-Some.next c.in_ok-next.field-0 c.args.text.now rest c.token_of.result c.loop-at.at c.width-end.result
-          (length c.args.text.now) (read_of c.args.text.now) whole (omega (arith, same, long, c.loop-at-test.true)) c.if-is_blank.ensures c.width-end.ensures.value
-          c.width-end.ensures.some c.width-end.ensures.within c.token_of.ensures c.in_ok-next.ensures c.in-Some.is c.loop-at.invariant.answer;
-      within = omega (arith, same, long, c.width-end.ensures.within);
+      answer =
+          read_more c.loop-at.reader c.in-Some.next c.in_ok-next.field-0 text (take (length text - at) (drop at text))
+          c.token_of.result at c.width-end.result (length text) (read_of text) whole
+          (omega (arith, same, long, c.loop-at-test.true)) c.if-is_blank.ensures w.value w.some w.within
+          c.token_of.ensures c.in_ok-next.ensures c.in-Some.is c.loop-at.invariant.answer;
+      within = omega (arith, same, long, w.within);
     }

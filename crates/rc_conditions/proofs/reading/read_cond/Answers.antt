@@ -1,4 +1,4 @@
-use Rattle.std.proofs.Common.{Ok, Err, length}
+use Rattle.std.proofs.Common.{Ok, Err}
 use Rattle.rc_conditions.specs.declared.CondFault.TheVariants.{Bad, TooLong}
 use Rattle.rc_conditions.proofs.Readings.{answers_exactly, of_bytes}
 use Rattle.rc_conditions.proofs.reading.read_cond.Goals as goal

@@ -2,7 +2,7 @@ use Rattle.std.proofs.Common.{refl, arith, to_z, of_z}
 use Rattle.std.proofs.lemmas.Bool.Decides.{nat_tests}
 use Rattle.std.proofs.lemmas.Int.{to_z-of_z}
 use Rattle.std.specs.Int.{w32}
-use Rattle.rc_conditions.proofs.Meetings.{Asked, lacks_result, only_result}
+use Rattle.rc_conditions.proofs.Meetings.{lacks_result, only_result}
 use Rattle.rc_conditions.proofs.results.holds.Goals as goal
 
 pub returns-then-not-apply : goal.returns-then-not-apply

@@ -4,7 +4,7 @@ use Rattle.std.proofs.Common.{append_assoc, FitsSigned, ap, sym, subst, ◌∙�
 use Rattle.std.specs.Int.{w32}
 use Rattle.std.proofs.Math.Seq.{take-append_seam, drop-append_seam}
 use Rattle.model.specs.Types.{Rel, CondOp, Cmp, And, Or, Not}
-use Rattle.rc_conditions.specs.Expressions.{Expression, compared, negated, both, either, postfix, NumbersFit}
+use Rattle.rc_conditions.specs.Expressions.{Expression, compared, postfix, NumbersFit}
 use Rattle.rc_conditions.specs.Printing.{printed}
 use Rattle.rc_conditions.proofs.Ends.{by_end, ends_compared, ends_negated, ends_both, ends_either}
 

@@ -1,0 +1,14 @@
+pub mod Depths
+pub mod Ends
+pub mod Fronts
+pub mod Holes
+pub mod Meetings
+pub mod Newest
+pub mod Numbers
+pub mod Readings
+pub mod Rereading
+pub mod Runs
+pub mod Settling
+pub mod Steps
+pub mod Texts
+pub mod Walks

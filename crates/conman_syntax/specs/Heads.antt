@@ -1,5 +1,5 @@
 -- The command words, in any case, and what each stands for.
-use Rattle.std.specs.Prelude.{ℕ, Bool, List, codes, Option, Some, None, option_map_or, if◌then◌else◌}
+use Rattle.std.specs.Prelude.{ℕ, Bool, List, codes, Option, Some, None, if◌then◌else◌}
 use Rattle.std.specs.Str.{str_eq_ignore_ascii_case, bytes_eq}
 use Rattle.std.specs.List.{before_first, after_first, position_or_len}
 use Rattle.conman_syntax.specs.declared.heads.Head.{Head}

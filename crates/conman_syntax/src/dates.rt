@@ -1,5 +1,5 @@
 //! Dates, and the days that they are.
-ghost use Rattle.std.specs.Prelude.{◌≡◌, ◌≤◌, ◌<◌, ◌^◌, ◌==◌};
+ghost use Rattle.std.specs.Prelude.{◌≡◌, ◌≤◌, ◌<◌, ◌*◌, IfSome, IsTrue};
 ghost use Rattle.std.specs.List.{list_all};
 ghost use Rattle.std.specs.Char.{is_ascii_digit};
 ghost use Rattle.conman_syntax.specs.Dates as spec;
@@ -39,6 +39,7 @@ fn digits(word: &str, count: usize) -> Option<u32>
     requires some { 1 ≤ count }
     requires few { count ≤ 4 }
     ensures value { result ≡ digits_of count word.now }
+    ensures small { IfSome result (λ n. n < 10000) }
 {
     if word.len() != count || !are_digits(word.as_bytes()) {
         return None;
@@ -53,7 +54,8 @@ fn are_digits(bytes: &[u8]) -> bool
 }
 
 fn is_date(year: u32, month: u32, day: u32) -> bool
-    ensures { result ≡ spec.is_date year month day }
+    ensures value { result ≡ spec.is_date year month day }
+    ensures within { IsTrue result → (1970 ≤ year) × (1 ≤ month) × (month ≤ 12) × (1 ≤ day) × (day ≤ 31) }
 {
     year >= 1970 && month >= 1 && month <= 12 && day >= 1 && day <= days_in_month(year, month)
 }
@@ -70,6 +72,7 @@ fn count_before(year: u32, month: u32, day: u32) -> u32
 }
 
 /// The days of this many years from 1970 on.
+#[tactic(auto, unfolding(crate::specs::Dates::days_of_years))]
 fn count_years(years: u32) -> u32
     requires { years < 10000 }
     ensures value { result ≡ days_of_years years }
@@ -83,6 +86,7 @@ fn count_years(years: u32) -> u32
 }
 
 /// The days of this many months from the beginning of the year on.
+#[tactic(auto, unfolding(crate::specs::Dates::days_of_months))]
 fn count_months(year: u32, months: u32) -> u32
     requires { months < 12 }
     ensures value { result ≡ days_of_months year months }

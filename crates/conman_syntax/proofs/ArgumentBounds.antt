@@ -1,5 +1,6 @@
 -- How far a command word and an argument go, and that the line may be cut there.
-use Rattle.std.proofs.Common.{◌≡◌, ◌≢◌, ◌≤◌, ◌<◌, ◌+◌, ◌-◌, suc, ℕ, Bool, true, false, cond, eqb, List, [], ◌∷◌, length, drop, get_or, refl, arith, sym, ap}
+use Rattle.std.proofs.Common.{◌≡◌, ◌≢◌, ◌≤◌, ◌<◌, ◌+◌, ◌-◌, suc, ℕ, Bool, true, false, cond, eqb, List, [], ◌∷◌}
+use Rattle.std.proofs.Common.{length, drop, get_or, refl, arith, sym, ap}
 use Rattle.std.specs.List.{position_or_len}
 use Rattle.std.specs.Str.{IsCharBoundary}
 use Rattle.std.proofs.lemmas.List.Sums.{passes_at_first, prefix_len-le-length}
@@ -49,7 +50,7 @@ pub word_boundary : (line : List ℕ) (n : ℕ) → n ≡ position_or_len ends_w
 word_boundary line n e =
     let le : position_or_len ends_word line ≤ length line = prefix_len-le-length _ line in
     let ends : position_or_len ends_word line < length line → get_or line (position_or_len ends_word line) 0 < 128 =
-        λ lt. word_ends_at _ (passes_at_first ends_word line 0 lt) in
+    λ lt. word_ends_at _ (passes_at_first ends_word line 0 lt) in
     rw e (le, λ lt big. absurd (omega (arith, ends lt, big)))
 
 -- a text that does not begin with the mark

@@ -1,5 +1,6 @@
 -- Texts that do not end in a `]`, and texts that do not end in `;noask`.
-use Rattle.std.proofs.Common.{◌≡◌, ◌≢◌, ◌<◌, ◌-◌, ◌+◌, ℕ, List, [], ◌∷◌, ◌++◌, length, take, get_or, eqb, true, false, cond, None, sym, ap, ◌∙◌, refl, arith, codes}
+use Rattle.std.proofs.Common.{◌≡◌, ◌≢◌, ◌<◌, ◌-◌, ◌+◌, ℕ, List, [], ◌∷◌, ◌++◌, length, take, get_or, eqb, true, false}
+use Rattle.std.proofs.Common.{cond, None, sym, ap, ◌∙◌, refl, arith, codes}
 use Rattle.std.proofs.Math.Seq.{take-length}
 use Rattle.std.proofs.lemmas.List.{take_more}
 use Rattle.std.proofs.lemmas.Bool.Decides.{nat_tests}
@@ -18,7 +19,7 @@ not_last : (bs : List ℕ) → ((front : List ℕ) → bs ≢ front ++ 93 ∷ []
 not_last [] h = refl
 not_last (b ∷ bs) h =
     let other : get_or (b ∷ bs) (length (b ∷ bs) - 1) 0 ≢ 93 =
-        λ e. h (take (length (b ∷ bs) - 1) (b ∷ bs)) (joined (b ∷ bs) (omega arith) e) in
+    λ e. h (take (length (b ∷ bs) - 1) (b ∷ bs)) (joined (b ∷ bs) (omega arith) e) in
     grind (arith, nat_tests)
 
 pub no_bracket : (bs : List ℕ) → ((front : List ℕ) → bs ≢ front ++ 93 ∷ []) → None ≡ bracketed_of bs

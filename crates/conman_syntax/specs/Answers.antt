@@ -1,5 +1,6 @@
 -- Which answer is due: the line, or the fault of its first bad argument, or of a further one.
 use Rattle.std.specs.Prelude.{◌≡◌, ◌≢◌, ◌==◌, ℕ, List, length, Option, Some, None, Result, Ok, Err, if◌then◌else◌}
+use Rattle.std.specs.Str.{bytes_eq}
 use Rattle.conman_syntax.specs.Arguments.{argument_behind, left_behind}
 use Rattle.conman_syntax.specs.declared.faults.ArgumentFault.{ArgumentFault}
 use Rattle.conman_syntax.specs.declared.faults.ArgumentFault.TheVariants.{BadArgument, TooMany, NoMemory}
@@ -21,6 +22,11 @@ first left form then_ = need 1 (form (argument_behind 32 left)) (λ a. then_ a (
 abbrev pub next : {A B : Type 0} → ℕ → List ℕ → (List ℕ → Option A) → (A → List ℕ → Result B ArgumentFault)
     → Result B ArgumentFault
 next n left form then_ = need n (form (argument_behind 59 left)) (λ a. then_ a (left_behind 59 left))
+
+-- argument n is this word
+abbrev pub next_word : {A : Type 0} → ℕ → List ℕ → List ℕ → (List ℕ → Result A ArgumentFault) → Result A ArgumentFault
+next_word n left word then_ =
+    if bytes_eq (argument_behind 59 left) word then then_ (left_behind 59 left) else Err (BadArgument n)
 
 -- no further argument follows
 abbrev pub ended : {A : Type 0} → List ℕ → A → Result A ArgumentFault

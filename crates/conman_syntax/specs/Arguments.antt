@@ -1,5 +1,6 @@
 -- A line's command word and its arguments, which stand between the `;` outside quotes.
-use Rattle.std.specs.Prelude.{ℕ, ◌+◌, ◌-◌, Bool, false, ◌||◌, List, [], ◌∷◌, take, drop, length, codes, nat_eq, ◌==◌, slice_index, if◌then◌else◌}
+use Rattle.std.specs.Prelude.{ℕ, ◌+◌, ◌-◌, Bool, false, ◌||◌, List, [], ◌∷◌, take, drop, length, codes, nat_eq, ◌==◌}
+use Rattle.std.specs.Prelude.{slice_index, if◌then◌else◌}
 use Rattle.std.specs.List.{position_or_len, before_first, ends_with}
 use Rattle.conman_syntax.specs.declared.arguments.Quoting.{Quoting}
 use Rattle.conman_syntax.specs.declared.arguments.Quoting.TheVariants.{Outside, Inside, Guarded}

@@ -1,5 +1,6 @@
 -- Dates, and the days that they are, counted from 01/01/1970.
-use Rattle.std.specs.Prelude.{ℕ, zero, suc, ◌+◌, ◌-◌, ◌%◌, Bool, ◌&&◌, ◌||◌, not, List, length, ◌==◌, nat_le, Option, Some, None, option_and_then, if◌then◌else◌}
+use Rattle.std.specs.Prelude.{ℕ, zero, suc, ◌+◌, ◌-◌, ◌%◌, Bool, ◌&&◌, ◌||◌, not, List, length, ◌==◌, nat_le, Option}
+use Rattle.std.specs.Prelude.{Some, None, option_and_then, if◌then◌else◌}
 use Rattle.std.specs.List.{list_all, before_first, after_first}
 use Rattle.std.specs.Char.{is_ascii_digit}
 use Rattle.std.specs.Str.Parse.{digits_value}
@@ -52,7 +53,7 @@ date_of word =
     option_and_then (λ month.
     option_and_then (λ day.
     option_and_then (λ year.
-        if is_date year month day then Some (days_before year month day) else None)
+    if is_date year month day then Some (days_before year month day) else None)
     (digits_of 4 (behind_slash (behind_slash word))))
     (digits_of 2 (before_slash (behind_slash word))))
     (digits_of 2 (before_slash word))

@@ -1,5 +1,6 @@
 -- DEP as an argument: a key, `=` and its value.
-use Rattle.std.specs.Prelude.{ℕ, ◌==◌, List, length, codes, Option, Some, None, Result, Ok, option_map, slice_index, if◌then◌else◌}
+use Rattle.std.specs.Prelude.{ℕ, ◌==◌, List, length, codes, Option, Some, None, Result, Ok, option_map, slice_index}
+use Rattle.std.specs.Prelude.{if◌then◌else◌}
 use Rattle.std.specs.Str.{bytes_eq}
 use Rattle.base_types.specs.declared.documents.OnUntil.{OnUntil}
 use Rattle.base_types.specs.declared.documents.OnUntil.TheVariants.{Suppr}
@@ -14,7 +15,8 @@ use Rattle.conman_syntax.specs.declared.faults.ArgumentFault.{ArgumentFault}
 use Rattle.conman_syntax.specs.declared.lines.ObjRef.{ObjRef}
 use Rattle.conman_syntax.specs.declared.lines.ObjRef.TheVariants as object
 use Rattle.conman_syntax.specs.declared.lines.DepRef.{DepRef}
-use Rattle.conman_syntax.specs.declared.lines.DepRef.TheVariants.{FollowsJob, FollowsStream, Needs, PromptName, PromptText, At, Until}
+use Rattle.conman_syntax.specs.declared.lines.DepRef.TheVariants.{FollowsJob, FollowsStream, Needs, PromptName}
+use Rattle.conman_syntax.specs.declared.lines.DepRef.TheVariants.{PromptText, At, Until}
 
 abbrev pub follows_from : ObjRef → DepRef
 follows_from (object.Job job) = FollowsJob job

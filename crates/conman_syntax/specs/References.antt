@@ -1,5 +1,6 @@
 -- What an argument names: streams, jobs, resources, and the text of a submitted job.
-use Rattle.std.specs.Prelude.{ℕ, Bool, List, length, codes, ◌==◌, nat_lt, Option, Some, None, option_and_then, option_map, slice_index, take, ◌-◌, if◌then◌else◌}
+use Rattle.std.specs.Prelude.{ℕ, Bool, List, length, codes, ◌==◌, nat_lt, Option, Some, None, option_and_then}
+use Rattle.std.specs.Prelude.{option_map, slice_index, take, ◌-◌, if◌then◌else◌}
 use Rattle.std.specs.List.{position_or_len, before_first, after_first}
 use Rattle.std.specs.Str.{bytes_eq}
 use Rattle.syntax.specs.Names.{name_of}
@@ -42,7 +43,7 @@ unfoldable pub stream_at : Option (List ℕ) → List ℕ → Option StreamRef
 stream_at ws text =
     if has 91 text
     then (name_of (before 91 text) >>= λ name. bracketed_of (behind 91 text) >>= λ no.
-        Some (record { ws = ws; name = name; no = Some no }))
+    Some (record { ws = ws; name = name; no = Some no }))
     else (name_of text >>= λ name. Some (record { ws = ws; name = name; no = None }))
 
 -- STREAM: `S` or `S[n]`, and `W#` may stand before it

@@ -1,16 +1,18 @@
 -- The table of lines. Each row is a line's form: its arguments in order, each with its form, and the line that they
 -- give. A short form stands for the whole long form.
-use Rattle.std.specs.Prelude.{◌≡◌, ◌≢◌, ℕ, Bool, ◌==◌, List, length, codes, slice_index, Option, Some, None, Result, Ok, Err, if◌then◌else◌}
+use Rattle.std.specs.Prelude.{◌≡◌, ◌≢◌, ℕ, Bool, ◌==◌, List, length, codes, slice_index, Option, Some, None, Result}
+use Rattle.std.specs.Prelude.{Ok, Err, if◌then◌else◌}
 use Rattle.std.specs.Str.{bytes_eq}
 use Rattle.syntax.specs.Names.{name_of}
 use Rattle.syntax.specs.Numbers.{number_of}
-use Rattle.conman_syntax.specs.Answers.{first, next, ended, within, fault_of}
+use Rattle.conman_syntax.specs.Answers.{first, next, next_word, ended, within, fault_of}
 use Rattle.conman_syntax.specs.Arguments.{without_noask, word_of, behind_word, argument_behind, left_behind}
 use Rattle.conman_syntax.specs.Dates.{date_of}
 use Rattle.conman_syntax.specs.Dependencies.{dependency_of}
 use Rattle.conman_syntax.specs.Heads.{head_of}
-use Rattle.conman_syntax.specs.References.{before, behind, object_of, job_of, job_or_stream_of, resource_of, limit_target_of, reply_target_of, work_of}
-use Rattle.conman_syntax.specs.Values.{priority_of, yes_of, succ_of, pattern_of}
+use Rattle.conman_syntax.specs.References.{before, behind, object_of, job_of, job_or_stream_of, resource_of}
+use Rattle.conman_syntax.specs.References.{limit_target_of, reply_target_of, work_of}
+use Rattle.conman_syntax.specs.Values.{priority_of, yes_of, pattern_of}
 use Rattle.conman_syntax.specs.declared.faults.ArgumentFault.{ArgumentFault}
 use Rattle.conman_syntax.specs.declared.faults.CommandFault.{CommandFault}
 use Rattle.conman_syntax.specs.declared.faults.CommandFault.TheVariants.{UnknownCommand, BadArgument, TooMany, NoMemory}
@@ -50,7 +52,8 @@ alt_pri left =
 
 -- confirm JOB;succ (conf)
 unfoldable pub confirm : List ℕ → Result Line ArgumentFault
-confirm left = first left job_of (λ job left. next 2 left succ_of (λ succ left. ended left (line.Confirm job)))
+confirm left =
+    first left job_of (λ job left. next_word 2 left (codes "succ") (λ left. ended left (line.Confirm job)))
 
 -- kill JOB (k)
 unfoldable pub kill : List ℕ → Result Line ArgumentFault

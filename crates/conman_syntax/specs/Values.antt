@@ -1,5 +1,6 @@
 -- Numbers and words as arguments.
-use Rattle.std.specs.Prelude.{ℕ, Bool, true, false, ◌&&◌, not, List, length, map, codes, ◌==◌, nat_lt, Option, Some, None, if◌then◌else◌}
+use Rattle.std.specs.Prelude.{ℕ, Bool, true, false, ◌&&◌, not, List, length, map, codes, ◌==◌, nat_lt, Option, Some}
+use Rattle.std.specs.Prelude.{None, if◌then◌else◌}
 use Rattle.std.specs.List.{list_all}
 use Rattle.std.specs.Char.{to_ascii_uppercase}
 use Rattle.std.specs.Str.{bytes_eq}
@@ -18,10 +19,6 @@ unfoldable pub yes_of : List ℕ → Option Bool
 yes_of word =
     if bytes_eq word (codes "yes") then Some true else
     if bytes_eq word (codes "no") then Some false else None
-
--- `succ`, the one end that may be confirmed
-unfoldable pub succ_of : List ℕ → Option Bool
-succ_of word = if bytes_eq word (codes "succ") then Some true else None
 
 -- what comes when the time of an UNTIL has passed
 unfoldable pub passed_of : List ℕ → Option OnUntil

@@ -2,7 +2,8 @@
 ghost use Rattle.std.specs.Prelude.{◌≡◌, ◌≤◌, ◌<◌, length};
 ghost use Rattle.std.specs.List.{position_or_len};
 ghost use Rattle.conman_syntax.specs.Arguments as spec;
-ghost use Rattle.conman_syntax.specs.Arguments.{word_of, behind_word, argument_from, left_from, argument_behind, left_behind};
+ghost use Rattle.conman_syntax.specs.Arguments.{word_of, behind_word, argument_from, left_from, argument_behind};
+ghost use Rattle.conman_syntax.specs.Arguments.{left_behind};
 ghost use Rattle.conman_syntax.specs.declared.arguments.Quoting.TheVariants.{Outside};
 
 /// Where a byte of a line stands.

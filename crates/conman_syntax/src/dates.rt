@@ -3,7 +3,8 @@ ghost use Rattle.std.specs.Prelude.{◌≡◌, ◌≤◌, ◌<◌, ◌*◌, IfSo
 ghost use Rattle.std.specs.List.{list_all};
 ghost use Rattle.std.specs.Char.{is_ascii_digit};
 ghost use Rattle.conman_syntax.specs.Dates as spec;
-ghost use Rattle.conman_syntax.specs.Dates.{digits_of, date_of, before_slash, behind_slash, days_of_years, days_of_months, days_before};
+ghost use Rattle.conman_syntax.specs.Dates.{digits_of, date_of, before_slash, behind_slash, days_of_years};
+ghost use Rattle.conman_syntax.specs.Dates.{days_of_months, days_before};
 
 /// The day of a date MM/DD/YYYY, counted from 01/01/1970 as 0. None where it has not that form, where there is no such
 /// date, or where it is before 1970.

@@ -1,12 +1,13 @@
 //! A dependency as the last arguments of a line.
 ghost use Rattle.std.specs.Prelude.{◌≡◌, IfOk};
 ghost use Rattle.conman_syntax.specs.Answers.{Gives};
-ghost use Rattle.conman_syntax.specs.Dependencies.{dependency_of, until_from, on_until_of, dep_by_key, needs_of, prompt_of, follows_from};
+ghost use Rattle.conman_syntax.specs.Dependencies.{dependency_of, until_from, on_until_of, dep_by_key, needs_of};
+ghost use Rattle.conman_syntax.specs.Dependencies.{prompt_of, follows_from};
 
 use crate::arguments::take_argument;
 use crate::faults::{ArgumentFault, ended};
 use crate::lines::{DepRef, ObjRef};
-use crate::references::{cut, job_or_stream, resource};
+use crate::references::{cut, job_or_stream, resource_names};
 use crate::values::{number_u16, passed};
 use base_types::{NoMemory, OnUntil};
 use std::alloc::Global;
@@ -87,7 +88,7 @@ fn needs(alloc: Global, value: &str) -> Result<Option<DepRef>, NoMemory>
     let Some(units) = number_u16(units) else {
         return Ok(None);
     };
-    let Some((ws, called)) = resource(alloc, names)? else {
+    let Some((ws, called)) = resource_names(alloc, names)? else {
         return Ok(None);
     };
     Ok(Some(DepRef::Needs(units, ws, called)))

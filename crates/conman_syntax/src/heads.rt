@@ -1,7 +1,8 @@
 //! The command words, and what each stands for.
 ghost use Rattle.std.specs.Prelude.{◌≡◌};
 ghost use Rattle.conman_syntax.specs.Heads as spec;
-ghost use Rattle.conman_syntax.specs.Heads.{dependency_head, object_head, job_head, station_head, network_head, show_head, node_head};
+ghost use Rattle.conman_syntax.specs.Heads.{dependency_head, object_head, job_head, station_head, network_head};
+ghost use Rattle.conman_syntax.specs.Heads.{show_head, node_head};
 
 /// What a line asks for, by its command word.
 #[derive(Clone, Copy, Debug, PartialEq, Eq)]

@@ -14,6 +14,8 @@ mod heads;
 mod lines;
 mod object_rows;
 mod references;
+#[cfg(test)]
+mod refusals;
 mod rows;
 mod station_rows;
 #[cfg(test)]

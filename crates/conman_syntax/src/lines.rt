@@ -145,9 +145,7 @@ impl Copied for Line {
             Line::ReplyOwn(a, b, c) => Ok(Line::ReplyOwn(a.copy()?, *b, *c)),
             Line::Start(a) => Ok(Line::Start(a.copy()?)),
             Line::Stop(a) => Ok(Line::Stop(a.copy()?)),
-            Line::Submit(a, b, c, d) => {
-                Ok(Line::Submit(a.copy()?, b.copy()?, c.copy()?, *d))
-            }
+            Line::Submit(a, b, c, d) => { Ok(Line::Submit(a.copy()?, b.copy()?, c.copy()?, *d)) }
             Line::SwitchMgr(a, b) => Ok(Line::SwitchMgr(a.copy()?, b.copy()?)),
             Line::ShowJobs(a) => Ok(Line::ShowJobs(a.copy()?)),
             Line::ShowSchedules(a) => Ok(Line::ShowSchedules(a.copy()?)),

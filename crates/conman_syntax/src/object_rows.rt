@@ -8,7 +8,7 @@ use crate::faults::{ArgumentFault, ended};
 use crate::heads::What;
 use crate::lines::Line;
 use crate::references::{job, job_or_stream, object};
-use crate::values::{priority, succ};
+use crate::values::priority;
 use std::alloc::Global;
 
 #[tactic(auto, unfolding(crate::specs::Rows::add_dep))]
@@ -65,7 +65,9 @@ pub fn confirm(alloc: Global, left: &str) -> Result<Line, ArgumentFault>
     let (argument, left) = take_argument(left, ' ');
     let job = job(alloc, argument)?.ok_or(ArgumentFault::BadArgument(1))?;
     let (argument, left) = take_argument(left, ';');
-    let _ = succ(argument).ok_or(ArgumentFault::BadArgument(2))?;
+    if argument != "succ" {
+        return Err(ArgumentFault::BadArgument(2));
+    }
     ended(left, Line::Confirm(job))
 }
 

@@ -1,7 +1,9 @@
 //! What an argument names: streams, jobs, resources, and the text of a submitted job.
 ghost use Rattle.std.specs.Prelude.{◌≡◌, ◌<◌, IfOk};
 ghost use Rattle.conman_syntax.specs.References as spec;
-ghost use Rattle.conman_syntax.specs.References.{stream_of, bracketed_of, job_of, job_or_stream_of, resource_of, object_of, object_from, limit_target_of, limit_target_from, reply_target_of, work_of, work_from, work_for, before, behind};
+ghost use Rattle.conman_syntax.specs.References.{stream_of, bracketed_of, job_of, job_or_stream_of, resource_of};
+ghost use Rattle.conman_syntax.specs.References.{object_of, object_from, limit_target_of, limit_target_from};
+ghost use Rattle.conman_syntax.specs.References.{reply_target_of, work_of, work_from, work_for, before, behind};
 
 use crate::heads::What;
 use crate::lines::{JobRef, ObjRef, StreamRef};
@@ -38,7 +40,11 @@ pub fn object(alloc: Global, what: Option<What>, argument: &str) -> Result<Optio
 
 /// `cpu W` or `sched STREAM`; where the short form says which, the name alone.
 #[tactic(auto, unfolding(crate::specs::References::limit_target_of))]
-pub fn limit_target(alloc: Global, what: Option<What>, argument: &str) -> Result<Option<LimitTarget>, NoMemory>
+pub fn limit_target(
+    alloc: Global,
+    what: Option<What>,
+    argument: &str,
+) -> Result<Option<LimitTarget>, NoMemory>
     ensures { IfOk result (λ o. o ≡ limit_target_of what argument.now) }
 {
     let Some(kind) = what_of(what, argument) else {
@@ -61,7 +67,11 @@ pub fn reply_target(alloc: Global, argument: &str) -> Result<Option<ReplyTarget>
 
 /// `docommand W#"TEXT"`; where the short form says so, without that word. The workstation and the text.
 #[tactic(auto, unfolding(crate::specs::References::work_of))]
-pub fn work(alloc: Global, what: Option<What>, argument: &str) -> Result<Option<(Text, Text)>, NoMemory>
+pub fn work(
+    alloc: Global,
+    what: Option<What>,
+    argument: &str,
+) -> Result<Option<(Text, Text)>, NoMemory>
     ensures { IfOk result (λ o. o ≡ work_of what argument.now) }
 {
     let Some(kind) = what_of(what, argument) else {
@@ -114,7 +124,7 @@ pub fn stream(alloc: Global, text: &str) -> Result<Option<StreamRef>, NoMemory>
 
 /// `W#R`: a workstation and the name of its resource.
 #[tactic(auto, unfolding(crate::specs::References::resource_of))]
-pub fn resource(alloc: Global, text: &str) -> Result<Option<(Text, Text)>, NoMemory>
+pub fn resource_names(alloc: Global, text: &str) -> Result<Option<(Text, Text)>, NoMemory>
     ensures { IfOk result (λ o. o ≡ resource_of text.now) }
 {
     let (ws, called) = cut(text, '#');

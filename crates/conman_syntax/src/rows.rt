@@ -29,7 +29,8 @@ pub fn parse_command(alloc: Global, text: &str) -> Result<Line, CommandFault>
     ensures answer { HadMemory result → result ≡ due_line text.now }
     ensures line { HadMemory result → (line : lines.Line) → (result ≡ Ok line) ↔ IsLine text.now line }
     ensures unknown { IsErrOf result fault.UnknownCommand ↔ IsUnknown text.now }
-    ensures bad_argument { HadMemory result → (n : ℕ) → IsErrOf result (fault.BadArgument n) ↔ HasBadArgument text.now n }
+    ensures bad_argument { HadMemory result → (n : ℕ) →
+        IsErrOf result (fault.BadArgument n) ↔ HasBadArgument text.now n }
     ensures too_many { HadMemory result → IsErrOf result fault.TooMany ↔ HasTooMany text.now }
 {
     let (word, left) = command_word(without_noask(text));

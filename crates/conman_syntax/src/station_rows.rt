@@ -9,7 +9,9 @@ use crate::dates::date;
 use crate::faults::{ArgumentFault, ended};
 use crate::heads::What;
 use crate::lines::Line;
-use crate::references::{LimitTarget, ReplyTarget, cut, limit_target, reply_target, work};
+use crate::references::{
+    LimitTarget, ReplyTarget, cut, limit_target, reply_target, resource_names, work,
+};
 use crate::values::{number_u16, pattern, priority, yes};
 use base_types::{NoMemory, Text};
 use std::alloc::Global;
@@ -51,7 +53,7 @@ pub fn resource(alloc: Global, left: &str) -> Result<Line, ArgumentFault>
     ensures { Gives result (spec.resource left.now) }
 {
     let (argument, left) = take_argument(left, ' ');
-    let (ws, called) = crate::references::resource(alloc, argument)?.ok_or(ArgumentFault::BadArgument(1))?;
+    let (ws, called) = resource_names(alloc, argument)?.ok_or(ArgumentFault::BadArgument(1))?;
     let (argument, left) = take_argument(left, ';');
     let n = number_u16(argument).ok_or(ArgumentFault::BadArgument(2))?;
     ended(left, Line::Resource(ws, called, n))

@@ -1,4 +1,4 @@
-//! Every line in each of its spellings, and refusals with the numbers of their arguments.
+//! Every line in each of its spellings.
 use crate::{CommandFault, DepRef, JobRef, Line, ObjRef, StreamRef, parse_command};
 use base_types::{Copied, OnUntil, Text};
 use std::alloc::Global;
@@ -62,7 +62,7 @@ fn same_line(alloc: Global, typed: &str, other: &str) -> bool {
     }
 }
 
-fn fault_of(alloc: Global, typed: &str) -> Option<CommandFault> {
+pub fn fault_of(alloc: Global, typed: &str) -> Option<CommandFault> {
     parse_command(alloc, typed).err()
 }
 
@@ -93,8 +93,16 @@ fn lines_on_objects(rt: HostRuntime) -> Result<(), Fail> {
 fn lines_on_workstations(rt: HostRuntime) -> Result<(), Fail> {
     let alloc = rt.alloc();
     assert!(rt; reads(alloc, "fence M;9", Line::Fence(text(alloc, "M")?, 9)));
+    // Above the range of priorities, and read all the same.
+    assert!(rt; reads(alloc, "fence M;102", Line::Fence(text(alloc, "M")?, 102)));
     assert!(rt; reads(alloc, "limit cpu M;0", Line::CpuLimit(text(alloc, "M")?, 0)));
-    assert!(rt; reads(alloc, "limit sched S;3", Line::StreamLimit(stream(alloc, "S")?, 3)));
+    assert!(rt;
+        reads(
+            alloc,
+            "limit sched S;3",
+            Line::StreamLimit(stream(alloc, "S")?, 3)
+        )
+    );
     let line = Line::Resource(text(alloc, "M")?, text(alloc, "R")?, 2);
     assert!(rt; reads(alloc, "resource M#R;2", line));
     assert!(rt; reads(alloc, "start M", Line::Start(text(alloc, "M")?)));
@@ -114,14 +122,32 @@ fn replies(rt: HostRuntime) -> Result<(), Fail> {
         let typed = format!(in alloc; "{word} tape;yes")?;
         assert!(rt; reads(alloc, &typed, Line::ReplyGlobal(text(alloc, "TAPE")?, true)));
         let typed = format!(in alloc; "{word} tape;no")?;
-        assert!(rt; reads(alloc, &typed, Line::ReplyGlobal(text(alloc, "TAPE")?, false)));
+        assert!(rt;
+            reads(
+                alloc,
+                &typed,
+                Line::ReplyGlobal(text(alloc, "TAPE")?, false)
+            )
+        );
         let typed = format!(in alloc; "{word} job S.A;1;yes")?;
         assert!(rt; reads(alloc, &typed, Line::ReplyOwn(object_a(alloc)?, 1, true)));
         let typed = format!(in alloc; "{word} sched S;65535;no")?;
-        assert!(rt; reads(alloc, &typed, Line::ReplyOwn(object_s(alloc)?, 65535, false)));
+        assert!(rt;
+            reads(
+                alloc,
+                &typed,
+                Line::ReplyOwn(object_s(alloc)?, 65535, false)
+            )
+        );
     }
     // Without a blank behind it, `job` is a prompt's name.
-    assert!(rt; reads(alloc, "reply job;yes", Line::ReplyGlobal(text(alloc, "JOB")?, true)));
+    assert!(rt;
+        reads(
+            alloc,
+            "reply job;yes",
+            Line::ReplyGlobal(text(alloc, "JOB")?, true)
+        )
+    );
     Ok(())
 }
 
@@ -132,7 +158,13 @@ fn submitted_commands(rt: HostRuntime) -> Result<(), Fail> {
     assert!(rt; reads(alloc, "submit docommand M#\"true\"", line));
     let alias = Some(text(alloc, "ONE")?);
     let line = Line::Submit(text(alloc, "M")?, text(alloc, "a;b")?, alias, Some(255));
-    assert!(rt; reads(alloc, "submit docommand m#\"a;b\";alias=one;priority=255", line));
+    assert!(rt;
+        reads(
+            alloc,
+            "submit docommand m#\"a;b\";alias=one;priority=255",
+            line
+        )
+    );
     let alias = Some(text(alloc, "ONE")?);
     let line = Line::Submit(text(alloc, "M")?, text(alloc, "say \"x;\"")?, alias, None);
     assert!(rt; reads(alloc, r#"sbd M#"say \"x;\"";alias=one"#, line));
@@ -145,15 +177,39 @@ fn submitted_commands(rt: HostRuntime) -> Result<(), Fail> {
 fn lines_that_show(rt: HostRuntime) -> Result<(), Fail> {
     let alloc = rt.alloc();
     assert!(rt; reads(alloc, "showjobs", Line::ShowJobs(None)));
-    assert!(rt; reads(alloc, "showjobs m#s.@", Line::ShowJobs(Some(text(alloc, "M#S.@")?))));
+    assert!(rt;
+        reads(
+            alloc,
+            "showjobs m#s.@",
+            Line::ShowJobs(Some(text(alloc, "M#S.@")?))
+        )
+    );
     assert!(rt; reads(alloc, "showschedules", Line::ShowSchedules(None)));
-    assert!(rt; reads(alloc, "showschedules @", Line::ShowSchedules(Some(text(alloc, "@")?))));
+    assert!(rt;
+        reads(
+            alloc,
+            "showschedules @",
+            Line::ShowSchedules(Some(text(alloc, "@")?))
+        )
+    );
     assert!(rt; reads(alloc, "showcpus", Line::ShowCpus(None)));
     assert!(rt; reads(alloc, "showcpus M", Line::ShowCpus(Some(text(alloc, "M")?))));
     assert!(rt; reads(alloc, "showprompts", Line::ShowPrompts(None)));
-    assert!(rt; reads(alloc, "showprompts T@", Line::ShowPrompts(Some(text(alloc, "T@")?))));
+    assert!(rt;
+        reads(
+            alloc,
+            "showprompts T@",
+            Line::ShowPrompts(Some(text(alloc, "T@")?))
+        )
+    );
     assert!(rt; reads(alloc, "showresources", Line::ShowResources(None)));
-    assert!(rt; reads(alloc, "showresources M#~", Line::ShowResources(Some(text(alloc, "M#~")?))));
+    assert!(rt;
+        reads(
+            alloc,
+            "showresources M#~",
+            Line::ShowResources(Some(text(alloc, "M#~")?))
+        )
+    );
     Ok(())
 }
 
@@ -166,8 +222,19 @@ fn days(rt: HostRuntime) {
     assert!(rt; reads(alloc, "jnextplan 02/29/2004", Line::JNextPlan(12477)));
     assert!(rt; reads(alloc, "jnextplan 12/31/9999", Line::JNextPlan(2932896)));
     for day in [
-        "02/30/2003", "02/29/2100", "12/31/1969", "13/01/2003", "00/10/2003", "01/00/2003",
-        "1/01/2003", "01/1/2003", "01/01/03", "01-01-2003", "01/01/2003/", "", "a1/01/2003",
+        "02/30/2003",
+        "02/29/2100",
+        "12/31/1969",
+        "13/01/2003",
+        "00/10/2003",
+        "01/00/2003",
+        "1/01/2003",
+        "01/1/2003",
+        "01/01/03",
+        "01-01-2003",
+        "01/01/2003/",
+        "",
+        "a1/01/2003",
     ] {
         let typed = format!(in alloc; "jnextplan {day}");
         assert!(rt; typed.is_ok_and(|t| fault_of(alloc, &t) == Some(CommandFault::BadArgument(1))));
@@ -218,10 +285,23 @@ fn cases_of_letters(rt: HostRuntime) {
     ] {
         assert!(rt; same_line(alloc, typed, same), "at {typed}");
     }
-    for typed in ["limit CPU M;3", "adddep JOB S.A;at=5", "submit DOCOMMAND M#\"x\""] {
-        assert_eq!(rt; fault_of(alloc, typed), Some(CommandFault::BadArgument(1)), "at {typed}");
+    for typed in [
+        "limit CPU M;3",
+        "adddep JOB S.A;at=5",
+        "submit DOCOMMAND M#\"x\"",
+    ] {
+        assert_eq!(rt;
+            fault_of(alloc, typed),
+            Some(CommandFault::BadArgument(1)),
+            "at {typed}"
+        );
     }
-    for typed in ["fence M;HI", "adj S.A;AT=5", "confirm S.A;SUCC", "fence M;9;NOASK"] {
+    for typed in [
+        "fence M;HI",
+        "adj S.A;AT=5",
+        "confirm S.A;SUCC",
+        "fence M;9;NOASK",
+    ] {
         assert!(rt; fault_of(alloc, typed).is_some(), "at {typed}");
     }
 }
@@ -233,19 +313,54 @@ fn names_of_objects(rt: HostRuntime) -> Result<(), Fail> {
     assert!(rt; reads(alloc, "rs m#s", Line::Release(ObjRef::Stream(at_m))));
     let third = stream_at(alloc, "M", "S", Some(3))?;
     assert!(rt; reads(alloc, "kill M#S[3].A", Line::Kill(job(alloc, third, "A")?)));
-    let none = StreamRef { ws: None, name: text(alloc, "S")?, no: Some(0) };
+    let none = StreamRef {
+        ws: None,
+        name: text(alloc, "S")?,
+        no: Some(0),
+    };
     assert!(rt; reads(alloc, "rs S[0]", Line::Release(ObjRef::Stream(none))));
-    let last = StreamRef { ws: None, name: text(alloc, "S")?, no: Some(4294967295) };
-    assert!(rt; reads(alloc, "rs S[4294967295]", Line::Release(ObjRef::Stream(last))));
+    let last = StreamRef {
+        ws: None,
+        name: text(alloc, "S")?,
+        no: Some(4294967295),
+    };
+    assert!(rt;
+        reads(
+            alloc,
+            "rs S[4294967295]",
+            Line::Release(ObjRef::Stream(last))
+        )
+    );
     for name in [
-        "S[4294967296]", "S[]", "S[1", "S]", "S[01]", "S[1]x", "#S", "M#", "M #S", "M# S", "M#S#T", "1S", "S.A", "",
+        "S[4294967296]",
+        "S[]",
+        "S[1",
+        "S]",
+        "S[01]",
+        "S[1]x",
+        "#S",
+        "M#",
+        "M #S",
+        "M# S",
+        "M#S#T",
+        "1S",
+        "S.A",
+        "",
     ] {
         let typed = format!(in alloc; "release sched {name}")?;
-        assert_eq!(rt; fault_of(alloc, &typed), Some(CommandFault::BadArgument(1)), "at {name}");
+        assert_eq!(rt;
+            fault_of(alloc, &typed),
+            Some(CommandFault::BadArgument(1)),
+            "at {name}"
+        );
     }
     for name in ["S", "S.", ".A", "S.A.B", "S[1.5].A", "S .A", "S. A"] {
         let typed = format!(in alloc; "release job {name}")?;
-        assert_eq!(rt; fault_of(alloc, &typed), Some(CommandFault::BadArgument(1)), "at {name}");
+        assert_eq!(rt;
+            fault_of(alloc, &typed),
+            Some(CommandFault::BadArgument(1)),
+            "at {name}"
+        );
     }
     Ok(())
 }
@@ -260,133 +375,37 @@ fn dependencies(rt: HostRuntime) -> Result<(), Fail> {
         ("adj S.A;follows=m#t.b", DepRef::FollowsJob(on_b)),
         ("adj S.A;follows=t", DepRef::FollowsStream(on_t)),
         ("adj S.A;needs=65535 m#r", units),
-        ("adj S.A;prompt=tape", DepRef::PromptName(text(alloc, "TAPE")?)),
-        (r#"adj S.A;prompt="is \"it\"; up?""#, DepRef::PromptText(text(alloc, r#"is "it"; up?"#)?)),
-        ("adj S.A;at=18446744073709551615", DepRef::At(18446744073709551615)),
+        (
+            "adj S.A;prompt=tape",
+            DepRef::PromptName(text(alloc, "TAPE")?),
+        ),
+        (
+            r#"adj S.A;prompt="is \"it\"; up?""#,
+            DepRef::PromptText(text(alloc, r#"is "it"; up?"#)?),
+        ),
+        (
+            "adj S.A;at=18446744073709551615",
+            DepRef::At(18446744073709551615),
+        ),
         ("adj S.A;until=0", DepRef::Until(0, OnUntil::Suppr)),
-        ("adj S.A;until=7;onuntil=suppr", DepRef::Until(7, OnUntil::Suppr)),
-        ("adj S.A;until=7;onuntil=cont", DepRef::Until(7, OnUntil::Cont)),
-        ("adj S.A;until=7;onuntil=canc", DepRef::Until(7, OnUntil::Canc)),
+        (
+            "adj S.A;until=7;onuntil=suppr",
+            DepRef::Until(7, OnUntil::Suppr),
+        ),
+        (
+            "adj S.A;until=7;onuntil=cont",
+            DepRef::Until(7, OnUntil::Cont),
+        ),
+        (
+            "adj S.A;until=7;onuntil=canc",
+            DepRef::Until(7, OnUntil::Canc),
+        ),
     ] {
-        assert!(rt; reads(alloc, typed, Line::AddDep(object_a(alloc)?, dep.copy()?)), "at {typed}");
-        assert!(rt; reads(alloc, typed, Line::AddDep(object_a(alloc)?, dep)), "at {typed}");
+        assert!(rt;
+            reads(alloc, typed, Line::AddDep(object_a(alloc)?, dep)),
+            "at {typed}"
+        );
     }
-    Ok(())
-}
-
-#[test]
-fn unknown_commands(rt: HostRuntime) {
-    let alloc = rt.alloc();
-    for typed in [
-        "", " ", ";", " fence M;9", "fenc M;9", "adjj S.A;at=5", "rep\tTAPE;yes", "job S.A", "noask", ";noask",
-        "\"fence\" M;9", "l M", "shut",
-    ] {
-        assert_eq!(rt; fault_of(alloc, typed), Some(CommandFault::UnknownCommand), "at {typed}");
-    }
-}
-
-#[test]
-fn bad_arguments(rt: HostRuntime) {
-    let alloc = rt.alloc();
-    for (typed, number) in [
-        ("fence", 1),
-        ("fence ", 1),
-        ("fence;9", 1),
-        ("fence ;9", 1),
-        ("fence  M;9", 1),
-        ("fence M ;9", 1),
-        ("fence M", 2),
-        ("fence M;", 2),
-        ("fence M; 9", 2),
-        ("fence M;9 ", 2),
-        ("fence M;256", 2),
-        ("fence M;09", 2),
-        ("fence M;+9", 2),
-        ("fence M;9 ;x", 2),
-        ("fence 1;x;y", 1),
-        ("fence M;noask;noask", 2),
-        ("adddep S.A;at=5", 1),
-        ("adddep cpu M;at=5", 1),
-        ("adddep job S.A", 2),
-        ("adj S.A;at", 2),
-        ("adj S.A;at=18446744073709551616", 2),
-        ("adj S.A;at =5", 2),
-        ("adj S.A;at= 5", 2),
-        ("adj S.A;needs=65536 M#R", 2),
-        ("adj S.A;needs=1 R", 2),
-        ("adj S.A;needs=1  M#R", 2),
-        ("adj S.A;needs=M#R", 2),
-        ("adj S.A;prompt=\"x", 2),
-        ("adj S.A;prompt=\"x\"y", 2),
-        ("adj S.A;onuntil=cont", 2),
-        ("adj S.A;until=x;onuntil=cont", 2),
-        ("adj S.A;until=5;cont", 3),
-        ("adj S.A;until=5;onuntil=stop", 3),
-        ("confirm S.A", 2),
-        ("confirm S.A;abend", 2),
-        ("confirm S;succ", 1),
-        ("altpri M;", 2),
-        ("limit M;3", 1),
-        ("limit job S.A;3", 1),
-        ("limit cpu M;65536", 2),
-        ("lc cpu M;3", 1),
-        ("resource R;2", 1),
-        ("reply tape", 2),
-        ("reply tape;maybe", 2),
-        ("reply tape;1;yes", 2),
-        ("reply job S;1;yes", 1),
-        ("reply sched S;65536;yes", 2),
-        ("reply sched S;1", 3),
-        ("reply cpu M;1;yes", 1),
-        ("submit M#\"x\"", 1),
-        ("submit job S.A", 1),
-        ("sbd M#x", 1),
-        ("sbd \"x\"", 1),
-        ("sbd M#\"x\";name=A", 2),
-        ("sbd M#\"x\";alias=A;alias=B", 3),
-        ("sbd M#\"x\";priority=256", 2),
-        ("sbd M#\"x\";alias=A;priority=256", 3),
-        ("switchmgr D", 2),
-        ("showjobs ", 1),
-        ("showjobs a b", 1),
-        ("showjobs \"", 1),
-        ("showjobs Zoë", 1),
-        ("link", 1),
-        ("start M N", 1),
-    ] {
-        assert_eq!(rt; fault_of(alloc, typed), Some(CommandFault::BadArgument(number)), "at {typed}");
-    }
-}
-
-#[test]
-fn further_arguments(rt: HostRuntime) {
-    let alloc = rt.alloc();
-    for typed in [
-        "fence M;9;", "fence M;9;noask;noask", "start M;", "shutdown M", "shutdown ", "shutdown;x", "kill S.A;1",
-        "adj S.A;at=5;onuntil=cont", "adj S.A;until=5;onuntil=cont;x", "reply tape;yes;no", "reply sched S;1;yes;x",
-        "sbd M#\"x\";priority=5;alias=A", "sbd M#\"x\";alias=A;priority=5;x", "showjobs @;x", "showjobs;x",
-        "jnextplan 12/26/2003;x",
-    ] {
-        assert_eq!(rt; fault_of(alloc, typed), Some(CommandFault::TooMany), "at {typed}");
-    }
-}
-
-// A submitted text of so many letters in quotes.
-fn long_command(alloc: Global, letters: u32) -> Result<String, Fail> {
-    let mut typed = String::from_str(alloc, "sbd M#\"")?;
-    for _ in 0..letters {
-        typed.push('x')?;
-    }
-    typed.push('"')?;
-    Ok(typed)
-}
-
-#[test]
-fn long_texts(rt: HostRuntime) -> Result<(), Fail> {
-    let alloc = rt.alloc();
-    assert!(rt; fault_of(alloc, &long_command(alloc, 4096)?).is_none());
-    let longer = fault_of(alloc, &long_command(alloc, 4097)?);
-    assert_eq!(rt; longer, Some(CommandFault::BadArgument(1)));
     Ok(())
 }
 

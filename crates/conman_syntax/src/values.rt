@@ -52,18 +52,6 @@ pub fn yes(word: &str) -> Option<bool>
     }
 }
 
-/// `succ`, the one end that may be confirmed.
-#[tactic(auto, unfolding(crate::specs::Values::succ_of))]
-pub fn succ(word: &str) -> Option<bool>
-    ensures { result ≡ spec.succ_of word.now }
-{
-    if word == "succ" {
-        Some(true)
-    } else {
-        None
-    }
-}
-
 /// What comes when the time of an UNTIL has passed.
 #[tactic(auto, unfolding(crate::specs::Values::passed_of))]
 pub fn passed(word: &str) -> Option<OnUntil>

@@ -8,8 +8,8 @@ pub returns-clause-value : goal.returns-clause-value
 returns-clause-value c =
     let word = c.args.word.now in
     let all : list_all is_ascii_digit word ≡ true =
-        ap (λ bytes. list_all is_ascii_digit bytes) (sym c.as_bytes.ensures.value) ∙ sym c.are_digits.ensures
-        ∙ c.if-not-are_digits.false in
+    ap (λ bytes. list_all is_ascii_digit bytes) (sym c.as_bytes.ensures.value) ∙ sym c.are_digits.ensures
+    ∙ c.if-not-are_digits.false in
     let few : length word ≤ 4 = omega arith in
     let some : 0 < length word = omega arith in
     c.ok.ensures.value ∙ parsed_digits word _ c.parse.ensures.value.0 all some few
@@ -19,8 +19,8 @@ pub returns-clause-small : goal.returns-clause-small
 returns-clause-small c =
     let word = c.args.word.now in
     let all : list_all is_ascii_digit word ≡ true =
-        ap (λ bytes. list_all is_ascii_digit bytes) (sym c.as_bytes.ensures.value) ∙ sym c.are_digits.ensures
-        ∙ c.if-not-are_digits.false in
+    ap (λ bytes. list_all is_ascii_digit bytes) (sym c.as_bytes.ensures.value) ∙ sym c.are_digits.ensures
+    ∙ c.if-not-are_digits.false in
     let few : length word ≤ 4 = omega arith in
     let some : 0 < length word = omega arith in
     small_number _ _ (c.ok.ensures.value ∙ parsed_digits word _ c.parse.ensures.value.0 all some few)

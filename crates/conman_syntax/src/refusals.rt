@@ -31,77 +31,111 @@ fn unknown_commands(rt: HostRuntime) {
 }
 
 #[test]
-fn bad_arguments(rt: HostRuntime) {
+fn first_arguments(rt: HostRuntime) {
     let alloc = rt.alloc();
-    for (typed, number) in [
-        ("fence", 1),
-        ("fence ", 1),
-        ("fence;9", 1),
-        ("fence ;9", 1),
-        ("fence  M;9", 1),
-        ("fence M ;9", 1),
-        ("fence M", 2),
-        ("fence M;", 2),
-        ("fence M; 9", 2),
-        ("fence M;9 ", 2),
-        ("fence M;256", 2),
-        ("fence M;09", 2),
-        ("fence M;+9", 2),
-        ("fence M;9 ;x", 2),
-        ("fence 1;x;y", 1),
-        ("fence M;noask;noask", 2),
-        ("adddep S.A;at=5", 1),
-        ("adddep cpu M;at=5", 1),
-        ("adddep job S.A", 2),
-        ("adj S.A;at", 2),
-        ("adj S.A;at=18446744073709551616", 2),
-        ("adj S.A;at =5", 2),
-        ("adj S.A;at= 5", 2),
-        ("adj S.A;needs=65536 M#R", 2),
-        ("adj S.A;needs=1 R", 2),
-        ("adj S.A;needs=1  M#R", 2),
-        ("adj S.A;needs=M#R", 2),
-        ("adj S.A;prompt=\"x", 2),
-        ("adj S.A;prompt=\"x\"y", 2),
-        ("adj S.A;onuntil=cont", 2),
-        ("adj S.A;until=x;onuntil=cont", 2),
-        ("adj S.A;until=5;cont", 3),
-        ("adj S.A;until=5;onuntil=stop", 3),
-        ("confirm S.A", 2),
-        ("confirm S.A;abend", 2),
-        ("confirm S;succ", 1),
-        ("altpri M;", 2),
-        ("limit M;3", 1),
-        ("limit job S.A;3", 1),
-        ("limit cpu M;65536", 2),
-        ("lc cpu M;3", 1),
-        ("resource R;2", 1),
-        ("reply tape", 2),
-        ("reply tape;maybe", 2),
-        ("reply tape;1;yes", 2),
-        ("reply job S;1;yes", 1),
-        ("reply sched S;65536;yes", 2),
-        ("reply sched S;1", 3),
-        ("reply cpu M;1;yes", 1),
-        ("submit M#\"x\"", 1),
-        ("submit job S.A", 1),
-        ("sbd M#x", 1),
-        ("sbd \"x\"", 1),
-        ("sbd M#\"x\";name=A", 2),
-        ("sbd M#\"x\";alias=A;alias=B", 3),
-        ("sbd M#\"x\";priority=256", 2),
-        ("sbd M#\"x\";alias=A;priority=256", 3),
-        ("switchmgr D", 2),
-        ("showjobs ", 1),
-        ("showjobs a b", 1),
-        ("showjobs \"", 1),
-        ("showjobs Zoë", 1),
-        ("link", 1),
-        ("start M N", 1),
+    for typed in [
+        "fence",
+        "fence ",
+        "fence;9",
+        "fence ;9",
+        "fence  M;9",
+        "fence M ;9",
+        "fence 1;x;y",
+        "adddep S.A;at=5",
+        "adddep cpu M;at=5",
+        "adddep JOB S.A;at=5",
+        "confirm S;succ",
+        "limit M;3",
+        "limit CPU M;3",
+        "limit job S.A;3",
+        "lc cpu M;3",
+        "resource R;2",
+        "reply job S;1;yes",
+        "reply cpu M;1;yes",
+        "submit M#\"x\"",
+        "submit job S.A",
+        "submit DOCOMMAND M#\"x\"",
+        "sbd M#x",
+        "sbd \"x\"",
+        "showjobs ",
+        "showjobs a b",
+        "showjobs \"",
+        "showjobs Zoë",
+        "link",
+        "start M N",
+        "jnextplan",
     ] {
         assert_eq!(rt;
             fault_of(alloc, typed),
-            Some(CommandFault::BadArgument(number)),
+            Some(CommandFault::BadArgument(1)),
+            "at {typed}"
+        );
+    }
+}
+
+#[test]
+fn second_arguments(rt: HostRuntime) {
+    let alloc = rt.alloc();
+    for typed in [
+        "fence M",
+        "fence M;",
+        "fence M; 9",
+        "fence M;9 ",
+        "fence M;256",
+        "fence M;09",
+        "fence M;+9",
+        "fence M;HI",
+        "fence M;9 ;x",
+        "fence M;noask;noask",
+        "adddep job S.A",
+        "adj S.A;at",
+        "adj S.A;AT=5",
+        "adj S.A;at =5",
+        "adj S.A;at= 5",
+        "adj S.A;at=18446744073709551616",
+        "adj S.A;needs=65536 M#R",
+        "adj S.A;needs=1 R",
+        "adj S.A;needs=1  M#R",
+        "adj S.A;needs=M#R",
+        "adj S.A;prompt=\"x",
+        "adj S.A;prompt=\"x\"y",
+        "adj S.A;onuntil=cont",
+        "adj S.A;until=x;onuntil=cont",
+        "confirm S.A",
+        "confirm S.A;abend",
+        "confirm S.A;SUCC",
+        "altpri M;",
+        "limit cpu M;65536",
+        "reply tape",
+        "reply tape;maybe",
+        "reply tape;1;yes",
+        "reply sched S;65536;yes",
+        "sbd M#\"x\";name=A",
+        "sbd M#\"x\";priority=256",
+        "switchmgr D",
+    ] {
+        assert_eq!(rt;
+            fault_of(alloc, typed),
+            Some(CommandFault::BadArgument(2)),
+            "at {typed}"
+        );
+    }
+}
+
+#[test]
+fn third_arguments(rt: HostRuntime) {
+    let alloc = rt.alloc();
+    for typed in [
+        "adj S.A;until=5;cont",
+        "adj S.A;until=5;onuntil=stop",
+        "reply sched S;1",
+        "reply sched S;1;YES",
+        "sbd M#\"x\";alias=A;alias=B",
+        "sbd M#\"x\";alias=A;priority=256",
+    ] {
+        assert_eq!(rt;
+            fault_of(alloc, typed),
+            Some(CommandFault::BadArgument(3)),
             "at {typed}"
         );
     }
@@ -113,6 +147,7 @@ fn further_arguments(rt: HostRuntime) {
     for typed in [
         "fence M;9;",
         "fence M;9;noask;noask",
+        "fence M;9;NOASK",
         "start M;",
         "shutdown M",
         "shutdown ",
@@ -134,6 +169,54 @@ fn further_arguments(rt: HostRuntime) {
             "at {typed}"
         );
     }
+}
+
+#[test]
+fn no_names(rt: HostRuntime) -> Result<(), Fail> {
+    let alloc = rt.alloc();
+    for (command, name) in [
+        ("release sched", "S[4294967296]"),
+        ("release sched", "S[]"),
+        ("release sched", "S[1"),
+        ("release sched", "S]"),
+        ("release sched", "S[01]"),
+        ("release sched", "S[1]x"),
+        ("release sched", "#S"),
+        ("release sched", "M#"),
+        ("release sched", "M #S"),
+        ("release sched", "M# S"),
+        ("release sched", "M#S#T"),
+        ("release sched", "1S"),
+        ("release sched", "S.A"),
+        ("release sched", ""),
+        ("release job", "S"),
+        ("release job", "S."),
+        ("release job", ".A"),
+        ("release job", "S.A.B"),
+        ("release job", "S[1.5].A"),
+        ("release job", "S .A"),
+        ("release job", "S. A"),
+        ("jnextplan", "02/30/2003"),
+        ("jnextplan", "02/29/2100"),
+        ("jnextplan", "12/31/1969"),
+        ("jnextplan", "13/01/2003"),
+        ("jnextplan", "00/10/2003"),
+        ("jnextplan", "01/00/2003"),
+        ("jnextplan", "1/01/2003"),
+        ("jnextplan", "01/1/2003"),
+        ("jnextplan", "01/01/03"),
+        ("jnextplan", "01-01-2003"),
+        ("jnextplan", "01/01/2003/"),
+        ("jnextplan", "a1/01/2003"),
+    ] {
+        let typed = format!(in alloc; "{command} {name}")?;
+        assert_eq!(rt;
+            fault_of(alloc, &typed),
+            Some(CommandFault::BadArgument(1)),
+            "at {typed}"
+        );
+    }
+    Ok(())
 }
 
 // A submitted text of so many letters in quotes.

@@ -8,13 +8,14 @@ const STREAM: &str = r#"StreamRef { ws: None, name: "S", no: None }"#;
 
 const JOB: &str = r#"JobRef { stream: StreamRef { ws: None, name: "S", no: None }, name: "A" }"#;
 
+fn is_shown(alloc: Global, line: &Line, shown: &str) -> Result<bool, Fail> {
+    Ok(format!(in alloc; "{line:?}")?.as_str() == shown)
+}
+
 // Whether the text is read as the line that is shown so.
 fn reads(alloc: Global, typed: &str, shown: &str) -> Result<bool, Fail> {
     match parse_command(alloc, typed) {
-        Ok(line) => {
-            let found = format!(in alloc; "{line:?}")?;
-            Ok(found.as_str() == shown)
-        }
+        Ok(line) => is_shown(alloc, &line, shown),
         Err(_) => Ok(false),
     }
 }

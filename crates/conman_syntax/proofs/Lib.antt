@@ -1,0 +1,3 @@
+pub mod ArgumentBounds
+pub mod Digits
+pub mod Endings

@@ -1,1 +1,13 @@
 pub mod Puts
+pub mod Readers
+pub mod Numbers
+pub mod Texts
+pub mod Choices
+pub mod Lists
+pub mod Seens
+pub mod Parts
+pub mod Conditions
+pub mod Documents
+pub mod Commands
+pub mod Bodies
+pub mod Entries

@@ -50,8 +50,7 @@ OrderFits b = BodyFits b × (is_order b ≡ true)
 plan_fits : (run : ℕ) (cut : Seen) (carried : List ℕ) (docs : List StreamDoc) → IsU32 run → SeenFits cut
     → AreListed IsU32 carried → AreListed StreamFits docs → EventFits (NewPlan run cut carried docs)
 plan_fits run cut carried docs f g h k =
-    let both = apart IsFitStream StreamInRange docs k in
-    (
+    let both = apart IsFitStream StreamInRange docs k in (
       (
         (fit_seen cut g, h.0, both.0),
         (f, seen_in_range cut g, All-from_recursion IsU32 carried h.1, both.1),
@@ -114,22 +113,49 @@ event_reader : IsReader EventFits body_bytes event_at
 unfolding event_at body_bytes
 event_reader =
     record {
-      found = choice_found EventFits body_bytes event_rows
-          (row_4 u32_reader seen_reader (list_reader u32_reader) (list_reader stream_reader) 1 NewPlan plan_fits (λ w x y z. refl),
-          (row_3 u16_reader u32_reader stream_reader 2 Added (λ x y z f g h. ((h.0, (f, g, h.1)), refl)) (λ x y z. refl),
-          (row_1 u64_reader 3 Clock (λ x f. ((tt, f), refl)) (λ x. refl),
-          (row_2 u32_reader seen_reader 4 Released (λ x y f g. ((fit_seen y g, (f, seen_in_range y g)), refl)) (λ x y. refl),
-          (row_2 u32_reader seen_reader 5 StreamEnded (λ x y f g. ((fit_seen y g, (f, seen_in_range y g)), refl)) (λ x y. refl),
-          (row_3 obj_reader u16_reader until_reader 6 UntilPassed (λ x y z f g h. ((tt, (f, g)), refl)) (λ x y z. refl),
-          (row_3 u32_reader u32_reader seen_reader 7 Launched (λ x y z f g h. ((fit_seen z h, (f, g, seen_in_range z h)), refl)) (λ x y z. refl),
-          (row_2 u32_reader u32_reader 8 Started (λ x y f g. ((tt, (f, g)), refl)) (λ x y. refl),
-          (row_2 u32_reader u32_reader 9 Failed (λ x y f g. ((tt, (f, g)), refl)) (λ x y. refl),
-          (row_4 u32_reader u32_reader i32_reader flag_reader 10 Ended (λ w x y z f g h k. ((tt, (f, g, h)), refl)) (λ w x y z. refl),
-          (row_2 u32_reader u32_reader 11 Lost (λ x y f g. ((tt, (f, g)), refl)) (λ x y. refl),
-          (row_2 obj_reader u16_reader 12 Fulfilled (λ x y f g. ((tt, (f, g)), refl)) (λ x y. refl),
-          (row_3 u16_reader u32_reader cmd_reader 13 Obeyed (λ x y z f g h. ((h.0, (f, g, h.1)), refl)) (λ x y z. refl),
-          (row_3 u16_reader u32_reader why_reader 14 Declined (λ x y z f g h. ((tt, (f, g)), refl)) (λ x y z. refl),
-          tt))))))))))))));
+      found = choice_found EventFits body_bytes event_rows (
+        row_4 u32_reader seen_reader (list_reader u32_reader) (list_reader stream_reader) 1 NewPlan plan_fits (λ w x y z. refl),
+        (
+          row_3 u16_reader u32_reader stream_reader 2 Added (λ x y z f g h. ((h.0, (f, g, h.1)), refl)) (λ x y z. refl),
+          (
+            row_1 u64_reader 3 Clock (λ x f. ((tt, f), refl)) (λ x. refl),
+            (
+              row_2 u32_reader seen_reader 4 Released (λ x y f g. ((fit_seen y g, (f, seen_in_range y g)), refl)) (λ x y. refl),
+              (
+                row_2 u32_reader seen_reader 5 StreamEnded (λ x y f g. ((fit_seen y g, (f, seen_in_range y g)), refl)) (λ x y. refl),
+                (
+                  row_3 obj_reader u16_reader until_reader 6 UntilPassed (λ x y z f g h. ((tt, (f, g)), refl)) (λ x y z. refl),
+                  (
+                    row_3 u32_reader u32_reader seen_reader 7 Launched (λ x y z f g h. ((fit_seen z h, (f, g, seen_in_range z h)), refl)) (λ x y z. refl),
+                    (
+                      row_2 u32_reader u32_reader 8 Started (λ x y f g. ((tt, (f, g)), refl)) (λ x y. refl),
+                      (
+                        row_2 u32_reader u32_reader 9 Failed (λ x y f g. ((tt, (f, g)), refl)) (λ x y. refl),
+                        (
+                          row_4 u32_reader u32_reader i32_reader flag_reader 10 Ended (λ w x y z f g h k. ((tt, (f, g, h)), refl)) (λ w x y z. refl),
+                          (
+                            row_2 u32_reader u32_reader 11 Lost (λ x y f g. ((tt, (f, g)), refl)) (λ x y. refl),
+                            (
+                              row_2 obj_reader u16_reader 12 Fulfilled (λ x y f g. ((tt, (f, g)), refl)) (λ x y. refl),
+                              (
+                                row_3 u16_reader u32_reader cmd_reader 13 Obeyed (λ x y z f g h. ((h.0, (f, g, h.1)), refl)) (λ x y z. refl),
+                                (
+                                  row_3 u16_reader u32_reader why_reader 14 Declined (λ x y z f g h. ((tt, (f, g)), refl)) (λ x y z. refl),
+                                  tt,
+                                ),
+                              ),
+                            ),
+                          ),
+                        ),
+                      ),
+                    ),
+                  ),
+                ),
+              ),
+            ),
+          ),
+        ),
+      );
       again = event_again;
     }
 

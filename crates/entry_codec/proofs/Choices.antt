@@ -120,7 +120,7 @@ walk : {X : Type 0} (P : X → Type 0) (spell : X → List ℕ) (rows : List (�
 walk P spell [] n here bytes p x q h is lt e = absurd cc
 walk {X} P spell (row ∷ rows) n here bytes p x q h is lt e =
     go (eqb row.0 n) refl (λ (f : behind (row_of n rows) here bytes p ≡ Ok (x, q)).
-        walk P spell rows n here bytes p x q h.1 is lt f)
+    walk P spell rows n here bytes p x q h.1 is lt f)
   where
     go : (b : Bool) → eqb row.0 n ≡ b
         → (behind (row_of n rows) here bytes p ≡ Ok (x, q) → Behind P spell n x bytes p q)
@@ -184,8 +184,8 @@ again_3 {X} {A} {B} {C} {Q} {s} {a} {R} {t} {b} {S} {u} {c} ra rb rc rows tag ma
     fits fits' fits'' stands =
     chosen rows tag (three a b c make) (s x ++ t y ++ u z) bytes p q (Ok (make x y z, q)) has_row lt stands
     (λ l. let parts = split (s x ++ t y) (u z) l in
-        let front = split (s x) (t y) parts.0 in
-        on ra _ x fits front.0 (on rb _ y fits' front.1 (on rc _ z fits'' parts.1 refl)))
+    let front = split (s x) (t y) parts.0 in
+    on ra _ x fits front.0 (on rb _ y fits' front.1 (on rc _ z fits'' parts.1 refl)))
 
 pub again_4 : {X A B C D : Type 0} {Q : A → Type 0} {s : A → List ℕ} {a : Reader A} {R : B → Type 0}
     {t : B → List ℕ} {b : Reader B} {S : C → Type 0} {u : C → List ℕ} {c : Reader C} {T : D → Type 0}
@@ -197,9 +197,9 @@ again_4 {X} {A} {B} {C} {D} {Q} {s} {a} {R} {t} {b} {S} {u} {c} {T} {v} {d} ra r
     {p} {q} has_row lt fits fits' fits'' fits''' stands =
     chosen rows tag (four a b c d make) (s w ++ t x ++ u y ++ v z) bytes p q (Ok (make w x y z, q)) has_row lt stands
     (λ l. let parts = split (s w ++ t x ++ u y) (v z) l in
-        let front = split (s w ++ t x) (u y) parts.0 in
-        let first = split (s w) (t x) front.0 in
-        on ra _ w fits first.0 (on rb _ x fits' first.1 (on rc _ y fits'' front.1 (on rd _ z fits''' parts.1 refl))))
+    let front = split (s w ++ t x) (u y) parts.0 in
+    let first = split (s w) (t x) front.0 in
+    on ra _ w fits first.0 (on rb _ x fits' first.1 (on rc _ y fits'' front.1 (on rd _ z fits''' parts.1 refl))))
 
 -- flags and options
 abbrev pub Any : {X : Type 0} → X → Type 0

@@ -67,7 +67,7 @@ draft_dep_found : (bytes : List ℕ) (p : ℕ) (d : DraftDep) (q : ℕ) → IsBy
 unfolding draft_dep_at draft_dep_bytes
 draft_dep_found bytes p d q is lt e =
     let c = came (u8_at bytes p) (λ (n : ℕ × ℕ). cond (eqb n.0 0) (followed bytes n.1) (one dep_at Plain bytes p))
-        (d, q) e in
+    (d, q) e in
     let tag = u8_reader.found bytes p c.value.0 c.value.1 is lt c.first in
     chose (eqb c.value.0 0) c.value.0 c.value.1 refl tag.1 c.then_
   where
@@ -112,8 +112,8 @@ follows_again bytes p w name job q fits s =
     let parts = split (u16_bytes w ++ text_bytes name) (option_bytes text_bytes job) head.1 in
     let names = split (u16_bytes w) (text_bytes name) parts.0 in
     let read : followed bytes (p + 1) ≡ Ok (Follows w name job, q) = on u16_reader _ w fits.1.0 names.0
-        (on text_reader _ name (fits.0.0, fits.1.1) names.1
-        (on (option_reader text_reader) _ job (job_fits w name job fits) parts.1 refl)) in
+    (on text_reader _ name (fits.0.0, fits.1.1) names.1
+    (on (option_reader text_reader) _ job (job_fits w name job fits) parts.1 refl)) in
     rw first read
 
 draft_dep_again : (bytes : List ℕ) (p : ℕ) (d : DraftDep) (q : ℕ) → DraftDepFits d
@@ -139,8 +139,7 @@ cond_found bytes p ops q is lt e =
     let count = step op_count_reader is (starts bytes p lt) e in
     let items = (items_reader op_reader count.value).found bytes count.place ops q is (within count.stands) count.rest in
     let counted : count.value ≡ length ops = sym items.0.0 in
-    let few : count.value ≤ 64 = leb-true count.value 64 count.fits.1 in
-    (
+    let few : count.value ≤ 64 = leb-true count.value 64 count.fits.1 in (
       (omega (arith, few, items.0.0), items.0.1),
       joined (subst (λ (n : ℕ). Stands (u8_bytes n) bytes p count.place) counted count.stands) items.1,
     )

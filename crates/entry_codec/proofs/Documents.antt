@@ -56,38 +56,43 @@ job_found bytes p d q is lt e =
     let recovery = step recovery_reader is ops.stands ops.rest in
     let deps = step (list_reader dep_reader) is recovery.stands recovery.rest in
     let both = apart IsFitDep DepInRange deps.value deps.fits in
-    subst (λ (z : JobDoc × ℕ). JobFits z.0 × Stands (job_doc_bytes z.0) bytes p z.1) (same_value deps.rest)
-    ((record {
-      name_ = name.fits.0;
-      work_ = work.fits.0;
-      logon_ = logon.fits.0;
-      cond_ = ops.fits.0;
-      deps_ = both.0;
-    }, record {
-      no_ = no.fits;
-      ws_ = ws.fits;
-      name_ = name.fits.1;
-      priority_ = priority.fits;
-      work_ = work.fits.1;
-      logon_ = logon.fits.1;
-      cond_ = All-from_recursion OpInRange ops.value ops.fits.1;
-      deps_ = both.1;
-    }), deps.stands)
+    subst (λ (z : JobDoc × ℕ). JobFits z.0 × Stands (job_doc_bytes z.0) bytes p z.1) (same_value deps.rest) (
+      (
+        record {
+          name_ = name.fits.0;
+          work_ = work.fits.0;
+          logon_ = logon.fits.0;
+          cond_ = ops.fits.0;
+          deps_ = both.0;
+        },
+        record {
+          no_ = no.fits;
+          ws_ = ws.fits;
+          name_ = name.fits.1;
+          priority_ = priority.fits;
+          work_ = work.fits.1;
+          logon_ = logon.fits.1;
+          cond_ = All-from_recursion OpInRange ops.value ops.fits.1;
+          deps_ = both.1;
+        },
+      ),
+      deps.stands,
+    )
 
 job_again : (bytes : List ℕ) (p : ℕ) (d : JobDoc) (q : ℕ) → JobFits d → Stands (job_doc_bytes d) bytes p q
     → job_at bytes p ≡ Ok (d, q)
 unfolding job_at job_doc_bytes
 job_again bytes p d q fits s =
     let no = peeled (in_order (u32_bytes d.no) (
-        u16_bytes d.ws
-        ∷ text_bytes d.name
-        ∷ u8_bytes d.priority
-        ∷ work_bytes d.work
-        ∷ text_bytes d.logon
-        ∷ cond_bytes d.cond
-        ∷ u8_bytes (recovery_code d.recovery)
-        ∷ list_bytes dep_bytes d.deps
-        ∷ []) s) in
+    u16_bytes d.ws
+    ∷ text_bytes d.name
+    ∷ u8_bytes d.priority
+    ∷ work_bytes d.work
+    ∷ text_bytes d.logon
+    ∷ cond_bytes d.cond
+    ∷ u8_bytes (recovery_code d.recovery)
+    ∷ list_bytes dep_bytes d.deps
+    ∷ []) s) in
     let ws = peeled no.rest in
     let name = peeled ws.rest in
     let priority = peeled name.rest in
@@ -128,30 +133,35 @@ stream_found bytes p d q is lt e =
     let jobs = step (list_reader job_reader) is deps.stands deps.rest in
     let both = apart IsFitDep DepInRange deps.value deps.fits in
     let all_jobs = apart IsFitJob JobInRange jobs.value jobs.fits in
-    subst (λ (z : StreamDoc × ℕ). StreamFits z.0 × Stands (stream_doc_bytes z.0) bytes p z.1) (same_value jobs.rest)
-    ((record { name_ = name.fits.0; deps_ = both.0; jobs_ = all_jobs.0 }, record {
-      no_ = no.fits;
-      ws_ = ws.fits;
-      name_ = name.fits.1;
-      priority_ = priority.fits;
-      limit_ = limit.fits;
-      deps_ = both.1;
-      jobs_ = all_jobs.1;
-    }), jobs.stands)
+    subst (λ (z : StreamDoc × ℕ). StreamFits z.0 × Stands (stream_doc_bytes z.0) bytes p z.1) (same_value jobs.rest) (
+      (
+        record { name_ = name.fits.0; deps_ = both.0; jobs_ = all_jobs.0 },
+        record {
+          no_ = no.fits;
+          ws_ = ws.fits;
+          name_ = name.fits.1;
+          priority_ = priority.fits;
+          limit_ = limit.fits;
+          deps_ = both.1;
+          jobs_ = all_jobs.1;
+        },
+      ),
+      jobs.stands,
+    )
 
 stream_again : (bytes : List ℕ) (p : ℕ) (d : StreamDoc) (q : ℕ) → StreamFits d → Stands (stream_doc_bytes d) bytes p q
     → stream_at bytes p ≡ Ok (d, q)
 unfolding stream_at stream_doc_bytes
 stream_again bytes p d q fits s =
     let no = peeled (in_order (u32_bytes d.no) (
-        u16_bytes d.ws
-        ∷ text_bytes d.name
-        ∷ u8_bytes d.priority
-        ∷ option_bytes u16_bytes d.limit
-        ∷ flag_bytes d.carry
-        ∷ list_bytes dep_bytes d.deps
-        ∷ list_bytes job_doc_bytes d.jobs
-        ∷ []) s) in
+    u16_bytes d.ws
+    ∷ text_bytes d.name
+    ∷ u8_bytes d.priority
+    ∷ option_bytes u16_bytes d.limit
+    ∷ flag_bytes d.carry
+    ∷ list_bytes dep_bytes d.deps
+    ∷ list_bytes job_doc_bytes d.jobs
+    ∷ []) s) in
     let ws = peeled no.rest in
     let name = peeled ws.rest in
     let priority = peeled name.rest in
@@ -189,36 +199,41 @@ job_draft_found bytes p d q is lt e =
     let recovery = step recovery_reader is ops.stands ops.rest in
     let deps = step (list_reader draft_dep_reader) is recovery.stands recovery.rest in
     let both = apart IsFitDraftDep DraftDepInRange deps.value deps.fits in
-    subst (λ (z : JobDraft × ℕ). JobDraftFits z.0 × Stands (job_draft_bytes z.0) bytes p z.1) (same_value deps.rest)
-    ((record {
-      name_ = name.fits.0;
-      work_ = work.fits.0;
-      logon_ = logon.fits.0;
-      cond_ = ops.fits.0;
-      deps_ = both.0;
-    }, record {
-      ws_ = ws.fits;
-      name_ = name.fits.1;
-      priority_ = priority.fits;
-      work_ = work.fits.1;
-      logon_ = logon.fits.1;
-      cond_ = All-from_recursion OpInRange ops.value ops.fits.1;
-      deps_ = both.1;
-    }), deps.stands)
+    subst (λ (z : JobDraft × ℕ). JobDraftFits z.0 × Stands (job_draft_bytes z.0) bytes p z.1) (same_value deps.rest) (
+      (
+        record {
+          name_ = name.fits.0;
+          work_ = work.fits.0;
+          logon_ = logon.fits.0;
+          cond_ = ops.fits.0;
+          deps_ = both.0;
+        },
+        record {
+          ws_ = ws.fits;
+          name_ = name.fits.1;
+          priority_ = priority.fits;
+          work_ = work.fits.1;
+          logon_ = logon.fits.1;
+          cond_ = All-from_recursion OpInRange ops.value ops.fits.1;
+          deps_ = both.1;
+        },
+      ),
+      deps.stands,
+    )
 
 job_draft_again : (bytes : List ℕ) (p : ℕ) (d : JobDraft) (q : ℕ) → JobDraftFits d
     → Stands (job_draft_bytes d) bytes p q → job_draft_at bytes p ≡ Ok (d, q)
 unfolding job_draft_at job_draft_bytes
 job_draft_again bytes p d q fits s =
     let ws = peeled (in_order (u16_bytes d.ws) (
-        text_bytes d.name
-        ∷ u8_bytes d.priority
-        ∷ work_bytes d.work
-        ∷ text_bytes d.logon
-        ∷ cond_bytes d.cond
-        ∷ u8_bytes (recovery_code d.recovery)
-        ∷ list_bytes draft_dep_bytes d.deps
-        ∷ []) s) in
+    text_bytes d.name
+    ∷ u8_bytes d.priority
+    ∷ work_bytes d.work
+    ∷ text_bytes d.logon
+    ∷ cond_bytes d.cond
+    ∷ u8_bytes (recovery_code d.recovery)
+    ∷ list_bytes draft_dep_bytes d.deps
+    ∷ []) s) in
     let name = peeled ws.rest in
     let priority = peeled name.rest in
     let work = peeled priority.rest in
@@ -257,28 +272,33 @@ draft_found bytes p d q is lt e =
     let jobs = step (list_reader job_draft_reader) is deps.stands deps.rest in
     let both = apart IsFitDraftDep DraftDepInRange deps.value deps.fits in
     let all_jobs = apart IsFitJobDraft JobDraftInRange jobs.value jobs.fits in
-    subst (λ (z : StreamDraft × ℕ). DraftFits z.0 × Stands (stream_draft_bytes z.0) bytes p z.1) (same_value jobs.rest)
-    ((record { name_ = name.fits.0; deps_ = both.0; jobs_ = all_jobs.0 }, record {
-      ws_ = ws.fits;
-      name_ = name.fits.1;
-      priority_ = priority.fits;
-      limit_ = limit.fits;
-      deps_ = both.1;
-      jobs_ = all_jobs.1;
-    }), jobs.stands)
+    subst (λ (z : StreamDraft × ℕ). DraftFits z.0 × Stands (stream_draft_bytes z.0) bytes p z.1) (same_value jobs.rest) (
+      (
+        record { name_ = name.fits.0; deps_ = both.0; jobs_ = all_jobs.0 },
+        record {
+          ws_ = ws.fits;
+          name_ = name.fits.1;
+          priority_ = priority.fits;
+          limit_ = limit.fits;
+          deps_ = both.1;
+          jobs_ = all_jobs.1;
+        },
+      ),
+      jobs.stands,
+    )
 
 draft_again : (bytes : List ℕ) (p : ℕ) (d : StreamDraft) (q : ℕ) → DraftFits d
     → Stands (stream_draft_bytes d) bytes p q → stream_draft_at bytes p ≡ Ok (d, q)
 unfolding stream_draft_at stream_draft_bytes
 draft_again bytes p d q fits s =
     let ws = peeled (in_order (u16_bytes d.ws) (
-        text_bytes d.name
-        ∷ u8_bytes d.priority
-        ∷ option_bytes u16_bytes d.limit
-        ∷ flag_bytes d.carry
-        ∷ list_bytes draft_dep_bytes d.deps
-        ∷ list_bytes job_draft_bytes d.jobs
-        ∷ []) s) in
+    text_bytes d.name
+    ∷ u8_bytes d.priority
+    ∷ option_bytes u16_bytes d.limit
+    ∷ flag_bytes d.carry
+    ∷ list_bytes draft_dep_bytes d.deps
+    ∷ list_bytes job_draft_bytes d.jobs
+    ∷ []) s) in
     let name = peeled ws.rest in
     let priority = peeled name.rest in
     let limit = peeled priority.rest in

@@ -55,20 +55,25 @@ unfolding entry_at entry_bytes
 entry_found bytes p e q is lt h =
     let version = step version_reader is (starts bytes p lt) h in
     let head : Stands (1 ∷ []) bytes p version.place =
-        subst (λ (n : ℕ). Stands (u8_bytes n) bytes p version.place) version.fits version.stands in
+    subst (λ (n : ℕ). Stands (u8_bytes n) bytes p version.place) version.fits version.stands in
     let feed = step feed_reader is head version.rest in
     let place = step count_reader is feed.stands feed.rest in
     let body = step (body_reader feed.value) is place.stands place.rest in
-    subst (λ (z : Entry × ℕ). EntryFits z.0 × Stands (entry_bytes z.0) bytes p z.1) (same_value body.rest)
-    ((record {
-      in_its_feed = body.fits.1;
-      has_place = ltb-true 0 place.value place.fits.1;
-      bounded = body.fits.0.0;
-    }, record {
-      feed_ = feed.fits;
-      place_ = place.fits.0;
-      body_ = body.fits.0.1;
-    }), body.stands)
+    subst (λ (z : Entry × ℕ). EntryFits z.0 × Stands (entry_bytes z.0) bytes p z.1) (same_value body.rest) (
+      (
+        record {
+          in_its_feed = body.fits.1;
+          has_place = ltb-true 0 place.value place.fits.1;
+          bounded = body.fits.0.0;
+        },
+        record {
+          feed_ = feed.fits;
+          place_ = place.fits.0;
+          body_ = body.fits.0.1;
+        },
+      ),
+      body.stands,
+    )
 
 entry_again : (bytes : List ℕ) (p : ℕ) (e : Entry) (q : ℕ) → EntryFits e → Stands (entry_bytes e) bytes p q
     → entry_at bytes p ≡ Ok (e, q)

@@ -2,6 +2,7 @@ pub mod Puts
 pub mod Readers
 pub mod Numbers
 pub mod Texts
+pub mod ShortTexts
 pub mod Choices
 pub mod Lists
 pub mod Seens
@@ -11,3 +12,4 @@ pub mod Documents
 pub mod Commands
 pub mod Bodies
 pub mod Entries
+pub mod Loops

@@ -71,8 +71,7 @@ unfolding list_at
 list_found {X} {P} {spell} {item} reader bytes p xs q is lt e =
     let count = step u32_reader is (starts bytes p lt) e in
     let items = (items_reader reader count.value).found bytes count.place xs q is (within count.stands) count.rest in
-    let counted : count.value ≡ length xs = sym items.0.0 in
-    (
+    let counted : count.value ≡ length xs = sym items.0.0 in (
       (omega (arith, count.fits, items.0.0), items.0.1),
       joined (subst (λ (n : ℕ). Stands (u32_bytes n) bytes p count.place) counted count.stands) items.1,
     )

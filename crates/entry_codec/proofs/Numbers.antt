@@ -92,12 +92,11 @@ number_found w limit spell wide bytes p n q is e =
     let q-is : p + k ≡ q = ap (λ (r : ℕ × ℕ). r.1) g.1 in
     let front_is : IsBytes (take k left) = IsBytes-take k left (IsBytes-drop p bytes is) in
     let front : spell n ≡ take k left = rw (← n-is) (wide.back (take k left)
-        (omega (arith, length-take k left, length-drop p bytes)) front_is) in
+    (omega (arith, length-take k left, length-drop p bytes)) front_is) in
     let whole : left ≡ take k left ++ drop k left = sym (take-append-drop k left) in
     let later : drop k left ≡ drop q bytes = drop-drop k p bytes ∙ ap (λ (m : ℕ). drop m bytes) q-is in
     let here : left ≡ spell n ++ drop q bytes = rw (front, ← later) whole in
-    let len : length (spell n) ≡ k = wide.len n in
-    (
+    let len : length (spell n) ≡ k = wide.len n in (
       rw (← n-is) (wide.below (take k left) front_is),
       record { it = (here, omega (arith, len, q-is), omega (arith, q-is, long)) },
     )

@@ -39,9 +39,10 @@ pub feed_reader : IsReader FeedInRange feed_bytes feed_at
 unfolding feed_at
 feed_reader =
     record {
-      found = choice_found FeedInRange feed_bytes feed_rows
-          (row_1 u16_reader 0 Events (λ w fits. fits) (λ w. refl),
-          (row_2 u16_reader u16_reader 1 Orders (λ a w f g. (f, g)) (λ a w. refl), tt));
+      found = choice_found FeedInRange feed_bytes feed_rows (
+        row_1 u16_reader 0 Events (λ w fits. fits) (λ w. refl),
+        (row_2 u16_reader u16_reader 1 Orders (λ a w f g. (f, g)) (λ a w. refl), tt),
+      );
       again = feed_again;
     }
 
@@ -59,9 +60,10 @@ pub obj_reader : IsReader ObjInRange obj_bytes obj_at
 unfolding obj_at
 obj_reader =
     record {
-      found = choice_found ObjInRange obj_bytes obj_rows
-          (row_1 u32_reader 0 Job (λ j fits. fits) (λ j. refl),
-          (row_1 u32_reader 1 Stream (λ t fits. fits) (λ t. refl), tt));
+      found = choice_found ObjInRange obj_bytes obj_rows (
+        row_1 u32_reader 0 Job (λ j fits. fits) (λ j. refl),
+        (row_1 u32_reader 1 Stream (λ t fits. fits) (λ t. refl), tt),
+      );
       again = obj_again;
     }
 
@@ -147,10 +149,28 @@ pub why_reader : IsReader Any (λ (why : Why). u8_bytes (why_code why)) why_at
 unfolding why_at
 why_reader =
     record {
-      found = choice_found Any why_bytes why_rows
-          (row_0 1 NotMine tt refl, (row_0 2 NotThere tt refl, (row_0 3 Running tt refl, (row_0 4 NotRunning tt refl,
-          (row_0 5 NotEnded tt refl, (row_0 6 Why.Ended tt refl, (row_0 7 AlreadyThere tt refl,
-          (row_0 8 OutOfRange tt refl, (row_0 9 NotMaster tt refl, (row_0 10 NotBuilt tt refl, tt))))))))));
+      found = choice_found Any why_bytes why_rows (
+        row_0 1 NotMine tt refl,
+        (
+          row_0 2 NotThere tt refl,
+          (
+            row_0 3 Running tt refl,
+            (
+              row_0 4 NotRunning tt refl,
+              (
+                row_0 5 NotEnded tt refl,
+                (
+                  row_0 6 Why.Ended tt refl,
+                  (
+                    row_0 7 AlreadyThere tt refl,
+                    (row_0 8 OutOfRange tt refl, (row_0 9 NotMaster tt refl, (row_0 10 NotBuilt tt refl, tt))),
+                  ),
+                ),
+              ),
+            ),
+          ),
+        ),
+      );
       again = why_again;
     }
 
@@ -191,15 +211,28 @@ pub dep_reader : IsReader DepFits dep_bytes dep_at
 unfolding dep_at dep_bytes
 dep_reader =
     record {
-      found = choice_found DepFits dep_bytes dep_rows
-          (row_1 u32_reader 1 FollowsJob (λ j f. (tt, f)) (λ j. refl),
-          (row_1 u32_reader 2 FollowsStream (λ t f. (tt, f)) (λ t. refl),
-          (row_2 u16_reader u16_reader 3 Needs (λ r n f g. (tt, (f, g))) (λ r n. refl),
-          (row_1 u16_reader 4 (λ n. Prompt (Global n)) (λ n f. (tt, f)) (λ n. refl),
-          (row_1 text_reader 5 (λ l. Prompt (Own l)) (λ l f. f) (λ l. refl),
-          (row_1 u64_reader 6 At (λ t f. (tt, f)) (λ t. refl),
-          (row_2 u64_reader until_reader 7 Until (λ t mark f g. (tt, f)) (λ t mark. refl),
-          (row_1 text_reader 8 Outside (λ l f. f) (λ l. refl), tt))))))));
+      found = choice_found DepFits dep_bytes dep_rows (
+        row_1 u32_reader 1 FollowsJob (λ j f. (tt, f)) (λ j. refl),
+        (
+          row_1 u32_reader 2 FollowsStream (λ t f. (tt, f)) (λ t. refl),
+          (
+            row_2 u16_reader u16_reader 3 Needs (λ r n f g. (tt, (f, g))) (λ r n. refl),
+            (
+              row_1 u16_reader 4 (λ n. Prompt (Global n)) (λ n f. (tt, f)) (λ n. refl),
+              (
+                row_1 text_reader 5 (λ l. Prompt (Own l)) (λ l f. f) (λ l. refl),
+                (
+                  row_1 u64_reader 6 At (λ t f. (tt, f)) (λ t. refl),
+                  (
+                    row_2 u64_reader until_reader 7 Until (λ t mark f g. (tt, f)) (λ t mark. refl),
+                    (row_1 text_reader 8 Outside (λ l f. f) (λ l. refl), tt),
+                  ),
+                ),
+              ),
+            ),
+          ),
+        ),
+      );
       again = dep_again;
     }
 
@@ -258,10 +291,24 @@ pub op_reader : IsReader OpInRange op_bytes op_at
 unfolding op_at
 op_reader =
     record {
-      found = choice_found OpInRange op_bytes op_rows
-          (row_1 i32_reader 0 (Cmp Eq) (λ n f. f) (λ n. refl), (row_1 i32_reader 1 (Cmp Ne) (λ n f. f) (λ n. refl),
-          (row_1 i32_reader 2 (Cmp Lt) (λ n f. f) (λ n. refl), (row_1 i32_reader 3 (Cmp Le) (λ n f. f) (λ n. refl),
-          (row_1 i32_reader 4 (Cmp Gt) (λ n f. f) (λ n. refl), (row_1 i32_reader 5 (Cmp Ge) (λ n f. f) (λ n. refl),
-          (row_0 6 And tt refl, (row_0 7 Or tt refl, (row_0 8 Not tt refl, tt)))))))));
+      found = choice_found OpInRange op_bytes op_rows (
+        row_1 i32_reader 0 (Cmp Eq) (λ n f. f) (λ n. refl),
+        (
+          row_1 i32_reader 1 (Cmp Ne) (λ n f. f) (λ n. refl),
+          (
+            row_1 i32_reader 2 (Cmp Lt) (λ n f. f) (λ n. refl),
+            (
+              row_1 i32_reader 3 (Cmp Le) (λ n f. f) (λ n. refl),
+              (
+                row_1 i32_reader 4 (Cmp Gt) (λ n f. f) (λ n. refl),
+                (
+                  row_1 i32_reader 5 (Cmp Ge) (λ n f. f) (λ n. refl),
+                  (row_0 6 And tt refl, (row_0 7 Or tt refl, (row_0 8 Not tt refl, tt))),
+                ),
+              ),
+            ),
+          ),
+        ),
+      );
       again = op_again;
     }

@@ -35,7 +35,7 @@ nothing s = let e = s.it.1 in omega arith
 pub joined : {a b bytes : List ℕ} {p q r : ℕ} → Stands a bytes p q → Stands b bytes q r → Stands (a ++ b) bytes p r
 joined {a} {b} {bytes} {p} {q} {r} s t =
     let here : drop p bytes ≡ (a ++ b) ++ drop r bytes = s.it.0 ∙ ap (λ (l : List ℕ). a ++ l) t.it.0
-        ∙ sym (append_assoc a b (drop r bytes)) in
+    ∙ sym (append_assoc a b (drop r bytes)) in
     record { it = (here, omega (arith, length-append a b, s.it.1, t.it.1), t.it.2) }
 
 pub split : (a b : List ℕ) {bytes : List ℕ} {p r : ℕ} → Stands (a ++ b) bytes p r
@@ -43,9 +43,8 @@ pub split : (a b : List ℕ) {bytes : List ℕ} {p r : ℕ} → Stands (a ++ b) 
 split a b {bytes} {p} {r} s =
     let whole : drop p bytes ≡ a ++ (b ++ drop r bytes) = s.it.0 ∙ append_assoc a b (drop r bytes) in
     let later : drop (p + length a) bytes ≡ b ++ drop r bytes = sym (drop-drop (length a) p bytes)
-        ∙ ap (drop (length a)) whole ∙ drop_at a (b ++ drop r bytes) (length a) refl in
-    let len = length-append a b in
-    (
+    ∙ ap (drop (length a)) whole ∙ drop_at a (b ++ drop r bytes) (length a) refl in
+    let len = length-append a b in (
       record { it = (whole ∙ ap (λ (l : List ℕ). a ++ l) (sym later), refl, omega (arith, len, s.it.1, s.it.2)) },
       record { it = (later, omega (arith, len, s.it.1), s.it.2) },
     )

@@ -1,5 +1,5 @@
 -- Counts of workstations that are read ascend without zeros, and those that do are read.
-use Rattle.std.proofs.Common.{◌≡◌, ℕ, zero, suc, ◌+◌, ◌<◌, ◌≤◌, true, List, [], ◌∷◌, ◌++◌, length, Result, Ok, Err}
+use Rattle.std.proofs.Common.{◌≡◌, ℕ, zero, suc, ◌+◌, ◌<◌, ◌≤◌, true, ◌&&◌, List, [], ◌∷◌, ◌++◌, length, Result, Ok, Err}
 use Rattle.std.proofs.Common.{refl, sym, ap, subst, ◌∙◌, arith, IsTrue}
 use Rattle.std.proofs.lemmas.Bool.{and_parts, and_from}
 use Rattle.std.specs.List.{AllByRecursion}
@@ -11,7 +11,7 @@ use Rattle.model.specs.Fields.{u16_bytes, u32_bytes}
 use Rattle.model.specs.Ranges.{IsU16, IsU32, CountInRange}
 use Rattle.model.specs.Spelling.{count_bytes, seen_bytes}
 use Rattle.entry_codec.specs.Reading.{Reader, followed_by, gives}
-use Rattle.entry_codec.specs.Fields.{u32_at, counts_at, seen_at, number_with}
+use Rattle.entry_codec.specs.Fields.{u32_at, count_at, counts_at, seen_at, number_with}
 use Rattle.entry_codec.proofs.Readers.{IsBytes, Stands, IsReader, within, starts, nothing, joined, split, step, on, same_value}
 use Rattle.entry_codec.proofs.Numbers.{u16_reader, u32_reader, tested}
 
@@ -26,6 +26,29 @@ ws_reader least = tested w16 IsU16 u16_bytes (nat_le least) u16_reader
 
 pub count_reader : IsReader (λ (k : ℕ). IsU32 k × (nat_lt 0 k ≡ true)) u32_bytes (number_with w32 (nat_lt 0))
 count_reader = tested w32 IsU32 u32_bytes (nat_lt 0) u32_reader
+
+-- a workstation that is at least so great, and a count that is not 0
+abbrev CountFits : ℕ → ℕ × ℕ → Type 0
+CountFits least c = (IsU16 c.0 × (nat_le least c.0 ≡ true)) × (IsU32 c.1 × (nat_lt 0 c.1 ≡ true))
+
+pair_found : (least : ℕ) (bytes : List ℕ) (p : ℕ) (c : ℕ × ℕ) (q : ℕ) → IsBytes bytes → p ≤ length bytes
+    → count_at least bytes p ≡ Ok (c, q) → CountFits least c × Stands (count_bytes c) bytes p q
+unfolding count_at
+pair_found least bytes p c q is lt e =
+    let w = step (ws_reader least) is (starts bytes p lt) e in
+    let k = step count_reader is w.stands w.rest in
+    subst (λ (z : (ℕ × ℕ) × ℕ). CountFits least z.0 × Stands (count_bytes z.0) bytes p z.1) (same_value k.rest)
+    ((w.fits, k.fits), k.stands)
+
+pair_again : (least : ℕ) (bytes : List ℕ) (p : ℕ) (c : ℕ × ℕ) (q : ℕ) → CountFits least c
+    → Stands (count_bytes c) bytes p q → count_at least bytes p ≡ Ok (c, q)
+unfolding count_at
+pair_again least bytes p c q fits s =
+    let parts = split (u16_bytes c.0) (u32_bytes c.1) s in
+    on (ws_reader least) _ c.0 fits.0 parts.0 (on count_reader _ c.1 fits.1 parts.1 refl)
+
+pair_reader : (least : ℕ) → IsReader (CountFits least) count_bytes (count_at least)
+pair_reader least = record { found = pair_found least; again = pair_again least }
 
 none_found : (least : ℕ) (bytes : List ℕ) (p : ℕ) (seen : Seen) (q : ℕ) → p ≤ length bytes
     → counts_at least 0 bytes p ≡ Ok (seen, q) → Ascend least 0 seen × Stands (flat_map count_bytes seen) bytes p q
@@ -46,17 +69,17 @@ more_found : (least n : ℕ)
     → Ascend least (suc n) seen × Stands (flat_map count_bytes seen) bytes p q
 unfolding counts_at
 more_found least n fewer bytes p seen q is lt e =
-    let w = step (ws_reader least) is (starts bytes p lt) e in
-    let k = step count_reader is w.stands w.rest in
-    let others = step (fewer (w.value + 1)) is k.stands k.rest in
+    let first = step (pair_reader least) is (starts bytes p lt) e in
+    let others = step (fewer (first.value.0 + 1)) is first.stands first.rest in
     subst (λ (z : Seen × ℕ). Ascend least (suc n) z.0 × Stands (flat_map count_bytes z.0) bytes p z.1)
-    (same_value others.rest)
-    (record {
-      counted = ap suc others.fits.counted;
-      in_range = ((w.fits.0, k.fits.0), others.fits.in_range);
-      ascends = and_from _ _ w.fits.1 (and_from _ _ k.fits.1 others.fits.ascends);
-    },
-    others.stands)
+    (same_value others.rest) (
+      record {
+        counted = ap suc others.fits.counted;
+        in_range = ((first.fits.0.0, first.fits.1.0), others.fits.in_range);
+        ascends = and_from _ _ first.fits.0.1 (and_from _ _ first.fits.1.1 others.fits.ascends);
+      },
+      others.stands,
+    )
 
 more_again : (least n : ℕ)
     → ((from : ℕ) → IsReader (Ascend from n) (flat_map count_bytes) (counts_at from n)) → (bytes : List ℕ) (p : ℕ)
@@ -65,14 +88,14 @@ more_again : (least n : ℕ)
 unfolding counts_at
 more_again least n fewer bytes p [] q fits s = absurd (omega (arith, fits.counted))
 more_again least n fewer bytes p (c ∷ seen) q fits s =
-    let front = split (count_bytes c) (flat_map count_bytes seen) s in
-    let pair = split (u16_bytes c.0) (u32_bytes c.1) front.0 in
-    let first = and_parts _ _ fits.ascends in
-    let second = and_parts _ _ first.1 in
+    let parts = split (count_bytes c) (flat_map count_bytes seen) s in
+    let first : (nat_le least c.0 ≡ true) × ((nat_lt 0 c.1 && ascends_from (c.0 + 1) seen) ≡ true) =
+    and_parts (nat_le least c.0) (nat_lt 0 c.1 && ascends_from (c.0 + 1) seen) fits.ascends in
+    let second : (nat_lt 0 c.1 ≡ true) × (ascends_from (c.0 + 1) seen ≡ true) =
+    and_parts (nat_lt 0 c.1) (ascends_from (c.0 + 1) seen) first.1 in
     let len : length seen ≡ n = omega (arith, fits.counted) in
-    on (ws_reader least) _ c.0 (fits.in_range.0.0, first.0) pair.0
-    (on count_reader _ c.1 (fits.in_range.0.1, second.0) pair.1
-    (on (fewer (c.0 + 1)) _ seen (record { counted = len; in_range = fits.in_range.1; ascends = second.1 }) front.1 refl))
+    on (pair_reader least) _ c ((fits.in_range.0.0, first.0), (fits.in_range.0.1, second.0)) parts.0
+    (on (fewer (c.0 + 1)) _ seen (record { counted = len; in_range = fits.in_range.1; ascends = second.1 }) parts.1 refl)
 
 counts_reader : (n least : ℕ) → IsReader (Ascend least n) (flat_map count_bytes) (counts_at least n)
 counts_reader zero least =
@@ -96,8 +119,7 @@ unfolding seen_at
 seen_found bytes p seen q is lt e =
     let count = step u32_reader is (starts bytes p lt) e in
     let items = (counts_reader count.value 0).found bytes count.place seen q is (within count.stands) count.rest in
-    let counted : count.value ≡ length seen = sym items.0.counted in
-    (
+    let counted : count.value ≡ length seen = sym items.0.counted in (
       record {
         counted = omega (arith, count.fits, items.0.counted);
         in_range = items.0.in_range;

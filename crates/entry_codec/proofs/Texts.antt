@@ -44,9 +44,9 @@ text_found : (bytes : List ℕ) (p : ℕ) (text : List ℕ) (q : ℕ) → IsByte
 unfolding text_at
 text_found bytes p text q is lt e =
     let c = came (number_with w16 (λ n. nat_le n 4096) bytes p) (λ (n : ℕ × ℕ).
-        cond (ltb (length bytes) (n.1 + n.0)) (Err (Short p))
-        (cond (is_utf8 (take n.0 (drop n.1 bytes))) (Ok (take n.0 (drop n.1 bytes), n.1 + n.0)) (Err (BadField p))))
-        (text, q) e in
+    cond (ltb (length bytes) (n.1 + n.0)) (Err (Short p))
+    (cond (is_utf8 (take n.0 (drop n.1 bytes))) (Ok (take n.0 (drop n.1 bytes), n.1 + n.0)) (Err (BadField p))))
+    (text, q) e in
     let n = c.value.0 in
     let m = c.value.1 in
     let body = take n (drop m bytes) in
@@ -58,9 +58,9 @@ text_found bytes p text q is lt e =
     let whole : drop m bytes ≡ body ++ drop n (drop m bytes) = sym (take-append-drop n (drop m bytes)) in
     let later : drop n (drop m bytes) ≡ drop (m + n) bytes = drop-drop n m bytes in
     let stands : Stands body bytes m (m + n) =
-        record { it = (whole ∙ ap (λ (l : List ℕ). body ++ l) later, omega (arith, len), long) } in
+    record { it = (whole ∙ ap (λ (l : List ℕ). body ++ l) later, omega (arith, len), long) } in
     let head : Stands (u16_bytes (length body)) bytes p m =
-        subst (λ (k : ℕ). Stands (u16_bytes k) bytes p m) (sym len) f.1 in
+    subst (λ (k : ℕ). Stands (u16_bytes k) bytes p m) (sym len) f.1 in
     subst (λ (z : List ℕ × ℕ). TextFits z.0 × Stands (text_bytes z.0) bytes p z.1) g.same
     ((omega (arith, len, short), IsUtf8-from_is_utf8 body g.right), joined head stands)
 
@@ -73,7 +73,7 @@ text_again bytes p text q fits s =
     let m = p + length (u16_bytes n) in
     let small : n ≤ 4096 = fits.0 in
     let first : number_with w16 (λ n. nat_le n 4096) bytes p ≡ Ok (n, m) =
-        length_reader.again bytes p n m (omega (arith, small), le-leb n 4096 small) parts.0 in
+    length_reader.again bytes p n m (omega (arith, small), le-leb n 4096 small) parts.0 in
     let body : take n (drop m bytes) ≡ text = ap (take n) parts.1.it.0 ∙ take_at text (drop q bytes) n refl in
     let long : ltb (length bytes) (m + n) ≡ false = le-ltb _ _ (omega (arith, parts.1.it.1, parts.1.it.2)) in
     let right : is_utf8 text ≡ true = is_utf8-from_IsUtf8 text fits.1 in
@@ -101,3 +101,12 @@ i32_again bytes p z q fits s =
 
 pub i32_reader : IsReader IsI32 i32_bytes i32_at
 i32_reader = record { found = i32_found; again = i32_again }
+
+-- the same, as the code's values stand
+pub stands_signed : (bytes : List ℕ) (p : ℕ) (z : ℤ) (q : ℕ) → IsI32 z → StandsAt (i32_bytes z) bytes p q
+    → i32_at bytes p ≡ Ok (z, q)
+stands_signed bytes p z q fits s = i32_again bytes p z q fits (record { it = s })
+
+pub stands_text : (bytes : List ℕ) (p : ℕ) (text : List ℕ) (q : ℕ) → IsUtf8 text → length text ≤ 4096
+    → StandsAt (text_bytes text) bytes p q → text_at bytes p ≡ Ok (text, q)
+stands_text bytes p text q utf8 short s = text_again bytes p text q (short, utf8) (record { it = s })

@@ -39,8 +39,8 @@ dep_at = choice_at (
 unfoldable pub draft_dep_at : Reader DraftDep
 draft_dep_at bytes p =
     and_then (u8_at bytes p) (λ n.
-        if n.0 == 0 then three u16_at text_at (option_at text_at) Follows bytes n.1
-        else one dep_at Plain bytes p)
+    if n.0 == 0 then three u16_at text_at (option_at text_at) Follows bytes n.1
+    else one dep_at Plain bytes p)
 
 -- an operation of a condition
 unfoldable pub op_at : Reader CondOp

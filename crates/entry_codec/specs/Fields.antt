@@ -6,7 +6,7 @@ use Rattle.std.specs.Int.{Width, w8, w16, w32, w64, byte_len, from_be_bytes, cas
 use Rattle.std.specs.Str.{is_utf8}
 use Rattle.model.specs.History.{Seen}
 use Rattle.entry_codec.specs.declared.EntryFault.TheVariants.{Short, BadField}
-use Rattle.entry_codec.specs.Reading.{Reader, ◌>>=◌, and_then, followed_by, gives, one}
+use Rattle.entry_codec.specs.Reading.{Reader, ◌>>=◌, and_then, followed_by, gives, one, two}
 
 -- a number, the highest byte first
 unfoldable pub number_at : Width → Reader ℕ
@@ -41,9 +41,9 @@ number_with w test bytes p =
 unfoldable pub text_at : Reader (List ℕ)
 text_at bytes p =
     and_then (number_with w16 (λ n. nat_le n 4096) bytes p) (λ n.
-        if nat_lt (length bytes) (n.1 + n.0) then Err (Short p)
-        else if is_utf8 (take n.0 (drop n.1 bytes)) then Ok (take n.0 (drop n.1 bytes), n.1 + n.0)
-        else Err (BadField p))
+    if nat_lt (length bytes) (n.1 + n.0) then Err (Short p)
+    else if is_utf8 (take n.0 (drop n.1 bytes)) then Ok (take n.0 (drop n.1 bytes), n.1 + n.0)
+    else Err (BadField p))
 
 -- the row of a choice
 abbrev pub row_of : {X : Type 0} → ℕ → List (ℕ × Reader X) → Option (Reader X)
@@ -81,15 +81,17 @@ list_at item = do
   n ← u32_at
   items_at item n
 
--- so many workstations with their counts, from a least workstation on: each workstation is above the one before it,
--- and no count is 0
+-- a workstation that is at least so great, and its count, which is not 0
+unfoldable pub count_at : ℕ → Reader (ℕ × ℕ)
+count_at least = two (number_with w16 (nat_le least)) (number_with w32 (nat_lt 0)) (λ w k. (w, k))
+
+-- so many of them in ascending order, the first from a least workstation on
 unfoldable pub counts_at : ℕ → ℕ → Reader Seen
 counts_at least zero = gives []
 counts_at least (suc n) = do
-  w ← number_with w16 (nat_le least)
-  k ← number_with w32 (nat_lt 0)
-  others ← counts_at (w + 1) n
-  gives ((w, k) ∷ others)
+  first ← count_at least
+  others ← counts_at (first.0 + 1) n
+  gives (first ∷ others)
 
 -- a count in four bytes, and the workstations with theirs
 unfoldable pub seen_at : Reader Seen

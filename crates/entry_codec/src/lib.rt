@@ -1,10 +1,14 @@
-//! The one spelling of each entry in bytes.
+//! The one spelling of each entry in bytes, written and read.
 //!
-//! The spelling is that of `model::specs::Spelling`. A fit entry is written so.
+//! The spelling is that of `model::specs::Spelling`. A fit entry is written so, and exactly the spellings of fit entries
+//! are read, each as its entry. All other bytes have a first fault from the left, which is told with the place of its
+//! field; `specs/Entries.antt` and the files before it have the format, part by part, with its faults.
 #![tactic(auto)]
 
+mod reading;
 mod writing;
 
+pub use reading::entries::read_entry;
 pub use writing::entries::write_entry;
 
 /// Why bytes are no entry: their first fault from the left. Places count from 0.

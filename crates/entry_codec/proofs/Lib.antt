@@ -13,3 +13,7 @@ pub mod Commands
 pub mod Bodies
 pub mod Entries
 pub mod Loops
+pub mod Steady
+pub mod SteadyEntries
+pub mod Whole
+pub mod Told

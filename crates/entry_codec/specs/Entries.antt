@@ -1,12 +1,15 @@
 -- Entries as they are read. A number before a row is the choice that leads to it.
-use Rattle.std.specs.Prelude.{◌==◌, ℕ, List, [], ◌∷◌, Result, Ok, Err, nat_lt, if◌then◌else◌}
+use Rattle.std.specs.Prelude.{◌≢◌, ◌==◌, ◌<◌, ℕ, List, [], ◌∷◌, length, Result, Ok, Err, nat_lt, if◌then◌else◌}
 use Rattle.std.specs.Int.{w32}
+use Rattle.byte_fields.specs.Places.{StandsAt}
 use Rattle.model.specs.Types.{Feed, Events, Orders, Entry, Body, NewPlan, Added, Clock, Released, StreamEnded}
 use Rattle.model.specs.Types.{UntilPassed, Launched, Started, Failed, Ended, Lost, Fulfilled, Obeyed, Declined}
 use Rattle.model.specs.Types.{Order, Why, NotMine, NotThere, Running, NotRunning, NotEnded, AlreadyThere, OutOfRange}
 use Rattle.model.specs.Types.{NotMaster, NotBuilt}
+use Rattle.model.specs.Fit.{IsFit}
+use Rattle.model.specs.Spelling.{entry_bytes}
 use Rattle.entry_codec.specs.declared.EntryFault.{EntryFault}
-use Rattle.entry_codec.specs.declared.EntryFault.TheVariants.{Version}
+use Rattle.entry_codec.specs.declared.EntryFault.TheVariants.{Short, Version, BadField, TooMuch, NoMemory}
 use Rattle.entry_codec.specs.Reading.{Reader, ◌>>=◌, and_then, followed_by, gives, one, two, three, four, all_of}
 use Rattle.entry_codec.specs.Fields.{u8_at, u16_at, u32_at, u64_at, i32_at, number_with, choice_at, flag_at}
 use Rattle.entry_codec.specs.Fields.{list_at, seen_at}
@@ -72,3 +75,23 @@ entry_at = do
 -- the entry that the bytes are, or their first fault
 unfoldable pub entry_in : List ℕ → Result Entry EntryFault
 entry_in bytes = all_of entry_at bytes
+
+-- the first byte is there, and is another version
+abbrev pub HasOtherVersion : List ℕ → Type 0
+HasOtherVersion [] = ⊥
+HasOtherVersion (version ∷ bytes) = version ≢ 1
+
+-- a fit entry stands at the front, and bytes are left behind it from a place on
+pub record IsLeftAt (bytes : List ℕ) (p : ℕ) : Type 0 where
+  pub entry : Entry
+  pub fit : IsFit entry
+  pub stands : StandsAt (entry_bytes entry) bytes 0 p
+  pub left : p < length bytes
+
+-- a fault that stays whatever follows
+abbrev pub IsLasting : EntryFault → Type 0
+IsLasting Version = Unit {0}
+IsLasting (BadField p) = Unit {0}
+IsLasting (TooMuch p) = Unit {0}
+IsLasting (Short p) = ⊥
+IsLasting NoMemory = ⊥

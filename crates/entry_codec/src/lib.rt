@@ -6,6 +6,8 @@
 #![tactic(auto)]
 
 mod reading;
+#[cfg(test)]
+mod tests;
 mod writing;
 
 pub use reading::entries::read_entry;

@@ -10,12 +10,12 @@ use Rattle.model.specs.Invariant.{is_order, has_its_feed}
 use Rattle.model.specs.Fit.{IsFitBody, IsFitSeen, IsFitStream}
 use Rattle.model.specs.Ranges.{IsU32, CountInRange, StreamInRange, BodyInRange}
 use Rattle.model.specs.Spelling.{body_bytes}
-use Rattle.entry_codec.specs.Reading.{Reader, followed_by, gives, one, two, three, four}
+use Rattle.entry_codec.specs.Read.{Reader, chain, gives, one, two, three, four}
 use Rattle.entry_codec.specs.Fields.{u8_at, u16_at, u32_at, u64_at, i32_at, choice_at, flag_at, list_at, seen_at}
-use Rattle.entry_codec.specs.Documents.{obj_at, until_at, stream_at}
+use Rattle.entry_codec.specs.Parts.{obj_at, until_at, stream_at}
 use Rattle.entry_codec.specs.Commands.{cmd_at}
 use Rattle.entry_codec.specs.Entries.{why_at, event_at, order_at, body_at}
-use Rattle.entry_codec.proofs.Readers.{Stands, IsReader}
+use Rattle.entry_codec.proofs.Readers.{◌&◌, Stands, IsReader}
 use Rattle.entry_codec.proofs.Numbers.{u16_reader, u32_reader, u64_reader}
 use Rattle.entry_codec.proofs.Texts.{i32_reader}
 use Rattle.entry_codec.proofs.Choices.{row_1, row_2, row_3, row_4, choice_found, again_1, again_2, again_3, again_4}
@@ -80,33 +80,43 @@ event_again : (bytes : List ℕ) (p : ℕ) (b : Body) (q : ℕ) → EventFits b 
     → event_at bytes p ≡ Ok (b, q)
 unfolding event_at body_bytes
 event_again bytes p (NewPlan w x y z) q fits s =
-    again_4 u32_reader seen_reader (list_reader u32_reader) (list_reader stream_reader) event_rows 1 NewPlan w x y z refl (omega arith) fits.0.1.0 (seen_fits x fits.0.0.0 fits.0.1.1) (fits.0.0.1, recursion_from_All IsU32 y fits.0.1.2) (together IsFitStream StreamInRange z fits.0.0.2 fits.0.1.3) s
+    again_4 u32_reader seen_reader (list_reader u32_reader) (list_reader stream_reader) event_rows 1 NewPlan w x y z
+    refl (omega arith) fits.0.1.0 (seen_fits x fits.0.0.0 fits.0.1.1)
+    (fits.0.0.1, recursion_from_All IsU32 y fits.0.1.2) (together IsFitStream StreamInRange z fits.0.0.2 fits.0.1.3) s
 event_again bytes p (Added x y z) q fits s =
-    again_3 u16_reader u32_reader stream_reader event_rows 2 Added x y z refl (omega arith) fits.0.1.0 fits.0.1.1 (fits.0.0, fits.0.1.2) s
+    again_3 u16_reader u32_reader stream_reader event_rows 2 Added x y z refl (omega arith) fits.0.1.0 fits.0.1.1
+    (fits.0.0, fits.0.1.2) s
 event_again bytes p (Clock x) q fits s =
     again_1 u64_reader event_rows 3 Clock x refl (omega arith) fits.0.1 s
 event_again bytes p (Released x y) q fits s =
-    again_2 u32_reader seen_reader event_rows 4 Released x y refl (omega arith) fits.0.1.0 (seen_fits y fits.0.0 fits.0.1.1) s
+    again_2 u32_reader seen_reader event_rows 4 Released x y refl (omega arith) fits.0.1.0
+    (seen_fits y fits.0.0 fits.0.1.1) s
 event_again bytes p (StreamEnded x y) q fits s =
-    again_2 u32_reader seen_reader event_rows 5 StreamEnded x y refl (omega arith) fits.0.1.0 (seen_fits y fits.0.0 fits.0.1.1) s
+    again_2 u32_reader seen_reader event_rows 5 StreamEnded x y refl (omega arith) fits.0.1.0
+    (seen_fits y fits.0.0 fits.0.1.1) s
 event_again bytes p (UntilPassed x y z) q fits s =
-    again_3 obj_reader u16_reader until_reader event_rows 6 UntilPassed x y z refl (omega arith) fits.0.1.0 fits.0.1.1 tt s
+    again_3 obj_reader u16_reader until_reader event_rows 6 UntilPassed x y z refl (omega arith) fits.0.1.0 fits.0.1.1
+    tt s
 event_again bytes p (Launched x y z) q fits s =
-    again_3 u32_reader u32_reader seen_reader event_rows 7 Launched x y z refl (omega arith) fits.0.1.0 fits.0.1.1 (seen_fits z fits.0.0 fits.0.1.2) s
+    again_3 u32_reader u32_reader seen_reader event_rows 7 Launched x y z refl (omega arith) fits.0.1.0 fits.0.1.1
+    (seen_fits z fits.0.0 fits.0.1.2) s
 event_again bytes p (Started x y) q fits s =
     again_2 u32_reader u32_reader event_rows 8 Started x y refl (omega arith) fits.0.1.0 fits.0.1.1 s
 event_again bytes p (Failed x y) q fits s =
     again_2 u32_reader u32_reader event_rows 9 Failed x y refl (omega arith) fits.0.1.0 fits.0.1.1 s
 event_again bytes p (Ended w x y z) q fits s =
-    again_4 u32_reader u32_reader i32_reader flag_reader event_rows 10 Ended w x y z refl (omega arith) fits.0.1.0 fits.0.1.1 fits.0.1.2 tt s
+    again_4 u32_reader u32_reader i32_reader flag_reader event_rows 10 Ended w x y z refl (omega arith) fits.0.1.0
+    fits.0.1.1 fits.0.1.2 tt s
 event_again bytes p (Lost x y) q fits s =
     again_2 u32_reader u32_reader event_rows 11 Lost x y refl (omega arith) fits.0.1.0 fits.0.1.1 s
 event_again bytes p (Fulfilled x y) q fits s =
     again_2 obj_reader u16_reader event_rows 12 Fulfilled x y refl (omega arith) fits.0.1.0 fits.0.1.1 s
 event_again bytes p (Obeyed x y z) q fits s =
-    again_3 u16_reader u32_reader cmd_reader event_rows 13 Obeyed x y z refl (omega arith) fits.0.1.0 fits.0.1.1 (fits.0.0, fits.0.1.2) s
+    again_3 u16_reader u32_reader cmd_reader event_rows 13 Obeyed x y z refl (omega arith) fits.0.1.0 fits.0.1.1
+    (fits.0.0, fits.0.1.2) s
 event_again bytes p (Declined x y z) q fits s =
-    again_3 u16_reader u32_reader why_reader event_rows 14 Declined x y z refl (omega arith) fits.0.1.0 fits.0.1.1 tt s
+    again_3 u16_reader u32_reader why_reader event_rows 14 Declined x y z refl (omega arith) fits.0.1.0 fits.0.1.1 tt
+    s
 event_again bytes p (Order c) q fits s = absurd cc
 
 event_reader : IsReader EventFits body_bytes event_at
@@ -114,48 +124,29 @@ unfolding event_at body_bytes
 event_reader =
     record {
       found = choice_found EventFits body_bytes event_rows (
-        row_4 u32_reader seen_reader (list_reader u32_reader) (list_reader stream_reader) 1 NewPlan plan_fits (λ w x y z. refl),
-        (
-          row_3 u16_reader u32_reader stream_reader 2 Added (λ x y z f g h. ((h.0, (f, g, h.1)), refl)) (λ x y z. refl),
-          (
-            row_1 u64_reader 3 Clock (λ x f. ((tt, f), refl)) (λ x. refl),
-            (
-              row_2 u32_reader seen_reader 4 Released (λ x y f g. ((fit_seen y g, (f, seen_in_range y g)), refl)) (λ x y. refl),
-              (
-                row_2 u32_reader seen_reader 5 StreamEnded (λ x y f g. ((fit_seen y g, (f, seen_in_range y g)), refl)) (λ x y. refl),
-                (
-                  row_3 obj_reader u16_reader until_reader 6 UntilPassed (λ x y z f g h. ((tt, (f, g)), refl)) (λ x y z. refl),
-                  (
-                    row_3 u32_reader u32_reader seen_reader 7 Launched (λ x y z f g h. ((fit_seen z h, (f, g, seen_in_range z h)), refl)) (λ x y z. refl),
-                    (
-                      row_2 u32_reader u32_reader 8 Started (λ x y f g. ((tt, (f, g)), refl)) (λ x y. refl),
-                      (
-                        row_2 u32_reader u32_reader 9 Failed (λ x y f g. ((tt, (f, g)), refl)) (λ x y. refl),
-                        (
-                          row_4 u32_reader u32_reader i32_reader flag_reader 10 Ended (λ w x y z f g h k. ((tt, (f, g, h)), refl)) (λ w x y z. refl),
-                          (
-                            row_2 u32_reader u32_reader 11 Lost (λ x y f g. ((tt, (f, g)), refl)) (λ x y. refl),
-                            (
-                              row_2 obj_reader u16_reader 12 Fulfilled (λ x y f g. ((tt, (f, g)), refl)) (λ x y. refl),
-                              (
-                                row_3 u16_reader u32_reader cmd_reader 13 Obeyed (λ x y z f g h. ((h.0, (f, g, h.1)), refl)) (λ x y z. refl),
-                                (
-                                  row_3 u16_reader u32_reader why_reader 14 Declined (λ x y z f g h. ((tt, (f, g)), refl)) (λ x y z. refl),
-                                  tt,
-                                ),
-                              ),
-                            ),
-                          ),
-                        ),
-                      ),
-                    ),
-                  ),
-                ),
-              ),
-            ),
-          ),
-        ),
-      );
+          row_4 u32_reader seen_reader (list_reader u32_reader) (list_reader stream_reader) 1 NewPlan plan_fits
+          (λ w x y z. refl)
+          & row_3 u16_reader u32_reader stream_reader 2 Added (λ x y z f g h. ((h.0, (f, g, h.1)), refl))
+          (λ x y z. refl)
+          & row_1 u64_reader 3 Clock (λ x f. ((tt, f), refl)) (λ x. refl)
+          & row_2 u32_reader seen_reader 4 Released (λ x y f g. ((fit_seen y g, (f, seen_in_range y g)), refl))
+          (λ x y. refl)
+          & row_2 u32_reader seen_reader 5 StreamEnded (λ x y f g. ((fit_seen y g, (f, seen_in_range y g)), refl))
+          (λ x y. refl)
+          & row_3 obj_reader u16_reader until_reader 6 UntilPassed (λ x y z f g h. ((tt, (f, g)), refl))
+          (λ x y z. refl)
+          & row_3 u32_reader u32_reader seen_reader 7 Launched (λ x y z f g h.
+          ((fit_seen z h, (f, g, seen_in_range z h)), refl)) (λ x y z. refl)
+          & row_2 u32_reader u32_reader 8 Started (λ x y f g. ((tt, (f, g)), refl)) (λ x y. refl)
+          & row_2 u32_reader u32_reader 9 Failed (λ x y f g. ((tt, (f, g)), refl)) (λ x y. refl)
+          & row_4 u32_reader u32_reader i32_reader flag_reader 10 Ended (λ w x y z f g h k. ((tt, (f, g, h)), refl))
+          (λ w x y z. refl)
+          & row_2 u32_reader u32_reader 11 Lost (λ x y f g. ((tt, (f, g)), refl)) (λ x y. refl)
+          & row_2 obj_reader u16_reader 12 Fulfilled (λ x y f g. ((tt, (f, g)), refl)) (λ x y. refl)
+          & row_3 u16_reader u32_reader cmd_reader 13 Obeyed (λ x y z f g h. ((h.0, (f, g, h.1)), refl))
+          (λ x y z. refl)
+          & row_3 u16_reader u32_reader why_reader 14 Declined (λ x y z f g h. ((tt, (f, g)), refl)) (λ x y z. refl)
+          & tt);
       again = event_again;
     }
 
@@ -172,8 +163,9 @@ order_reader : IsReader OrderFits body_bytes order_at
 unfolding order_at body_bytes
 order_reader =
     record {
-      found = choice_found OrderFits body_bytes order_rows
-          (row_1 cmd_reader 15 Order (λ c f. (f, refl)) (λ c. refl), tt);
+      found = choice_found OrderFits body_bytes order_rows (
+          row_1 cmd_reader 15 Order (λ c f. (f, refl)) (λ c. refl)
+          & tt);
       again = order_again;
     }
 

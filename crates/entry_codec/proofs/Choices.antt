@@ -1,14 +1,16 @@
 -- Choices: their rows, each of which spells its own number and what stands behind it.
-use Rattle.std.proofs.Common.{◌≡◌, ℕ, ◌+◌, ◌<◌, ◌≤◌, Bool, true, false, cond, eqb, List, [], ◌∷◌, ◌++◌, length, Option}
+use Rattle.std.proofs.Common.{◌≡◌, ℕ, ◌+◌, ◌<◌, ◌≤◌, Bool, true, false, cond, eqb, List, [], ◌∷◌, ◌++◌, length}
+use Rattle.std.proofs.Common.{Option}
 use Rattle.std.proofs.Common.{Some, None, Result, Ok, Err, refl, sym, ap, subst, ◌∙◌, arith}
 use Rattle.std.proofs.lemmas.Bool.{eqb-true}
 use Rattle.std.specs.List.{AllByRecursion}
 use Rattle.std.specs.Prelude.{IfSome}
 use Rattle.model.specs.Fields.{u8_bytes, flag_bytes, option_bytes}
 use Rattle.entry_codec.specs.declared.EntryFault.{EntryFault}
-use Rattle.entry_codec.specs.Reading.{Reader, and_then, followed_by, gives, one, two, three, four}
+use Rattle.entry_codec.specs.Read.{Reader, and_then, chain, gives, one, two, three, four}
 use Rattle.entry_codec.specs.Fields.{u8_at, row_of, behind, choice_at, flag_at, option_at}
-use Rattle.entry_codec.proofs.Readers.{IsBytes, Stands, IsReader, Step, within, starts, nothing, joined, split, came, step, on, same_value}
+use Rattle.entry_codec.proofs.Readers.{◌&◌, IsBytes, Stands, IsReader, Step, within, starts, nothing, joined, split}
+use Rattle.entry_codec.proofs.Readers.{came, step, on, same_value}
 use Rattle.entry_codec.proofs.Numbers.{u8_reader}
 
 -- the spelling of a value begins with a number, and the rest of it stands there
@@ -95,7 +97,8 @@ pub row_4 : {X A B C D : Type 0} {P : X → Type 0} {spell : X → List ℕ} {Q 
     → ((w : A) (x : B) (y : C) (z : D) → Q w → R x → S y → T z → P (make w x y z))
     → ((w : A) (x : B) (y : C) (z : D) → spell (make w x y z) ≡ tag ∷ (s w ++ t x ++ u y ++ v z))
     → IsRow P spell (tag, four a b c d make)
-row_4 {X} {A} {B} {C} {D} {P} {spell} {Q} {s} {a} {R} {t} {b} {S} {u} {c} {T} {v} {d} ra rb rc rd tag make fits spelled =
+row_4 {X} {A} {B} {C} {D} {P} {spell} {Q} {s} {a} {R} {t} {b} {S} {u} {c} {T} {v} {d} ra rb rc rd tag make fits
+    spelled =
     record { found = go }
   where
     go : (bytes : List ℕ) (p : ℕ) (y : X) (q : ℕ) → IsBytes bytes → p ≤ length bytes
@@ -216,7 +219,7 @@ flag_again bytes p true q s = again_0 flag_rows 1 true refl (omega arith) s
 pub flag_reader : IsReader Any flag_bytes flag_at
 flag_reader =
     record {
-      found = choice_found Any flag_bytes flag_rows (row_0 0 false tt refl, (row_0 1 true tt refl, tt));
+      found = choice_found Any flag_bytes flag_rows (row_0 0 false tt refl & row_0 1 true tt refl & tt);
       again = λ bytes p b q fits s. flag_again bytes p b q s;
     }
 
@@ -225,8 +228,10 @@ pub option_reader : {X : Type 0} {P : X → Type 0} {spell : X → List ℕ} {va
 option_reader {X} {P} {spell} {value} reader =
     record {
       found = choice_found (λ (o : Option X). IfSome o P) (option_bytes spell)
-          ((0, gives None) ∷ (1, one value Some) ∷ [])
-          (row_0 0 None tt refl, (row_1 reader 1 Some (λ x fits. fits) (λ x. refl), tt));
+          ((0, gives None) ∷ (1, one value Some) ∷ []) (
+          row_0 0 None tt refl
+          & row_1 reader 1 Some (λ x fits. fits) (λ x. refl)
+          & tt);
       again = go;
     }
   where

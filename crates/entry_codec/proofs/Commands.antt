@@ -5,11 +5,11 @@ use Rattle.model.specs.Types.{StreamLimit, Total, ReplyGlobal, ReplyOwn, Stop, S
 use Rattle.model.specs.Fit.{IsFitCmd}
 use Rattle.model.specs.Ranges.{CmdInRange}
 use Rattle.model.specs.Spelling.{cmd_bytes}
-use Rattle.entry_codec.specs.Reading.{Reader, followed_by, gives, one, two, three}
+use Rattle.entry_codec.specs.Read.{Reader, chain, gives, one, two, three}
 use Rattle.entry_codec.specs.Fields.{u8_at, u16_at, u32_at, choice_at, flag_at}
-use Rattle.entry_codec.specs.Documents.{obj_at, dep_at, stream_draft_at}
+use Rattle.entry_codec.specs.Parts.{obj_at, dep_at, stream_draft_at}
 use Rattle.entry_codec.specs.Commands.{cmd_at}
-use Rattle.entry_codec.proofs.Readers.{Stands, IsReader}
+use Rattle.entry_codec.proofs.Readers.{◌&◌, Stands, IsReader}
 use Rattle.entry_codec.proofs.Numbers.{u8_reader, u16_reader, u32_reader}
 use Rattle.entry_codec.proofs.Choices.{row_0, row_1, row_2, row_3, choice_found, again_0, again_1, again_2, again_3}
 use Rattle.entry_codec.proofs.Choices.{flag_reader}
@@ -85,59 +85,24 @@ unfolding cmd_at cmd_bytes
 cmd_reader =
     record {
       found = choice_found CmdFits cmd_bytes cmd_rows (
-        row_2 obj_reader dep_reader 1 AddDep (λ x y f g. (g.0, (f, g.1))) (λ x y. refl),
-        (
-          row_2 obj_reader u16_reader 2 DelDep (λ x y f g. (tt, (f, g))) (λ x y. refl),
-          (
-            row_1 obj_reader 3 Release (λ x f. (tt, f)) (λ x. refl),
-            (
-              row_2 obj_reader u8_reader 4 AltPri (λ x y f g. (tt, (f, g))) (λ x y. refl),
-              (
-                row_1 obj_reader 5 Cancel (λ x f. (tt, f)) (λ x. refl),
-                (
-                  row_1 u32_reader 6 Confirm (λ x f. (tt, f)) (λ x. refl),
-                  (
-                    row_1 u32_reader 7 Kill (λ x f. (tt, f)) (λ x. refl),
-                    (
-                      row_1 u32_reader 8 Rerun (λ x f. (tt, f)) (λ x. refl),
-                      (
-                        row_1 u8_reader 9 Fence (λ x f. (tt, f)) (λ x. refl),
-                        (
-                          row_1 u16_reader 10 Limit (λ x f. (tt, f)) (λ x. refl),
-                          (
-                            row_2 u32_reader u16_reader 11 StreamLimit (λ x y f g. (tt, (f, g))) (λ x y. refl),
-                            (
-                              row_2 u16_reader u16_reader 12 Total (λ x y f g. (tt, (f, g))) (λ x y. refl),
-                              (
-                                row_2 u16_reader flag_reader 13 ReplyGlobal (λ x y f g. (tt, f)) (λ x y. refl),
-                                (
-                                  row_3 obj_reader u16_reader flag_reader 14 ReplyOwn (λ x y z f g h. (tt, (f, g))) (λ x y z. refl),
-                                  (
-                                    row_0 15 Cmd.Start (tt, tt) refl,
-                                    (
-                                      row_0 16 Stop (tt, tt) refl,
-                                      (
-                                        row_1 draft_reader 17 Submit (λ x f. f) (λ x. refl),
-                                        (
-                                          row_1 u16_reader 18 SwitchMgr (λ x f. (tt, f)) (λ x. refl),
-                                          tt,
-                                        ),
-                                      ),
-                                    ),
-                                  ),
-                                ),
-                              ),
-                            ),
-                          ),
-                        ),
-                      ),
-                    ),
-                  ),
-                ),
-              ),
-            ),
-          ),
-        ),
-      );
+          row_2 obj_reader dep_reader 1 AddDep (λ x y f g. (g.0, (f, g.1))) (λ x y. refl)
+          & row_2 obj_reader u16_reader 2 DelDep (λ x y f g. (tt, (f, g))) (λ x y. refl)
+          & row_1 obj_reader 3 Release (λ x f. (tt, f)) (λ x. refl)
+          & row_2 obj_reader u8_reader 4 AltPri (λ x y f g. (tt, (f, g))) (λ x y. refl)
+          & row_1 obj_reader 5 Cancel (λ x f. (tt, f)) (λ x. refl)
+          & row_1 u32_reader 6 Confirm (λ x f. (tt, f)) (λ x. refl)
+          & row_1 u32_reader 7 Kill (λ x f. (tt, f)) (λ x. refl)
+          & row_1 u32_reader 8 Rerun (λ x f. (tt, f)) (λ x. refl)
+          & row_1 u8_reader 9 Fence (λ x f. (tt, f)) (λ x. refl)
+          & row_1 u16_reader 10 Limit (λ x f. (tt, f)) (λ x. refl)
+          & row_2 u32_reader u16_reader 11 StreamLimit (λ x y f g. (tt, (f, g))) (λ x y. refl)
+          & row_2 u16_reader u16_reader 12 Total (λ x y f g. (tt, (f, g))) (λ x y. refl)
+          & row_2 u16_reader flag_reader 13 ReplyGlobal (λ x y f g. (tt, f)) (λ x y. refl)
+          & row_3 obj_reader u16_reader flag_reader 14 ReplyOwn (λ x y z f g h. (tt, (f, g))) (λ x y z. refl)
+          & row_0 15 Cmd.Start (tt, tt) refl
+          & row_0 16 Stop (tt, tt) refl
+          & row_1 draft_reader 17 Submit (λ x f. f) (λ x. refl)
+          & row_1 u16_reader 18 SwitchMgr (λ x f. (tt, f)) (λ x. refl)
+          & tt);
       again = cmd_again;
     }

@@ -1,5 +1,6 @@
 -- Conditions and the dependencies of drafts that are read are those that stand there.
-use Rattle.std.proofs.Common.{◌≡◌, ℕ, ◌+◌, ◌<◌, ◌≤◌, Bool, true, false, cond, eqb, List, [], ◌∷◌, ◌++◌, length, Option}
+use Rattle.std.proofs.Common.{◌≡◌, ℕ, ◌+◌, ◌<◌, ◌≤◌, Bool, true, false, cond, eqb, List, [], ◌∷◌, ◌++◌, length}
+use Rattle.std.proofs.Common.{Option}
 use Rattle.std.proofs.Common.{Some, None, Result, Ok, Err, refl, sym, ap, subst, ◌∙◌, arith}
 use Rattle.std.proofs.lemmas.Bool.{eqb-true, ne_eqb, leb-true, le-leb}
 use Rattle.std.specs.List.{AllByRecursion}
@@ -12,10 +13,11 @@ use Rattle.model.specs.Fit.{IsFitText, IsFitCond, IsFitDraftDep}
 use Rattle.model.specs.Ranges.{IsU8, IsU16, DraftDepInRange, OpInRange}
 use Rattle.model.specs.Spelling.{dep_bytes, draft_dep_bytes, op_bytes, cond_bytes}
 use Rattle.entry_codec.specs.declared.EntryFault.{EntryFault}
-use Rattle.entry_codec.specs.Reading.{Reader, and_then, followed_by, gives, one, three}
+use Rattle.entry_codec.specs.Read.{Reader, and_then, chain, gives, one, three}
 use Rattle.entry_codec.specs.Fields.{u8_at, u16_at, text_at, option_at, items_at, number_with}
-use Rattle.entry_codec.specs.Documents.{dep_at, draft_dep_at, op_at, cond_at}
-use Rattle.entry_codec.proofs.Readers.{IsBytes, Stands, IsReader, within, starts, joined, split, came, step, on, same_value}
+use Rattle.entry_codec.specs.Parts.{dep_at, draft_dep_at, op_at, cond_at}
+use Rattle.entry_codec.proofs.Readers.{IsBytes, Stands, IsReader, within, starts, joined, split, came, step, on}
+use Rattle.entry_codec.proofs.Readers.{same_value}
 use Rattle.entry_codec.proofs.Numbers.{u8_reader, u16_reader, tested}
 use Rattle.entry_codec.proofs.Texts.{text_reader, TextFits}
 use Rattle.entry_codec.proofs.Choices.{IsRow, row_3, option_reader}
@@ -137,7 +139,8 @@ cond_found : (bytes : List ℕ) (p : ℕ) (ops : List CondOp) (q : ℕ) → IsBy
 unfolding cond_at cond_bytes
 cond_found bytes p ops q is lt e =
     let count = step op_count_reader is (starts bytes p lt) e in
-    let items = (items_reader op_reader count.value).found bytes count.place ops q is (within count.stands) count.rest in
+    let items = (items_reader op_reader count.value).found bytes count.place ops q is (within count.stands) count.rest
+    in
     let counted : count.value ≡ length ops = sym items.0.0 in
     let few : count.value ≤ 64 = leb-true count.value 64 count.fits.1 in (
       (omega (arith, few, items.0.0), items.0.1),
@@ -151,7 +154,8 @@ cond_again bytes p ops q fits s =
     let parts = split (u8_bytes (length ops)) (flat_map op_bytes ops) s in
     let few : length ops ≤ 64 = fits.0 in
     on op_count_reader _ (length ops) (omega (arith, few), le-leb (length ops) 64 few) parts.0
-    ((items_reader op_reader (length ops)).again bytes (p + length (u8_bytes (length ops))) ops q (refl, fits.1) parts.1)
+    ((items_reader op_reader (length ops)).again bytes (p + length (u8_bytes (length ops))) ops q (refl, fits.1)
+    parts.1)
 
 pub cond_reader : IsReader CondFits cond_bytes cond_at
 cond_reader = record { found = cond_found; again = cond_again }

@@ -11,10 +11,11 @@ use Rattle.model.specs.Ranges.{IsU16, DepInRange, DraftDepInRange, OpInRange, Jo
 use Rattle.model.specs.Ranges.{JobDraftInRange, DraftInRange}
 use Rattle.model.specs.Spelling.{dep_bytes, draft_dep_bytes, work_bytes, cond_bytes, recovery_code, job_doc_bytes}
 use Rattle.model.specs.Spelling.{stream_doc_bytes, job_draft_bytes, stream_draft_bytes}
-use Rattle.entry_codec.specs.Reading.{Reader, followed_by, gives}
+use Rattle.entry_codec.specs.Read.{Reader, chain, gives}
 use Rattle.entry_codec.specs.Fields.{list_at, flag_at, option_at}
-use Rattle.entry_codec.specs.Documents.{dep_at, draft_dep_at, job_at, stream_at, job_draft_at, stream_draft_at}
-use Rattle.entry_codec.proofs.Readers.{IsBytes, Stands, IsReader, starts, step, on, same_value, in_order, peeled, at_end}
+use Rattle.entry_codec.specs.Parts.{dep_at, draft_dep_at, job_at, stream_at, job_draft_at, stream_draft_at}
+use Rattle.entry_codec.proofs.Readers.{IsBytes, Stands, IsReader, starts, step, on, same_value, in_order, peeled}
+use Rattle.entry_codec.proofs.Readers.{at_end}
 use Rattle.entry_codec.proofs.Numbers.{u8_reader, u16_reader, u32_reader}
 use Rattle.entry_codec.proofs.Texts.{text_reader}
 use Rattle.entry_codec.proofs.Choices.{flag_reader, option_reader}
@@ -272,7 +273,8 @@ draft_found bytes p d q is lt e =
     let jobs = step (list_reader job_draft_reader) is deps.stands deps.rest in
     let both = apart IsFitDraftDep DraftDepInRange deps.value deps.fits in
     let all_jobs = apart IsFitJobDraft JobDraftInRange jobs.value jobs.fits in
-    subst (λ (z : StreamDraft × ℕ). DraftFits z.0 × Stands (stream_draft_bytes z.0) bytes p z.1) (same_value jobs.rest) (
+    subst (λ (z : StreamDraft × ℕ). DraftFits z.0 × Stands (stream_draft_bytes z.0) bytes p z.1)
+    (same_value jobs.rest) (
       (
         record { name_ = name.fits.0; deps_ = both.0; jobs_ = all_jobs.0 },
         record {

@@ -12,10 +12,11 @@ use Rattle.model.specs.Ranges.{InRange}
 use Rattle.model.specs.Spelling.{feed_bytes, body_bytes, entry_bytes}
 use Rattle.entry_codec.specs.declared.EntryFault.{EntryFault}
 use Rattle.entry_codec.specs.declared.EntryFault.TheVariants.{Version, TooMuch}
-use Rattle.entry_codec.specs.Reading.{Reader, and_then, followed_by, gives}
+use Rattle.entry_codec.specs.Read.{Reader, and_then, chain, gives}
 use Rattle.entry_codec.specs.Fields.{u8_at}
 use Rattle.entry_codec.specs.Entries.{version_at, entry_at, entry_in}
-use Rattle.entry_codec.proofs.Readers.{IsBytes, Stands, IsReader, starts, came, step, on, same_value, in_order, peeled, at_end}
+use Rattle.entry_codec.proofs.Readers.{IsBytes, Stands, IsReader, starts, came, step, on, same_value, in_order}
+use Rattle.entry_codec.proofs.Readers.{peeled, at_end}
 use Rattle.entry_codec.proofs.Numbers.{u8_reader}
 use Rattle.entry_codec.proofs.Seens.{count_reader}
 use Rattle.entry_codec.proofs.Parts.{feed_reader}

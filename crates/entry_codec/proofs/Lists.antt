@@ -4,9 +4,10 @@ use Rattle.std.proofs.Common.{sym, ap, subst, ◌∙◌, arith}
 use Rattle.std.specs.List.{AllByRecursion}
 use Rattle.std.specs.Prelude.{flat_map}
 use Rattle.model.specs.Fields.{u32_bytes, list_bytes}
-use Rattle.entry_codec.specs.Reading.{Reader, followed_by, gives}
+use Rattle.entry_codec.specs.Read.{Reader, chain, gives}
 use Rattle.entry_codec.specs.Fields.{u32_at, items_at, list_at}
-use Rattle.entry_codec.proofs.Readers.{IsBytes, Stands, IsReader, within, starts, nothing, joined, split, step, on, same_value}
+use Rattle.entry_codec.proofs.Readers.{IsBytes, Stands, IsReader, within, starts, nothing, joined, split, step, on}
+use Rattle.entry_codec.proofs.Readers.{same_value}
 use Rattle.entry_codec.proofs.Numbers.{u32_reader}
 
 -- so many items, each fit

@@ -5,7 +5,7 @@ use Rattle.std.proofs.lemmas.List.{append-nil}
 use Rattle.model.specs.History.{Seen}
 use Rattle.entry_codec.specs.declared.EntryFault.{EntryFault}
 use Rattle.entry_codec.specs.declared.EntryFault.TheVariants.{NoMemory}
-use Rattle.entry_codec.specs.Reading.{Reader, and_then, followed_by, gives}
+use Rattle.entry_codec.specs.Read.{Reader, and_then, chain, gives}
 use Rattle.entry_codec.specs.Fields.{items_at, count_at, counts_at}
 
 -- what was read before, and what is still read
@@ -21,7 +21,7 @@ pub goes_on : {X : Type 0} (item : Reader X) (front : List X) (count i : ℕ) (b
     (total : Result (List X × ℕ) EntryFault) → i < count → item bytes p ≡ Ok (x, q)
     → with_front front (items_at item (count - i) bytes p) ≡ total
     → with_front (front ++ x ∷ []) (items_at item (count - (i + 1)) bytes q) ≡ total
-unfolding items_at followed_by
+unfolding items_at chain
 goes_on item front count i bytes p x q total lt h so_far =
     let k : count - i ≡ suc (count - (i + 1)) = omega arith in
     let one : with_front front (items_at item (count - i) bytes p)
@@ -32,7 +32,7 @@ goes_on item front count i bytes p x q total lt h so_far =
 pub ends : {X : Type 0} (item : Reader X) (e : EntryFault) (front : List X) (count i : ℕ) (bytes : List ℕ) (p : ℕ)
     (total : Result (List X × ℕ) EntryFault) → i < count → (e ≢ NoMemory → item bytes p ≡ Err e)
     → with_front front (items_at item (count - i) bytes p) ≡ total → e ≢ NoMemory → total ≡ Err e
-unfolding items_at followed_by
+unfolding items_at chain
 ends item e front count i bytes p total lt fails so_far other =
     let h = fails other in
     let k : count - i ≡ suc (count - (i + 1)) = omega arith in
@@ -54,7 +54,7 @@ pub counts_go_on : (front : Seen) (count i least : ℕ) (bytes : List ℕ) (p : 
     (total : Result (Seen × ℕ) EntryFault) → i < count → count_at least bytes p ≡ Ok (c, q)
     → with_front front (counts_at least (count - i) bytes p) ≡ total
     → with_front (front ++ c ∷ []) (counts_at (c.0 + 1) (count - (i + 1)) bytes q) ≡ total
-unfolding counts_at followed_by
+unfolding counts_at chain
 counts_go_on front count i least bytes p c q total lt h so_far =
     let k : count - i ≡ suc (count - (i + 1)) = omega arith in
     let one : with_front front (counts_at least (count - i) bytes p)
@@ -65,7 +65,7 @@ counts_go_on front count i least bytes p c q total lt h so_far =
 pub counts_end : (e : EntryFault) (front : Seen) (count i least : ℕ) (bytes : List ℕ) (p : ℕ)
     (total : Result (Seen × ℕ) EntryFault) → i < count → (e ≢ NoMemory → count_at least bytes p ≡ Err e)
     → with_front front (counts_at least (count - i) bytes p) ≡ total → e ≢ NoMemory → total ≡ Err e
-unfolding counts_at followed_by
+unfolding counts_at chain
 counts_end e front count i least bytes p total lt fails so_far other =
     let h = fails other in
     let k : count - i ≡ suc (count - (i + 1)) = omega arith in

@@ -13,7 +13,7 @@ use Rattle.model.specs.Fields.{u8_bytes, u16_bytes, u32_bytes, u64_bytes}
 use Rattle.model.specs.Ranges.{IsU8, IsU16, IsU32, IsU64}
 use Rattle.entry_codec.specs.declared.EntryFault.{EntryFault}
 use Rattle.entry_codec.specs.declared.EntryFault.TheVariants.{Short, BadField}
-use Rattle.entry_codec.specs.Reading.{Reader, and_then}
+use Rattle.entry_codec.specs.Read.{Reader, and_then}
 use Rattle.entry_codec.specs.Fields.{number_at, number_with}
 use Rattle.entry_codec.proofs.Readers.{IsBytes, Stands, IsReader, came, same_value}
 
@@ -133,7 +133,8 @@ pub u64_reader : IsReader IsU64 u64_bytes (number_at w64)
 u64_reader = number_reader w64 (2 ^ 64) u64_bytes wide_64
 
 -- the same, as the code's numbers stand
-pub stands_8 : (bytes : List ℕ) (p n q : ℕ) → n < 2 ^ 8 → StandsAt (u8_bytes n) bytes p q → number_at w8 bytes p ≡ Ok (n, q)
+pub stands_8 : (bytes : List ℕ) (p n q : ℕ) → n < 2 ^ 8 → StandsAt (u8_bytes n) bytes p q → number_at w8 bytes p ≡ Ok
+    (n, q)
 stands_8 = number_again w8 (2 ^ 8) u8_bytes wide_8
 
 pub stands_16 : (bytes : List ℕ) (p n q : ℕ) → n < 2 ^ 16 → StandsAt (u16_bytes n) bytes p q

@@ -1,5 +1,6 @@
 -- Feeds, objects, dependencies and choices that are read are those that stand there.
-use Rattle.std.proofs.Common.{◌≡◌, ℕ, ◌+◌, ◌<◌, ◌≤◌, Bool, true, false, cond, eqb, List, [], ◌∷◌, ◌++◌, length, Option}
+use Rattle.std.proofs.Common.{◌≡◌, ℕ, ◌+◌, ◌<◌, ◌≤◌, Bool, true, false, cond, eqb, List, [], ◌∷◌, ◌++◌, length}
+use Rattle.std.proofs.Common.{Option}
 use Rattle.std.proofs.Common.{Some, None, Result, Ok, Err, refl, sym, ap, subst, ◌∙◌, arith}
 use Rattle.std.proofs.lemmas.Bool.{eqb-true, ne_eqb}
 use Rattle.std.specs.Prelude.{IfSome}
@@ -15,14 +16,16 @@ use Rattle.model.specs.Ranges.{WorkInRange}
 use Rattle.model.specs.Spelling.{feed_bytes, obj_bytes, until_code, dep_bytes, draft_dep_bytes, op_bytes, work_bytes}
 use Rattle.model.specs.Spelling.{recovery_code, why_code}
 use Rattle.entry_codec.specs.declared.EntryFault.{EntryFault}
-use Rattle.entry_codec.specs.Reading.{Reader, and_then, followed_by, gives, one, two, three}
+use Rattle.entry_codec.specs.Read.{Reader, and_then, chain, gives, one, two, three}
 use Rattle.entry_codec.specs.Fields.{u8_at, u16_at, u32_at, u64_at, i32_at, text_at, option_at, choice_at}
-use Rattle.entry_codec.specs.Documents.{feed_at, obj_at, until_at, dep_at, draft_dep_at, op_at, work_at, recovery_at}
+use Rattle.entry_codec.specs.Parts.{feed_at, obj_at, until_at, dep_at, draft_dep_at, op_at, work_at, recovery_at}
 use Rattle.entry_codec.specs.Entries.{why_at}
-use Rattle.entry_codec.proofs.Readers.{IsBytes, Stands, IsReader, within, starts, joined, split, came, step, on, same_value}
+use Rattle.entry_codec.proofs.Readers.{◌&◌, IsBytes, Stands, IsReader, within, starts, joined, split, came, step, on}
+use Rattle.entry_codec.proofs.Readers.{same_value}
 use Rattle.entry_codec.proofs.Numbers.{u8_reader, u16_reader, u32_reader, u64_reader}
 use Rattle.entry_codec.proofs.Texts.{text_reader, i32_reader}
-use Rattle.entry_codec.proofs.Choices.{IsRow, row_0, row_1, row_2, choice_found, again_0, again_1, again_2, option_reader, Any}
+use Rattle.entry_codec.proofs.Choices.{IsRow, row_0, row_1, row_2, choice_found, again_0, again_1, again_2}
+use Rattle.entry_codec.proofs.Choices.{option_reader, Any}
 
 -- feeds
 abbrev feed_rows : List (ℕ × Reader Feed)
@@ -40,9 +43,9 @@ unfolding feed_at
 feed_reader =
     record {
       found = choice_found FeedInRange feed_bytes feed_rows (
-        row_1 u16_reader 0 Events (λ w fits. fits) (λ w. refl),
-        (row_2 u16_reader u16_reader 1 Orders (λ a w f g. (f, g)) (λ a w. refl), tt),
-      );
+          row_1 u16_reader 0 Events (λ w fits. fits) (λ w. refl)
+          & row_2 u16_reader u16_reader 1 Orders (λ a w f g. (f, g)) (λ a w. refl)
+          & tt);
       again = feed_again;
     }
 
@@ -61,9 +64,9 @@ unfolding obj_at
 obj_reader =
     record {
       found = choice_found ObjInRange obj_bytes obj_rows (
-        row_1 u32_reader 0 Job (λ j fits. fits) (λ j. refl),
-        (row_1 u32_reader 1 Stream (λ t fits. fits) (λ t. refl), tt),
-      );
+          row_1 u32_reader 0 Job (λ j fits. fits) (λ j. refl)
+          & row_1 u32_reader 1 Stream (λ t fits. fits) (λ t. refl)
+          & tt);
       again = obj_again;
     }
 
@@ -85,8 +88,11 @@ pub until_reader : IsReader Any (λ (mark : OnUntil). u8_bytes (until_code mark)
 unfolding until_at
 until_reader =
     record {
-      found = choice_found Any until_bytes until_rows
-          (row_0 0 Suppr tt refl, (row_0 1 Cont tt refl, (row_0 2 Canc tt refl, tt)));
+      found = choice_found Any until_bytes until_rows (
+          row_0 0 Suppr tt refl
+          & row_0 1 Cont tt refl
+          & row_0 2 Canc tt refl
+          & tt);
       again = until_again;
     }
 
@@ -108,8 +114,11 @@ pub recovery_reader : IsReader Any (λ (r : Recovery). u8_bytes (recovery_code r
 unfolding recovery_at
 recovery_reader =
     record {
-      found = choice_found Any recovery_bytes recovery_rows
-          (row_0 0 Recovery.Stop tt refl, (row_0 1 Recovery.Continue tt refl, (row_0 2 Recovery.Rerun tt refl, tt)));
+      found = choice_found Any recovery_bytes recovery_rows (
+          row_0 0 Recovery.Stop tt refl
+          & row_0 1 Recovery.Continue tt refl
+          & row_0 2 Recovery.Rerun tt refl
+          & tt);
       again = recovery_again;
     }
 
@@ -150,27 +159,17 @@ unfolding why_at
 why_reader =
     record {
       found = choice_found Any why_bytes why_rows (
-        row_0 1 NotMine tt refl,
-        (
-          row_0 2 NotThere tt refl,
-          (
-            row_0 3 Running tt refl,
-            (
-              row_0 4 NotRunning tt refl,
-              (
-                row_0 5 NotEnded tt refl,
-                (
-                  row_0 6 Why.Ended tt refl,
-                  (
-                    row_0 7 AlreadyThere tt refl,
-                    (row_0 8 OutOfRange tt refl, (row_0 9 NotMaster tt refl, (row_0 10 NotBuilt tt refl, tt))),
-                  ),
-                ),
-              ),
-            ),
-          ),
-        ),
-      );
+          row_0 1 NotMine tt refl
+          & row_0 2 NotThere tt refl
+          & row_0 3 Running tt refl
+          & row_0 4 NotRunning tt refl
+          & row_0 5 NotEnded tt refl
+          & row_0 6 Why.Ended tt refl
+          & row_0 7 AlreadyThere tt refl
+          & row_0 8 OutOfRange tt refl
+          & row_0 9 NotMaster tt refl
+          & row_0 10 NotBuilt tt refl
+          & tt);
       again = why_again;
     }
 
@@ -212,27 +211,15 @@ unfolding dep_at dep_bytes
 dep_reader =
     record {
       found = choice_found DepFits dep_bytes dep_rows (
-        row_1 u32_reader 1 FollowsJob (λ j f. (tt, f)) (λ j. refl),
-        (
-          row_1 u32_reader 2 FollowsStream (λ t f. (tt, f)) (λ t. refl),
-          (
-            row_2 u16_reader u16_reader 3 Needs (λ r n f g. (tt, (f, g))) (λ r n. refl),
-            (
-              row_1 u16_reader 4 (λ n. Prompt (Global n)) (λ n f. (tt, f)) (λ n. refl),
-              (
-                row_1 text_reader 5 (λ l. Prompt (Own l)) (λ l f. f) (λ l. refl),
-                (
-                  row_1 u64_reader 6 At (λ t f. (tt, f)) (λ t. refl),
-                  (
-                    row_2 u64_reader until_reader 7 Until (λ t mark f g. (tt, f)) (λ t mark. refl),
-                    (row_1 text_reader 8 Outside (λ l f. f) (λ l. refl), tt),
-                  ),
-                ),
-              ),
-            ),
-          ),
-        ),
-      );
+          row_1 u32_reader 1 FollowsJob (λ j f. (tt, f)) (λ j. refl)
+          & row_1 u32_reader 2 FollowsStream (λ t f. (tt, f)) (λ t. refl)
+          & row_2 u16_reader u16_reader 3 Needs (λ r n f g. (tt, (f, g))) (λ r n. refl)
+          & row_1 u16_reader 4 (λ n. Prompt (Global n)) (λ n f. (tt, f)) (λ n. refl)
+          & row_1 text_reader 5 (λ l. Prompt (Own l)) (λ l f. f) (λ l. refl)
+          & row_1 u64_reader 6 At (λ t f. (tt, f)) (λ t. refl)
+          & row_2 u64_reader until_reader 7 Until (λ t mark f g. (tt, f)) (λ t mark. refl)
+          & row_1 text_reader 8 Outside (λ l f. f) (λ l. refl)
+          & tt);
       again = dep_again;
     }
 
@@ -255,8 +242,10 @@ pub work_reader : IsReader WorkFits work_bytes work_at
 unfolding work_at
 work_reader =
     record {
-      found = choice_found WorkFits work_bytes work_rows
-          (row_1 text_reader 0 Command (λ l f. f) (λ l. refl), (row_1 text_reader 1 Script (λ l f. f) (λ l. refl), tt));
+      found = choice_found WorkFits work_bytes work_rows (
+          row_1 text_reader 0 Command (λ l f. f) (λ l. refl)
+          & row_1 text_reader 1 Script (λ l f. f) (λ l. refl)
+          & tt);
       again = work_again;
     }
 
@@ -292,23 +281,15 @@ unfolding op_at
 op_reader =
     record {
       found = choice_found OpInRange op_bytes op_rows (
-        row_1 i32_reader 0 (Cmp Eq) (λ n f. f) (λ n. refl),
-        (
-          row_1 i32_reader 1 (Cmp Ne) (λ n f. f) (λ n. refl),
-          (
-            row_1 i32_reader 2 (Cmp Lt) (λ n f. f) (λ n. refl),
-            (
-              row_1 i32_reader 3 (Cmp Le) (λ n f. f) (λ n. refl),
-              (
-                row_1 i32_reader 4 (Cmp Gt) (λ n f. f) (λ n. refl),
-                (
-                  row_1 i32_reader 5 (Cmp Ge) (λ n f. f) (λ n. refl),
-                  (row_0 6 And tt refl, (row_0 7 Or tt refl, (row_0 8 Not tt refl, tt))),
-                ),
-              ),
-            ),
-          ),
-        ),
-      );
+          row_1 i32_reader 0 (Cmp Eq) (λ n f. f) (λ n. refl)
+          & row_1 i32_reader 1 (Cmp Ne) (λ n f. f) (λ n. refl)
+          & row_1 i32_reader 2 (Cmp Lt) (λ n f. f) (λ n. refl)
+          & row_1 i32_reader 3 (Cmp Le) (λ n f. f) (λ n. refl)
+          & row_1 i32_reader 4 (Cmp Gt) (λ n f. f) (λ n. refl)
+          & row_1 i32_reader 5 (Cmp Ge) (λ n f. f) (λ n. refl)
+          & row_0 6 And tt refl
+          & row_0 7 Or tt refl
+          & row_0 8 Not tt refl
+          & tt);
       again = op_again;
     }

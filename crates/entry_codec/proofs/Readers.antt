@@ -1,12 +1,13 @@
 -- Readers that give exactly what stands at a place, and how such are put together.
 use Rattle.std.proofs.Common.{◌≡◌, ℕ, ◌+◌, ◌<◌, ◌≤◌, Bool, true, false, cond, List, [], ◌∷◌, ◌++◌, length, get_or}
-use Rattle.std.proofs.Common.{take, drop, Option, Some, None, Result, Ok, Err, refl, sym, ap, subst, ◌∙◌, append_assoc}
+use Rattle.std.proofs.Common.{take, drop, Option, Some, None, Result, Ok, Err, refl, sym, ap, subst, ◌∙◌}
+use Rattle.std.proofs.Common.{append_assoc}
 use Rattle.std.proofs.Common.{arith, length-append, inl, inr}
 use Rattle.std.proofs.lemmas.List.{append-nil, drop-drop, drop_at}
 use Rattle.std.specs.Prelude.{flat_map}
 use Rattle.byte_fields.specs.Places.{StandsAt}
 use Rattle.entry_codec.specs.declared.EntryFault.{EntryFault}
-use Rattle.entry_codec.specs.Reading.{Reader, and_then, followed_by, gives}
+use Rattle.entry_codec.specs.Read.{Reader, and_then, chain, gives}
 
 -- each item is a byte
 abbrev pub IsBytes : List ℕ → Type 0
@@ -71,8 +72,8 @@ pub record Step {X Y : Type 0} (P : X → Type 0) (spell : X → List ℕ) (next
 
 pub step : {X Y : Type 0} {P : X → Type 0} {spell : X → List ℕ} {read : Reader X} → IsReader P spell read
     → {next : X → Reader Y} {front bytes : List ℕ} {p q : ℕ} {y : Y × ℕ} → IsBytes bytes → Stands front bytes p q
-    → followed_by read next bytes q ≡ Ok y → Step P spell next front bytes p y
-unfolding followed_by
+    → chain read next bytes q ≡ Ok y → Step P spell next front bytes p y
+unfolding chain
 step {X} {Y} {P} {spell} {read} reader {next} {front} {bytes} {p} {q} {y} is front_stands e =
     let c = came (read bytes q) (λ (x : X × ℕ). next x.0 bytes x.1) y e in
     let f = reader.found bytes q c.value.0 c.value.1 is (within front_stands) c.first in
@@ -87,8 +88,8 @@ step {X} {Y} {P} {spell} {read} reader {next} {front} {bytes} {p} {q} {y} is fro
 -- a part that stands there is read, and what follows is read behind it
 pub on : {X Y : Type 0} {P : X → Type 0} {spell : X → List ℕ} {read : Reader X} → IsReader P spell read
     → (next : X → Reader Y) {bytes : List ℕ} {p q : ℕ} {y : Result (Y × ℕ) EntryFault} (x : X) → P x
-    → Stands (spell x) bytes p q → next x bytes q ≡ y → followed_by read next bytes p ≡ y
-unfolding followed_by
+    → Stands (spell x) bytes p q → next x bytes q ≡ y → chain read next bytes p ≡ y
+unfolding chain
 on {X} {Y} {P} {spell} {read} reader next {bytes} {p} {q} {y} x fits s e =
     ap (λ (m : Result (X × ℕ) EntryFault). and_then m (λ (r : X × ℕ). next r.0 bytes r.1))
     (reader.again bytes p x q fits s) ∙ e
@@ -123,7 +124,8 @@ abbrev pub chained : List ℕ → List (List ℕ) → List ℕ
 chained front [] = front
 chained front (part ∷ parts) = chained (front ++ part) parts
 
-chained_is : (front : List ℕ) (parts : List (List ℕ)) → chained front parts ≡ front ++ flat_map (λ (l : List ℕ). l) parts
+chained_is : (front : List ℕ) (parts : List (List ℕ)) → chained front parts ≡ front ++ flat_map (λ (l : List ℕ). l)
+    parts
 chained_is front [] = sym (append-nil front)
 chained_is front (part ∷ parts) =
     chained_is (front ++ part) parts ∙ append_assoc front part (flat_map (λ (l : List ℕ). l) parts)
@@ -132,3 +134,8 @@ pub in_order : (front : List ℕ) (parts : List (List ℕ)) {bytes : List ℕ} {
     → Stands (chained front parts) bytes p q → InOrder (front ∷ parts) bytes p q
 in_order front parts {bytes} {p} {q} s =
     record { it = subst (λ (l : List ℕ). Stands l bytes p q) (chained_is front parts) s }
+
+-- a fact of the first of several, and those of the others
+infixr 5 ◌&◌
+abbrev pub ◌&◌ : {A B : Type 0} → A → B → A × B
+a & b = (a, b)

@@ -1,5 +1,6 @@
 -- Counts of workstations that are read ascend without zeros, and those that do are read.
-use Rattle.std.proofs.Common.{◌≡◌, ℕ, zero, suc, ◌+◌, ◌<◌, ◌≤◌, true, ◌&&◌, List, [], ◌∷◌, ◌++◌, length, Result, Ok, Err}
+use Rattle.std.proofs.Common.{◌≡◌, ℕ, zero, suc, ◌+◌, ◌<◌, ◌≤◌, true, ◌&&◌, List, [], ◌∷◌, ◌++◌, length, Result, Ok}
+use Rattle.std.proofs.Common.{Err}
 use Rattle.std.proofs.Common.{refl, sym, ap, subst, ◌∙◌, arith, IsTrue}
 use Rattle.std.proofs.lemmas.Bool.{and_parts, and_from}
 use Rattle.std.specs.List.{AllByRecursion}
@@ -10,9 +11,10 @@ use Rattle.model.specs.Invariant.{ascends_from}
 use Rattle.model.specs.Fields.{u16_bytes, u32_bytes}
 use Rattle.model.specs.Ranges.{IsU16, IsU32, CountInRange}
 use Rattle.model.specs.Spelling.{count_bytes, seen_bytes}
-use Rattle.entry_codec.specs.Reading.{Reader, followed_by, gives}
+use Rattle.entry_codec.specs.Read.{Reader, chain, gives}
 use Rattle.entry_codec.specs.Fields.{u32_at, count_at, counts_at, seen_at, number_with}
-use Rattle.entry_codec.proofs.Readers.{IsBytes, Stands, IsReader, within, starts, nothing, joined, split, step, on, same_value}
+use Rattle.entry_codec.proofs.Readers.{IsBytes, Stands, IsReader, within, starts, nothing, joined, split, step, on}
+use Rattle.entry_codec.proofs.Readers.{same_value}
 use Rattle.entry_codec.proofs.Numbers.{u16_reader, u32_reader, tested}
 
 -- so many counts in range, which ascend from a workstation on without _ zeros
@@ -21,7 +23,8 @@ pub record Ascend (least n : ℕ) (seen : Seen) : Type 0 where
   pub in_range : AllByRecursion CountInRange seen
   pub ascends : ascends_from least seen ≡ true
 
-ws_reader : (least : ℕ) → IsReader (λ (w : ℕ). IsU16 w × (nat_le least w ≡ true)) u16_bytes (number_with w16 (nat_le least))
+ws_reader : (least : ℕ) → IsReader (λ (w : ℕ). IsU16 w × (nat_le least w ≡ true)) u16_bytes
+    (number_with w16 (nat_le least))
 ws_reader least = tested w16 IsU16 u16_bytes (nat_le least) u16_reader
 
 pub count_reader : IsReader (λ (k : ℕ). IsU32 k × (nat_lt 0 k ≡ true)) u32_bytes (number_with w32 (nat_lt 0))
@@ -95,7 +98,8 @@ more_again least n fewer bytes p (c ∷ seen) q fits s =
     and_parts (nat_lt 0 c.1) (ascends_from (c.0 + 1) seen) first.1 in
     let len : length seen ≡ n = omega (arith, fits.counted) in
     on (pair_reader least) _ c ((fits.in_range.0.0, first.0), (fits.in_range.0.1, second.0)) parts.0
-    (on (fewer (c.0 + 1)) _ seen (record { counted = len; in_range = fits.in_range.1; ascends = second.1 }) parts.1 refl)
+    (on (fewer (c.0 + 1)) _ seen (record { counted = len; in_range = fits.in_range.1; ascends = second.1 }) parts.1
+    refl)
 
 counts_reader : (n least : ℕ) → IsReader (Ascend least n) (flat_map count_bytes) (counts_at least n)
 counts_reader zero least =

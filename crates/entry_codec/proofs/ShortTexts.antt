@@ -10,8 +10,9 @@ use Rattle.std.specs.Int.{w16, from_be_bytes}
 use Rattle.byte_fields.specs.Texts.{told_length, IsShortText, IsBadText}
 use Rattle.entry_codec.specs.declared.EntryFault.{EntryFault}
 use Rattle.entry_codec.specs.declared.EntryFault.TheVariants.{Short, BadField}
-use Rattle.entry_codec.specs.Reading.{Reader, and_then}
+use Rattle.entry_codec.specs.Read.{Reader, and_then}
 use Rattle.entry_codec.specs.Fields.{number_at, number_with, text_at}
+use Rattle.entry_codec.proofs.Texts.{stands_text}
 
 -- the length cannot be read
 no_length : (bytes : List ℕ) (p : ℕ) → p ≤ length bytes → length (drop p bytes) < 2 → text_at bytes p ≡ Err (Short p)
@@ -77,3 +78,6 @@ text_is_bad bytes p (enough, inr h) =
       | inl long ↦ too_long bytes p enough long
       | inr small ↦ no_text bytes p small h.0 h.1
     ]
+
+-- what taking a text tells
+pub ruleset text_fields = (stands_text, text_is_short, text_is_bad)

@@ -1,6 +1,7 @@
 -- Readers that go by the bytes of their fields alone: what is read, and what is bad, stays so whatever follows.
 use Rattle.std.proofs.Common.{◌≡◌, ℕ, zero, suc, ◌+◌, ◌<◌, ◌≤◌, ◌⊎◌, inl, inr, Bool, true, false, cond, ltb, List, []}
-use Rattle.std.proofs.Common.{◌∷◌, ◌++◌, length, take, drop, Option, Some, None, Result, Ok, Err, refl, sym, ap, subst}
+use Rattle.std.proofs.Common.{◌∷◌, ◌++◌, length, take, drop, Option, Some, None, Result, Ok, Err, refl, sym, ap}
+use Rattle.std.proofs.Common.{subst}
 use Rattle.std.proofs.Common.{◌∙◌, arith, length-append}
 use Rattle.std.proofs.lemmas.Bool.{ltb-false, le-ltb}
 use Rattle.std.proofs.lemmas.List.{drop-append-le, take-append-le, length-drop}
@@ -11,8 +12,9 @@ use Rattle.std.specs.Str.{is_utf8}
 use Rattle.std.specs.Int.{Width, w8, w16, w32, byte_len, from_be_bytes}
 use Rattle.entry_codec.specs.declared.EntryFault.{EntryFault}
 use Rattle.entry_codec.specs.declared.EntryFault.TheVariants.{Short, Version, BadField, TooMuch, NoMemory}
-use Rattle.entry_codec.specs.Reading.{Reader, and_then, followed_by, gives, one, two, three, four}
-use Rattle.entry_codec.specs.Fields.{u8_at, u32_at, number_at, number_with, text_at, row_of, behind, choice_at, items_at}
+use Rattle.entry_codec.specs.Read.{Reader, and_then, chain, gives, one, two, three, four}
+use Rattle.entry_codec.specs.Fields.{u8_at, u32_at, number_at, number_with, text_at, row_of, behind, choice_at}
+use Rattle.entry_codec.specs.Fields.{items_at}
 use Rattle.entry_codec.specs.Fields.{list_at, count_at, counts_at, seen_at}
 use Rattle.entry_codec.proofs.Readers.{Came, came}
 
@@ -64,7 +66,8 @@ guard_short : {A : Type 0} (b : Bool) (p : ℕ) (x : A) (f : EntryFault) → con
 guard_short {A} true p x f e = subst IsShort (same_fault A (Short p) f e) tt
 guard_short false p x f e = absurd cc
 
-guard_bad : {A : Type 0} (b : Bool) (p : ℕ) (x : A) (f : EntryFault) → cond b (Ok x) (Err (BadField p)) ≡ Err f → IsBad f
+guard_bad : {A : Type 0} (b : Bool) (p : ℕ) (x : A) (f : EntryFault) → cond b (Ok x) (Err (BadField p)) ≡ Err f →
+    IsBad f
 guard_bad true p x f e = absurd cc
 guard_bad {A} false p x f e = subst IsBad (same_fault A (BadField p) f e) tt
 
@@ -220,7 +223,8 @@ text_goes_on : (bytes more : List ℕ) (p : ℕ) (x : List ℕ × ℕ) → text_
 unfolding text_at
 text_goes_on bytes more p x e =
     let size = number_with_steady w16 (λ n. nat_le n 4096) in
-    then_goes_on (number_with w16 (λ n. nat_le n 4096) bytes p) (number_with w16 (λ n. nat_le n 4096) (bytes ++ more) p)
+    then_goes_on (number_with w16 (λ n. nat_le n 4096) bytes p) (number_with w16 (λ n. nat_le n 4096) (bytes ++ more)
+    p)
     (text_behind bytes p) (text_behind (bytes ++ more) p) x (size.goes_on bytes more p)
     (λ n h. behind_goes_on bytes more p n x h) e
 
@@ -238,25 +242,25 @@ text_steady = record { goes_on = text_goes_on; fails = text_fails }
 
 -- parts one behind the other
 then_steady_on : {X Y : Type 0} (a : Reader X) (b : X → Reader Y) → IsSteady a → ((x : X) → IsSteady (b x))
-    → (bytes more : List ℕ) (p : ℕ) (y : Y × ℕ) → followed_by a b bytes p ≡ Ok y
-    → followed_by a b (bytes ++ more) p ≡ Ok y
-unfolding followed_by
+    → (bytes more : List ℕ) (p : ℕ) (y : Y × ℕ) → chain a b bytes p ≡ Ok y
+    → chain a b (bytes ++ more) p ≡ Ok y
+unfolding chain
 then_steady_on {X} {Y} a b sa sb bytes more p y e =
     then_goes_on (a bytes p) (a (bytes ++ more) p) (λ (x : X × ℕ). b x.0 bytes x.1)
     (λ (x : X × ℕ). b x.0 (bytes ++ more) x.1) y (sa.goes_on bytes more p)
     (λ x h. (sb x.0).goes_on bytes more x.1 y h) e
 
 then_steady_out : {X Y : Type 0} (a : Reader X) (b : X → Reader Y) → IsSteady a → ((x : X) → IsSteady (b x))
-    → (bytes more : List ℕ) (p : ℕ) (f : EntryFault) → followed_by a b bytes p ≡ Err f
-    → Fails f (followed_by a b (bytes ++ more) p)
-unfolding followed_by
+    → (bytes more : List ℕ) (p : ℕ) (f : EntryFault) → chain a b bytes p ≡ Err f
+    → Fails f (chain a b (bytes ++ more) p)
+unfolding chain
 then_steady_out {X} {Y} a b sa sb bytes more p f e =
     then_fails (a bytes p) (a (bytes ++ more) p) (λ (x : X × ℕ). b x.0 bytes x.1)
     (λ (x : X × ℕ). b x.0 (bytes ++ more) x.1) f (sa.goes_on bytes more p) (sa.fails bytes more p)
     (λ x c h. (sb x.0).fails bytes more x.1 c h) e
 
 pub then_steady : {X Y : Type 0} {a : Reader X} (b : X → Reader Y) → IsSteady a → ((x : X) → IsSteady (b x))
-    → IsSteady (followed_by a b)
+    → IsSteady (chain a b)
 then_steady {X} {Y} {a} b sa sb =
     record { goes_on = then_steady_on a b sa sb; fails = then_steady_out a b sa sb }
 
@@ -289,7 +293,8 @@ row_goes_on [] steady n here bytes more p x e = absurd cc
 row_goes_on {X} (row ∷ rows) steady n here bytes more p x e =
     go (nat_eq row.0 n) (λ h. row_goes_on rows steady.1 n here bytes more p x h) e
   where
-    go : (b : Bool) → (behind (row_of n rows) here bytes p ≡ Ok x → behind (row_of n rows) here (bytes ++ more) p ≡ Ok x)
+    go : (b : Bool)
+        → (behind (row_of n rows) here bytes p ≡ Ok x → behind (row_of n rows) here (bytes ++ more) p ≡ Ok x)
         → behind (cond b (Some row.1) (row_of n rows)) here bytes p ≡ Ok x
         → behind (cond b (Some row.1) (row_of n rows)) here (bytes ++ more) p ≡ Ok x
     go true later h = steady.0.goes_on bytes more p x h
@@ -303,7 +308,8 @@ row_fails {X} [] steady n here bytes more p f e =
 row_fails {X} (row ∷ rows) steady n here bytes more p f e =
     go (nat_eq row.0 n) (λ h. row_fails rows steady.1 n here bytes more p f h) e
   where
-    go : (b : Bool) → (behind (row_of n rows) here bytes p ≡ Err f → Fails f (behind (row_of n rows) here (bytes ++ more) p))
+    go : (b : Bool)
+        → (behind (row_of n rows) here bytes p ≡ Err f → Fails f (behind (row_of n rows) here (bytes ++ more) p))
         → behind (cond b (Some row.1) (row_of n rows)) here bytes p ≡ Err f
         → Fails f (behind (cond b (Some row.1) (row_of n rows)) here (bytes ++ more) p)
     go true later h = steady.0.fails bytes more p f h

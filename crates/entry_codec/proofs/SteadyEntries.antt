@@ -13,12 +13,13 @@ use Rattle.model.specs.Types.{FollowsStream, Needs, Prompt, At, Until, Outside, 
 use Rattle.model.specs.Types.{Plain, Work, Command, Script, Recovery, Eq, Ne, Lt, Le, Gt, Ge, CondOp, Cmp, And, Or}
 use Rattle.model.specs.Types.{Not, JobDoc, StreamDoc, JobDraft, StreamDraft}
 use Rattle.entry_codec.specs.declared.EntryFault.{EntryFault}
-use Rattle.entry_codec.specs.Reading.{Reader, and_then, followed_by, gives, one, three}
+use Rattle.entry_codec.specs.Read.{Reader, and_then, chain, gives, one, three}
 use Rattle.entry_codec.specs.Fields.{u8_at, u16_at, u32_at, u64_at, i32_at, text_at, option_at, flag_at}
-use Rattle.entry_codec.specs.Documents.{feed_at, obj_at, until_at, dep_at, draft_dep_at, op_at, cond_at, work_at}
-use Rattle.entry_codec.specs.Documents.{recovery_at, job_at, stream_at, job_draft_at, stream_draft_at}
+use Rattle.entry_codec.specs.Parts.{feed_at, obj_at, until_at, dep_at, draft_dep_at, op_at, cond_at, work_at}
+use Rattle.entry_codec.specs.Parts.{recovery_at, job_at, stream_at, job_draft_at, stream_draft_at}
 use Rattle.entry_codec.specs.Commands.{cmd_at}
 use Rattle.entry_codec.specs.Entries.{why_at, event_at, order_at, body_at}
+use Rattle.entry_codec.proofs.Readers.{◌&◌}
 use Rattle.entry_codec.proofs.Steady.{IsSteady, Fails, gives_steady, number_steady, number_with_steady, text_steady}
 use Rattle.entry_codec.proofs.Steady.{then_steady, one_steady, two_steady, three_steady, four_steady, choice_steady}
 use Rattle.entry_codec.proofs.Steady.{items_steady, list_steady, seen_steady, then_goes_on, then_fails}
@@ -39,76 +40,61 @@ signed : IsSteady i32_at
 signed = one_steady (cast_signed w32) s32
 
 flag_steady : IsSteady flag_at
-flag_steady = choice_steady _ (gives_steady false, (gives_steady true, tt))
+flag_steady = choice_steady _ (gives_steady false & gives_steady true & tt)
 
 option_steady : {X : Type 0} {value : Reader X} → IsSteady value → IsSteady (option_at value)
-option_steady s = choice_steady _ (gives_steady None, (one_steady Some s, tt))
+option_steady s = choice_steady _ (gives_steady None & one_steady Some s & tt)
 
 pub feed_steady : IsSteady feed_at
 unfolding feed_at
-feed_steady = choice_steady _ (one_steady Events s16, (two_steady Orders s16 s16, tt))
+feed_steady = choice_steady _ (one_steady Events s16 & two_steady Orders s16 s16 & tt)
 
 obj_steady : IsSteady obj_at
 unfolding obj_at
-obj_steady = choice_steady _ (one_steady Job s32, (one_steady Stream s32, tt))
+obj_steady = choice_steady _ (one_steady Job s32 & one_steady Stream s32 & tt)
 
 until_steady : IsSteady until_at
 unfolding until_at
-until_steady = choice_steady _ (gives_steady Suppr, (gives_steady Cont, (gives_steady Canc, tt)))
+until_steady = choice_steady _ (gives_steady Suppr & gives_steady Cont & gives_steady Canc & tt)
 
 recovery_steady : IsSteady recovery_at
 unfolding recovery_at
 recovery_steady =
-    choice_steady _ (gives_steady Recovery.Stop, (gives_steady Recovery.Continue, (gives_steady Recovery.Rerun, tt)))
+    choice_steady _ (
+    gives_steady Recovery.Stop
+    & gives_steady Recovery.Continue
+    & gives_steady Recovery.Rerun
+    & tt)
 
 why_steady : IsSteady why_at
 unfolding why_at
 why_steady =
     choice_steady _ (
-      gives_steady NotMine,
-      (
-        gives_steady NotThere,
-        (
-          gives_steady Running,
-          (
-            gives_steady NotRunning,
-            (
-              gives_steady NotEnded,
-              (
-                gives_steady Why.Ended,
-                (
-                  gives_steady AlreadyThere,
-                  (
-                    gives_steady OutOfRange,
-                    (gives_steady NotMaster, (gives_steady NotBuilt, tt)),
-                  ),
-                ),
-              ),
-            ),
-          ),
-        ),
-      ),
-    )
+    gives_steady NotMine
+    & gives_steady NotThere
+    & gives_steady Running
+    & gives_steady NotRunning
+    & gives_steady NotEnded
+    & gives_steady Why.Ended
+    & gives_steady AlreadyThere
+    & gives_steady OutOfRange
+    & gives_steady NotMaster
+    & gives_steady NotBuilt
+    & tt)
 
 dep_steady : IsSteady dep_at
 unfolding dep_at
 dep_steady =
     choice_steady _ (
-      one_steady FollowsJob s32,
-      (
-        one_steady FollowsStream s32,
-        (
-          two_steady Needs s16 s16,
-          (
-            one_steady (λ p. Prompt (Global p)) s16,
-            (
-              one_steady (λ text. Prompt (Own text)) text_steady,
-              (one_steady At s64, (two_steady Until s64 until_steady, (one_steady Outside text_steady, tt))),
-            ),
-          ),
-        ),
-      ),
-    )
+    one_steady FollowsJob s32
+    & one_steady FollowsStream s32
+    & two_steady Needs s16 s16
+    & one_steady (λ p. Prompt (Global p)) s16
+    & one_steady (λ text. Prompt (Own text)) text_steady
+    & one_steady At s64
+    & two_steady Until s64 until_steady
+    & one_steady Outside text_steady
+    & tt)
 
 -- a draft's dependency, by its first byte
 abbrev drafted : Bool → List ℕ → ℕ → ℕ → Result (DraftDep × ℕ) EntryFault
@@ -152,33 +138,22 @@ draft_dep_steady = record { goes_on = draft_dep_on; fails = draft_dep_out }
 
 work_steady : IsSteady work_at
 unfolding work_at
-work_steady = choice_steady _ (one_steady Command text_steady, (one_steady Script text_steady, tt))
+work_steady = choice_steady _ (one_steady Command text_steady & one_steady Script text_steady & tt)
 
 op_steady : IsSteady op_at
 unfolding op_at
 op_steady =
     choice_steady _ (
-      one_steady (Cmp Eq) signed,
-      (
-        one_steady (Cmp Ne) signed,
-        (
-          one_steady (Cmp Lt) signed,
-          (
-            one_steady (Cmp Le) signed,
-            (
-              one_steady (Cmp Gt) signed,
-              (
-                one_steady (Cmp Ge) signed,
-                (
-                  gives_steady And,
-                  (gives_steady Or, (gives_steady Not, tt)),
-                ),
-              ),
-            ),
-          ),
-        ),
-      ),
-    )
+    one_steady (Cmp Eq) signed
+    & one_steady (Cmp Ne) signed
+    & one_steady (Cmp Lt) signed
+    & one_steady (Cmp Le) signed
+    & one_steady (Cmp Gt) signed
+    & one_steady (Cmp Ge) signed
+    & gives_steady And
+    & gives_steady Or
+    & gives_steady Not
+    & tt)
 
 cond_steady : IsSteady cond_at
 unfolding cond_at
@@ -219,99 +194,49 @@ cmd_steady : IsSteady cmd_at
 unfolding cmd_at
 cmd_steady =
     choice_steady _ (
-      two_steady AddDep obj_steady dep_steady,
-      (
-        two_steady DelDep obj_steady s16,
-        (
-          one_steady Release obj_steady,
-          (
-            two_steady AltPri obj_steady s8,
-            (
-              one_steady Cancel obj_steady,
-              (
-                one_steady Confirm s32,
-                (
-                  one_steady Kill s32,
-                  (
-                    one_steady Rerun s32,
-                    (
-                      one_steady Fence s8,
-                      (
-                        one_steady Limit s16,
-                        (
-                          two_steady StreamLimit s32 s16,
-                          (
-                            two_steady Total s16 s16,
-                            (
-                              two_steady ReplyGlobal s16 flag_steady,
-                              (
-                                three_steady ReplyOwn obj_steady s16 flag_steady,
-                                (
-                                  gives_steady Cmd.Start,
-                                  (
-                                    gives_steady Stop,
-                                    (one_steady Submit draft_steady, (one_steady SwitchMgr s16, tt)),
-                                  ),
-                                ),
-                              ),
-                            ),
-                          ),
-                        ),
-                      ),
-                    ),
-                  ),
-                ),
-              ),
-            ),
-          ),
-        ),
-      ),
-    )
+    two_steady AddDep obj_steady dep_steady
+    & two_steady DelDep obj_steady s16
+    & one_steady Release obj_steady
+    & two_steady AltPri obj_steady s8
+    & one_steady Cancel obj_steady
+    & one_steady Confirm s32
+    & one_steady Kill s32
+    & one_steady Rerun s32
+    & one_steady Fence s8
+    & one_steady Limit s16
+    & two_steady StreamLimit s32 s16
+    & two_steady Total s16 s16
+    & two_steady ReplyGlobal s16 flag_steady
+    & three_steady ReplyOwn obj_steady s16 flag_steady
+    & gives_steady Cmd.Start
+    & gives_steady Stop
+    & one_steady Submit draft_steady
+    & one_steady SwitchMgr s16
+    & tt)
 
 event_steady : IsSteady event_at
 unfolding event_at
 event_steady =
     choice_steady _ (
-      four_steady NewPlan s32 seen_steady (list_steady s32) (list_steady stream_steady),
-      (
-        three_steady Added s16 s32 stream_steady,
-        (
-          one_steady Clock s64,
-          (
-            two_steady Released s32 seen_steady,
-            (
-              two_steady StreamEnded s32 seen_steady,
-              (
-                three_steady UntilPassed obj_steady s16 until_steady,
-                (
-                  three_steady Launched s32 s32 seen_steady,
-                  (
-                    two_steady Started s32 s32,
-                    (
-                      two_steady Failed s32 s32,
-                      (
-                        four_steady Ended s32 s32 signed flag_steady,
-                        (
-                          two_steady Lost s32 s32,
-                          (
-                            two_steady Fulfilled obj_steady s16,
-                            (three_steady Obeyed s16 s32 cmd_steady, (three_steady Declined s16 s32 why_steady, tt)),
-                          ),
-                        ),
-                      ),
-                    ),
-                  ),
-                ),
-              ),
-            ),
-          ),
-        ),
-      ),
-    )
+    four_steady NewPlan s32 seen_steady (list_steady s32) (list_steady stream_steady)
+    & three_steady Added s16 s32 stream_steady
+    & one_steady Clock s64
+    & two_steady Released s32 seen_steady
+    & two_steady StreamEnded s32 seen_steady
+    & three_steady UntilPassed obj_steady s16 until_steady
+    & three_steady Launched s32 s32 seen_steady
+    & two_steady Started s32 s32
+    & two_steady Failed s32 s32
+    & four_steady Ended s32 s32 signed flag_steady
+    & two_steady Lost s32 s32
+    & two_steady Fulfilled obj_steady s16
+    & three_steady Obeyed s16 s32 cmd_steady
+    & three_steady Declined s16 s32 why_steady
+    & tt)
 
 order_steady : IsSteady order_at
 unfolding order_at
-order_steady = choice_steady _ (one_steady Order cmd_steady, tt)
+order_steady = choice_steady _ (one_steady Order cmd_steady & tt)
 
 pub body_steady : (feed : Feed) → IsSteady (body_at feed)
 unfolding body_at

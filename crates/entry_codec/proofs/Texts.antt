@@ -15,16 +15,18 @@ use Rattle.model.specs.Fields.{u16_bytes, u32_bytes, i32_bytes, text_bytes}
 use Rattle.model.specs.Ranges.{IsU16, IsI32}
 use Rattle.entry_codec.specs.declared.EntryFault.{EntryFault}
 use Rattle.entry_codec.specs.declared.EntryFault.TheVariants.{Short, BadField}
-use Rattle.entry_codec.specs.Reading.{Reader, and_then}
+use Rattle.entry_codec.specs.Read.{Reader, and_then}
 use Rattle.entry_codec.specs.Fields.{number_at, number_with, text_at, i32_at}
-use Rattle.entry_codec.proofs.Readers.{IsBytes, Stands, IsReader, within, starts, joined, split, came, step, on, same_value}
+use Rattle.entry_codec.proofs.Readers.{IsBytes, Stands, IsReader, within, starts, joined, split, came, step, on}
+use Rattle.entry_codec.proofs.Readers.{same_value}
 use Rattle.entry_codec.proofs.Numbers.{u16_reader, u32_reader, tested}
 
 -- a text that has a field
 abbrev pub TextFits : List ℕ → Type 0
 TextFits text = (length text ≤ 4096) × IsUtf8 text
 
-length_reader : IsReader (λ (n : ℕ). IsU16 n × (nat_le n 4096 ≡ true)) u16_bytes (number_with w16 (λ n. nat_le n 4096))
+length_reader : IsReader (λ (n : ℕ). IsU16 n × (nat_le n 4096 ≡ true)) u16_bytes
+    (number_with w16 (λ n. nat_le n 4096))
 length_reader = tested w16 IsU16 u16_bytes (λ n. nat_le n 4096) u16_reader
 
 -- a value behind two tests that did not fail
@@ -50,7 +52,8 @@ text_found bytes p text q is lt e =
     let n = c.value.0 in
     let m = c.value.1 in
     let body = take n (drop m bytes) in
-    let g = passed (ltb (length bytes) (m + n)) (is_utf8 body) (Short p) (BadField p) (body, m + n) (text, q) c.then_ in
+    let g = passed (ltb (length bytes) (m + n)) (is_utf8 body) (Short p) (BadField p) (body, m + n) (text, q) c.then_
+    in
     let f = length_reader.found bytes p n m is lt c.first in
     let long : m + n ≤ length bytes = ltb-false _ _ g.long in
     let len : length body ≡ n = omega (arith, length-take n (drop m bytes), length-drop m bytes) in
@@ -103,10 +106,6 @@ pub i32_reader : IsReader IsI32 i32_bytes i32_at
 i32_reader = record { found = i32_found; again = i32_again }
 
 -- the same, as the code's values stand
-pub stands_signed : (bytes : List ℕ) (p : ℕ) (z : ℤ) (q : ℕ) → IsI32 z → StandsAt (i32_bytes z) bytes p q
-    → i32_at bytes p ≡ Ok (z, q)
-stands_signed bytes p z q fits s = i32_again bytes p z q fits (record { it = s })
-
 pub stands_text : (bytes : List ℕ) (p : ℕ) (text : List ℕ) (q : ℕ) → IsUtf8 text → length text ≤ 4096
     → StandsAt (text_bytes text) bytes p q → text_at bytes p ≡ Ok (text, q)
 stands_text bytes p text q utf8 short s = text_again bytes p text q (short, utf8) (record { it = s })

@@ -9,7 +9,7 @@ use Rattle.model.specs.Ranges.{InRange}
 use Rattle.model.specs.Spelling.{entry_bytes}
 use Rattle.entry_codec.specs.declared.EntryFault.{EntryFault}
 use Rattle.entry_codec.specs.declared.EntryFault.TheVariants.{Short, Version, BadField, TooMuch, NoMemory}
-use Rattle.entry_codec.specs.Reading.{Gives}
+use Rattle.entry_codec.specs.Read.{Gives}
 use Rattle.entry_codec.specs.Entries.{entry_in, HasOtherVersion, IsLeftAt, IsLasting}
 use Rattle.entry_codec.proofs.Readers.{IsBytes}
 use Rattle.entry_codec.proofs.Whole.{whole_found, version_found, left_found, begins_none}

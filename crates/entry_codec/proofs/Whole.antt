@@ -13,9 +13,9 @@ use Rattle.model.specs.Ranges.{InRange}
 use Rattle.model.specs.Spelling.{entry_bytes}
 use Rattle.entry_codec.specs.declared.EntryFault.{EntryFault}
 use Rattle.entry_codec.specs.declared.EntryFault.TheVariants.{Short, Version, BadField, TooMuch, NoMemory}
-use Rattle.entry_codec.specs.Reading.{Reader, and_then, followed_by, gives, all_of}
+use Rattle.entry_codec.specs.Read.{Reader, and_then, chain, gives, all_of}
 use Rattle.entry_codec.specs.Fields.{u8_at, number_at, number_with}
-use Rattle.entry_codec.specs.Documents.{feed_at}
+use Rattle.entry_codec.specs.Parts.{feed_at}
 use Rattle.entry_codec.specs.Entries.{body_at, version_at, entry_at, entry_in, HasOtherVersion, IsLeftAt, IsLasting}
 use Rattle.entry_codec.proofs.Readers.{IsBytes, Stands, IsReader, Came, came}
 use Rattle.entry_codec.proofs.Numbers.{u8_reader}
@@ -27,7 +27,7 @@ use Rattle.entry_codec.proofs.SteadyEntries.{feed_steady, body_steady}
 -- what stands behind the version
 abbrev behind_version : Reader Entry
 behind_version =
-    followed_by feed_at (λ feed. followed_by (number_with w32 (nat_lt 0)) (λ place. followed_by (body_at feed) (λ body.
+    chain feed_at (λ feed. chain (number_with w32 (nat_lt 0)) (λ place. chain (body_at feed) (λ body.
     gives (record { feed = feed; place = place; body = body }))))
 
 behind_steady : IsSteady behind_version
@@ -72,7 +72,7 @@ pub record Fault (bytes more : List ℕ) (f : EntryFault) : Type 0 where
   pub how : ((f ≡ Version) × HasOtherVersion bytes) ⊎ Fails f (entry_at (bytes ++ more) 0)
 
 fault : (bytes more : List ℕ) (f : EntryFault) → IsBytes bytes → entry_at bytes 0 ≡ Err f → Fault bytes more f
-unfolding entry_at followed_by
+unfolding entry_at chain
 fault bytes more f is e =
     elim (failed (version_at bytes 0) (λ (x : ℕ × ℕ). behind_version bytes x.1) f e) [
       | inl first ↦ elim (version_fails bytes f is first) [
@@ -93,7 +93,7 @@ fault bytes more f is e =
     ]
 
 entry_goes_on : (bytes more : List ℕ) (x : Entry × ℕ) → entry_at bytes 0 ≡ Ok x → entry_at (bytes ++ more) 0 ≡ Ok x
-unfolding entry_at followed_by
+unfolding entry_at chain
 entry_goes_on bytes more x e =
     then_goes_on (version_at bytes 0) (version_at (bytes ++ more) 0) (λ (n : ℕ × ℕ). behind_version bytes n.1)
     (λ (n : ℕ × ℕ). behind_version (bytes ++ more) n.1) x (version_goes_on bytes more 0)
@@ -206,7 +206,7 @@ version_found bytes is h =
         cc
 
 pub version_again : (bytes : List ℕ) → IsBytes bytes → HasOtherVersion bytes → entry_in bytes ≡ Err Version
-unfolding entry_in entry_at version_at followed_by
+unfolding entry_in entry_at version_at chain
 version_again [] is other = absurd other
 version_again (b ∷ rest) is other =
     let stands : Stands (b ∷ []) (b ∷ rest) 0 1 = record { it = (refl, refl, omega arith) } in
@@ -233,7 +233,8 @@ not_short (TooMuch p) lasting short = short
 not_short (Short p) lasting short = lasting
 not_short NoMemory lasting short = lasting
 
-pub begins_none : (bytes : List ℕ) (f : EntryFault) → IsBytes bytes → entry_in bytes ≡ Err f → IsLasting f → (e : Entry)
+pub begins_none : (bytes : List ℕ) (f : EntryFault) → IsBytes bytes → entry_in bytes ≡ Err f → IsLasting f →
+    (e : Entry)
     (more : List ℕ) → EntryFits e → bytes ++ more ≡ entry_bytes e → ⊥
 unfolding entry_in
 begins_none bytes f is h lasting e more fits same =

@@ -1,10 +1,10 @@
--- Commands as they are read. A number before a row is the choice that leads to it.
+-- Commands as they are read. The number of a row is the choice that leads to it.
 use Rattle.std.specs.Prelude.{List, [], ◌∷◌}
 use Rattle.model.specs.Types.{Cmd, AddDep, DelDep, Release, AltPri, Cancel, Confirm, Kill, Rerun, Fence, Limit}
 use Rattle.model.specs.Types.{StreamLimit, Total, ReplyGlobal, ReplyOwn, Stop, Submit, SwitchMgr}
-use Rattle.entry_codec.specs.Reading.{Reader, gives, one, two, three}
+use Rattle.entry_codec.specs.Read.{Reader, gives, one, two, three}
 use Rattle.entry_codec.specs.Fields.{u8_at, u16_at, u32_at, choice_at, flag_at}
-use Rattle.entry_codec.specs.Documents.{obj_at, dep_at, stream_draft_at}
+use Rattle.entry_codec.specs.Parts.{obj_at, dep_at, stream_draft_at}
 
 -- a command
 unfoldable pub cmd_at : Reader Cmd

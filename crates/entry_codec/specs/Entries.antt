@@ -1,4 +1,4 @@
--- Entries as they are read. A number before a row is the choice that leads to it.
+-- Entries as they are read. The number of a row is the choice that leads to it.
 use Rattle.std.specs.Prelude.{◌≢◌, ◌==◌, ◌<◌, ℕ, List, [], ◌∷◌, length, Result, Ok, Err, nat_lt, if◌then◌else◌}
 use Rattle.std.specs.Int.{w32}
 use Rattle.byte_fields.specs.Places.{StandsAt}
@@ -10,10 +10,10 @@ use Rattle.model.specs.Fit.{IsFit}
 use Rattle.model.specs.Spelling.{entry_bytes}
 use Rattle.entry_codec.specs.declared.EntryFault.{EntryFault}
 use Rattle.entry_codec.specs.declared.EntryFault.TheVariants.{Short, Version, BadField, TooMuch, NoMemory}
-use Rattle.entry_codec.specs.Reading.{Reader, ◌>>=◌, and_then, followed_by, gives, one, two, three, four, all_of}
+use Rattle.entry_codec.specs.Read.{Reader, ◌>>=◌, and_then, chain, gives, one, two, three, four, all_of}
 use Rattle.entry_codec.specs.Fields.{u8_at, u16_at, u32_at, u64_at, i32_at, number_with, choice_at, flag_at}
 use Rattle.entry_codec.specs.Fields.{list_at, seen_at}
-use Rattle.entry_codec.specs.Documents.{feed_at, obj_at, until_at, stream_at}
+use Rattle.entry_codec.specs.Parts.{feed_at, obj_at, until_at, stream_at}
 use Rattle.entry_codec.specs.Commands.{cmd_at}
 
 -- the reason of a declined order

@@ -1,5 +1,5 @@
-pub mod Reading
+pub mod Read
 pub mod Fields
-pub mod Documents
+pub mod Parts
 pub mod Commands
 pub mod Entries

@@ -1,8 +1,8 @@
 //! The one spelling of each entry in bytes, written and read.
 //!
-//! The spelling is that of `model::specs::Spelling`. A fit entry is written so, and exactly the spellings of fit entries
-//! are read, each as its entry. All other bytes have a first fault from the left, which is told with the place of its
-//! field; `specs/Entries.antt` and the files before it have the format, part by part, with its faults.
+//! The spelling is that of `model::specs::Spelling`. A fit entry is written so, and exactly the spellings of fit
+//! entries are read, each as its entry. All other bytes have a first fault from the left, which is told with the place
+//! of its field; `specs/Entries.antt` and the files before it have the format, part by part, with its faults.
 #![tactic(auto)]
 
 mod reading;

@@ -1,6 +1,6 @@
 //! What entries say.
 ghost use Rattle.std.specs.Prelude.{◌≡◌, ◌≤◌, length, IfOk};
-ghost use Rattle.entry_codec.specs.Reading.{Gives, IsPlace};
+ghost use Rattle.entry_codec.specs.Read.{Gives, IsPlace};
 ghost use Rattle.entry_codec.specs.Entries.{body_at, event_at, order_at};
 
 use crate::EntryFault;
@@ -30,7 +30,7 @@ pub(crate) fn read_body(
 }
 
 /// The kind of an order, and its command.
-#[tactic(auto, unfolding(crate::specs::Reading::followed_by, crate::specs::Fields::choice_at, crate::specs::Entries::order_at))]
+#[tactic(auto, unfolding(crate::specs::Read::chain, crate::specs::Fields::choice_at, crate::specs::Entries::order_at))]
 fn read_order(alloc: Global, from: &[u8], at: usize) -> Result<(Body, usize), EntryFault>
     requires { IsPlace from.now at }
     ensures reads { Gives result (order_at from.now at) }
@@ -46,7 +46,7 @@ fn read_order(alloc: Global, from: &[u8], at: usize) -> Result<(Body, usize), En
 }
 
 /// The kind of an event, and its fields.
-#[tactic(auto, unfolding(crate::specs::Reading::followed_by, crate::specs::Fields::choice_at, crate::specs::Entries::event_at))]
+#[tactic(auto, unfolding(crate::specs::Read::chain, crate::specs::Fields::choice_at, crate::specs::Entries::event_at))]
 fn read_event(alloc: Global, from: &[u8], at: usize) -> Result<(Body, usize), EntryFault>
     requires { IsPlace from.now at }
     ensures reads { Gives result (event_at from.now at) }

@@ -1,6 +1,6 @@
 //! Commands.
 ghost use Rattle.std.specs.Prelude.{◌≡◌, ◌≤◌, length, IfOk};
-ghost use Rattle.entry_codec.specs.Reading.{Gives, IsPlace};
+ghost use Rattle.entry_codec.specs.Read.{Gives, IsPlace};
 ghost use Rattle.entry_codec.specs.Commands.{cmd_at};
 
 use crate::EntryFault;
@@ -11,7 +11,7 @@ use base_types::{Cmd, Dep, JobNo, StreamDraft, StreamNo, Ws};
 use std::alloc::Global;
 
 /// A command: its choice and its fields.
-#[tactic(auto, unfolding(crate::specs::Reading::followed_by, crate::specs::Fields::choice_at, crate::specs::Commands::cmd_at))]
+#[tactic(auto, unfolding(crate::specs::Read::chain, crate::specs::Fields::choice_at, crate::specs::Commands::cmd_at))]
 pub(crate) fn read_cmd(alloc: Global, from: &[u8], at: usize) -> Result<(Cmd, usize), EntryFault>
     requires { IsPlace from.now at }
     ensures reads { Gives result (cmd_at from.now at) }

@@ -1,7 +1,7 @@
 //! Dependencies, of documents and of drafts.
 ghost use Rattle.std.specs.Prelude.{◌≡◌, ◌≤◌, length, IfOk};
-ghost use Rattle.entry_codec.specs.Reading.{Gives, IsPlace};
-ghost use Rattle.entry_codec.specs.Documents.{dep_at};
+ghost use Rattle.entry_codec.specs.Read.{Gives, IsPlace};
+ghost use Rattle.entry_codec.specs.Parts.{dep_at};
 
 use crate::EntryFault;
 use crate::reading::fields::{read_text, read_u8, read_u16, read_u32, read_u64};
@@ -11,7 +11,7 @@ use base_types::{Dep, DraftDep, JobNo, Moment, PromptRef, StreamNo, Ws};
 use std::alloc::Global;
 
 impl Read for Dep {
-    ghost use Rattle.entry_codec.specs.Documents.{dep_at};
+    ghost use Rattle.entry_codec.specs.Parts.{dep_at};
 
     ghost reader = { dep_at };
 
@@ -21,7 +21,7 @@ impl Read for Dep {
 }
 
 /// A dependency: its choice and its fields.
-#[tactic(auto, unfolding(crate::specs::Reading::followed_by, crate::specs::Fields::choice_at, crate::specs::Documents::dep_at))]
+#[tactic(auto, unfolding(crate::specs::Read::chain, crate::specs::Fields::choice_at, crate::specs::Parts::dep_at))]
 fn read_dep(alloc: Global, from: &[u8], at: usize) -> Result<(Dep, usize), EntryFault>
     requires { IsPlace from.now at }
     ensures reads { Gives result (dep_at from.now at) }
@@ -67,11 +67,11 @@ fn read_dep(alloc: Global, from: &[u8], at: usize) -> Result<(Dep, usize), Entry
 }
 
 impl Read for DraftDep {
-    ghost use Rattle.entry_codec.specs.Documents.{draft_dep_at};
+    ghost use Rattle.entry_codec.specs.Parts.{draft_dep_at};
 
     ghost reader = { draft_dep_at };
 
-    #[tactic(auto, unfolding(crate::specs::Reading::followed_by, crate::specs::Documents::draft_dep_at))]
+    #[tactic(auto, unfolding(crate::specs::Read::chain, crate::specs::Parts::draft_dep_at))]
     fn read(alloc: Global, from: &[u8], at: usize) -> Result<(DraftDep, usize), EntryFault> {
         let (choice, next) = read_u8(from, at)?;
         if choice == 0 {

@@ -1,9 +1,9 @@
 //! The documents of streams and jobs, and their parts.
 ghost use Rattle.std.specs.Prelude.{◌≡◌, ◌≤◌, length, nat_le, IfOk};
 ghost use Rattle.std.specs.Int.{w8};
-ghost use Rattle.entry_codec.specs.Reading.{Gives, IsPlace, one};
+ghost use Rattle.entry_codec.specs.Read.{Gives, IsPlace, one};
 ghost use Rattle.entry_codec.specs.Fields.{i32_at, items_at, number_with};
-ghost use Rattle.entry_codec.specs.Documents.{cond_at, op_at, work_at};
+ghost use Rattle.entry_codec.specs.Parts.{cond_at, op_at, work_at};
 ghost use Rattle.base_types.specs.declared.CondOp.TheVariants.{Cmp};
 
 use crate::EntryFault;
@@ -14,11 +14,11 @@ use base_types::{Cond, CondOp, Items, JobDoc, JobNo, Rel, StreamDoc, StreamNo, W
 use std::alloc::Global;
 
 impl Read for JobDoc {
-    ghost use Rattle.entry_codec.specs.Documents.{job_at};
+    ghost use Rattle.entry_codec.specs.Parts.{job_at};
 
     ghost reader = { job_at };
 
-    #[tactic(auto, unfolding(crate::specs::Reading::followed_by, crate::specs::Documents::job_at))]
+    #[tactic(auto, unfolding(crate::specs::Read::chain, crate::specs::Parts::job_at))]
     fn read(alloc: Global, from: &[u8], at: usize) -> Result<(JobDoc, usize), EntryFault> {
         let (no, next) = read_u32(from, at)?;
         let (ws, next) = read_u16(from, next)?;
@@ -45,11 +45,11 @@ impl Read for JobDoc {
 }
 
 impl Read for StreamDoc {
-    ghost use Rattle.entry_codec.specs.Documents.{stream_at};
+    ghost use Rattle.entry_codec.specs.Parts.{stream_at};
 
     ghost reader = { stream_at };
 
-    #[tactic(auto, unfolding(crate::specs::Reading::followed_by, crate::specs::Documents::stream_at))]
+    #[tactic(auto, unfolding(crate::specs::Read::chain, crate::specs::Parts::stream_at))]
     fn read(alloc: Global, from: &[u8], at: usize) -> Result<(StreamDoc, usize), EntryFault> {
         let (no, next) = read_u32(from, at)?;
         let (ws, next) = read_u16(from, next)?;
@@ -74,7 +74,7 @@ impl Read for StreamDoc {
 }
 
 /// What a job runs: its choice and its text.
-#[tactic(auto, unfolding(crate::specs::Reading::followed_by, crate::specs::Fields::choice_at, crate::specs::Documents::work_at))]
+#[tactic(auto, unfolding(crate::specs::Read::chain, crate::specs::Fields::choice_at, crate::specs::Parts::work_at))]
 pub(crate) fn read_work(alloc: Global, from: &[u8], at: usize) -> Result<(Work, usize), EntryFault>
     requires { IsPlace from.now at }
     ensures reads { Gives result (work_at from.now at) }
@@ -94,7 +94,7 @@ pub(crate) fn read_work(alloc: Global, from: &[u8], at: usize) -> Result<(Work, 
 }
 
 /// A condition: a count of at most 64 in one byte, and the operations.
-#[tactic(auto, unfolding(crate::specs::Reading::followed_by, crate::specs::Documents::cond_at))]
+#[tactic(auto, unfolding(crate::specs::Read::chain, crate::specs::Parts::cond_at))]
 pub(crate) fn read_cond(alloc: Global, from: &[u8], at: usize) -> Result<(Cond, usize), EntryFault>
     requires { IsPlace from.now at }
     ensures reads { Gives result (cond_at from.now at) }
@@ -135,7 +135,7 @@ fn read_ops(alloc: Global, count: u8, from: &[u8], at: usize) -> Result<(Cond, u
 }
 
 /// A comparison with its code, or another operation.
-#[tactic(auto, unfolding(crate::specs::Reading::followed_by, crate::specs::Fields::choice_at, crate::specs::Documents::op_at))]
+#[tactic(auto, unfolding(crate::specs::Read::chain, crate::specs::Fields::choice_at, crate::specs::Parts::op_at))]
 fn read_op(from: &[u8], at: usize) -> Result<(CondOp, usize), EntryFault>
     requires { IsPlace from.now at }
     ensures reads { Gives result (op_at from.now at) }
@@ -156,7 +156,7 @@ fn read_op(from: &[u8], at: usize) -> Result<(CondOp, usize), EntryFault>
 }
 
 /// The code of a comparison.
-#[tactic(auto, unfolding(crate::specs::Reading::followed_by))]
+#[tactic(auto, unfolding(crate::specs::Read::chain))]
 fn read_comparison(rel: Rel, from: &[u8], at: usize) -> Result<(CondOp, usize), EntryFault>
     requires { IsPlace from.now at }
     ensures reads { Gives result (one i32_at (Cmp rel) from.now at) }

@@ -8,11 +8,11 @@ use base_types::{JobDraft, StreamDraft, Ws};
 use std::alloc::Global;
 
 impl Read for JobDraft {
-    ghost use Rattle.entry_codec.specs.Documents.{job_draft_at};
+    ghost use Rattle.entry_codec.specs.Parts.{job_draft_at};
 
     ghost reader = { job_draft_at };
 
-    #[tactic(auto, unfolding(crate::specs::Reading::followed_by, crate::specs::Documents::job_draft_at))]
+    #[tactic(auto, unfolding(crate::specs::Read::chain, crate::specs::Parts::job_draft_at))]
     fn read(alloc: Global, from: &[u8], at: usize) -> Result<(JobDraft, usize), EntryFault> {
         let (ws, next) = read_u16(from, at)?;
         let (name, next) = read_text(alloc, from, next)?;
@@ -37,11 +37,11 @@ impl Read for JobDraft {
 }
 
 impl Read for StreamDraft {
-    ghost use Rattle.entry_codec.specs.Documents.{stream_draft_at};
+    ghost use Rattle.entry_codec.specs.Parts.{stream_draft_at};
 
     ghost reader = { stream_draft_at };
 
-    #[tactic(auto, unfolding(crate::specs::Reading::followed_by, crate::specs::Documents::stream_draft_at))]
+    #[tactic(auto, unfolding(crate::specs::Read::chain, crate::specs::Parts::stream_draft_at))]
     fn read(alloc: Global, from: &[u8], at: usize) -> Result<(StreamDraft, usize), EntryFault> {
         let (ws, next) = read_u16(from, at)?;
         let (name, next) = read_text(alloc, from, next)?;

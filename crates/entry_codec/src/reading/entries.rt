@@ -7,7 +7,7 @@ ghost use Rattle.model.specs.Fit.{IsFit};
 ghost use Rattle.model.specs.Ranges.{InRange};
 ghost use Rattle.model.specs.Spelling.{entry_bytes};
 ghost use Rattle.entry_codec.specs.declared.EntryFault.TheVariants.{TooMuch, Version};
-ghost use Rattle.entry_codec.specs.Reading.{Gives, IsPlace};
+ghost use Rattle.entry_codec.specs.Read.{Gives, IsPlace};
 ghost use Rattle.entry_codec.specs.Entries.{entry_at, entry_in, version_at, HasOtherVersion, IsLeftAt, IsLasting};
 
 use crate::EntryFault;
@@ -58,7 +58,7 @@ fn read_whole(alloc: Global, bytes: &[u8]) -> Result<Entry, EntryFault>
 }
 
 /// The entry at the front of the bytes: its version, its feed, its place, its kind and its body.
-#[tactic(auto, unfolding(crate::specs::Reading::followed_by, crate::specs::Entries::entry_at))]
+#[tactic(auto, unfolding(crate::specs::Read::chain, crate::specs::Entries::entry_at))]
 fn read_front(alloc: Global, from: &[u8]) -> Result<(Entry, usize), EntryFault>
     requires { IsPlace from.now 0 }
     ensures reads { Gives result (entry_at from.now 0) }

@@ -2,12 +2,12 @@
 ghost use Rattle.std.specs.Prelude.{◌≡◌, ◌≤◌, ℕ, Bool, length, IfOk};
 ghost use Rattle.std.specs.Int.{w8, w16, w32, w64};
 ghost use Rattle.entry_codec.specs.declared.EntryFault.TheVariants.{NoMemory as NoRoom};
-ghost use Rattle.entry_codec.specs.Reading.{Gives, IsPlace};
+ghost use Rattle.entry_codec.specs.Read.{Gives, IsPlace};
 ghost use Rattle.entry_codec.specs.Fields.{number_at, i32_at, text_at, flag_at};
 
 use crate::EntryFault;
 use base_types::{NoMemory, Text};
-use byte_fields::{FieldFault, take_i32, take_text, take_u8, take_u16, take_u32, take_u64};
+use byte_fields::{FieldFault, take_text, take_u8, take_u16, take_u32, take_u64};
 use std::alloc::Global;
 
 impl From<NoMemory> for EntryFault {
@@ -70,21 +70,19 @@ pub(crate) fn read_u64(from: &[u8], at: usize) -> Result<(u64, usize), EntryFaul
     }
 }
 
-/// A signed number in four bytes.
-#[tactic(auto, using(crate::proofs::Texts::stands_signed), unfolding(crate::specs::Reading::followed_by, crate::specs::Fields::number_at))]
+/// A signed number in four bytes, in two's complement.
+#[tactic(auto, unfolding(crate::specs::Read::chain))]
 pub(crate) fn read_i32(from: &[u8], at: usize) -> Result<(i32, usize), EntryFault>
     requires { IsPlace from.now at }
     ensures reads { Gives result (i32_at from.now at) }
     ensures within { IfOk result (λ r. r.1 ≤ length from.now) }
 {
-    match take_i32(from, at) {
-        Ok(found) => Ok(found),
-        Err(_) => Err(EntryFault::Short(at as u32)),
-    }
+    let (bits, next) = read_u32(from, at)?;
+    Ok((bits.cast_signed(), next))
 }
 
 /// A text behind its length.
-#[tactic(auto, using(crate::proofs::Texts::stands_text, crate::proofs::ShortTexts::text_is_short, crate::proofs::ShortTexts::text_is_bad))]
+#[tactic(auto, using(crate::proofs::ShortTexts::text_fields))]
 pub(crate) fn read_text(alloc: Global, from: &[u8], at: usize) -> Result<(Text, usize), EntryFault>
     requires { IsPlace from.now at }
     ensures reads { Gives result (text_at from.now at) }

@@ -1,6 +1,6 @@
 //! Lists, options and what stands in them.
 ghost use Rattle.std.specs.Prelude.{◌≡◌, ◌≤◌, length, IfOk};
-ghost use Rattle.entry_codec.specs.Reading.{Gives, IsPlace};
+ghost use Rattle.entry_codec.specs.Read.{Gives, IsPlace};
 ghost use Rattle.entry_codec.specs.Fields.{items_at, list_at, option_at, text_at, u16_at};
 
 use crate::EntryFault;
@@ -10,7 +10,7 @@ use std::alloc::Global;
 
 /// A value that stands in lists.
 pub(crate) trait Read: Sized + Drop {
-    ghost use Rattle.entry_codec.specs.Reading.{Reader};
+    ghost use Rattle.entry_codec.specs.Read.{Reader};
 
     /// How its bytes are read.
     ghost reader: { Reader Self };
@@ -34,7 +34,7 @@ impl Read for StreamNo {
 }
 
 /// A count and so many items. No room is made for items that are not there.
-#[tactic(auto, unfolding(crate::specs::Reading::followed_by, crate::specs::Fields::list_at))]
+#[tactic(auto, unfolding(crate::specs::Read::chain, crate::specs::Fields::list_at))]
 pub(crate) fn read_list<T: Read>(
     alloc: Global,
     from: &[u8],
@@ -70,7 +70,7 @@ fn read_items<T: Read>(
 }
 
 /// A flag, and after 1 a limit.
-#[tactic(auto, unfolding(crate::specs::Reading::followed_by, crate::specs::Fields::choice_at))]
+#[tactic(auto, unfolding(crate::specs::Read::chain, crate::specs::Fields::choice_at))]
 pub(crate) fn read_limit(from: &[u8], at: usize) -> Result<(Option<u16>, usize), EntryFault>
     requires { IsPlace from.now at }
     ensures reads { Gives result (option_at u16_at from.now at) }
@@ -87,7 +87,7 @@ pub(crate) fn read_limit(from: &[u8], at: usize) -> Result<(Option<u16>, usize),
 }
 
 /// A flag, and after 1 a name.
-#[tactic(auto, unfolding(crate::specs::Reading::followed_by, crate::specs::Fields::choice_at))]
+#[tactic(auto, unfolding(crate::specs::Read::chain, crate::specs::Fields::choice_at))]
 pub(crate) fn read_job_name(
     alloc: Global,
     from: &[u8],

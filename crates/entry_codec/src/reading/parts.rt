@@ -1,9 +1,9 @@
 //! Feeds, counts, objects and choices.
 ghost use Rattle.std.specs.Prelude.{◌≡◌, ◌≤◌, ◌<◌, ◌^◌, length, nat_le, nat_lt, IfOk};
 ghost use Rattle.std.specs.Int.{w16, w32};
-ghost use Rattle.entry_codec.specs.Reading.{Gives, IsPlace};
+ghost use Rattle.entry_codec.specs.Read.{Gives, IsPlace};
 ghost use Rattle.entry_codec.specs.Fields.{count_at, counts_at, number_with, seen_at};
-ghost use Rattle.entry_codec.specs.Documents.{feed_at, obj_at, recovery_at, until_at};
+ghost use Rattle.entry_codec.specs.Parts.{feed_at, obj_at, recovery_at, until_at};
 ghost use Rattle.entry_codec.specs.Entries.{why_at};
 
 use crate::EntryFault;
@@ -12,7 +12,7 @@ use base_types::{Feed, JobNo, Obj, OnUntil, Recovery, Seen, StreamNo, Why, Ws};
 use std::alloc::Global;
 
 /// A feed: its choice and its workstations.
-#[tactic(auto, unfolding(crate::specs::Reading::followed_by, crate::specs::Fields::choice_at, crate::specs::Documents::feed_at))]
+#[tactic(auto, unfolding(crate::specs::Read::chain, crate::specs::Fields::choice_at, crate::specs::Parts::feed_at))]
 pub(crate) fn read_feed(from: &[u8], at: usize) -> Result<(Feed, usize), EntryFault>
     requires { IsPlace from.now at }
     ensures reads { Gives result (feed_at from.now at) }
@@ -61,7 +61,7 @@ pub(crate) fn read_count(from: &[u8], at: usize) -> Result<(u32, usize), EntryFa
 }
 
 /// A workstation that is at least so great, and its count, which is not 0.
-#[tactic(auto, unfolding(crate::specs::Reading::followed_by, crate::specs::Fields::count_at))]
+#[tactic(auto, unfolding(crate::specs::Read::chain, crate::specs::Fields::count_at))]
 fn read_seen_count(least: u32, from: &[u8], at: usize) -> Result<((u16, u32), usize), EntryFault>
     requires { IsPlace from.now at }
     ensures reads { Gives result (count_at least from.now at) }
@@ -74,7 +74,7 @@ fn read_seen_count(least: u32, from: &[u8], at: usize) -> Result<((u16, u32), us
 
 /// A count, and so many workstations in ascending order with counts that are not 0. No room is made for what is not
 /// there.
-#[tactic(auto, unfolding(crate::specs::Reading::followed_by, crate::specs::Fields::seen_at))]
+#[tactic(auto, unfolding(crate::specs::Read::chain, crate::specs::Fields::seen_at))]
 pub(crate) fn read_seen(alloc: Global, from: &[u8], at: usize) -> Result<(Seen, usize), EntryFault>
     requires { IsPlace from.now at }
     ensures reads { Gives result (seen_at from.now at) }
@@ -108,7 +108,7 @@ fn read_counts(
 }
 
 /// A job or a stream: its choice and its number.
-#[tactic(auto, unfolding(crate::specs::Reading::followed_by, crate::specs::Fields::choice_at, crate::specs::Documents::obj_at))]
+#[tactic(auto, unfolding(crate::specs::Read::chain, crate::specs::Fields::choice_at, crate::specs::Parts::obj_at))]
 pub(crate) fn read_obj(from: &[u8], at: usize) -> Result<(Obj, usize), EntryFault>
     requires { IsPlace from.now at }
     ensures reads { Gives result (obj_at from.now at) }
@@ -128,7 +128,7 @@ pub(crate) fn read_obj(from: &[u8], at: usize) -> Result<(Obj, usize), EntryFaul
 }
 
 /// What a passed UNTIL does.
-#[tactic(auto, unfolding(crate::specs::Fields::choice_at, crate::specs::Documents::until_at))]
+#[tactic(auto, unfolding(crate::specs::Fields::choice_at, crate::specs::Parts::until_at))]
 pub(crate) fn read_until(from: &[u8], at: usize) -> Result<(OnUntil, usize), EntryFault>
     requires { IsPlace from.now at }
     ensures reads { Gives result (until_at from.now at) }
@@ -143,7 +143,7 @@ pub(crate) fn read_until(from: &[u8], at: usize) -> Result<(OnUntil, usize), Ent
 }
 
 /// What follows a bad end.
-#[tactic(auto, unfolding(crate::specs::Fields::choice_at, crate::specs::Documents::recovery_at))]
+#[tactic(auto, unfolding(crate::specs::Fields::choice_at, crate::specs::Parts::recovery_at))]
 pub(crate) fn read_recovery(from: &[u8], at: usize) -> Result<(Recovery, usize), EntryFault>
     requires { IsPlace from.now at }
     ensures reads { Gives result (recovery_at from.now at) }

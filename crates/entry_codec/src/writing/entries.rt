@@ -11,8 +11,8 @@ use std::alloc::Global;
 
 /// The bytes of an entry: its version, which is 1, its feed, its place, and what it says.
 ///
-/// The entry's kind belongs to its feed, its place is not 0, its counts ascend without zeros, and its texts, conditions
-/// and lists are within their limits. `NoMemory` comes only where memory runs out.
+/// The entry is fit: its kind belongs to its feed, its place is not 0, its counts ascend without zeros, and its texts,
+/// conditions and lists are within their limits. `NoMemory` comes only where memory runs out.
 #[tactic(auto, unfolding(model::specs::Spelling::entry_bytes))]
 pub fn write_entry(alloc: Global, e: &Entry) -> Result<Bytes, NoMemory>
     requires { IsFit e.now }

@@ -1,7 +1,7 @@
 use Rattle.std.proofs.Common.{◌≡◌, ◌++◌, ◌∷◌, []}
 use Rattle.std.proofs.lemmas.Result.{err_from_is_err_and}
 use Rattle.entry_codec.specs.Fields.{items_at}
-use Rattle.entry_codec.specs.Documents.{op_at}
+use Rattle.entry_codec.specs.Parts.{op_at}
 use Rattle.entry_codec.proofs.Loops.{goes_on, ends, is_done}
 use Rattle.entry_codec.proofs.reading.documents.read_ops.Goals as goal
 

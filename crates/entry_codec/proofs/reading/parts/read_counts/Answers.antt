@@ -13,11 +13,13 @@ returns-in_err-ws-clause-reads c =
 
 pub loop-preserved : goal.loop-preserved
 loop-preserved c =
-    let pushed : c.push.new.self ≡ c.loop.seen ++ (c.in_ok-ws.ws, c.in_ok-ws.entries) ∷ [] = c.in_ok-push.ensures.ok in
+    let pushed : c.push.new.self ≡ c.loop.seen ++ (c.in_ok-ws.ws, c.in_ok-ws.entries) ∷ [] = c.in_ok-push.ensures.ok
+    in
     let least : c.from-least.result ≡ c.in_ok-ws.ws = c.from-least.ensures in
     record {
       read = rw (pushed, least) (counts_go_on c.loop.seen c.args.count c.loop.counter c.loop.least c.args.from.now
-          c.loop.next (c.in_ok-ws.ws, c.in_ok-ws.entries) c.in_ok-ws.after (counts_at 0 c.args.count c.args.from.now c.args.at)
+          c.loop.next (c.in_ok-ws.ws, c.in_ok-ws.entries) c.in_ok-ws.after
+          (counts_at 0 c.args.count c.args.from.now c.args.at)
           c.loop-test.true c.in_ok-ws.ensures.reads c.loop.invariant.read);
       within = c.in_ok-ws.ensures.within;
     }

@@ -17,12 +17,12 @@ abbrev pub gives : {X : Type 0} → X → Reader X
 gives x bytes p = Ok (x, p)
 
 -- one part, and behind it another, whose form may go by the value of the first
-unfoldable pub followed_by : {X Y : Type 0} → Reader X → (X → Reader Y) → Reader Y
-followed_by first next bytes p = and_then (first bytes p) (λ x. next x.0 bytes x.1)
+unfoldable pub chain : {X Y : Type 0} → Reader X → (X → Reader Y) → Reader Y
+chain first next bytes p = and_then (first bytes p) (λ x. next x.0 bytes x.1)
 
 infixl 10 ◌>>=◌
 abbrev pub ◌>>=◌ : {X Y : Type 0} → Reader X → (X → Reader Y) → Reader Y
-first >>= next = followed_by first next
+first >>= next = chain first next
 
 -- a value of one part, of two, three or four that stand one behind the other
 abbrev pub one : {A X : Type 0} → Reader A → (A → X) → Reader X

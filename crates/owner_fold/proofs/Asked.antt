@@ -33,7 +33,8 @@ one_more V r o n d ds h = rw h (go (is_waived V o n))
     go : (b : Bool)
         → sum_by (λ (p : NumberedDep). units_in r p.dep)
         (cond (not b)
-        (record { number = n; dep = d } ∷ filter (λ (p : NumberedDep). not (is_waived V o p.number)) (numbered_deps (n + 1) ds))
+        (record { number = n; dep = d } ∷ filter (λ (p : NumberedDep). not (is_waived V o p.number))
+        (numbered_deps (n + 1) ds))
         (filter (λ (p : NumberedDep). not (is_waived V o p.number)) (numbered_deps (n + 1) ds)))
         ≡ (if b then 0 else units_in r d) + units_from V r o (n + 1) ds
     go true = omega arith
@@ -47,6 +48,6 @@ pub units_step : (V : View) (r : ℕ) (o : Obj) (i : ℕ) → i < length (deps V
 units_step V r o i h =
     let e : i + 1 ≡ suc i = omega arith in
     let f : (x : Dep) × ((drop i (deps V o) ≡ x ∷ drop (suc i) (deps V o)) × (slice_get (deps V o) i ≡ Some x)) =
-        first_left (deps V o) i h
+    first_left (deps V o) i h
     in
     rw (e, f.1.0) (one_more V r o (suc i) f.0 (drop (suc i) (deps V o)) f.1.1)

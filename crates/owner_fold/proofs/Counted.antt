@@ -1,5 +1,6 @@
 -- How many dependencies count, and where each of them stands.
-use Rattle.std.proofs.Common.{[], ℕ, ◌+◌, ◌++◌, ◌-◌, ◌<◌, ◌∙◌, ◌∷◌, ◌≡◌, ◌≤◌, List, None, Some, arith, flat_map, length, length-append}
+use Rattle.std.proofs.Common.{[], ℕ, ◌+◌, ◌++◌, ◌-◌, ◌<◌, ◌∙◌, ◌∷◌, ◌≡◌, ◌≤◌, List, None, Some, arith, flat_map}
+use Rattle.std.proofs.Common.{length, length-append}
 use Rattle.std.proofs.Common.{length-take, refl, slice_get, subst, suc, take, zero}
 use Rattle.model.specs.Types.{Dep, Events, Obj}
 use Rattle.model.specs.Catalogue.{owner}
@@ -71,7 +72,8 @@ dep_added V o (suc i) h k l =
     rw e
     (get_take (document_deps V o ++ added_deps V o) 65535 i (omega arith)
     ∙ subst
-    (λ n. slice_get (document_deps V o ++ added_deps V o) n ≡ slice_get (added_deps V o) (i - length (document_deps V o)))
+    (λ n. slice_get (document_deps V o ++ added_deps V o) n
+    ≡ slice_get (added_deps V o) (i - length (document_deps V o)))
     f (get_back (document_deps V o) (added_deps V o) (i - length (document_deps V o))))
 
 -- an object without an owner has none that were added

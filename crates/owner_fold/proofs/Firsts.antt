@@ -43,8 +43,8 @@ firsts_further {X} number known (y ∷ ys) x =
     go true h k = h
     go false h k =
         ap (λ (l : List X). y ∷ l) k
-            ∙ regroup (firsts number (number y ∷ known) ys) (number y == number x) (has known (number x))
-            (has (map number (firsts number (number y ∷ known) ys)) (number x))
+        ∙ regroup (firsts number (number y ∷ known) ys) (number y == number x) (has known (number x))
+        (has (map number (firsts number (number y ∷ known) ys)) (number x))
 
 -- there is one of this number where the number is among the numbers
 pub has_found : {X : Type 0} (number : X → ℕ) (n : ℕ) (xs : List X)

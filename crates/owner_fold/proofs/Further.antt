@@ -1,5 +1,6 @@
 -- The plan one entry further.
-use Rattle.std.proofs.Common.{[], ℕ, ◌&&◌, ◌++◌, ◌∙◌, ◌∷◌, ◌≡◌, Bool, List, None, Option, ap, false, filter, find, flat_map}
+use Rattle.std.proofs.Common.{[], ℕ, ◌&&◌, ◌++◌, ◌∙◌, ◌∷◌, ◌≡◌, Bool, List, None, Option, ap, false, filter, find}
+use Rattle.std.proofs.Common.{flat_map}
 use Rattle.std.proofs.Common.{◌+◌, ◌<◌, ◌^◌, ◌⊎◌, ap₂, arith, fold, inl, inr, is_some, length, length-append, map, refl}
 use Rattle.std.proofs.Common.{subst, sym, true}
 use Rattle.std.proofs.lemmas.Bool.Decides.{eqb_tells}
@@ -8,7 +9,8 @@ use Rattle.std.proofs.lemmas.List.{append-nil, map-append}
 use Rattle.std.proofs.lemmas.List.Elements.{filter-append}
 use Rattle.std.proofs.lemmas.List.Sums.{fold-append}
 use Rattle.std.proofs.lemmas.Grind.{flat_map-append}
-use Rattle.model.specs.Types.{Added, Body, Clock, Declined, Ended, Entry, Events, Failed, Feed, Fulfilled, Launched, Orders}
+use Rattle.model.specs.Types.{Added, Body, Clock, Declined, Ended, Entry, Events, Failed, Feed, Fulfilled, Launched}
+use Rattle.model.specs.Types.{Orders}
 use Rattle.model.specs.Types.{Lost, NewPlan, Obeyed, Order, Released, Started, StreamDoc, StreamEnded, UntilPassed}
 use Rattle.model.specs.Equalities.{feed_eq}
 use Rattle.model.specs.Words.{has}
@@ -45,7 +47,7 @@ pub list_without : (kept : List Entry) (e : Entry) (f : Feed) → feed_eq f e.fe
     → list_of (kept ++ e ∷ []) f ≡ list_of kept f
 list_without kept e f other =
     list_of-append kept (e ∷ []) f
-        ∙ ap (λ (l : List Body). list_of kept f ++ l) (list_of_elsewhere e f other) ∙ append-nil (list_of kept f)
+    ∙ ap (λ (l : List Body). list_of kept f ++ l) (list_of_elsewhere e f other) ∙ append-nil (list_of kept f)
 
 both_true : (a b : Bool) → (a && b) ≡ true → (a ≡ true) × (b ≡ true)
 both_true true b h = (refl, h)
@@ -57,11 +59,11 @@ pub docs_with : (kept : List Entry) (e : Entry) → is_planning e ≡ true
     ≡ flat_map docs_in (list_of kept (Events 0)) ++ docs_in e.body
 docs_with kept e h =
     let same : feed_eq (Events 0) e.feed ≡ true =
-        (both_true (feed_eq (Events 0) e.feed) (is_planning_body e.body) h).0
+    (both_true (feed_eq (Events 0) e.feed) (is_planning_body e.body) h).0
     in
     ap (λ (l : List Body). flat_map docs_in l) (list_with kept e (Events 0) same)
-        ∙ flat_map-append docs_in (list_of kept (Events 0)) (e.body ∷ [])
-        ∙ ap (λ (l : List StreamDoc). flat_map docs_in (list_of kept (Events 0)) ++ l) (append-nil (docs_in e.body))
+    ∙ flat_map-append docs_in (list_of kept (Events 0)) (e.body ∷ [])
+    ∙ ap (λ (l : List StreamDoc). flat_map docs_in (list_of kept (Events 0)) ++ l) (append-nil (docs_in e.body))
 
 -- what the plan names then
 pub named_with : (kept : List Entry) (e : Entry) → is_planning e ≡ true
@@ -69,10 +71,10 @@ pub named_with : (kept : List Entry) (e : Entry) → is_planning e ≡ true
 unfolding named_members
 named_with kept e h =
     let same : feed_eq (Events 0) e.feed ≡ true =
-        (both_true (feed_eq (Events 0) e.feed) (is_planning_body e.body) h).0
+    (both_true (feed_eq (Events 0) e.feed) (is_planning_body e.body) h).0
     in
     ap (λ (l : List Body). fold members_with None l) (list_with kept e (Events 0) same)
-        ∙ fold-append members_with None (list_of kept (Events 0)) (e.body ∷ [])
+    ∙ fold-append members_with None (list_of kept (Events 0)) (e.body ∷ [])
 
 filter_same : (p q : ℕ → Bool) (xs : List ℕ) → ((n : ℕ) → p n ≡ q n) → filter p xs ≡ filter q xs
 filter_same p q [] same = refl
@@ -135,9 +137,9 @@ docs_without kept e h = go (feed_eq (Events 0) e.feed) refl h
         → flat_map docs_in (list_of (kept ++ e ∷ []) (Events 0)) ≡ flat_map docs_in (list_of kept (Events 0))
     go true same k =
         ap (λ (l : List Body). flat_map docs_in l) (list_with kept e (Events 0) same)
-            ∙ flat_map-append docs_in (list_of kept (Events 0)) (e.body ∷ [])
-            ∙ ap (λ (l : List StreamDoc). flat_map docs_in (list_of kept (Events 0)) ++ (l ++ [])) (no_docs e.body k)
-            ∙ append-nil (flat_map docs_in (list_of kept (Events 0)))
+        ∙ flat_map-append docs_in (list_of kept (Events 0)) (e.body ∷ [])
+        ∙ ap (λ (l : List StreamDoc). flat_map docs_in (list_of kept (Events 0)) ++ (l ++ [])) (no_docs e.body k)
+        ∙ append-nil (flat_map docs_in (list_of kept (Events 0)))
     go false other k = ap (λ (l : List Body). flat_map docs_in l) (list_without kept e (Events 0) other)
 
 stays : (kept : List Entry) (e : Entry) (b : Bool) → feed_eq (Events 0) e.feed ≡ b
@@ -145,8 +147,8 @@ stays : (kept : List Entry) (e : Entry) (b : Bool) → feed_eq (Events 0) e.feed
     → fold members_with None (list_of (kept ++ e ∷ []) (Events 0)) ≡ fold members_with None (list_of kept (Events 0))
 stays kept e true same k =
     ap (λ (l : List Body). fold members_with None l) (list_with kept e (Events 0) same)
-        ∙ fold-append members_with None (list_of kept (Events 0)) (e.body ∷ [])
-        ∙ no_names (fold members_with None (list_of kept (Events 0))) e.body k
+    ∙ fold-append members_with None (list_of kept (Events 0)) (e.body ∷ [])
+    ∙ no_names (fold members_with None (list_of kept (Events 0))) e.body k
 stays kept e false other k = ap (λ (l : List Body). fold members_with None l) (list_without kept e (Events 0) other)
 
 -- and what is named
@@ -167,8 +169,9 @@ pub short_with : (kept : List Entry) (e : Entry) → AreShort kept → length (l
 short_with kept e short room f =
     elim (feed_cases f e.feed) [
       | inl c ↦ (
-        let l : length (list_of kept f) ≡ length (list_of kept e.feed) = ap (λ (g : Feed). length (list_of kept g)) c.1 in
-        rw (list_with kept e f c.0, length-append (list_of kept f) (e.body ∷ [])) (omega (arith, l, room)))
+          let l : length (list_of kept f)
+          ≡ length (list_of kept e.feed) = ap (λ (g : Feed). length (list_of kept g)) c.1 in
+          rw (list_with kept e f c.0, length-append (list_of kept f) (e.body ∷ [])) (omega (arith, l, room)))
       | inr c ↦ rw (list_without kept e f c) (short f)
     ]
 
@@ -184,10 +187,10 @@ plan_without kept e plan h p =
       named = p.named ∙ sym (named_without kept e h);
       members =
           p.members
-              ∙ ap₂
-              (λ (docs : List StreamDoc) (names : Option (List ℕ)).
-              filter (λ s. is_some (find (λ (d : StreamDoc). d.no == s) (first_docs_among docs))) (unwrap_or names []))
-              (sym (docs_without kept e h)) (sym (named_without kept e h));
+          ∙ ap₂
+          (λ (docs : List StreamDoc) (names : Option (List ℕ)).
+          filter (λ s. is_some (find (λ (d : StreamDoc). d.no == s) (first_docs_among docs))) (unwrap_or names []))
+          (sym (docs_without kept e h)) (sym (named_without kept e h));
     }
 
 -- the plan after a plan or an added stream
@@ -199,20 +202,20 @@ pub plan_with : (kept : List Entry) (e : Entry) (plan : Plan) (spots : Spots) (n
     → IsPlanOf (kept ++ e ∷ []) (record { spots = spots; named = named; members = numbers })
 plan_with kept e plan spots named numbers h p placed names found =
     let here : AreSpotsOf (kept ++ e ∷ []) (flat_map docs_in (list_of (kept ++ e ∷ []) (Events 0))) spots =
-        subst (λ (docs : List StreamDoc). AreSpotsOf (kept ++ e ∷ []) docs spots) (sym (docs_with kept e h)) placed
+    subst (λ (docs : List StreamDoc). AreSpotsOf (kept ++ e ∷ []) docs spots) (sym (docs_with kept e h)) placed
     in
     let same : named ≡ named_members (view_of (kept ++ e ∷ [])) =
-        names ∙ ap (λ (m : Option (List ℕ)). members_with m e.body) p.named ∙ sym (named_with kept e h)
+    names ∙ ap (λ (m : Option (List ℕ)). members_with m e.body) p.named ∙ sym (named_with kept e h)
     in
     record {
       spots = here;
       named = same;
       members =
           found
-              ∙ ap (λ (m : Option (List ℕ)).
-              filter (has (map (λ (p : StreamSpot). p.number) spots.streams)) (unwrap_or m [])) same
-              ∙ members_of_docs (kept ++ e ∷ []) (map (λ (p : StreamSpot). p.number) spots.streams)
-              here.streams.1;
+          ∙ ap (λ (m : Option (List ℕ)).
+          filter (has (map (λ (p : StreamSpot). p.number) spots.streams)) (unwrap_or m [])) same
+          ∙ members_of_docs (kept ++ e ∷ []) (map (λ (p : StreamSpot). p.number) spots.streams)
+          here.streams.1;
     }
 
 -- all that is kept beside another entry

@@ -1,6 +1,8 @@
 -- Who holds units at a workstation: no more than it has events, since each was launched or released there.
-use Rattle.std.proofs.Common.{[], ℕ, ◌&&◌, ◌+◌, ◌++◌, ◌||◌, ◌∙◌, ◌∷◌, ◌≡◌, ◌≤◌, Bool, List, None, Option, Some, ap, arith}
-use Rattle.std.proofs.Common.{cond, false, filter, flat_map, inl, inr, is_none, is_some, length, map, not, option_and_then, refl, sum_by, sym, true}
+use Rattle.std.proofs.Common.{[], ℕ, ◌&&◌, ◌+◌, ◌++◌, ◌||◌, ◌∙◌, ◌∷◌, ◌≡◌, ◌≤◌, Bool, List, None, Option, Some, ap}
+use Rattle.std.proofs.Common.{arith}
+use Rattle.std.proofs.Common.{cond, false, filter, flat_map, inl, inr, is_none, is_some, length, map, not}
+use Rattle.std.proofs.Common.{option_and_then, refl, sum_by, sym, true}
 use Rattle.std.specs.Bool.{then_some}
 use Rattle.std.specs.List.{list_any}
 use Rattle.std.specs.Option.{option_or}
@@ -9,7 +11,8 @@ use Rattle.std.proofs.lemmas.Bool.{eq-eqb}
 use Rattle.std.proofs.lemmas.Bool.Decides.{eqb_tells}
 use Rattle.std.proofs.lemmas.List.Sums.{sum_by-append, sum_by-cons}
 use Rattle.model.specs.Types.{Added, Body, Clock, Declined, Ended, Events, Failed, Fulfilled, Job, Launched, Lost}
-use Rattle.model.specs.Types.{NewPlan, Obeyed, Obj, Order, Released, Started, Stream, StreamDoc, StreamEnded, UntilPassed}
+use Rattle.model.specs.Types.{NewPlan, Obeyed, Obj, Order, Released, Started, Stream, StreamDoc, StreamEnded}
+use Rattle.model.specs.Types.{UntilPassed}
 use Rattle.model.specs.Words.{firsts, has}
 use Rattle.model.specs.History.{View}
 use Rattle.model.specs.Catalogue.{StreamJob, catalogue, docs_in, jobs, jobs_in, jobs_of, streams_of}
@@ -107,11 +110,11 @@ filter_apart : {X : Type 0} (number : X → ℕ) (q : X → Bool) (xs : List X) 
     → AreApart number (filter q xs)
 filter_apart {X} number q xs h n =
     let e : filter (λ (x : X). number x == n) (filter q xs) ≡ filter (λ (x : X). q x && (number x == n)) xs =
-        filter_filter (λ (x : X). number x == n) q xs
+    filter_filter (λ (x : X). number x == n) q xs
     in
     let w : length (filter (λ (x : X). q x && (number x == n)) xs) ≤ length (filter (λ (x : X). number x == n) xs) =
-        weaker (λ (x : X). q x && (number x == n)) (λ (x : X). number x == n) xs
-        (λ x. second (q x) (number x == n))
+    weaker (λ (x : X). q x && (number x == n)) (λ (x : X). number x == n) xs
+    (λ x. second (q x) (number x == n))
     in
     rw e (omega (arith, w, h n))
 
@@ -245,10 +248,10 @@ few_holders V w =
       arith,
       few_each (jobs_of V w) (catalogue V) (V (Events w)) (jobs_apart V w) (streams_apart V),
       weaker (λ (p : StreamJob). is_open p.doc.no (V (Events w)))
-      (λ (p : StreamJob). list_any (is_launch_of p.doc.no) (V (Events w))) (jobs_of V w)
-      (λ p. open_was_launched p.doc.no (V (Events w))),
+          (λ (p : StreamJob). list_any (is_launch_of p.doc.no) (V (Events w))) (jobs_of V w)
+          (λ p. open_was_launched p.doc.no (V (Events w))),
       weaker (is_under_way w (V (Events w))) (λ (d : StreamDoc). list_any (is_release_of d.no) (V (Events w)))
-      (catalogue V) (λ d. under_way_was_released w (V (Events w)) d),
+          (catalogue V) (λ d. under_way_was_released w (V (Events w)) d),
     )
 
 -- the units that these ask for
@@ -263,7 +266,7 @@ sum_by-map : {X Y : Type 0} (f : Y → ℕ) (g : X → Y) (xs : List X)
 sum_by-map f g [] = refl
 sum_by-map {X} {Y} f g (x ∷ xs) =
     sum_by-cons f (g x) (map g xs) ∙ ap (λ (n : ℕ). f (g x) + n) (sum_by-map f g xs)
-        ∙ sym (sum_by-cons (λ (x : X). f (g x)) x xs)
+    ∙ sym (sum_by-cons (λ (x : X). f (g x)) x xs)
 
 pub used_by_both : (V : View) (w r : ℕ)
     → used V w r ≡ job_units V r (open_jobs V w) + stream_units V r (streams_under_way V w)
@@ -276,15 +279,15 @@ used_by_both V w r =
     is_released d.no (V (Events w))
     && (not (is_ended d.no (V (Events w))) && not (is_cancelled (Stream d.no) (V (Events w)))))
     (filter (λ (d : StreamDoc). d.ws == w) (catalogue V))))
-        ∙ (rw (
-          sum_by-map (units V r) (λ (p : StreamJob). Job p.doc.no) (open_jobs V w),
-          sum_by-map (units V r) (λ (d : StreamDoc). Stream d.no),
-          filter_filter
+    ∙ (rw (
+      sum_by-map (units V r) (λ (p : StreamJob). Job p.doc.no) (open_jobs V w),
+      sum_by-map (units V r) (λ (d : StreamDoc). Stream d.no),
+      filter_filter
           (λ (d : StreamDoc).
           is_released d.no (V (Events w))
           && (not (is_ended d.no (V (Events w))) && not (is_cancelled (Stream d.no) (V (Events w)))))
           (λ (d : StreamDoc). d.ws == w) (catalogue V),
-        ) refl)
+    ) refl)
 
 -- one more job, and one more stream
 pub job_units_more : (V : View) (r : ℕ) (p : StreamJob) (ps : List StreamJob)

@@ -1,13 +1,15 @@
 -- Spots stand for the items that they find: one further, in a longer list of entries, and all that they find.
 use Rattle.std.proofs.Common.{[], ℕ, ◌+◌, ◌++◌, ◌<◌, ◌∙◌, ◌∷◌, ◌≡◌, List, None, Option, Some, add-one, ap, append_assoc}
 use Rattle.std.proofs.Common.{arith, cond, false, filter_map, flat_map, get_or}
-use Rattle.std.proofs.Common.{length, map, option_and_then, option_map, refl, slice_get, subst, suc, sym, take, true, zero}
+use Rattle.std.proofs.Common.{length, map, option_and_then, option_map, refl, slice_get, subst, suc, sym, take, true}
+use Rattle.std.proofs.Common.{zero}
 use Rattle.std.proofs.lemmas.Grind.{flat_map-append}
 use Rattle.std.proofs.lemmas.List.{append-nil, map-append}
 use Rattle.model.specs.Types.{Entry, JobDoc, StreamDoc}
 use Rattle.model.specs.Words.{firsts, has}
 use Rattle.model.specs.Catalogue.{StreamJob, docs_in, jobs_in}
-use Rattle.owner_fold.specs.Spots.{AreJobSpots, AreSpotsOf, AreStreamSpots, Stand, doc_at, first_docs_among, first_jobs_among}
+use Rattle.owner_fold.specs.Spots.{AreJobSpots, AreSpotsOf, AreStreamSpots, Stand, doc_at, first_docs_among}
+use Rattle.owner_fold.specs.Spots.{first_jobs_among}
 use Rattle.owner_fold.specs.Spots.{job_at, stream_job}
 use Rattle.owner_fold.specs.declared.spots.StreamSpot.{StreamSpot}
 use Rattle.owner_fold.specs.declared.spots.JobSpot.{JobSpot}
@@ -20,8 +22,8 @@ first_known : {S X : Type 0} (spot_number : S → ℕ) (number : X → ℕ) (spo
     → firsts number [] (xs ++ x ∷ []) ≡ firsts number [] xs
 first_known {S} {X} spot_number number spots xs x same k =
     firsts_further number [] xs x
-        ∙ ap (λ b. cond b (firsts number [] xs) (firsts number [] xs ++ x ∷ []))
-        (ap (λ (l : List ℕ). has l (number x)) (sym same) ∙ k)
+    ∙ ap (λ b. cond b (firsts number [] xs) (firsts number [] xs ++ x ∷ []))
+    (ap (λ (l : List ℕ). has l (number x)) (sym same) ∙ k)
 
 -- another one does
 first_new : {S X : Type 0} (spot_number : S → ℕ) (number : X → ℕ) (spots : List S) (xs : List X) (x : X)
@@ -29,15 +31,15 @@ first_new : {S X : Type 0} (spot_number : S → ℕ) (number : X → ℕ) (spots
     → firsts number [] (xs ++ x ∷ []) ≡ firsts number [] xs ++ x ∷ []
 first_new {S} {X} spot_number number spots xs x same k =
     firsts_further number [] xs x
-        ∙ ap (λ b. cond b (firsts number [] xs) (firsts number [] xs ++ x ∷ []))
-        (ap (λ (l : List ℕ). has l (number x)) (sym same) ∙ k)
+    ∙ ap (λ b. cond b (firsts number [] xs) (firsts number [] xs ++ x ∷ []))
+    (ap (λ (l : List ℕ). has l (number x)) (sym same) ∙ k)
 
 pub stand_known : {S X : Type 0} (f : S → Option X) (spot_number : S → ℕ) (number : X → ℕ) (spots : List S)
     (xs : List X) (x : X) → Stand f spot_number number spots (firsts number [] xs)
     → has (map spot_number spots) (number x) ≡ true → Stand f spot_number number spots (firsts number [] (xs ++ x ∷ []))
 stand_known {S} {X} f spot_number number spots xs x h k =
     let e : firsts number [] xs ≡ firsts number [] (xs ++ x ∷ []) =
-        sym (first_known spot_number number spots xs x h.1 k)
+    sym (first_known spot_number number spots xs x h.1 k)
     in
     (h.0 ∙ ap (λ (l : List X). map Some l) e, h.1 ∙ ap (λ (l : List X). map number l) e)
 
@@ -45,11 +47,10 @@ stand_known {S} {X} f spot_number number spots xs x h k =
 stand_more : {S X : Type 0} (f : S → Option X) (spot_number : S → ℕ) (number : X → ℕ) (spots : List S)
     (items : List X) (p : S) (x : X) → Stand f spot_number number spots items → f p ≡ Some x
     → spot_number p ≡ number x → Stand f spot_number number (spots ++ p ∷ []) (items ++ x ∷ [])
-stand_more {S} {X} f spot_number number spots items p x h found same =
-    (
-      map-append f spots (p ∷ []) ∙ (rw (h.0, found) (sym (map-append Some items (x ∷ [])))),
-      map-append spot_number spots (p ∷ []) ∙ (rw (h.1, same) (sym (map-append number items (x ∷ [])))),
-    )
+stand_more {S} {X} f spot_number number spots items p x h found same = (
+  map-append f spots (p ∷ []) ∙ (rw (h.0, found) (sym (map-append Some items (x ∷ [])))),
+  map-append spot_number spots (p ∷ []) ∙ (rw (h.1, same) (sym (map-append number items (x ∷ [])))),
+)
 
 pub stand_new : {S X : Type 0} (f : S → Option X) (spot_number : S → ℕ) (number : X → ℕ) (spots : List S)
     (xs : List X) (p : S) (x : X) → Stand f spot_number number spots (firsts number [] xs)
@@ -141,7 +142,7 @@ one_more_doc : (docs : List StreamDoc) (d : StreamDoc)
     → flat_map jobs_in (docs ++ d ∷ []) ≡ flat_map jobs_in docs ++ jobs_in d
 one_more_doc docs d =
     flat_map-append jobs_in docs (d ∷ [])
-        ∙ ap (λ (l : List StreamJob). flat_map jobs_in docs ++ l) (append-nil (jobs_in d))
+    ∙ ap (λ (l : List StreamJob). flat_map jobs_in docs ++ l) (append-nil (jobs_in d))
 
 -- another document has a spot, and its jobs have theirs
 pub add_new : (kept : List Entry) (docs : List StreamDoc) (old new : Spots) (p : StreamSpot) (d : StreamDoc)
@@ -200,8 +201,8 @@ pub known_further : {X Y : Type 0} (f : X → Y) (known : List Y) (xs : List X) 
     → slice_get xs i ≡ Some x → known ++ map f (take (i + 1) xs) ≡ (known ++ map f (take i xs)) ++ f x ∷ []
 known_further {X} {Y} f known xs i x h =
     ap (λ (l : List X). known ++ map f l) (take_further xs i x h)
-        ∙ ap (λ (l : List Y). known ++ l) (map-append f (take i xs) (x ∷ []))
-        ∙ sym (append_assoc known (map f (take i xs)) (f x ∷ []))
+    ∙ ap (λ (l : List Y). known ++ l) (map-append f (take i xs) (x ∷ []))
+    ∙ sym (append_assoc known (map f (take i xs)) (f x ∷ []))
 
 -- an item by its place
 pub item_at : {X : Type 0} (xs : List X) (i : ℕ) (x : X) → i < length xs → x ≡ get_or xs i x → slice_get xs i ≡ Some x

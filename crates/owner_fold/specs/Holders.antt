@@ -30,7 +30,7 @@ abbrev pub streams_under_way : View → ℕ → List StreamDoc
 streams_under_way V w = filter (is_under_way w (V (Events w))) (catalogue V)
 
 -- the jobs with an open launch that are left
-abbrev pub open_left : OpenLaunches → List StreamJob
+unfoldable pub open_left : OpenLaunches → List StreamJob
 open_left it =
     filter (λ (p : StreamJob). is_open_here it.ws (list_of it.owners.now (Events it.ws)) p.doc)
     (filter_map (job_at it.owners.now) it.spots.now)

@@ -19,9 +19,9 @@ abbrev pub commands_left : Commands → List Cmd
 commands_left it = commands (list_of it.entries.now it.feed)
 
 -- the streams that are left
-abbrev pub streams_left : Streams → List StreamDoc
+unfoldable pub streams_left : Streams → List StreamDoc
 streams_left it = filter_map (doc_at it.entries.now) it.spots.now
 
 -- the jobs that are left, each with its stream
-abbrev pub jobs_left : PlannedJobs → List StreamJob
+unfoldable pub jobs_left : PlannedJobs → List StreamJob
 jobs_left it = filter_map (job_at it.entries.now) it.spots.now

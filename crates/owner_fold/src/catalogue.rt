@@ -26,6 +26,7 @@ impl<'a> Iterator for Streams<'a> {
 
     ghost remaining = { item_count streams_left };
 
+    #[tactic(auto, unfolding(crate::specs::Left::streams_left))]
     fn next(&mut self) -> Option<&'a StreamDoc> {
         let spots = self.spots;
         for (i, spot) in spots.iter().enumerate() {
@@ -53,6 +54,7 @@ impl<'a> Iterator for PlannedJobs<'a> {
 
     ghost remaining = { item_count jobs_left };
 
+    #[tactic(auto, unfolding(crate::specs::Left::jobs_left))]
     fn next(&mut self) -> Option<(&'a StreamDoc, &'a JobDoc)> {
         let spots = self.spots;
         for (i, spot) in spots.iter().enumerate() {
@@ -68,6 +70,7 @@ impl<'a> Iterator for PlannedJobs<'a> {
 
 impl Owners {
     /// The streams of the catalogue, in its order.
+    #[tactic(auto, unfolding(crate::specs::Left::streams_left))]
     pub fn streams(&self) -> Streams<'_>
         ensures { streams_left result ≡ catalogue (view_of self.now) }
     {
@@ -78,6 +81,7 @@ impl Owners {
     }
 
     /// The jobs of the catalogue, each with its stream, in its order.
+    #[tactic(auto, unfolding(crate::specs::Left::jobs_left))]
     pub fn jobs(&self) -> PlannedJobs<'_>
         ensures { jobs_left result ≡ jobs (view_of self.now) }
     {
@@ -88,6 +92,7 @@ impl Owners {
     }
 
     /// The document of this number. None outside the catalogue.
+    #[tactic(auto, unfolding(model::specs::Catalogue::stream))]
     pub fn stream(&self, s: StreamNo) -> Option<&StreamDoc>
         ensures { option_copied result ≡ stream (view_of self.now) s }
     {
@@ -100,6 +105,7 @@ impl Owners {
     }
 
     /// The job of this number with its stream. None outside the catalogue.
+    #[tactic(auto, unfolding(model::specs::Catalogue::job))]
     pub fn planned_job(&self, j: JobNo) -> Option<(&StreamDoc, &JobDoc)>
         ensures { option_map (λ p. stream_job p.0.now p.1.now) result ≡ job (view_of self.now) j }
     {
@@ -122,6 +128,7 @@ impl Owners {
     }
 
     /// The stream that a job belongs to. None outside the catalogue.
+    #[tactic(auto, unfolding(model::specs::Catalogue::stream_of))]
     pub fn stream_of(&self, j: JobNo) -> Option<StreamNo>
         ensures { result ≡ option_map (λ (d : Doc). d.no) (stream_of (view_of self.now) (Job j)) }
     {
@@ -138,6 +145,7 @@ impl Owners {
         self.owner_of(&o)
     }
 
+    #[tactic(auto, unfolding(model::specs::Catalogue::owner))]
     pub(crate) fn owner_of(&self, o: &Obj) -> Option<Ws>
         ensures { result ≡ owner (view_of self.now) o.now }
     {

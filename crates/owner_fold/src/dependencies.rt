@@ -65,6 +65,7 @@ impl Owners {
     }
 
     /// The dependencies of the object's document.
+    #[tactic(auto, unfolding(model::specs::Dependencies::document_deps))]
     fn document_deps(&self, o: &Obj) -> &[Dep]
         ensures { result.now ≡ document_deps (view_of self.now) o.now }
     {
@@ -82,7 +83,8 @@ impl Owners {
 
     /// A dependency that a command of w added to the object, counted from 0.
     fn added_dep(&self, w: Ws, o: &Obj, place: usize) -> Option<&Dep>
-        ensures { option_copied result ≡ slice_get (flat_map (deps_added_by o.now) (commands (list_of self.now (Events w)))) place }
+        ensures { option_copied result ≡
+            slice_get (flat_map (deps_added_by o.now) (commands (list_of self.now (Events w)))) place }
     {
         let mut left = place;
         for command in self.commands(w) {
@@ -127,6 +129,7 @@ impl Owners {
     }
 
     /// How many dependencies commands of its owner added to the object.
+    #[tactic(auto, unfolding(model::specs::Dependencies::owner_events, model::specs::Facts::commands))]
     fn added_to(&self, o: &Obj) -> u32
         ensures { result ≡ length (flat_map (deps_added_by o.now) (commands (owner_events (view_of self.now) o.now))) }
     {
@@ -159,6 +162,20 @@ impl Owners {
         false
     }
 
+    /// Commands of its owner waive a dependency of the object.
+    #[tactic(auto, unfolding(model::specs::Dependencies::owner_events, model::specs::Facts::commands))]
+    fn is_waived_by_owner(&self, o: &Obj, i: u16) -> bool
+        ensures { result ≡
+            is_waived_by o.now i (length (document_deps (view_of self.now) o.now))
+            (commands (owner_events (view_of self.now) o.now)) }
+    {
+        match self.owner_of(o) {
+            None => false,
+            Some(w) => self.is_waived_among(w, o, i, self.document_deps(o).len() as u128),
+        }
+    }
+
+    #[tactic(auto, unfolding(model::specs::Dependencies::is_waived))]
     pub(crate) fn is_waived_of(&self, o: &Obj, i: u16) -> bool
         ensures { result ≡ is_waived (view_of self.now) o.now i }
     {
@@ -168,9 +185,6 @@ impl Owners {
         if i > self.dep_count_of(o) {
             return false;
         }
-        match self.owner_of(o) {
-            None => false,
-            Some(w) => self.is_waived_among(w, o, i, self.document_deps(o).len() as u128),
-        }
+        self.is_waived_by_owner(o, i)
     }
 }

@@ -1,5 +1,6 @@
 //! What its owner tells of an object: the fact in the list of the object's workstation.
-ghost use Rattle.std.specs.Prelude.{◌≡◌, ℕ, false, unwrap_or};
+ghost use Rattle.std.specs.Prelude.{◌≡◌, ℕ, Option, false, unwrap_or};
+ghost use Rattle.std.specs.Option.{option_or};
 ghost use Rattle.model.specs.Types.{Job, Stream};
 ghost use Rattle.model.specs.History.{view_of};
 ghost use Rattle.model.specs.Catalogue.{told_by_owner};
@@ -116,7 +117,8 @@ impl Owners {
     /// The limit of open launches that was set last for a stream. None where it is the document's, and outside the
     /// catalogue.
     pub fn stream_limit_set(&self, s: StreamNo) -> Option<u16>
-        ensures { result ≡ told_by_owner None (stream_limit s None) (view_of self.now) (Stream s) }
+        ensures { (written : Option ℕ) →
+            option_or result written ≡ told_by_owner written (stream_limit s written) (view_of self.now) (Stream s) }
     {
         let o = Obj::Stream(s);
         match self.owner_of(&o) {
@@ -169,7 +171,8 @@ impl Owners {
     /// The priority that was set last for an object, from 0 to 101. None where it is the document's, and outside the
     /// catalogue.
     pub fn priority_set(&self, o: Obj) -> Option<u8>
-        ensures { (written : ℕ) → unwrap_or result written ≡ told_by_owner written (priority o written) (view_of self.now) o }
+        ensures { (written : ℕ) →
+            unwrap_or result written ≡ told_by_owner written (priority o written) (view_of self.now) o }
     {
         match self.owner_of(&o) {
             None => None,

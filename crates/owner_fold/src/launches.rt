@@ -3,7 +3,7 @@ ghost use Rattle.std.specs.Prelude.{◌≡◌, ◌&&◌, ◌==◌, option_map};
 ghost use Rattle.std.specs.List.{list_any};
 ghost use Rattle.model.specs.Types.{Events};
 ghost use Rattle.model.specs.History.{list_of};
-ghost use Rattle.model.specs.Facts.{last_launch, first_end, end_of, open_launch, is_good, last_outcome};
+ghost use Rattle.model.specs.Facts.{last_launch, first_end, end_of, open_launch, is_good, is_open, last_outcome};
 ghost use Rattle.model.specs.Facts.{is_confirm_of, commands};
 ghost use Rattle.owner_fold.specs.Launches.{launch_at};
 ghost use Rattle.owner_fold.specs.Outcomes.{told_outcome};
@@ -101,8 +101,10 @@ fn is_confirmed(j: JobNo, later: &[Entry], feed: &Feed) -> bool
 
 impl Owners {
     /// The number of the last launch of a job, and the entries after it.
+    #[tactic(auto, unfolding(model::specs::History::list_of, model::specs::Facts::last_launch))]
     fn last_launch(&self, w: Ws, j: JobNo) -> Option<(u32, &[Entry])>
-        ensures { option_map (λ p. launch_at p.0 p.1.now (Events w)) result ≡ last_launch j (list_of self.now (Events w)) }
+        ensures { option_map (λ p. launch_at p.0 p.1.now (Events w)) result ≡
+            last_launch j (list_of self.now (Events w)) }
     {
         let entries = self.entries();
         let feed = Feed::Events(w);
@@ -122,6 +124,7 @@ impl Owners {
         }
     }
 
+    #[tactic(auto, unfolding(model::specs::Facts::open_launch))]
     pub(crate) fn open_launch_at(&self, w: Ws, j: JobNo) -> Option<u32>
         ensures { result ≡ open_launch j (list_of self.now (Events w)) }
     {
@@ -135,6 +138,7 @@ impl Owners {
         }
     }
 
+    #[tactic(auto, unfolding(model::specs::Facts::last_outcome))]
     pub(crate) fn last_outcome_at(&self, w: Ws, j: JobNo) -> Option<Outcome>
         ensures { told_outcome result ≡ last_outcome j (list_of self.now (Events w)) }
     {
@@ -145,19 +149,29 @@ impl Owners {
         }
     }
 
+    #[tactic(auto, unfolding(model::specs::Facts::is_open))]
+    pub(crate) fn is_open_at(&self, w: Ws, j: JobNo) -> bool
+        ensures { result ≡ is_open j (list_of self.now (Events w)) }
+    {
+        self.open_launch_at(w, j).is_some()
+    }
+
+    #[tactic(auto, unfolding(model::specs::Facts::is_good))]
     pub(crate) fn is_good_at(&self, w: Ws, j: JobNo) -> bool
         ensures { result ≡ is_good j (list_of self.now (Events w)) }
     {
         if self.is_due_at(w, j) {
             return false;
         }
+        if self.is_open_at(w, j) {
+            return false;
+        }
         let feed = Feed::Events(w);
         match self.last_launch(w, j) {
             None => false,
             Some((number, later)) => match first_end_of(j, number, later, &feed) {
-                None => false,
                 Some(Outcome::EndedGood) => true,
-                Some(_) => is_confirmed(j, later, &feed),
+                _ => is_confirmed(j, later, &feed),
             },
         }
     }

@@ -1,5 +1,12 @@
-//! The facts of the entries that a node holds, in its plainest form: the list itself.
-#![tactic(auto, unfolding(model::specs::History::list_of, model::specs::Catalogue::stream, model::specs::Catalogue::job, model::specs::Catalogue::stream_of, model::specs::Catalogue::owner, model::specs::Facts::commands, model::specs::Facts::launches, model::specs::Facts::reruns, model::specs::Facts::answered, model::specs::Facts::is_due, model::specs::Facts::is_released, model::specs::Facts::is_ended, model::specs::Facts::is_started, model::specs::Facts::is_cancelled, model::specs::Facts::is_fulfilled, model::specs::Facts::is_until_recorded, model::specs::Facts::own_reply, model::specs::Facts::global_reply, model::specs::Facts::now, model::specs::Facts::fence, model::specs::Facts::limit, model::specs::Facts::total, model::specs::Facts::priority, model::specs::Facts::stream_limit, model::specs::Facts::is_stopped, model::specs::NewPlan::last_run, model::specs::Facts::last_launch, model::specs::Facts::open_launch, model::specs::Facts::is_open, model::specs::Facts::is_good, model::specs::Facts::last_outcome, model::specs::Dependencies::document_deps, model::specs::Dependencies::owner_events, model::specs::Dependencies::is_waived))]
+//! The facts of the entries that a node took: its plan, and what each workstation tells of it.
+//!
+//! `Owners` takes the entries one by one. A contract sees it as the list of them, and each fact of the list is that of
+//! `model::specs`, in the view of the entries: of a workstation in the list of its events, of an object in the list of
+//! its owner. A fact of an object that the catalogue lacks is 0, false or None. No fact takes memory.
+//!
+//! Beside the entries `Owners` keeps where the documents of the catalogue stand, and the members of the plan. Every
+//! other fact is found by a walk over the entries.
+#![tactic(auto, unfolding(model::specs::History::list_of, model::specs::Facts::commands))]
 
 mod bodies;
 mod catalogue;

@@ -72,12 +72,9 @@ impl Plan {
     }
 
     /// The numbers that are there, of those that are named.
-    fn members_among(
-        &self,
-        named: &Option<StreamNos>,
-        spots: &Spots,
-    ) -> Result<StreamNos, NoMemory>
-        ensures { IfOk result (λ ms. ms ≡ filter (has (map (λ p. p.number) spots.now.streams)) (unwrap_or named.now [])) }
+    fn members_among(&self, named: &Option<StreamNos>, spots: &Spots) -> Result<StreamNos, NoMemory>
+        ensures { IfOk result (λ ms. ms ≡
+            filter (has (map (λ p. p.number) spots.now.streams)) (unwrap_or named.now [])) }
     {
         let mut members = self.members.empty();
         if let Some(numbers) = named {

@@ -3,7 +3,7 @@ ghost use Rattle.std.specs.Prelude.{◌≡◌, option_map, Some};
 ghost use Rattle.model.specs.Equalities.{obj_eq};
 ghost use Rattle.model.specs.Facts.{is_launch_of, is_release_of, is_end_of, is_rerun_of, is_confirm_of, is_cancel_of};
 ghost use Rattle.model.specs.Facts.{is_cancelling, is_fulfilment, is_until_record, answers_to, is_start_of};
-ghost use Rattle.model.specs.Facts.{own_reply_in, global_reply_in, priority_in, total_in};
+ghost use Rattle.model.specs.Facts.{own_reply_in, global_reply_in, priority_in, stream_limit_in, total_in};
 
 use base_types::{Body, Cmd, JobNo, Obj, OnUntil, StreamNo, Ws};
 
@@ -158,7 +158,11 @@ pub(crate) fn global_reply_of(prompt: u16, body: &Body) -> Option<Option<bool>>
     match body {
         Body::NewPlan(_, _, _, _) => Some(None),
         Body::Obeyed(_, _, Cmd::ReplyGlobal(other, yes)) => {
-            if prompt == *other { Some(Some(*yes)) } else { None }
+            if prompt == *other {
+                Some(Some(*yes))
+            } else {
+                None
+            }
         }
         _ => None,
     }
@@ -169,7 +173,13 @@ pub(crate) fn total_of(resource: u16, command: &Cmd) -> Option<u16>
     ensures { result ≡ total_in resource command.now }
 {
     match command {
-        Cmd::Total(other, units) => { if resource == *other { Some(*units) } else { None } }
+        Cmd::Total(other, units) => {
+            if resource == *other {
+                Some(*units)
+            } else {
+                None
+            }
+        }
         _ => None,
     }
 }
@@ -186,6 +196,16 @@ pub(crate) fn priority_of(o: &Obj, command: &Cmd) -> Option<u8>
                 None
             }
         }
+        _ => None,
+    }
+}
+
+/// The limit of the stream that a command sets.
+pub(crate) fn stream_limit_of(s: StreamNo, command: &Cmd) -> Option<u16>
+    ensures { option_map Some result ≡ stream_limit_in s command.now }
+{
+    match command {
+        Cmd::StreamLimit(other, most) => { if s.0 == other.0 { Some(*most) } else { None } }
         _ => None,
     }
 }

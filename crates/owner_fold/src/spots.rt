@@ -124,7 +124,10 @@ impl Spots {
     /// Adds a job, where its number is not there.
     fn add_job(&mut self, spot: JobSpot) -> Result<(), NoMemory>
         ensures streams { self.new.streams ≡ self.old.streams }
-        ensures jobs { OnOk result ((kept : List Taken) (known : List StreamJob) (x : StreamJob) → job_at kept spot ≡ Some x → spot.number ≡ x.doc.no → AreJobSpots kept self.old.jobs (first_jobs_among known) → AreJobSpots kept self.new.jobs (first_jobs_among (known ++ x ∷ []))) }
+        ensures jobs { OnOk result ((kept : List Taken) (known : List StreamJob) (x : StreamJob) →
+            job_at kept spot ≡ Some x → spot.number ≡ x.doc.no →
+            AreJobSpots kept self.old.jobs (first_jobs_among known) →
+            AreJobSpots kept self.new.jobs (first_jobs_among (known ++ x ∷ []))) }
     {
         if !self.has_job(spot.number) {
             self.jobs.push(spot)?;
@@ -136,7 +139,10 @@ impl Spots {
     /// Adds the jobs of a stream whose numbers are not there.
     fn add_jobs(&mut self, spot: StreamSpot, doc: &StreamDoc) -> Result<(), NoMemory>
         ensures streams { self.new.streams ≡ self.old.streams }
-        ensures jobs { OnOk result ((kept : List Taken) (known : List StreamJob) → doc_at kept spot ≡ Some doc.now → AreJobSpots kept self.old.jobs (first_jobs_among known) → AreJobSpots kept self.new.jobs (first_jobs_among (known ++ jobs_in doc.now))) }
+        ensures jobs { OnOk result ((kept : List Taken) (known : List StreamJob) →
+            doc_at kept spot ≡ Some doc.now →
+            AreJobSpots kept self.old.jobs (first_jobs_among known) →
+            AreJobSpots kept self.new.jobs (first_jobs_among (known ++ jobs_in doc.now))) }
     {
         for (i, job) in doc.jobs.as_slice().iter().enumerate() {
             self.add_job(JobSpot {
@@ -151,7 +157,9 @@ impl Spots {
     /// Adds a stream and its jobs, where its number is not there.
     fn add(&mut self, spot: StreamSpot, doc: &StreamDoc) -> Result<(), NoMemory>
         requires { spot.number ≡ doc.now.no }
-        ensures { OnOk result ((kept : List Taken) (docs : List Doc) → doc_at kept spot ≡ Some doc.now → AreSpotsOf kept docs self.old → AreSpotsOf kept (docs ++ doc.now ∷ []) self.new) }
+        ensures { OnOk result ((kept : List Taken) (docs : List Doc) →
+            doc_at kept spot ≡ Some doc.now →
+            AreSpotsOf kept docs self.old → AreSpotsOf kept (docs ++ doc.now ∷ []) self.new) }
     {
         if !self.has_stream(spot.number) {
             self.streams.push(spot)?;
@@ -163,7 +171,8 @@ impl Spots {
     /// The spots where this entry comes after those.
     pub(crate) fn with(&self, entries: &[Entry], e: &Entry) -> Result<Spots, NoMemory>
         requires { AreSpotsOf entries.now (flat_map docs_in (list_of entries.now (Events 0))) self.now }
-        ensures { IfOk result (λ s. AreSpotsOf (entries.now ++ e.now ∷ []) (flat_map docs_in (list_of entries.now (Events 0)) ++ docs_in e.now.body) s) }
+        ensures { IfOk result (λ s. AreSpotsOf (entries.now ++ e.now ∷ [])
+            (flat_map docs_in (list_of entries.now (Events 0)) ++ docs_in e.now.body) s) }
     {
         let mut spots = Spots {
             streams: self.streams.copy()?,

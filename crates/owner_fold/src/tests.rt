@@ -8,7 +8,9 @@ use std::alloc::Global;
 use std::test::Fail;
 
 const M: Ws = Ws(0);
+
 const A: Obj = Obj::Job(JobNo(1));
+
 const S: Obj = Obj::Stream(StreamNo(1));
 
 fn job(alloc: Global, no: u32, name: &str, dep: Option<Dep>) -> Result<JobDoc, Fail> {
@@ -62,7 +64,12 @@ fn event(owners: &mut Owners, place: u32, body: Body) -> Result<(), Fail> {
 }
 
 fn order(owners: &mut Owners, place: u32, command: Cmd) -> Result<(), Fail> {
-    take(owners, Feed::Orders(Ws(0), Ws(0)), place, Body::Order(command))
+    take(
+        owners,
+        Feed::Orders(Ws(0), Ws(0)),
+        place,
+        Body::Order(command),
+    )
 }
 
 /// The first plan of a workstation M with a stream S of these jobs.
@@ -89,7 +96,11 @@ fn a_launch_is_lost_and_rerun(rt: HostRuntime) -> Result<(), Fail> {
     assert_eq!(rt; owners.run(), 1);
     assert_eq!(rt; owners.members().len(), 1);
     assert!(rt; owners.is_due(a));
-    event(&mut owners, 2, Body::Released(StreamNo(1), seen(rt.alloc(), 1)?))?;
+    event(
+        &mut owners,
+        2,
+        Body::Released(StreamNo(1), seen(rt.alloc(), 1)?),
+    )?;
     event(&mut owners, 3, Body::Launched(a, 1, seen(rt.alloc(), 2)?))?;
     assert!(rt; owners.open_launch(a) == Some(1));
     assert!(rt; !owners.is_started(a, 1));
@@ -121,10 +132,18 @@ fn a_launch_is_lost_and_rerun(rt: HostRuntime) -> Result<(), Fail> {
 fn a_fence_holds_and_lets_go(rt: HostRuntime) -> Result<(), Fail> {
     let mut owners = one_job(rt.alloc())?;
     event(&mut owners, 2, Body::Obeyed(Ws(0), 1, Cmd::Fence(10)))?;
-    event(&mut owners, 3, Body::Released(StreamNo(1), seen(rt.alloc(), 2)?))?;
+    event(
+        &mut owners,
+        3,
+        Body::Released(StreamNo(1), seen(rt.alloc(), 2)?),
+    )?;
     assert_eq!(rt; owners.fence(M), 10);
     event(&mut owners, 4, Body::Obeyed(Ws(0), 2, Cmd::Fence(9)))?;
-    event(&mut owners, 5, Body::Launched(JobNo(1), 1, seen(rt.alloc(), 4)?))?;
+    event(
+        &mut owners,
+        5,
+        Body::Launched(JobNo(1), 1, seen(rt.alloc(), 4)?),
+    )?;
     assert_eq!(rt; owners.fence(M), 9);
     assert_eq!(rt; owners.limit(M), 10);
     assert_eq!(rt; owners.now(M).0, 0);
@@ -145,15 +164,27 @@ fn units_are_used_by_open_launches(rt: HostRuntime) -> Result<(), Fail> {
     jobs.push(needing(rt.alloc(), 2, "B")?)?;
     let mut owners = planned(rt.alloc(), jobs)?;
     assert!(rt; owners.total_set(M, 1) == None);
-    event(&mut owners, 2, Body::Released(StreamNo(1), seen(rt.alloc(), 1)?))?;
-    event(&mut owners, 3, Body::Launched(JobNo(1), 1, seen(rt.alloc(), 2)?))?;
+    event(
+        &mut owners,
+        2,
+        Body::Released(StreamNo(1), seen(rt.alloc(), 1)?),
+    )?;
+    event(
+        &mut owners,
+        3,
+        Body::Launched(JobNo(1), 1, seen(rt.alloc(), 2)?),
+    )?;
     assert_eq!(rt; owners.used(M, 1), 2);
     event(&mut owners, 4, Body::Obeyed(Ws(0), 1, Cmd::Total(1, 1)))?;
     event(&mut owners, 5, Body::Ended(JobNo(1), 1, 0, true))?;
     assert!(rt; owners.total_set(M, 1) == Some(1));
     assert_eq!(rt; owners.used(M, 1), 0);
     event(&mut owners, 6, Body::Obeyed(Ws(0), 2, Cmd::Total(1, 2)))?;
-    event(&mut owners, 7, Body::Launched(JobNo(2), 1, seen(rt.alloc(), 6)?))?;
+    event(
+        &mut owners,
+        7,
+        Body::Launched(JobNo(2), 1, seen(rt.alloc(), 6)?),
+    )?;
     assert!(rt; owners.total_set(M, 1) == Some(2));
     assert_eq!(rt; owners.used(M, 1), 2);
     Ok(())
@@ -163,18 +194,57 @@ fn units_are_used_by_open_launches(rt: HostRuntime) -> Result<(), Fail> {
 fn untils_pass_at_the_reading(rt: HostRuntime) -> Result<(), Fail> {
     let at = Moment(200);
     let mut jobs = Items::new(rt.alloc());
-    jobs.push(job(rt.alloc(), 1, "A", Some(Dep::Until(Moment(200), OnUntil::Suppr)))?)?;
-    jobs.push(job(rt.alloc(), 2, "B", Some(Dep::Until(Moment(200), OnUntil::Cont)))?)?;
-    jobs.push(job(rt.alloc(), 3, "C", Some(Dep::Until(Moment(200), OnUntil::Canc)))?)?;
+    jobs.push(job(
+        rt.alloc(),
+        1,
+        "A",
+        Some(Dep::Until(Moment(200), OnUntil::Suppr)),
+    )?)?;
+    jobs.push(job(
+        rt.alloc(),
+        2,
+        "B",
+        Some(Dep::Until(Moment(200), OnUntil::Cont)),
+    )?)?;
+    jobs.push(job(
+        rt.alloc(),
+        3,
+        "C",
+        Some(Dep::Until(Moment(200), OnUntil::Canc)),
+    )?)?;
     jobs.push(job(rt.alloc(), 4, "D", Some(Dep::FollowsJob(JobNo(3))))?)?;
     let mut owners = planned(rt.alloc(), jobs)?;
-    event(&mut owners, 2, Body::Released(StreamNo(1), seen(rt.alloc(), 1)?))?;
+    event(
+        &mut owners,
+        2,
+        Body::Released(StreamNo(1), seen(rt.alloc(), 1)?),
+    )?;
     event(&mut owners, 3, Body::Clock(at))?;
-    event(&mut owners, 4, Body::UntilPassed(Obj::Job(JobNo(1)), 1, OnUntil::Suppr))?;
-    event(&mut owners, 5, Body::UntilPassed(Obj::Job(JobNo(2)), 1, OnUntil::Cont))?;
-    event(&mut owners, 6, Body::UntilPassed(Obj::Job(JobNo(3)), 1, OnUntil::Canc))?;
-    event(&mut owners, 7, Body::Launched(JobNo(2), 1, seen(rt.alloc(), 6)?))?;
-    event(&mut owners, 8, Body::Launched(JobNo(4), 1, seen(rt.alloc(), 7)?))?;
+    event(
+        &mut owners,
+        4,
+        Body::UntilPassed(Obj::Job(JobNo(1)), 1, OnUntil::Suppr),
+    )?;
+    event(
+        &mut owners,
+        5,
+        Body::UntilPassed(Obj::Job(JobNo(2)), 1, OnUntil::Cont),
+    )?;
+    event(
+        &mut owners,
+        6,
+        Body::UntilPassed(Obj::Job(JobNo(3)), 1, OnUntil::Canc),
+    )?;
+    event(
+        &mut owners,
+        7,
+        Body::Launched(JobNo(2), 1, seen(rt.alloc(), 6)?),
+    )?;
+    event(
+        &mut owners,
+        8,
+        Body::Launched(JobNo(4), 1, seen(rt.alloc(), 7)?),
+    )?;
     assert_eq!(rt; owners.now(M).0, 200);
     assert!(rt; owners.is_until_recorded(A, 1));
     assert!(rt; !owners.is_until_recorded(Obj::Job(JobNo(4)), 1));
@@ -192,18 +262,38 @@ fn untils_pass_at_the_reading(rt: HostRuntime) -> Result<(), Fail> {
 #[test]
 fn commands_change_the_object(rt: HostRuntime) -> Result<(), Fail> {
     let mut owners = one_job(rt.alloc())?;
-    event(&mut owners, 2, Body::Obeyed(Ws(0), 1, Cmd::AddDep(A, Dep::At(Moment(5)))))?;
+    event(
+        &mut owners,
+        2,
+        Body::Obeyed(Ws(0), 1, Cmd::AddDep(A, Dep::At(Moment(5)))),
+    )?;
     event(&mut owners, 3, Body::Obeyed(Ws(0), 2, Cmd::Release(A)))?;
-    event(&mut owners, 4, Body::Obeyed(Ws(0), 3, Cmd::AddDep(A, Dep::At(Moment(6)))))?;
+    event(
+        &mut owners,
+        4,
+        Body::Obeyed(Ws(0), 3, Cmd::AddDep(A, Dep::At(Moment(6)))),
+    )?;
     assert_eq!(rt; owners.dep_count(A), 2);
     assert!(rt; owners.dep(A, 2) == Some(&Dep::At(Moment(6))));
     assert!(rt; owners.dep(A, 0) == None);
     assert!(rt; owners.is_waived(A, 1));
     assert!(rt; !owners.is_waived(A, 2));
     event(&mut owners, 5, Body::Obeyed(Ws(0), 4, Cmd::AltPri(A, 50)))?;
-    event(&mut owners, 6, Body::Obeyed(Ws(0), 5, Cmd::StreamLimit(StreamNo(1), 3)))?;
-    event(&mut owners, 7, Body::Obeyed(Ws(0), 6, Cmd::ReplyOwn(A, 1, true)))?;
-    event(&mut owners, 8, Body::Obeyed(Ws(0), 7, Cmd::ReplyGlobal(1, true)))?;
+    event(
+        &mut owners,
+        6,
+        Body::Obeyed(Ws(0), 5, Cmd::StreamLimit(StreamNo(1), 3)),
+    )?;
+    event(
+        &mut owners,
+        7,
+        Body::Obeyed(Ws(0), 6, Cmd::ReplyOwn(A, 1, true)),
+    )?;
+    event(
+        &mut owners,
+        8,
+        Body::Obeyed(Ws(0), 7, Cmd::ReplyGlobal(1, true)),
+    )?;
     event(&mut owners, 9, Body::Obeyed(Ws(0), 8, Cmd::Stop))?;
     event(&mut owners, 10, Body::Fulfilled(A, 2))?;
     event(&mut owners, 11, Body::Declined(Ws(0), 9, Why::NotMine))?;
@@ -223,7 +313,11 @@ fn the_first_document_of_a_number_counts(rt: HostRuntime) -> Result<(), Fail> {
     let mut owners = one_job(rt.alloc())?;
     let mut jobs = Items::new(rt.alloc());
     jobs.push(job(rt.alloc(), 2, "B", None)?)?;
-    event(&mut owners, 2, Body::Added(Ws(0), 1, stream(rt.alloc(), 1, "T", jobs)?))?;
+    event(
+        &mut owners,
+        2,
+        Body::Added(Ws(0), 1, stream(rt.alloc(), 1, "T", jobs)?),
+    )?;
     assert_eq!(rt; owners.streams().count(), 1);
     assert!(rt; owners.job(JobNo(2)).is_none());
     assert!(rt; owners.planned_job(JobNo(1)).is_some());

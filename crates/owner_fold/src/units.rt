@@ -7,7 +7,8 @@ ghost use Rattle.model.specs.Catalogue.{StreamJob, jobs_of};
 ghost use Rattle.model.specs.Facts.{is_open, is_released, is_ended, is_cancelled};
 ghost use Rattle.model.specs.Dependencies.{units, units_in, used};
 ghost use Rattle.owner_fold.specs.Spots.{stream_job};
-ghost use Rattle.owner_fold.specs.Holders.{is_open_here, is_under_way, is_unfinished, open_jobs, open_left, streams_under_way, units_at};
+ghost use Rattle.owner_fold.specs.Holders.{is_open_here, is_under_way, is_unfinished, open_jobs, open_left};
+ghost use Rattle.owner_fold.specs.Holders.{streams_under_way, units_at};
 
 use crate::holdings::Owners;
 use crate::spots::{JobSpot, planned_job_at};
@@ -28,11 +29,12 @@ impl<'a> Iterator for OpenLaunches<'a> {
 
     ghost remaining = { item_count open_left };
 
+    #[tactic(auto, unfolding(crate::specs::Holders::open_left))]
     fn next(&mut self) -> Option<(&'a StreamDoc, &'a JobDoc)> {
         let spots = self.spots;
         for (i, spot) in spots.iter().enumerate() {
             if let Some((parent, job)) = planned_job_at(self.owners.entries(), spot) {
-                if is_open_at(self.owners, self.ws, job) {
+                if is_open_job(self.owners, self.ws, job) {
                     self.spots = &spots[i + 1..];
                     return Some((parent, job));
                 }
@@ -44,10 +46,10 @@ impl<'a> Iterator for OpenLaunches<'a> {
 }
 
 /// The job is one of w, and has an open launch.
-fn is_open_at(owners: &Owners, w: Ws, job: &JobDoc) -> bool
+fn is_open_job(owners: &Owners, w: Ws, job: &JobDoc) -> bool
     ensures { result ≡ is_open_here w (list_of owners.now (Events w)) job.now }
 {
-    job.ws.0 == w.0 && owners.open_launch_at(w, job.no).is_some()
+    job.ws.0 == w.0 && owners.is_open_at(w, job.no)
 }
 
 /// The stream is neither ended nor cancelled at w.
@@ -71,7 +73,13 @@ fn units_in_dep(resource: u16, dep: &Dep) -> u64
     ensures few { result ≤ 65535 }
 {
     match dep {
-        Dep::Needs(other, units) => { if resource == *other { u64::from(*units) } else { 0 } }
+        Dep::Needs(other, units) => {
+            if resource == *other {
+                u64::from(*units)
+            } else {
+                0
+            }
+        }
         _ => 0,
     }
 }
@@ -79,7 +87,8 @@ fn units_in_dep(resource: u16, dep: &Dep) -> u64
 impl Owners {
     /// The jobs of w with an open launch, each with its stream, in the order of the catalogue.
     pub fn open_launches(&self, w: Ws) -> OpenLaunches<'_>
-        ensures { open_left result ≡ filter (λ (p : StreamJob). is_open p.doc.no (list_of self.now (Events w))) (jobs_of (view_of self.now) w) }
+        ensures { open_left result ≡
+            filter (λ (p : StreamJob). is_open p.doc.no (list_of self.now (Events w))) (jobs_of (view_of self.now) w) }
     {
         OpenLaunches {
             owners: self,
@@ -118,7 +127,8 @@ impl Owners {
     /// The same, and that those who hold units at w are few.
     fn holders(&self, w: Ws) -> OpenLaunches<'_>
         ensures jobs { open_left result ≡ open_jobs (view_of self.now) w }
-        ensures few { length (open_jobs (view_of self.now) w) + length (streams_under_way (view_of self.now) w) < 2 ^ 32 }
+        ensures few { length (open_jobs (view_of self.now) w) +
+            length (streams_under_way (view_of self.now) w) < 2 ^ 32 }
     {
         OpenLaunches {
             owners: self,

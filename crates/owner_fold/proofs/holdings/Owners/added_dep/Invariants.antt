@@ -8,4 +8,5 @@ use Rattle.owner_fold.proofs.holdings.Owners.added_dep.Given as goal
 
 abbrev pub invariant-loop-command : goal.invariant-loop-command
 invariant-loop-command l =
-    slice_get (flat_map (deps_added_by l.o) (commands (list_of l.self (Events l.fn.w)))) l.place ≡ slice_get (flat_map (deps_added_by l.o) (commands_left l.command-iterator)) l.left
+    slice_get (flat_map (deps_added_by l.o) (commands (list_of l.self (Events l.fn.w)))) l.place
+    ≡ slice_get (flat_map (deps_added_by l.o) (commands_left l.command-iterator)) l.left

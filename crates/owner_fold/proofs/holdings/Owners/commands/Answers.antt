@@ -7,4 +7,9 @@ use Rattle.owner_fold.proofs.holdings.Owners.commands.Goals as goal
 
 pub returns-clause-few : goal.returns-clause-few
 unfolding commands
-returns-clause-few c = rw c.as_slice.ensures (omega (arith, length-filter_map obeyed_command (list_of c.self.inside.entries (Events c.args.w)), c.self.invariant.short (Events c.args.w)))
+returns-clause-few c = rw c.as_slice.ensures (omega (
+  arith,
+  length-filter_map obeyed_command
+      (list_of c.self.inside.entries (Events c.args.w)),
+  c.self.invariant.short (Events c.args.w),
+))

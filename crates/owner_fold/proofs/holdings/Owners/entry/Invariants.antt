@@ -6,4 +6,7 @@ use Rattle.owner_fold.specs.Left.{bodies_left}
 use Rattle.owner_fold.proofs.holdings.Owners.entry.Given as goal
 
 abbrev pub invariant-loop-body : goal.invariant-loop-body
-invariant-loop-body l = record { here : nth (list_of l.self l.fn.f) l.place ≡ slice_get (bodies_left l.body-iterator) l.left }
+invariant-loop-body l = record {
+  here : nth (list_of l.self l.fn.f) l.place
+      ≡ slice_get (bodies_left l.body-iterator) l.left;
+}

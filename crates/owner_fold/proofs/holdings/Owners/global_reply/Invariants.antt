@@ -8,4 +8,5 @@ use Rattle.owner_fold.proofs.holdings.Owners.global_reply.Given as goal
 
 abbrev pub invariant-loop-body : goal.invariant-loop-body
 invariant-loop-body l =
-    global_reply l.prompt (list_of l.self (Events 0)) ≡ last_or l.reply (filter_map (global_reply_in l.prompt) (bodies_left l.body-iterator))
+    global_reply l.prompt (list_of l.self (Events 0))
+    ≡ last_or l.reply (filter_map (global_reply_in l.prompt) (bodies_left l.body-iterator))

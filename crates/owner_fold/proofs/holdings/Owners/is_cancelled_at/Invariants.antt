@@ -8,7 +8,8 @@ use Rattle.owner_fold.proofs.holdings.Owners.is_cancelled_at.Given as goal
 
 abbrev pub invariant-loop-command : goal.invariant-loop-command
 invariant-loop-command l =
-    list_any (is_cancel_of l.o) (commands (list_of l.self (Events l.fn.w))) ≡ list_any (is_cancel_of l.o) (commands_left l.command-iterator)
+    list_any (is_cancel_of l.o) (commands (list_of l.self (Events l.fn.w)))
+    ≡ list_any (is_cancel_of l.o) (commands_left l.command-iterator)
 
 abbrev pub invariant-loop-body : goal.invariant-loop-body
 invariant-loop-body l =

@@ -8,4 +8,5 @@ use Rattle.owner_fold.proofs.holdings.Owners.is_stopped.Given as goal
 
 abbrev pub invariant-loop-command : goal.invariant-loop-command
 invariant-loop-command l =
-    is_stopped (list_of l.self (Events l.fn.w)) ≡ last_or l.stopped (filter_map stop_in (commands_left l.command-iterator))
+    is_stopped (list_of l.self (Events l.fn.w))
+    ≡ last_or l.stopped (filter_map stop_in (commands_left l.command-iterator))

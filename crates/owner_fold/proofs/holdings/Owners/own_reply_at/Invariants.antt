@@ -8,4 +8,5 @@ use Rattle.owner_fold.proofs.holdings.Owners.own_reply_at.Given as goal
 
 abbrev pub invariant-loop-command : goal.invariant-loop-command
 invariant-loop-command l =
-    own_reply l.o l.i (list_of l.self (Events l.fn.w)) ≡ last_or l.reply (filter_map (own_reply_in l.o l.i) (commands_left l.command-iterator))
+    own_reply l.o l.i (list_of l.self (Events l.fn.w))
+    ≡ last_or l.reply (filter_map (own_reply_in l.o l.i) (commands_left l.command-iterator))

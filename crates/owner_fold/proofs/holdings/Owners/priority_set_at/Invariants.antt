@@ -9,4 +9,5 @@ use Rattle.owner_fold.proofs.holdings.Owners.priority_set_at.Given as goal
 
 abbrev pub invariant-loop-command : goal.invariant-loop-command
 invariant-loop-command l =
-    (written : ℕ) → priority l.o written (list_of l.self (Events l.fn.w)) ≡ last_or (unwrap_or l.set written) (filter_map (priority_in l.o) (commands_left l.command-iterator))
+    (written : ℕ) → priority l.o written (list_of l.self (Events l.fn.w))
+    ≡ last_or (unwrap_or l.set written) (filter_map (priority_in l.o) (commands_left l.command-iterator))

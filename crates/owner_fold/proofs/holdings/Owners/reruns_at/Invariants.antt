@@ -8,6 +8,7 @@ use Rattle.owner_fold.proofs.holdings.Owners.reruns_at.Given as goal
 abbrev pub invariant-loop-command : goal.invariant-loop-command
 invariant-loop-command l =
     record {
-      counted : reruns l.j (list_of l.self (Events l.fn.w)) ≡ l.count + count_by (is_rerun_of l.j) (commands_left l.command-iterator);
+      counted : reruns l.j (list_of l.self (Events l.fn.w))
+          ≡ l.count + count_by (is_rerun_of l.j) (commands_left l.command-iterator);
       few : l.count + length (commands_left l.command-iterator) < 2 ^ 32;
     }

@@ -9,4 +9,5 @@ use Rattle.owner_fold.proofs.holdings.Owners.total_set.Given as goal
 
 abbrev pub invariant-loop-command : goal.invariant-loop-command
 invariant-loop-command l =
-    (defined : ℕ) → total l.resource defined (list_of l.self (Events l.fn.w)) ≡ last_or (unwrap_or l.total defined) (filter_map (total_in l.resource) (commands_left l.command-iterator))
+    (defined : ℕ) → total l.resource defined (list_of l.self (Events l.fn.w))
+    ≡ last_or (unwrap_or l.total defined) (filter_map (total_in l.resource) (commands_left l.command-iterator))

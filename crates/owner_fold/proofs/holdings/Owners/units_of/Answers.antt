@@ -14,7 +14,7 @@ loop-i-init c =
 pub loop-i-preserved : goal.loop-i-preserved
 loop-i-preserved c =
     let left : c.loop-i.i < length (deps (view_of c.args.self.now) c.args.o.now) =
-        omega (arith, c.loop-i-test.true, c.dep_count_of-count.ensures)
+    omega (arith, c.loop-i-test.true, c.dep_count_of-count.ensures)
     in
     record {
       sum =

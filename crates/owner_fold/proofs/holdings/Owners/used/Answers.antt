@@ -7,7 +7,7 @@ use Rattle.owner_fold.proofs.holdings.Owners.used.Goals as goal
 pub loop-doc-init : goal.loop-doc-init
 loop-doc-init c =
     let e : open_left c.into_iter-doc-iterator.result ≡ open_jobs (view_of c.args.self.now) c.args.w =
-        ap open_left c.into_iter-doc-iterator.ensures.into_iter_gives ∙ c.holders-doc-items.ensures.jobs
+    ap open_left c.into_iter-doc-iterator.ensures.into_iter_gives ∙ c.holders-doc-items.ensures.jobs
     in
     record {
       sum = rw e (omega (arith, used_by_both (view_of c.args.self.now) c.args.w c.args.resource));

@@ -9,7 +9,7 @@ use Rattle.owner_fold.proofs.spots.Spots.add_jobs.Goals as goal
 pub loop-i-preserved : goal.loop-i-preserved
 loop-i-preserved c =
     let item : slice_get c.as_slice-job-items.result.now c.loop-i.i ≡ Some c.job-item.result =
-        item_at c.as_slice-job-items.result.now c.loop-i.i c.job-item.result c.loop-i-test.true c.job-item.is
+    item_at c.as_slice-job-items.result.now c.loop-i.i c.job-item.result c.loop-i-test.true c.job-item.is
     in
     record {
       streams = c.in_ok-add_job.ensures.streams ∙ c.loop-i.invariant.streams;

@@ -1,4 +1,5 @@
-use Rattle.std.proofs.Common.{[], ◌++◌, ◌∙◌, ◌∷◌, ◌≡◌, List, Some, ap, append_assoc, flat_map, slice_get, subst, sym, take}
+use Rattle.std.proofs.Common.{[], ◌++◌, ◌∙◌, ◌∷◌, ◌≡◌, List, Some, ap, append_assoc, flat_map, slice_get, subst, sym}
+use Rattle.std.proofs.Common.{take}
 use Rattle.model.specs.Types.{Events, StreamDoc}
 use Rattle.model.specs.History.{list_of}
 use Rattle.model.specs.Catalogue.{docs_in}
@@ -15,8 +16,8 @@ loop-i-init c =
 pub loop-i-preserved : goal.loop-i-preserved
 loop-i-preserved c =
     let item : slice_get (docs_in c.args.e.now.body) c.loop-i.i ≡ Some c.doc-item.result =
-        ap (λ (l : List StreamDoc). slice_get l c.loop-i.i) (sym c.docs_of-doc-items.ensures)
-            ∙ item_at c.docs_of-doc-items.result.now c.loop-i.i c.doc-item.result c.loop-i-test.true c.doc-item.is
+    ap (λ (l : List StreamDoc). slice_get l c.loop-i.i) (sym c.docs_of-doc-items.ensures)
+    ∙ item_at c.docs_of-doc-items.result.now c.loop-i.i c.doc-item.result c.loop-i-test.true c.doc-item.is
     in
     let before : List StreamDoc = flat_map docs_in (list_of c.args.entries.now (Events 0)) in
     subst (λ (docs : List StreamDoc). AreSpotsOf (c.args.entries.now ++ c.args.e.now ∷ []) docs c.add.new.self)

@@ -7,4 +7,5 @@ use Rattle.owner_fold.proofs.spots.Spots.with.Given as goal
 
 abbrev pub invariant-loop-i : goal.invariant-loop-i
 invariant-loop-i l =
-    AreSpotsOf (l.entries ++ l.e ∷ []) (flat_map docs_in (list_of l.entries (Events 0)) ++ take l.i (docs_in l.e.body)) l.spots
+    AreSpotsOf (l.entries ++ l.e ∷ []) (flat_map docs_in (list_of l.entries (Events 0)) ++ take l.i
+    (docs_in l.e.body)) l.spots

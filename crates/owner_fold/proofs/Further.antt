@@ -1,0 +1,237 @@
+-- The plan one entry further.
+use Rattle.std.proofs.Common.{[], ℕ, ◌&&◌, ◌++◌, ◌∙◌, ◌∷◌, ◌≡◌, Bool, List, None, Option, ap, false, filter, find}
+use Rattle.std.proofs.Common.{flat_map}
+use Rattle.std.proofs.Common.{◌+◌, ◌<◌, ◌^◌, ◌⊎◌, ap₂, arith, fold, inl, inr, is_some, length, length-append, map, refl}
+use Rattle.std.proofs.Common.{subst, sym, true}
+use Rattle.std.proofs.lemmas.Bool.Decides.{eqb_tells}
+use Rattle.std.specs.Prelude.{◌==◌, unwrap_or}
+use Rattle.std.proofs.lemmas.List.{append-nil, map-append}
+use Rattle.std.proofs.lemmas.List.Elements.{filter-append}
+use Rattle.std.proofs.lemmas.List.Sums.{fold-append}
+use Rattle.std.proofs.lemmas.Grind.{flat_map-append}
+use Rattle.model.specs.Types.{Added, Body, Clock, Declined, Ended, Entry, Events, Failed, Feed, Fulfilled, Launched}
+use Rattle.model.specs.Types.{Orders}
+use Rattle.model.specs.Types.{Lost, NewPlan, Obeyed, Order, Released, Started, StreamDoc, StreamEnded, UntilPassed}
+use Rattle.model.specs.Equalities.{feed_eq}
+use Rattle.model.specs.Words.{has}
+use Rattle.model.specs.History.{list_of, view_of}
+use Rattle.model.specs.Catalogue.{catalogue, docs_in, members, members_with, named_members, stream}
+use Rattle.owner_fold.specs.Plans.{AreKept, AreShort, IsPlanOf, is_planning, is_planning_body}
+use Rattle.owner_fold.specs.Spots.{AreSpotsOf, first_docs_among}
+use Rattle.owner_fold.specs.declared.plans.Plan.{Plan}
+use Rattle.owner_fold.specs.declared.spots.Spots.{Spots}
+use Rattle.owner_fold.specs.declared.spots.StreamSpot.{StreamSpot}
+use Rattle.owner_fold.proofs.Firsts.{has_found}
+use Rattle.owner_fold.proofs.Standing.{spots_later}
+
+list_of-append : (G H : List Entry) (f : Feed) → list_of (G ++ H) f ≡ list_of G f ++ list_of H f
+unfolding list_of
+list_of-append G H f = rw (filter-append, map-append)
+
+list_of_here : (e : Entry) (f : Feed) → feed_eq f e.feed ≡ true → list_of (e ∷ []) f ≡ e.body ∷ []
+unfolding list_of
+list_of_here e f same = rw same
+
+list_of_elsewhere : (e : Entry) (f : Feed) → feed_eq f e.feed ≡ false → list_of (e ∷ []) f ≡ []
+unfolding list_of
+list_of_elsewhere e f other = rw other
+
+-- an entry of a feed is at the end of its list
+pub list_with : (kept : List Entry) (e : Entry) (f : Feed) → feed_eq f e.feed ≡ true
+    → list_of (kept ++ e ∷ []) f ≡ list_of kept f ++ e.body ∷ []
+list_with kept e f same =
+    list_of-append kept (e ∷ []) f ∙ ap (λ (l : List Body). list_of kept f ++ l) (list_of_here e f same)
+
+-- and in no other
+pub list_without : (kept : List Entry) (e : Entry) (f : Feed) → feed_eq f e.feed ≡ false
+    → list_of (kept ++ e ∷ []) f ≡ list_of kept f
+list_without kept e f other =
+    list_of-append kept (e ∷ []) f
+    ∙ ap (λ (l : List Body). list_of kept f ++ l) (list_of_elsewhere e f other) ∙ append-nil (list_of kept f)
+
+both_true : (a b : Bool) → (a && b) ≡ true → (a ≡ true) × (b ≡ true)
+both_true true b h = (refl, h)
+both_true false b h = cc
+
+-- the documents after a plan or a stream that is added
+pub docs_with : (kept : List Entry) (e : Entry) → is_planning e ≡ true
+    → flat_map docs_in (list_of (kept ++ e ∷ []) (Events 0))
+    ≡ flat_map docs_in (list_of kept (Events 0)) ++ docs_in e.body
+docs_with kept e h =
+    let same : feed_eq (Events 0) e.feed ≡ true =
+    (both_true (feed_eq (Events 0) e.feed) (is_planning_body e.body) h).0
+    in
+    ap (λ (l : List Body). flat_map docs_in l) (list_with kept e (Events 0) same)
+    ∙ flat_map-append docs_in (list_of kept (Events 0)) (e.body ∷ [])
+    ∙ ap (λ (l : List StreamDoc). flat_map docs_in (list_of kept (Events 0)) ++ l) (append-nil (docs_in e.body))
+
+-- what the plan names then
+pub named_with : (kept : List Entry) (e : Entry) → is_planning e ≡ true
+    → named_members (view_of (kept ++ e ∷ [])) ≡ members_with (named_members (view_of kept)) e.body
+unfolding named_members
+named_with kept e h =
+    let same : feed_eq (Events 0) e.feed ≡ true =
+    (both_true (feed_eq (Events 0) e.feed) (is_planning_body e.body) h).0
+    in
+    ap (λ (l : List Body). fold members_with None l) (list_with kept e (Events 0) same)
+    ∙ fold-append members_with None (list_of kept (Events 0)) (e.body ∷ [])
+
+filter_same : (p q : ℕ → Bool) (xs : List ℕ) → ((n : ℕ) → p n ≡ q n) → filter p xs ≡ filter q xs
+filter_same p q [] same = refl
+filter_same p q (x ∷ xs) same = rw (same x, filter_same p q xs same) refl
+
+-- the members are what is named and has a document that counts
+pub members_of_docs : (kept : List Entry) (numbers : List ℕ)
+    → numbers ≡ map (λ (d : StreamDoc). d.no) (first_docs_among (flat_map docs_in (list_of kept (Events 0))))
+    → filter (has numbers) (unwrap_or (named_members (view_of kept)) []) ≡ members (view_of kept)
+unfolding members stream catalogue
+members_of_docs kept numbers e =
+    filter_same (has numbers)
+    (λ s. is_some
+    (find (λ (d : StreamDoc). d.no == s) (first_docs_among (flat_map docs_in (list_of kept (Events 0))))))
+    (unwrap_or (named_members (view_of kept)) [])
+    (λ s. rw e (sym (has_found (λ (d : StreamDoc). d.no) s
+    (first_docs_among (flat_map docs_in (list_of kept (Events 0)))))))
+
+-- what is neither plan nor added stream brings no document, and names nobody
+no_docs : (b : Body) → is_planning_body b ≡ false → docs_in b ≡ []
+no_docs (NewPlan run cut carried docs) h = cc
+no_docs (Added a k doc) h = cc
+no_docs (Clock t) h = refl
+no_docs (Released s seen) h = refl
+no_docs (StreamEnded s seen) h = refl
+no_docs (UntilPassed p i mark) h = refl
+no_docs (Launched j n seen) h = refl
+no_docs (Started j n) h = refl
+no_docs (Failed j n) h = refl
+no_docs (Ended j n rc good) h = refl
+no_docs (Lost j n) h = refl
+no_docs (Fulfilled p i) h = refl
+no_docs (Obeyed a k c) h = refl
+no_docs (Declined a k why) h = refl
+no_docs (Order c) h = refl
+
+no_names : (so_far : Option (List ℕ)) (b : Body) → is_planning_body b ≡ false → members_with so_far b ≡ so_far
+no_names so_far (NewPlan run cut carried docs) h = cc
+no_names so_far (Added a k doc) h = cc
+no_names so_far (Clock t) h = refl
+no_names so_far (Released s seen) h = refl
+no_names so_far (StreamEnded s seen) h = refl
+no_names so_far (UntilPassed p i mark) h = refl
+no_names so_far (Launched j n seen) h = refl
+no_names so_far (Started j n) h = refl
+no_names so_far (Failed j n) h = refl
+no_names so_far (Ended j n rc good) h = refl
+no_names so_far (Lost j n) h = refl
+no_names so_far (Fulfilled p i) h = refl
+no_names so_far (Obeyed a k c) h = refl
+no_names so_far (Declined a k why) h = refl
+no_names so_far (Order c) h = refl
+
+-- so the documents stay
+pub docs_without : (kept : List Entry) (e : Entry) → is_planning e ≡ false
+    → flat_map docs_in (list_of (kept ++ e ∷ []) (Events 0)) ≡ flat_map docs_in (list_of kept (Events 0))
+docs_without kept e h = go (feed_eq (Events 0) e.feed) refl h
+  where
+    go : (b : Bool) → feed_eq (Events 0) e.feed ≡ b → (b && is_planning_body e.body) ≡ false
+        → flat_map docs_in (list_of (kept ++ e ∷ []) (Events 0)) ≡ flat_map docs_in (list_of kept (Events 0))
+    go true same k =
+        ap (λ (l : List Body). flat_map docs_in l) (list_with kept e (Events 0) same)
+        ∙ flat_map-append docs_in (list_of kept (Events 0)) (e.body ∷ [])
+        ∙ ap (λ (l : List StreamDoc). flat_map docs_in (list_of kept (Events 0)) ++ (l ++ [])) (no_docs e.body k)
+        ∙ append-nil (flat_map docs_in (list_of kept (Events 0)))
+    go false other k = ap (λ (l : List Body). flat_map docs_in l) (list_without kept e (Events 0) other)
+
+stays : (kept : List Entry) (e : Entry) (b : Bool) → feed_eq (Events 0) e.feed ≡ b
+    → (b && is_planning_body e.body) ≡ false
+    → fold members_with None (list_of (kept ++ e ∷ []) (Events 0)) ≡ fold members_with None (list_of kept (Events 0))
+stays kept e true same k =
+    ap (λ (l : List Body). fold members_with None l) (list_with kept e (Events 0) same)
+    ∙ fold-append members_with None (list_of kept (Events 0)) (e.body ∷ [])
+    ∙ no_names (fold members_with None (list_of kept (Events 0))) e.body k
+stays kept e false other k = ap (λ (l : List Body). fold members_with None l) (list_without kept e (Events 0) other)
+
+-- and what is named
+pub named_without : (kept : List Entry) (e : Entry) → is_planning e ≡ false
+    → named_members (view_of (kept ++ e ∷ [])) ≡ named_members (view_of kept)
+unfolding named_members
+named_without kept e h = stays kept e (feed_eq (Events 0) e.feed) refl h
+
+feed_cases : (f g : Feed) → ((feed_eq f g ≡ true) × (f ≡ g)) ⊎ (feed_eq f g ≡ false)
+feed_cases (Events w) (Events v) = elim (eqb_tells w v) [ inl e ↦ inl (e.0, ap Events e.1) | inr e ↦ inr e.0 ]
+feed_cases (Orders a w) (Orders b v) = grind (arith, eqb_tells a b, eqb_tells w v)
+feed_cases (Events w) (Orders b v) = inr refl
+feed_cases (Orders a w) (Events v) = inr refl
+
+-- no feed is too long with the entry, where its own is not
+pub short_with : (kept : List Entry) (e : Entry) → AreShort kept → length (list_of kept e.feed) + 1 < 2 ^ 32
+    → AreShort (kept ++ e ∷ [])
+short_with kept e short room f =
+    elim (feed_cases f e.feed) [
+      | inl c ↦ (
+          let l : length (list_of kept f)
+          ≡ length (list_of kept e.feed) = ap (λ (g : Feed). length (list_of kept g)) c.1 in
+          rw (list_with kept e f c.0, length-append (list_of kept f) (e.body ∷ [])) (omega (arith, l, room)))
+      | inr c ↦ rw (list_without kept e f c) (short f)
+    ]
+
+-- the plan stays with an entry that is neither plan nor added stream
+pub plan_without : (kept : List Entry) (e : Entry) (plan : Plan) → is_planning e ≡ false → IsPlanOf kept plan
+    → IsPlanOf (kept ++ e ∷ []) plan
+unfolding members stream catalogue
+plan_without kept e plan h p =
+    record {
+      spots =
+          subst (λ (docs : List StreamDoc). AreSpotsOf (kept ++ e ∷ []) docs plan.spots) (sym (docs_without kept e h))
+          (spots_later kept (e ∷ []) (flat_map docs_in (list_of kept (Events 0))) plan.spots p.spots);
+      named = p.named ∙ sym (named_without kept e h);
+      members =
+          p.members
+          ∙ ap₂
+          (λ (docs : List StreamDoc) (names : Option (List ℕ)).
+          filter (λ s. is_some (find (λ (d : StreamDoc). d.no == s) (first_docs_among docs))) (unwrap_or names []))
+          (sym (docs_without kept e h)) (sym (named_without kept e h));
+    }
+
+-- the plan after a plan or an added stream
+pub plan_with : (kept : List Entry) (e : Entry) (plan : Plan) (spots : Spots) (named : Option (List ℕ))
+    (numbers : List ℕ) → is_planning e ≡ true → IsPlanOf kept plan
+    → AreSpotsOf (kept ++ e ∷ []) (flat_map docs_in (list_of kept (Events 0)) ++ docs_in e.body) spots
+    → named ≡ members_with plan.named e.body
+    → numbers ≡ filter (has (map (λ (p : StreamSpot). p.number) spots.streams)) (unwrap_or named [])
+    → IsPlanOf (kept ++ e ∷ []) (record { spots = spots; named = named; members = numbers })
+plan_with kept e plan spots named numbers h p placed names found =
+    let here : AreSpotsOf (kept ++ e ∷ []) (flat_map docs_in (list_of (kept ++ e ∷ []) (Events 0))) spots =
+    subst (λ (docs : List StreamDoc). AreSpotsOf (kept ++ e ∷ []) docs spots) (sym (docs_with kept e h)) placed
+    in
+    let same : named ≡ named_members (view_of (kept ++ e ∷ [])) =
+    names ∙ ap (λ (m : Option (List ℕ)). members_with m e.body) p.named ∙ sym (named_with kept e h)
+    in
+    record {
+      spots = here;
+      named = same;
+      members =
+          found
+          ∙ ap (λ (m : Option (List ℕ)).
+          filter (has (map (λ (p : StreamSpot). p.number) spots.streams)) (unwrap_or m [])) same
+          ∙ members_of_docs (kept ++ e ∷ []) (map (λ (p : StreamSpot). p.number) spots.streams)
+          here.streams.1;
+    }
+
+-- all that is kept beside another entry
+pub kept_without : (kept new : List Entry) (e x : Entry) (plan : Plan) → AreKept kept plan → x ≡ e
+    → new ≡ kept ++ x ∷ [] → is_planning e ≡ false → length (list_of kept e.feed) + 1 < 2 ^ 32 → AreKept new plan
+kept_without kept new e x plan h same grown other room =
+    rw (grown, same)
+    (record { short = short_with kept e h.short room; plan = plan_without kept e plan other h.plan })
+
+-- the plan of no entries
+pub plan_of_none : (spots : Spots) (numbers : List ℕ) → spots.streams ≡ [] → spots.jobs ≡ [] → numbers ≡ []
+    → IsPlanOf [] (record { spots = spots; named = None; members = numbers })
+unfolding list_of members named_members stream catalogue
+plan_of_none spots numbers e f g =
+    record {
+      spots = record { streams = (rw e refl, rw e refl); jobs = (rw f refl, rw f refl) };
+      named = refl;
+      members = g;
+    }

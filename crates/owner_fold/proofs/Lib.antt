@@ -1,0 +1,7 @@
+mod Few
+mod Firsts
+mod Standing
+mod Further
+mod Counted
+mod Asked
+mod Holders

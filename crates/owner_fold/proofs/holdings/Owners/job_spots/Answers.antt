@@ -1,0 +1,16 @@
+use Rattle.std.proofs.Common.{flat_map}
+use Rattle.model.specs.Types.{Events}
+use Rattle.model.specs.History.{list_of}
+use Rattle.model.specs.Catalogue.{catalogue, docs_in, jobs, jobs_in}
+use Rattle.owner_fold.specs.Spots.{first_docs_among, first_jobs_among, job_at}
+use Rattle.owner_fold.proofs.Standing.{found_in_order}
+use Rattle.owner_fold.proofs.holdings.Owners.job_spots.Goals as goal
+
+pub returns-clause-jobs : goal.returns-clause-jobs
+unfolding catalogue jobs
+returns-clause-jobs c =
+    rw (c.as_slice.ensures, ← c.self.view_is)
+    (found_in_order (job_at c.self.inside.entries) c.self.inside.plan.spots.jobs
+    (first_jobs_among (flat_map jobs_in
+    (first_docs_among (flat_map docs_in (list_of c.self.inside.entries (Events 0))))))
+    c.self.invariant.plan.spots.jobs.0)

@@ -1,0 +1,14 @@
+use Rattle.std.proofs.Common.{◌≡◌, ◌++◌, List, Some, map, take}
+use Rattle.model.specs.Types.{Entry, JobDoc}
+use Rattle.model.specs.Catalogue.{StreamJob}
+use Rattle.owner_fold.specs.Spots.{AreJobSpots, doc_at, first_jobs_among, stream_job}
+use Rattle.owner_fold.proofs.spots.Spots.add_jobs.Given as goal
+
+abbrev pub invariant-loop-i : goal.invariant-loop-i
+invariant-loop-i l =
+    record {
+      streams : l.self.streams ≡ l.initial.self.streams;
+      jobs : (kept : List Entry) (known : List StreamJob) → doc_at kept l.spot ≡ Some l.doc
+          → AreJobSpots kept l.initial.self.jobs (first_jobs_among known)
+          → AreJobSpots kept l.self.jobs (first_jobs_among (known ++ map (stream_job l.doc) (take l.i l.job-items)));
+    }

@@ -1,0 +1,27 @@
+-- What the iterators have still to give.
+use Rattle.std.specs.Prelude.{List, filter_map}
+use Rattle.model.specs.Types.{Body, Cmd, Entry, Feed, StreamDoc}
+use Rattle.model.specs.History.{list_of}
+use Rattle.model.specs.Catalogue.{StreamJob}
+use Rattle.model.specs.Facts.{commands}
+use Rattle.owner_fold.specs.Spots.{doc_at, job_at}
+use Rattle.owner_fold.specs.declared.bodies.Bodies.{Bodies}
+use Rattle.owner_fold.specs.declared.bodies.Commands.{Commands}
+use Rattle.owner_fold.specs.declared.catalogue.Streams.{Streams}
+use Rattle.owner_fold.specs.declared.catalogue.PlannedJobs.{PlannedJobs}
+
+-- the bodies of the feed among the entries that are left
+abbrev pub bodies_left : Bodies → List Body
+bodies_left it = list_of it.entries.now it.feed
+
+-- and the commands that these obeyed
+abbrev pub commands_left : Commands → List Cmd
+commands_left it = commands (list_of it.entries.now it.feed)
+
+-- the streams that are left
+unfoldable pub streams_left : Streams → List StreamDoc
+streams_left it = filter_map (doc_at it.entries.now) it.spots.now
+
+-- the jobs that are left, each with its stream
+unfoldable pub jobs_left : PlannedJobs → List StreamJob
+jobs_left it = filter_map (job_at it.entries.now) it.spots.now

@@ -1,0 +1,33 @@
+-- What `Owners` keeps of the plan beside the entries.
+use Rattle.std.specs.Prelude.{◌&&◌, ◌<◌, ◌^◌, ◌≡◌, Bool, List, false, flat_map, length, true}
+use Rattle.model.specs.Types.{Added, Body, Entry, Events, Feed, NewPlan}
+use Rattle.model.specs.Equalities.{feed_eq}
+use Rattle.model.specs.History.{list_of, view_of}
+use Rattle.model.specs.Catalogue.{docs_in, members, named_members}
+use Rattle.owner_fold.specs.Spots.{AreSpotsOf}
+use Rattle.owner_fold.specs.declared.plans.Plan.{Plan}
+
+-- a plan, or a stream that is added to it
+abbrev pub is_planning_body : Body → Bool
+is_planning_body (NewPlan run cut carried docs) = true
+is_planning_body (Added a k doc) = true
+is_planning_body _ = false
+
+-- and it is the master's
+abbrev pub is_planning : Entry → Bool
+is_planning e = feed_eq (Events 0) e.feed && is_planning_body e.body
+
+-- the plan of these entries
+pub record IsPlanOf (kept : List Entry) (plan : Plan) : Type 0 where
+  pub spots : AreSpotsOf kept (flat_map docs_in (list_of kept (Events 0))) plan.spots
+  pub named : plan.named ≡ named_members (view_of kept)
+  pub members : plan.members ≡ members (view_of kept)
+
+-- no feed has more entries than a place can tell
+abbrev pub AreShort : List Entry → Type 0
+AreShort kept = (f : Feed) → length (list_of kept f) < 2 ^ 32
+
+-- what holds of the entries and of the plan beside them
+pub record AreKept (kept : List Entry) (planned : Plan) : Type 0 where
+  pub short : AreShort kept
+  pub plan : IsPlanOf kept planned

@@ -1,0 +1,163 @@
+//! The streams and jobs of the plan.
+ghost use Rattle.std.specs.Prelude.{◌≡◌, option_map};
+ghost use Rattle.std.specs.Option.{option_copied};
+ghost use Rattle.std.specs.Iterator.{YieldsFirstBy, YieldsFirstRef, item_count};
+ghost use Rattle.model.specs.Types.{Job, StreamDoc as Doc};
+ghost use Rattle.model.specs.History.{view_of};
+ghost use Rattle.model.specs.Catalogue.{StreamJob, catalogue, jobs, members, stream, job, stream_of, owner};
+ghost use Rattle.owner_fold.specs.Spots.{stream_job};
+ghost use Rattle.owner_fold.specs.Left.{jobs_left, streams_left};
+
+use crate::holdings::Owners;
+use crate::spots::{JobSpot, StreamSpot, planned_job_at, stream_at};
+use base_types::{Entry, JobDoc, JobNo, Obj, StreamDoc, StreamNo, StreamNos, Ws};
+
+/// The streams of the catalogue, in its order.
+#[derive(Drop)]
+pub struct Streams<'a> {
+    pub(crate) entries: &'a [Entry],
+    pub(crate) spots: &'a [StreamSpot],
+}
+
+impl<'a> Iterator for Streams<'a> {
+    type Item = &'a StreamDoc;
+
+    ghost next_gives = { YieldsFirstRef streams_left };
+
+    ghost remaining = { item_count streams_left };
+
+    #[tactic(auto, unfolding(crate::specs::Left::streams_left))]
+    fn next(&mut self) -> Option<&'a StreamDoc> {
+        let spots = self.spots;
+        for (i, spot) in spots.iter().enumerate() {
+            if let Some(doc) = stream_at(self.entries, spot) {
+                self.spots = &spots[i + 1..];
+                return Some(doc);
+            }
+        }
+        self.spots = &spots[spots.len()..];
+        None
+    }
+}
+
+/// The jobs of the catalogue with their streams, in its order.
+#[derive(Drop)]
+pub struct PlannedJobs<'a> {
+    pub(crate) entries: &'a [Entry],
+    pub(crate) spots: &'a [JobSpot],
+}
+
+impl<'a> Iterator for PlannedJobs<'a> {
+    type Item = (&'a StreamDoc, &'a JobDoc);
+
+    ghost next_gives = { YieldsFirstBy (λ p. stream_job p.0.now p.1.now) jobs_left };
+
+    ghost remaining = { item_count jobs_left };
+
+    #[tactic(auto, unfolding(crate::specs::Left::jobs_left))]
+    fn next(&mut self) -> Option<(&'a StreamDoc, &'a JobDoc)> {
+        let spots = self.spots;
+        for (i, spot) in spots.iter().enumerate() {
+            if let Some(placed) = planned_job_at(self.entries, spot) {
+                self.spots = &spots[i + 1..];
+                return Some(placed);
+            }
+        }
+        self.spots = &spots[spots.len()..];
+        None
+    }
+}
+
+impl Owners {
+    /// The streams of the catalogue, in its order.
+    #[tactic(auto, unfolding(crate::specs::Left::streams_left))]
+    pub fn streams(&self) -> Streams<'_>
+        ensures { streams_left result ≡ catalogue (view_of self.now) }
+    {
+        Streams {
+            entries: self.entries(),
+            spots: self.stream_spots(),
+        }
+    }
+
+    /// The jobs of the catalogue, each with its stream, in its order.
+    #[tactic(auto, unfolding(crate::specs::Left::jobs_left))]
+    pub fn jobs(&self) -> PlannedJobs<'_>
+        ensures { jobs_left result ≡ jobs (view_of self.now) }
+    {
+        PlannedJobs {
+            entries: self.entries(),
+            spots: self.job_spots(),
+        }
+    }
+
+    /// The document of this number. None outside the catalogue.
+    #[tactic(auto, unfolding(model::specs::Catalogue::stream))]
+    pub fn stream(&self, s: StreamNo) -> Option<&StreamDoc>
+        ensures { option_copied result ≡ stream (view_of self.now) s }
+    {
+        for doc in self.streams() {
+            if doc.no.0 == s.0 {
+                return Some(doc);
+            }
+        }
+        None
+    }
+
+    /// The job of this number with its stream. None outside the catalogue.
+    #[tactic(auto, unfolding(model::specs::Catalogue::job))]
+    pub fn planned_job(&self, j: JobNo) -> Option<(&StreamDoc, &JobDoc)>
+        ensures { option_map (λ p. stream_job p.0.now p.1.now) result ≡ job (view_of self.now) j }
+    {
+        for (parent, doc) in self.jobs() {
+            if doc.no.0 == j.0 {
+                return Some((parent, doc));
+            }
+        }
+        None
+    }
+
+    /// The job of this number. None outside the catalogue.
+    pub fn job(&self, j: JobNo) -> Option<&JobDoc>
+        ensures { option_copied result ≡ option_map (λ (p : StreamJob). p.doc) (job (view_of self.now) j) }
+    {
+        match self.planned_job(j) {
+            None => None,
+            Some((_, doc)) => Some(doc),
+        }
+    }
+
+    /// The stream that a job belongs to. None outside the catalogue.
+    #[tactic(auto, unfolding(model::specs::Catalogue::stream_of))]
+    pub fn stream_of(&self, j: JobNo) -> Option<StreamNo>
+        ensures { result ≡ option_map (λ (d : Doc). d.no) (stream_of (view_of self.now) (Job j)) }
+    {
+        match self.planned_job(j) {
+            None => None,
+            Some((parent, _)) => Some(parent.no),
+        }
+    }
+
+    /// The workstation of a job or stream. None outside the catalogue.
+    pub fn owner(&self, o: Obj) -> Option<Ws>
+        ensures { result ≡ owner (view_of self.now) o }
+    {
+        self.owner_of(&o)
+    }
+
+    #[tactic(auto, unfolding(model::specs::Catalogue::owner))]
+    pub(crate) fn owner_of(&self, o: &Obj) -> Option<Ws>
+        ensures { result ≡ owner (view_of self.now) o.now }
+    {
+        match o {
+            Obj::Job(j) => match self.job(*j) {
+                None => None,
+                Some(doc) => Some(doc.ws),
+            },
+            Obj::Stream(s) => match self.stream(*s) {
+                None => None,
+                Some(doc) => Some(doc.ws),
+            },
+        }
+    }
+}

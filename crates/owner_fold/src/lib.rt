@@ -1,0 +1,28 @@
+//! The facts of the entries that a node took: its plan, and what each workstation tells of it.
+//!
+//! `Owners` takes the entries one by one. A contract sees it as the list of them, and each fact of the list is that of
+//! `model::specs`, in the view of the entries: of a workstation in the list of its events, of an object in the list of
+//! its owner. A fact of an object that the catalogue lacks is 0, false or None. No fact takes memory.
+//!
+//! Beside the entries `Owners` keeps where the documents of the catalogue stand, and the members of the plan. Every
+//! other fact is found by a walk over the entries.
+#![tactic(auto, unfolding(model::specs::History::list_of, model::specs::Facts::commands))]
+
+mod bodies;
+mod catalogue;
+mod dependencies;
+mod events;
+mod facts;
+mod holdings;
+mod launches;
+mod plans;
+mod sayings;
+mod spots;
+#[cfg(test)]
+mod tests;
+mod units;
+
+pub use catalogue::{PlannedJobs, Streams};
+pub use holdings::Owners;
+pub use launches::Outcome;
+pub use units::OpenLaunches;

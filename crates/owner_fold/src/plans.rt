@@ -1,0 +1,105 @@
+//! The plan beside the entries: where its documents stand, and its members.
+ghost use Rattle.std.specs.Prelude.{◌≡◌, ◌++◌, [], ◌∷◌, None, filter, flat_map, map, true, unwrap_or, IfOk};
+ghost use Rattle.model.specs.Types.{Events};
+ghost use Rattle.model.specs.Words.{has};
+ghost use Rattle.model.specs.History.{list_of};
+ghost use Rattle.model.specs.Catalogue.{docs_in, members_with};
+ghost use Rattle.owner_fold.specs.Plans.{is_planning, IsPlanOf};
+ghost use Rattle.owner_fold.specs.Spots.{AreSpotsOf};
+
+use crate::spots::Spots;
+use base_types::{Body, Copied, Entry, Feed, Items, NoMemory, StreamNos};
+use std::alloc::Global;
+
+/// The entry is the master's plan, or a stream that it added.
+pub(crate) fn is_planning(e: &Entry) -> bool
+    ensures { result ≡ is_planning e.now }
+{
+    match &e.feed {
+        Feed::Events(w) => match &e.body {
+            Body::NewPlan(_, _, _, _) => w.0 == 0,
+            Body::Added(_, _, _) => w.0 == 0,
+            _ => false,
+        },
+        Feed::Orders(_, _) => false,
+    }
+}
+
+/// The plan that a list of entries makes.
+#[derive(Debug, Drop)]
+pub(crate) struct Plan {
+    pub(crate) spots: Spots,
+    /// What the last plan and the streams added to it name, None before the first plan.
+    named: Option<StreamNos>,
+    /// Those among them that the catalogue has.
+    pub(crate) members: StreamNos,
+}
+
+impl Plan {
+    /// The plan of no entries, which takes no memory yet.
+    pub(crate) fn new(alloc: Global) -> Plan
+        ensures { IsPlanOf [] result }
+    {
+        Plan {
+            spots: Spots::new(alloc),
+            named: None,
+            members: Items::new(alloc),
+        }
+    }
+
+    /// What a plan and the streams added to it name after one more body.
+    fn named_with(&self, body: &Body) -> Result<Option<StreamNos>, NoMemory>
+        ensures { IfOk result (λ n. n ≡ members_with self.now.named body.now) }
+    {
+        match body {
+            Body::NewPlan(_, _, carried, docs) => {
+                let mut named = carried.copy()?;
+                for doc in docs.as_slice() {
+                    named.push(doc.no)?;
+                }
+                Ok(Some(named))
+            }
+            Body::Added(_, _, doc) => match &self.named {
+                None => Ok(None),
+                Some(before) => {
+                    let mut named = before.copy()?;
+                    named.push(doc.no)?;
+                    Ok(Some(named))
+                }
+            },
+            _ => self.named.copy(),
+        }
+    }
+
+    /// The numbers that are there, of those that are named.
+    fn members_among(&self, named: &Option<StreamNos>, spots: &Spots) -> Result<StreamNos, NoMemory>
+        ensures { IfOk result (λ ms. ms ≡
+            filter (has (map (λ p. p.number) spots.now.streams)) (unwrap_or named.now [])) }
+    {
+        let mut members = self.members.empty();
+        if let Some(numbers) = named {
+            for number in numbers.as_slice() {
+                if spots.has_stream(number.0) {
+                    members.push(*number)?;
+                }
+            }
+        }
+        Ok(members)
+    }
+
+    /// The plan after one more entry, which is a plan or a stream that is added.
+    pub(crate) fn with(&self, entries: &[Entry], e: &Entry) -> Result<Plan, NoMemory>
+        requires planning { is_planning e.now ≡ true }
+        requires plan { IsPlanOf entries.now self.now }
+        ensures { IfOk result (λ p. IsPlanOf (entries.now ++ e.now ∷ []) p) }
+    {
+        let spots = self.spots.with(entries, e)?;
+        let named = self.named_with(&e.body)?;
+        let members = self.members_among(&named, &spots)?;
+        Ok(Plan {
+            spots,
+            named,
+            members,
+        })
+    }
+}

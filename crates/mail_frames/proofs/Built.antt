@@ -1,6 +1,6 @@
 -- A frame from its bytes: the kind is the fifth of them, and the content what follows.
 use Rattle.std.proofs.Common.{◌≡◌, ℕ, zero, suc, ◌+◌, ◌-◌, ◌<◌, ◌≤◌, List, [], ◌∷◌, ◌++◌, length, take, drop}
-use Rattle.std.proofs.Common.{get_or, refl, sym, ◌∙◌, subst, ap, arith, length-append}
+use Rattle.std.proofs.Common.{get_or, sym, ◌∙◌, subst, ap, arith}
 use Rattle.std.proofs.lemmas.List.{take_rest}
 use Rattle.std.specs.List.{AllByRecursion}
 use Rattle.std.specs.Str.{IsUtf8}

@@ -1,9 +1,9 @@
 -- What a piece does to all that was taken before it.
-use Rattle.std.proofs.Common.{◌≡◌, ℕ, ◌+◌, ◌-◌, ◌<◌, ◌≤◌, List, [], ◌∷◌, ◌++◌, length, take, drop, refl, sym, ◌∙◌}
+use Rattle.std.proofs.Common.{◌≡◌, ℕ, ◌+◌, ◌≤◌, List, [], ◌∷◌, ◌++◌, length, take, drop, refl, sym, ◌∙◌}
 use Rattle.std.proofs.Common.{subst, ap, arith, length-append, append_assoc, length-drop, take-append-drop}
 use Rattle.std.proofs.lemmas.List.{append-nil}
 use Rattle.std.specs.Prelude.{Option, Some, None}
-use Rattle.mail_frames.specs.Spelling.{frame_bytes, FrameBytes, IsSpelled}
+use Rattle.mail_frames.specs.Spelling.{frame_bytes, FrameBytes}
 use Rattle.mail_frames.specs.Streams.{AreFrames, spelling, AreFramesOf, told, IsBadAt, IsFront}
 use Rattle.mail_frames.specs.Decoding.{Decoding, TookBy, Took}
 use Rattle.mail_frames.specs.Pieces.{EndsAs, Feeds, Breaks, IsAt, Reads, TailIs, told_behind}

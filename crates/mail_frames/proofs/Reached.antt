@@ -1,26 +1,23 @@
 -- Places of a frame: what brings one to the next, and that a frame can be completed from each.
-use Rattle.std.proofs.Common.{◌≡◌, ℕ, zero, suc, ◌+◌, ◌-◌, ◌*◌, ◌/◌, ◌%◌, ◌<◌, ◌≤◌, ◌↔◌, List, [], ◌∷◌, ◌++◌}
-use Rattle.std.proofs.Common.{length, replicate, take, drop, get_or, refl, sym, ◌∙◌, subst, ap, arith}
+use Rattle.std.proofs.Common.{◌≡◌, ℕ, suc, ◌+◌, ◌-◌, ◌*◌, ◌/◌, ◌%◌, ◌<◌, ◌≤◌, ◌↔◌, List, [], ◌∷◌, ◌++◌}
+use Rattle.std.proofs.Common.{length, replicate, take, get_or, refl, sym, ◌∙◌, subst, ap, arith}
 use Rattle.std.proofs.Common.{length-append, append_assoc}
 use Rattle.std.proofs.lemmas.List.{append-nil, length-replicate, take_more, take_all}
-use Rattle.std.specs.List.{AllByRecursion}
-use Rattle.std.specs.Str.{IsUtf8}
 use Rattle.std.specs.Prelude.{Some}
 use Rattle.model.specs.Fields.{u32_bytes}
-use Rattle.model.specs.Ranges.{IsU8}
-use Rattle.mail_frames.specs.Spelling.{IsSpelled, FrameBytes, content_of, frame_bytes}
+use Rattle.mail_frames.specs.Spelling.{IsSpelled}
 use Rattle.mail_frames.specs.Streams.{IsFront}
-use Rattle.mail_frames.specs.Nexts.{Follows, due, IsOpen, NextAfter}
+use Rattle.mail_frames.specs.Nexts.{Follows, due, NextAfter}
 use Rattle.mail_frames.specs.Places.{Completes, IsReached, SeenAfter, Scans}
 use Rattle.mail_frames.specs.Pieces.{IsAt, Breaks}
 use Rattle.mail_frames.specs.declared.nexts.Next.{Next}
-use Rattle.mail_frames.specs.declared.nexts.Next.TheVariants.{Any, Exactly, Lead, Within}
+use Rattle.mail_frames.specs.declared.nexts.Next.TheVariants.{Any, Exactly, Lead}
 use Rattle.mail_frames.specs.declared.places.Place.{Place}
 use Rattle.mail_frames.specs.declared.places.Place.TheVariants.{Start, One, Two, Three, Kind, Content}
 use Rattle.mail_frames.specs.declared.places.Seen.{Seen}
 use Rattle.mail_frames.specs.declared.places.Seen.TheVariants.{Open, Whole, Bad}
 use Rattle.mail_frames.proofs.Contents.{can_come, follows_long, zeros}
-use Rattle.mail_frames.proofs.Spelled.{behind_mail, behind_command, no_command, behind_reply, no_reply}
+use Rattle.mail_frames.proofs.Spelled.{behind_mail, behind_command, behind_reply}
 use Rattle.mail_frames.proofs.Spelled.{behind_events, behind_orders, content_short, frame_length}
 
 -- ---- the same rests have the same places

@@ -1,19 +1,17 @@
 -- The one spelling of a frame, taken apart.
-use Rattle.std.proofs.Common.{◌≡◌, ℕ, zero, suc, ◌+◌, ◌-◌, ◌*◌, ◌/◌, ◌%◌, ◌^◌, ◌<◌, ◌≤◌, ◌↔◌, ◌⊎◌, List, [], ◌∷◌}
-use Rattle.std.proofs.Common.{◌++◌, length, drop, take, get_or, refl, sym, ◌∙◌, subst, ap, inl, inr, arith}
-use Rattle.std.proofs.Common.{length-append, append_assoc}
-use Rattle.std.proofs.lemmas.List.{append-nil}
+use Rattle.std.proofs.Common.{◌≡◌, ℕ, zero, suc, ◌+◌, ◌/◌, ◌%◌, ◌^◌, ◌<◌, ◌≤◌, ◌↔◌, ◌⊎◌, List, [], ◌∷◌}
+use Rattle.std.proofs.Common.{◌++◌, length, drop, get_or, refl, sym, ◌∙◌, subst, ap, inl, inr, arith}
 use Rattle.std.proofs.lemmas.Nat.{from_be_bytes-to_be_bytes_2, from_be_bytes-to_be_bytes_4, be_bytes_2, be_bytes_4}
-use Rattle.std.specs.Int.{w16, w32, to_be_bytes, from_be_bytes}
+use Rattle.std.specs.Int.{w16, w32, from_be_bytes}
 use Rattle.std.specs.List.{AllByRecursion}
 use Rattle.std.specs.Str.{IsUtf8}
 use Rattle.model.specs.Fields.{u16_bytes, u32_bytes}
-use Rattle.model.specs.Ranges.{IsU8, IsU32, FeedInRange}
+use Rattle.model.specs.Ranges.{IsU8, FeedInRange}
 use Rattle.model.specs.Spelling.{feed_bytes}
 use Rattle.model.specs.Types.{Feed, Events, Orders}
 use Rattle.mail_frames.specs.Nexts.{BeginsWith}
-use Rattle.mail_frames.specs.Spelling.{kind_of, content_of, frame_bytes, IsFrame, FrameBytes, FrameInRange}
-use Rattle.mail_frames.specs.Spelling.{IsSendable, IsSpelled}
+use Rattle.mail_frames.specs.Spelling.{kind_of, content_of, frame_bytes, IsFrame}
+use Rattle.mail_frames.specs.Spelling.{IsSpelled}
 use Rattle.mail_frames.specs.declared.frames.Frame.{Frame}
 use Rattle.mail_frames.specs.declared.frames.Frame.TheVariants.{Mail, Ack, Command, Reply}
 

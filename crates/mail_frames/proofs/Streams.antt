@@ -1,18 +1,18 @@
 -- Streams: what a list of frames and an unfinished one say of all the bytes.
-use Rattle.std.proofs.Common.{◌≡◌, ℕ, zero, suc, ◌+◌, ◌-◌, ◌<◌, ◌≤◌, ◌⊎◌, List, [], ◌∷◌, ◌++◌, length, take, drop}
-use Rattle.std.proofs.Common.{get_or, refl, sym, ◌∙◌, subst, ap, inl, inr, arith, length-append, append_assoc, min}
+use Rattle.std.proofs.Common.{◌≡◌, ℕ, ◌+◌, ◌<◌, ◌≤◌, List, [], ◌∷◌, ◌++◌, length, take, drop}
+use Rattle.std.proofs.Common.{get_or, refl, sym, ◌∙◌, subst, ap, inl, inr, arith, length-append, append_assoc}
 use Rattle.std.proofs.Common.{take-append-drop}
 use Rattle.std.proofs.lemmas.Bool.{cases_lt}
-use Rattle.std.proofs.lemmas.List.{append-nil, append_cancel_left, nil_from_length, take_more, length-take-le}
+use Rattle.std.proofs.lemmas.List.{append-nil, take_more, length-take-le}
 use Rattle.std.proofs.lemmas.List.Concat.{flat_map-append}
-use Rattle.std.specs.Prelude.{Option, Some, None}
-use Rattle.mail_frames.specs.Spelling.{frame_bytes, IsFrame, FrameBytes, IsSpelled}
+use Rattle.std.specs.Prelude.{Some}
+use Rattle.mail_frames.specs.Spelling.{frame_bytes, IsFrame, IsSpelled}
 use Rattle.mail_frames.specs.Streams.{AreFrames, spelling, Begins, IsLongest, AreAllWhole, AreFramesOf, told}
 use Rattle.mail_frames.specs.Streams.{IsBadAt, IsFront}
 use Rattle.mail_frames.specs.Pieces.{Breaks}
 use Rattle.mail_frames.specs.declared.frames.Frame.{Frame}
 use Rattle.mail_frames.specs.declared.frames.Frame.TheVariants.{Mail}
-use Rattle.mail_frames.proofs.Spelled.{no_frame_begins_another, same_front, frame_long}
+use Rattle.mail_frames.proofs.Spelled.{no_frame_begins_another, same_front}
 
 -- ---- lists of frames
 

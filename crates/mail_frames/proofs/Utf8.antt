@@ -6,7 +6,7 @@ use Rattle.std.proofs.lemmas.Str.{encode_ascii}
 use Rattle.std.specs.Str.{IsUtf8}
 use lib.Utf8.{scalar, scalars, encode, encodes, next, low_scalar, scalar_cases}
 use Rattle.std.specs.Prelude.{Some, None}
-use Rattle.mail_frames.specs.Nexts.{Continues, GoesOn, NextAfter}
+use Rattle.mail_frames.specs.Nexts.{GoesOn, NextAfter}
 use Rattle.mail_frames.specs.declared.nexts.Next.TheVariants.{Lead, Within}
 
 -- a byte of a character behind its first

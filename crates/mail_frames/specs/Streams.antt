@@ -1,5 +1,5 @@
 -- Streams of frames: which bytes begin a list of frames, which frames stand whole in a stream, and where it goes wrong.
-use Rattle.std.specs.Prelude.{◌≡◌, ◌<◌, ◌≤◌, ℕ, List, [], ◌++◌, length, min, flat_map, Option, None, Some}
+use Rattle.std.specs.Prelude.{◌≡◌, ◌<◌, ◌≤◌, ℕ, List, ◌++◌, length, min, flat_map, Option, None, Some}
 use Rattle.std.specs.List.{AllByRecursion}
 use Rattle.mail_frames.specs.declared.frames.Frame.{Frame}
 use Rattle.mail_frames.specs.Spelling.{frame_bytes, IsFrame, FrameBytes}

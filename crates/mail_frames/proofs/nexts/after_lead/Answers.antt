@@ -1,4 +1,4 @@
-use Rattle.std.proofs.Common.{arith, inl, inr}
+use Rattle.std.proofs.Common.{arith}
 use Rattle.mail_frames.proofs.Utf8.{after_ascii, after_two, after_224, after_237, after_other_three, after_240}
 use Rattle.mail_frames.proofs.Utf8.{after_244, after_other_four, after_no_lead}
 use Rattle.mail_frames.proofs.nexts.after_lead.Goals as goal

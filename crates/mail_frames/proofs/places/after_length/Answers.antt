@@ -1,4 +1,4 @@
-use Rattle.std.proofs.Common.{ℕ, List, ◌≡◌, ◌∷◌, sym, subst}
+use Rattle.std.proofs.Common.{ℕ, ◌≡◌, ◌∷◌, sym, subst}
 use Rattle.mail_frames.specs.Places.{SeenAfter, Completes}
 use Rattle.mail_frames.specs.declared.places.Place.TheVariants.{Kind}
 use Rattle.mail_frames.specs.declared.places.Seen.{Seen}

@@ -7,7 +7,7 @@ use Rattle.mail_frames.specs.Decoding.{Decoding, Took}
 use Rattle.mail_frames.specs.Pieces.{Feeds, Breaks}
 use Rattle.mail_frames.specs.declared.frames.Frame.{Frame}
 use Rattle.mail_frames.specs.declared.decoders.Fed.{Fed}
-use Rattle.mail_frames.proofs.Reached.{piece_open, piece_whole, piece_broken}
+use Rattle.mail_frames.proofs.Reached.{piece_whole, piece_broken}
 use Rattle.mail_frames.proofs.Feeding.{took_frames, took_fault, took_more, took_spent, frames_more, fault_more}
 use Rattle.mail_frames.proofs.decoders.Decoder.feed.Goals as goal
 

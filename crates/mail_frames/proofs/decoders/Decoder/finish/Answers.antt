@@ -1,4 +1,4 @@
-use Rattle.std.proofs.Common.{ℕ, List, ◌≡◌, ◌++◌, ◌+◌, ◌∙◌, ◌∷◌, ap, refl, sym, subst, length, take, []}
+use Rattle.std.proofs.Common.{ℕ, List, ◌++◌, ◌+◌, ◌∙◌, ◌∷◌, ap, refl, subst, length, take, []}
 use Rattle.mail_frames.specs.Spelling.{FrameBytes}
 use Rattle.mail_frames.specs.Streams.{told}
 use Rattle.mail_frames.specs.Decoding.{Decoding}

@@ -1,4 +1,4 @@
-use Rattle.std.proofs.Common.{ℕ, List, ◌∷◌, sym, subst}
+use Rattle.std.proofs.Common.{◌∷◌, sym, subst}
 use Rattle.mail_frames.specs.Nexts.{Follows, NextAfter}
 use Rattle.mail_frames.specs.declared.nexts.Next.{Next}
 use Rattle.mail_frames.proofs.nexts.Next.after.Goals as goal

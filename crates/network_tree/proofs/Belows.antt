@@ -1,9 +1,9 @@
 -- Lists and tests over the numbers below a bound.
-use Rattle.std.proofs.Common.{◌≡◌, ◌≢◌, ◌+◌, ◌<◌, ◌≤◌, ℕ, [], ◌∷◌, Bool, List, None, Option, Some, ap, arith}
-use Rattle.std.proofs.Common.{◌||◌, cond, false, find, inl, inr, map, refl, subst, suc, sym, true, zero, eqb, ◌∙◌}
+use Rattle.std.proofs.Common.{◌≡◌, ◌+◌, ◌<◌, ◌≤◌, ℕ, ◌∷◌, Bool, None, Some, ap, arith}
+use Rattle.std.proofs.Common.{◌||◌, cond, false, find, inl, inr, refl, subst, suc, sym, true, zero, ◌∙◌}
 use Rattle.std.proofs.lemmas.Bool.Decides.{eqb_tells}
 use Rattle.std.specs.List.{list_any, range_with_len}
-use Rattle.model.specs.Words.{below, numbers_from}
+use Rattle.model.specs.Words.{numbers_from}
 
 -- the numbers of the definitions are those of std
 pub numbers-range : (from n : ℕ) → numbers_from from n ≡ range_with_len from n

@@ -1,12 +1,12 @@
 -- Chains of hops, step by step.
-use Rattle.std.proofs.Common.{◌≡◌, ◌≢◌, ℕ, [], ◌∷◌, ◌||◌, Bool, List, None, Option, Some, ap, drop, eqb, false}
-use Rattle.std.proofs.Common.{if◌then◌else◌, inl, inr, is_some, option_and_then, refl, slice_get, subst, suc, sym}
-use Rattle.std.proofs.Common.{true, zero, ◌∙◌, ◌==◌, ◌⊎◌, ◌<◌, ◌≤◌, arith}
+use Rattle.std.proofs.Common.{◌≡◌, ℕ, [], ◌∷◌, ◌||◌, Bool, List, None, Option, Some, ap, drop, eqb, false}
+use Rattle.std.proofs.Common.{if◌then◌else◌, inl, inr, is_some, option_and_then, refl, subst, suc, sym}
+use Rattle.std.proofs.Common.{true, zero, ◌∙◌, ◌⊎◌, ◌<◌, ◌≤◌, arith}
 use Rattle.std.proofs.lemmas.Bool.Decides.{eqb_tells}
-use Rattle.std.specs.Option.{option_map_or, option_or}
+use Rattle.std.specs.Option.{option_map_or}
 use Rattle.model.specs.Network.{climb, hop, one_before}
 use Rattle.model.specs.Types.{Net}
-use Rattle.model.specs.Words.{has, last_or, some_is}
+use Rattle.model.specs.Words.{has, last_or}
 
 -- k hops above w
 abbrev pub up : Net → ℕ → ℕ → Option ℕ

@@ -1,5 +1,5 @@
 -- How a row of the table is filled: up the chain of hops, each hop is given the one before it.
-use Rattle.std.proofs.Common.{◌≡◌, ◌≢◌, ◌⊎◌, ◌+◌, ◌<◌, ℕ, [], ◌∷◌, ◌++◌, ◌==◌, Bool, List, None, Option, Some, ap}
+use Rattle.std.proofs.Common.{◌≡◌, ◌⊎◌, ◌+◌, ◌<◌, ℕ, [], ◌∷◌, ◌++◌, List, None, Option, Some, ap}
 use Rattle.std.proofs.Common.{arith}
 use Rattle.std.proofs.Common.{eqb, get_or, get_or-set_other, get_or-set_same, false, if◌then◌else◌, inl, inr, is_some}
 use Rattle.std.proofs.Common.{drop, length, length-set, map, refl, set, subst, suc, sym, true, unwrap_or, zero, ◌∙◌}
@@ -7,8 +7,8 @@ use Rattle.std.proofs.lemmas.Bool.Decides.{eqb_tells, nat_tests}
 use Rattle.std.proofs.lemmas.List.FromFn.{fill_by_all, get_or-map-range_with_len, length-map-range_with_len}
 use Rattle.std.proofs.lemmas.List.FromFn.{map-range_with_len_more}
 use Rattle.std.specs.List.{range_with_len}
-use Rattle.std.specs.Option.{option_map_or, option_or}
-use Rattle.model.specs.Network.{chain, climb, hop, node_count, one_before, towards}
+use Rattle.std.specs.Option.{option_or}
+use Rattle.model.specs.Network.{chain, climb, hop, node_count, one_before}
 use Rattle.model.specs.Types.{Net}
 use Rattle.model.specs.Words.{below, has}
 use Rattle.network_tree.specs.Ways.{row, way}

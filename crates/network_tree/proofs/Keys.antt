@@ -1,14 +1,13 @@
 -- A walk over a list with a set of the keys that were seen.
-use Rattle.std.proofs.Common.{◌≡◌, ◌+◌, ◌<◌, ◌≤◌, ℕ, [], ◌∷◌, ◌++◌, ◌||◌, Bool, List, Option, Some, ap, arith}
+use Rattle.std.proofs.Common.{◌≡◌, ◌+◌, ◌<◌, ◌≤◌, ℕ, [], ◌∷◌, ◌++◌, ◌||◌, Bool, List, ap, arith}
 use Rattle.std.proofs.Common.{below_more}
-use Rattle.std.proofs.Common.{false, get_or, length, map, not, refl, slice_get, sym, take, true, ◌∙◌, if◌then◌else◌}
+use Rattle.std.proofs.Common.{false, get_or, length, map, not, refl, sym, take, true, ◌∙◌, if◌then◌else◌}
 use Rattle.std.proofs.lemmas.List.{map-append, take_more}
 use Rattle.std.proofs.lemmas.Option.{slice_get_read}
 use Rattle.std.proofs.Common.{◌&&◌, Bor, bytes_eq, eqb}
 use Rattle.std.specs.List.{list_any}
 use Rattle.std.specs.Option.{option_map_or}
 use Rattle.model.specs.Types.{PromptDef, Resource}
-use Rattle.model.specs.Words.{below}
 use Rattle.network_tree.specs.Repeats.{has_repeat, stands_before}
 use Rattle.network_tree.proofs.Belows.{any_here, any_nothing}
 

@@ -1,6 +1,6 @@
 -- What the calls of a network answer, as the definitions say it.
-use Rattle.std.proofs.Common.{◌≡◌, ◌≢◌, ◌+◌, ◌<◌, ℕ, List, None, Option, Some, ap, arith, get_or, length, map, refl}
-use Rattle.std.proofs.Common.{option_and_then, slice_get, subst, sym, unwrap_or, ◌∙◌, IfSome, IsNone, IsTrue, eqb}
+use Rattle.std.proofs.Common.{◌≡◌, ◌≢◌, ◌<◌, ℕ, List, None, Option, Some, ap, arith, map, refl}
+use Rattle.std.proofs.Common.{option_and_then, slice_get, sym, unwrap_or, ◌∙◌, IfSome, IsNone, IsTrue, eqb}
 use Rattle.std.proofs.Common.{inl, inr}
 use Rattle.std.proofs.Common.{false, is_some, not, true}
 use Rattle.std.proofs.lemmas.Bool.Decides.{eqb_tells, nat_tests}

@@ -1,9 +1,9 @@
 -- What a net without faults is: a tree, in which there is a way from each workstation to each other.
-use Rattle.std.proofs.Common.{◌≡◌, ◌≢◌, ◌⊎◌, ◌<◌, ◌≤◌, ℕ, [], ◌∷◌, ◌||◌, ◌==◌, Bool, List, None, Option, Some, ap}
+use Rattle.std.proofs.Common.{◌≡◌, ◌≢◌, ◌⊎◌, ◌<◌, ◌≤◌, ℕ, [], ◌∷◌, ◌||◌, Bool, List, None, Option, Some, ap}
 use Rattle.std.proofs.Common.{arith, drop, eqb, false, if◌then◌else◌, inl, inr, is_some, not, option_and_then}
 use Rattle.std.proofs.Common.{option_map}
 use Rattle.std.proofs.Common.{refl, slice_get, subst, suc, sym, true, zero, ◌∙◌}
-use Rattle.std.proofs.lemmas.Bool.Decides.{eqb_tells, leb_tells, nat_tests}
+use Rattle.std.proofs.lemmas.Bool.Decides.{eqb_tells, nat_tests}
 use Rattle.std.proofs.lemmas.Option.{slice_get_within}
 use Rattle.std.specs.Bool.{then_some}
 use Rattle.std.specs.List.{AllByRecursion}

@@ -1,7 +1,6 @@
 //! The ranges of resources and prompts.
 ghost use Rattle.std.specs.Prelude.{◌≡◌, ◌||◌, IfOk, nat_le, nat_lt};
 ghost use Rattle.std.specs.List.{list_any};
-ghost use Rattle.model.specs.Network.{node_count};
 ghost use Rattle.network_tree.specs.Repeats.{has_repeat};
 ghost use Rattle.network_tree.specs.Faults as spec;
 ghost use Rattle.network_tree.specs.Faults.{are_one_prompt, are_one_resource, is_bad_resource};

@@ -1,4 +1,4 @@
-use Rattle.std.proofs.Common.{◌≡◌, ◌<◌, ◌+◌, ◌-◌, List, ℕ, ap, arith, inl, inr, set, subst, sym, ◌∙◌}
+use Rattle.std.proofs.Common.{◌≡◌, ◌+◌, ◌-◌, List, ℕ, ap, arith, inl, inr, set, subst, sym, ◌∙◌}
 use Rattle.model.specs.Network.{node_count}
 use Rattle.network_tree.proofs.Fills.{Fills, fills_all, fills_first, fills_more}
 use Rattle.network_tree.proofs.Trees.{hop_inside, tree}

@@ -1,4 +1,4 @@
-use Rattle.std.proofs.Common.{ap, arith, ◌<◌, ◌≤◌, ◌≡◌, ◌∙◌}
+use Rattle.std.proofs.Common.{ap, arith, ◌≡◌, ◌∙◌}
 use Rattle.model.specs.Network.{node_count}
 use Rattle.network_tree.proofs.Trees.{tree}
 use Rattle.network_tree.proofs.networks.Network.count.Goals as goal

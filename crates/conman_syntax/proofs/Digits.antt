@@ -1,5 +1,5 @@
 -- What `parse` gives at a few digits.
-use Rattle.std.proofs.Common.{◌≡◌, ◌<◌, ◌≤◌, ◌^◌, ℕ, List, length, true, Result, Ok, Option, Some, None, rules, arith}
+use Rattle.std.proofs.Common.{◌≡◌, ◌<◌, ◌≤◌, ℕ, List, length, true, Result, Option, Some, None, rules, arith}
 use Rattle.std.proofs.Common.{ap}
 use Rattle.std.specs.Char.{is_ascii_digit}
 use Rattle.std.specs.List.{list_all}

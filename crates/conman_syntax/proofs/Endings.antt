@@ -1,10 +1,9 @@
 -- Texts that do not end in a `]`, and texts that do not end in `;noask`.
-use Rattle.std.proofs.Common.{◌≡◌, ◌≢◌, ◌<◌, ◌-◌, ◌+◌, ℕ, List, [], ◌∷◌, ◌++◌, length, take, get_or, eqb, true, false}
-use Rattle.std.proofs.Common.{cond, None, sym, ap, ◌∙◌, refl, arith, codes}
+use Rattle.std.proofs.Common.{◌≡◌, ◌≢◌, ◌<◌, ◌-◌, ◌+◌, ℕ, List, [], ◌∷◌, ◌++◌, length, take, get_or, eqb, false}
+use Rattle.std.proofs.Common.{None, sym, ap, ◌∙◌, refl, arith, codes}
 use Rattle.std.proofs.Math.Seq.{take-length}
 use Rattle.std.proofs.lemmas.List.{take_more}
 use Rattle.std.proofs.lemmas.Bool.Decides.{nat_tests}
-use Rattle.std.proofs.lemmas.Str.Pattern.{ends_text}
 use Rattle.std.specs.List.{ends_with}
 use Rattle.conman_syntax.specs.Arguments.{without_noask}
 use Rattle.conman_syntax.specs.References.{bracketed_of}

@@ -7,8 +7,8 @@ use Rattle.base_types.specs.declared.documents.OnUntil.TheVariants.{Suppr}
 use Rattle.syntax.specs.Names.{name_of}
 use Rattle.syntax.specs.Numbers.{number_of}
 use Rattle.syntax.specs.Quotes.{quoted_of}
-use Rattle.conman_syntax.specs.Answers.{need, next, ended}
-use Rattle.conman_syntax.specs.Arguments.{argument_behind, left_behind}
+use Rattle.conman_syntax.specs.Answers.{next, ended}
+use Rattle.conman_syntax.specs.Arguments.{argument_behind}
 use Rattle.conman_syntax.specs.References.{◌>>=◌, before, behind, job_or_stream_of, resource_of}
 use Rattle.conman_syntax.specs.Values.{passed_of}
 use Rattle.conman_syntax.specs.declared.faults.ArgumentFault.{ArgumentFault}

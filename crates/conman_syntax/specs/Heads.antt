@@ -1,7 +1,6 @@
 -- The command words, in any case, and what each stands for.
 use Rattle.std.specs.Prelude.{ℕ, Bool, List, codes, Option, Some, None, if◌then◌else◌}
-use Rattle.std.specs.Str.{str_eq_ignore_ascii_case, bytes_eq}
-use Rattle.std.specs.List.{before_first, after_first, position_or_len}
+use Rattle.std.specs.Str.{str_eq_ignore_ascii_case}
 use Rattle.conman_syntax.specs.declared.heads.Head.{Head}
 use Rattle.conman_syntax.specs.declared.heads.What.{What}
 use Rattle.conman_syntax.specs.declared.heads.What.TheVariants.{Job, Sched, Cpu, DoCommand}

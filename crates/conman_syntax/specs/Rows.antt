@@ -1,6 +1,6 @@
 -- The table of lines. Each row is a line's form: its arguments in order, each with its form, and the line that they
 -- give. A short form stands for the whole long form.
-use Rattle.std.specs.Prelude.{◌≡◌, ◌≢◌, ℕ, Bool, ◌==◌, List, length, codes, slice_index, Option, Some, None, Result}
+use Rattle.std.specs.Prelude.{◌≡◌, ◌≢◌, ℕ, ◌==◌, List, length, codes, slice_index, Option, Some, None, Result}
 use Rattle.std.specs.Prelude.{Ok, Err, if◌then◌else◌}
 use Rattle.std.specs.Str.{bytes_eq}
 use Rattle.syntax.specs.Names.{name_of}
@@ -20,7 +20,6 @@ use Rattle.conman_syntax.specs.declared.heads.Head.{Head}
 use Rattle.conman_syntax.specs.declared.heads.What.{What}
 use Rattle.conman_syntax.specs.declared.heads.Command.{Command}
 use Rattle.conman_syntax.specs.declared.heads.Command.TheVariants as command
-use Rattle.conman_syntax.specs.declared.lines.ObjRef.{ObjRef}
 use Rattle.conman_syntax.specs.declared.lines.Line.{Line}
 use Rattle.conman_syntax.specs.declared.lines.Line.TheVariants as line
 use Rattle.conman_syntax.specs.declared.references.LimitTarget.{LimitTarget}

@@ -16,19 +16,25 @@ fn is_read(alloc: Global, bytes: &[u8], want: &Cmd) -> bool {
     }
 }
 
-const JOB: Obj = Obj::Job(JobNo(9));
+/// Job 9.
+fn job() -> Obj {
+    Obj::Job(JobNo(9))
+}
 
-const STREAM: Obj = Obj::Stream(StreamNo(258));
+/// Stream 258.
+fn stream() -> Obj {
+    Obj::Stream(StreamNo(258))
+}
 
 #[test]
 fn commands_on_objects(rt: HostRuntime) {
     let alloc = rt.alloc();
-    assert!(rt; is_read(alloc, &[2, 0, 0, 0, 0, 9, 1, 4], &Cmd::DelDep(JOB, 260)));
-    assert!(rt; is_read(alloc, &[3, 1, 0, 0, 1, 2], &Cmd::Release(STREAM)));
-    assert!(rt; is_read(alloc, &[4, 0, 0, 0, 0, 9, 101], &Cmd::AltPri(JOB, 101)));
-    assert!(rt; is_read(alloc, &[5, 1, 0, 0, 1, 2], &Cmd::Cancel(STREAM)));
+    assert!(rt; is_read(alloc, &[2, 0, 0, 0, 0, 9, 1, 4], &Cmd::DelDep(job(), 260)));
+    assert!(rt; is_read(alloc, &[3, 1, 0, 0, 1, 2], &Cmd::Release(stream())));
+    assert!(rt; is_read(alloc, &[4, 0, 0, 0, 0, 9, 101], &Cmd::AltPri(job(), 101)));
+    assert!(rt; is_read(alloc, &[5, 1, 0, 0, 1, 2], &Cmd::Cancel(stream())));
     let bytes = [14, 0, 0, 0, 0, 9, 0, 5, 1];
-    assert!(rt; is_read(alloc, &bytes, &Cmd::ReplyOwn(JOB, 5, true)));
+    assert!(rt; is_read(alloc, &bytes, &Cmd::ReplyOwn(job(), 5, true)));
 }
 
 #[test]
@@ -69,7 +75,13 @@ fn is_dep(alloc: Global, bytes: &[u8], want: &Dep) -> bool {
 fn added(alloc: Global, bytes: &[u8]) -> Result<Dep, EntryFault> {
     let bytes = joined(alloc, &[1, 0, 0, 0, 0, 9], bytes)?;
     match command(alloc, bytes.as_slice())? {
-        Cmd::AddDep(obj, dep) if obj == JOB => Ok(dep),
+        Cmd::AddDep(obj, dep) => {
+            if obj == job() {
+                Ok(dep)
+            } else {
+                Err(EntryFault::NoMemory)
+            }
+        }
         _ => Err(EntryFault::NoMemory),
     }
 }
@@ -117,9 +129,11 @@ fn is_draft(alloc: Global, draft: &StreamDraft) -> Result<bool, EntryFault> {
     let head = (draft.ws, draft.name.as_str(), draft.priority) == (Ws(2), "D", 10);
     let flags = draft.limit.is_none() && draft.carry && draft.jobs.len() == 1;
     let mut deps = Items::new(alloc);
-    deps.push(DraftDep::Follows(Ws(1), text(alloc, "N")?, None))?;
+    let stream = text(alloc, "N")?;
+    deps.push(DraftDep::Follows(Ws(1), stream, None))?;
+    let stream = text(alloc, "N")?;
     let job = text(alloc, "A")?;
-    deps.push(DraftDep::Follows(Ws(1), text(alloc, "N")?, Some(job)))?;
+    deps.push(DraftDep::Follows(Ws(1), stream, Some(job)))?;
     Ok(head && flags && same(&draft.deps, &deps))
 }
 

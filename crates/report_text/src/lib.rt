@@ -7,7 +7,6 @@
 #![tactic(auto)]
 
 mod bodies;
-mod bytes;
 mod commands;
 mod dependencies;
 mod lists;

@@ -3,9 +3,8 @@ ghost use Rattle.std.specs.Prelude.{◌≡◌, ◌++◌, IfOk, OnOk, flat_map};
 ghost use Rattle.report_text.specs.Reports as spec;
 
 use crate::bodies::write_body;
-use crate::bytes::bytes_of;
 use crate::names::{name, write_feed};
-use base_types::{Bytes, Entry, FeedCount, Net, NoMemory, NodePart, PairCount, ReportParts, Start};
+use base_types::{Bytes, Entry, FeedCount, Items, Net, NoMemory, NodePart, PairCount, ReportParts, Start};
 use std::alloc::Global;
 use std::io::{self, Write};
 
@@ -19,7 +18,7 @@ pub fn print_report(alloc: Global, net: &Net, parts: &ReportParts) -> Result<Byt
 {
     let mut out = Vec::new(alloc);
     match write_report(&mut out, net, parts) {
-        Ok(()) => bytes_of(alloc, &out),
+        Ok(()) => Ok(Items::of_vec(out)),
         Err(_) => Err(NoMemory),
     }
 }

@@ -2,8 +2,7 @@
 ghost use Rattle.std.specs.Prelude.{◌≡◌, ◌++◌, IfOk, OnOk, slice_index};
 ghost use Rattle.report_text.specs.Summaries as spec;
 
-use crate::bytes::bytes_of;
-use base_types::{Bytes, Counts, Net, NoMemory};
+use base_types::{Bytes, Counts, Items, Net, NoMemory};
 use std::alloc::Global;
 use std::io::{self, Write};
 
@@ -25,7 +24,7 @@ pub fn print_summary(
 {
     let mut out = Vec::new(alloc);
     match write_summary(&mut out, streams, jobs, events, starts) {
-        Ok(()) => bytes_of(alloc, &out),
+        Ok(()) => Ok(Items::of_vec(out)),
         Err(_) => Err(NoMemory),
     }
 }

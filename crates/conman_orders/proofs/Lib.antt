@@ -1,0 +1,4 @@
+mod Equal
+mod Held
+mod Reasons
+mod Texts

@@ -1,0 +1,3 @@
+pub mod Equals
+pub mod Held
+pub mod Said

@@ -1,6 +1,7 @@
 -- The first equal dependency of an object, one dependency further.
 use Rattle.std.proofs.Common.{[], ℕ, ◌&&◌, ◌+◌, ◌<◌, ◌∷◌, ◌≡◌, ◌≤◌, Bool, List, None, Option, Some, arith, cond, drop, false}
-use Rattle.std.proofs.Common.{filter, find, length, not, option_map, refl, slice_get, suc, true, zero}
+use Rattle.std.proofs.Common.{◌||◌, filter, find, is_some, length, not, option_map, refl, slice_get, suc, true, zero}
+use Rattle.std.specs.List.{list_any}
 use Rattle.model.specs.Types.{Dep, Obj}
 use Rattle.model.specs.Words.{nth}
 use Rattle.model.specs.Equalities.{dep_eq}
@@ -54,10 +55,28 @@ equal_step V o d i h =
 
 past : (V : View) (o : Obj) (d : Dep) (n : ℕ) (ds : List Dep) (i : ℕ) → length ds ≤ i
     → equal_from V o d n (drop i ds) ≡ None
-past V o d n [] i h = refl
+past V o d n [] zero h = refl
+past V o d n [] (suc i) h = refl
 past V o d n (e ∷ ds) zero h = absurd (omega arith)
 past V o d n (e ∷ ds) (suc i) h = past V o d n ds i (omega arith)
 
 pub equal_end : (V : View) (o : Obj) (d : Dep) (n i : ℕ) → length (deps V o) ≤ i
     → equal_from V o d n (drop i (deps V o)) ≡ None
 equal_end V o d n i h = past V o d n (deps V o) i h
+
+any_found : (test : NumberedDep → Bool) (ps : List NumberedDep)
+    → list_any test ps ≡ is_some (option_map (λ (p : NumberedDep). p.number) (find test ps))
+any_found test [] = refl
+any_found test (p ∷ ps) = go (test p) (any_found test ps)
+  where
+    go : (b : Bool)
+        → list_any test ps ≡ is_some (option_map (λ (q : NumberedDep). q.number) (find test ps))
+        → (b || list_any test ps) ≡ is_some (option_map (λ (q : NumberedDep). q.number) (cond b (Some p) (find test ps)))
+    go true h = refl
+    go false h = h
+
+-- an equal one that is not waived is there where there is a first one
+pub equal_any : (V : View) (o : Obj) (d : Dep)
+    → list_any (λ (p : NumberedDep). dep_eq d p.dep) (unwaived_deps V o) ≡ is_some (first_equal V o d)
+unfolding first_equal
+equal_any V o d = any_found (λ (p : NumberedDep). dep_eq d p.dep) (unwaived_deps V o)

@@ -34,7 +34,8 @@ plan_held V = held None (V (Events 0))
 step : (bs : List Body) (i : ℕ)
     → list_any is_plan (drop i bs)
     ≡ (option_map_or is_plan (slice_get bs i) false || list_any is_plan (drop (suc i) bs))
-step [] i = refl
+step [] zero = refl
+step [] (suc i) = refl
 step (b ∷ bs) zero = refl
 step (b ∷ bs) (suc i) = step bs i
 
@@ -42,20 +43,24 @@ pub plan_step : (bs : List Body) (i : ℕ)
     → list_any is_plan (drop i bs) ≡ (is_plan_at bs (i + 1) || list_any is_plan (drop (i + 1) bs))
 plan_step bs i = let e : i + 1 ≡ suc i = omega arith in rw e (step bs i)
 
-past : (bs : List Body) (i : ℕ) → length bs ≤ i → list_any is_plan (drop i bs) ≡ false
-past [] i h = refl
-past (b ∷ bs) zero h = absurd (omega arith)
-past (b ∷ bs) (suc i) h = past bs i (omega arith)
-
 pub plan_end : (bs : List Body) (i : ℕ) → length bs ≤ i → list_any is_plan (drop i bs) ≡ false
-plan_end bs i h = past bs i h
+plan_end [] zero h = refl
+plan_end [] (suc i) h = refl
+plan_end (b ∷ bs) zero h = absurd (omega arith)
+plan_end (b ∷ bs) (suc i) h = plan_end bs i (omega arith)
 
 no_run : (bs : List Body) → list_any is_plan bs ≡ false → last_or 0 (filter_map run_of bs) ≡ 0
 no_run [] h = refl
 no_run (NewPlan run cut carried docs ∷ bs) h = cc
 no_run (_ ∷ bs) h = no_run bs h
 
--- without a plan there is no run
-pub without_plan : (V : View) → has_plan V ≡ false → last_run (V (Events 0)) ≡ 0
+-- where there is a run, a plan is held
+pub with_run : (V : View) → 0 < last_run (V (Events 0)) → true ≡ has_plan V
 unfolding last_run
-without_plan V h = no_run (V (Events 0)) (sym (plan_held V) ∙ h)
+with_run V h = go (list_any is_plan (V (Events 0))) refl ∙ sym (plan_held V)
+  where
+    go : (b : Bool) → list_any is_plan (V (Events 0)) ≡ b → true ≡ b
+    go true e = refl
+    go false e =
+        let none : last_or 0 (filter_map run_of (V (Events 0))) ≡ 0 = no_run (V (Events 0)) e in
+        absurd (omega arith)

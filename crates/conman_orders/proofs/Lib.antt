@@ -1,4 +1,6 @@
+mod Commands
 mod Equal
 mod Held
-mod Reasons
+mod Latest
+mod Sizes
 mod Texts

@@ -11,7 +11,7 @@ ghost use Rattle.model.specs.Dependencies.{dep};
 ghost use Rattle.model.specs.Verdicts.{begun, over, reasons};
 ghost use Rattle.conman_orders.specs.Equals as spec;
 ghost use Rattle.conman_orders.specs.Equals.{first_equal};
-ghost use Rattle.conman_orders.specs.Said.{own_text};
+ghost use Rattle.conman_orders.specs.Said.{added_reasons, own_text};
 
 use crate::dependencies::{asks_too_much, is_only_shown, is_same, names_foreign, names_nothing};
 use crate::objects::{
@@ -72,17 +72,11 @@ fn fixed(o: &Owners, object: &Obj) -> Option<Why>
     None
 }
 
-/// Why a dependency is not added to an object.
-#[tactic(auto, unfolding(model::specs::Verdicts::reasons))]
-pub fn add_dep(net: &Net, o: &Owners, me: Ws, object: &Obj, dep: &Dep) -> Option<Why>
-    ensures { result ≡ first_of_these (reasons net.now (view_of o.now) me (AddDep object.now dep.now)) }
+/// Why a dependency is not added to an object, by what it names and by those that are there.
+#[tactic(auto, using(crate::proofs::Equal::equal_any))]
+fn unfit(net: &Net, o: &Owners, me: Ws, object: &Obj, dep: &Dep) -> Option<Why>
+    ensures { result ≡ first_of_these (added_reasons net.now (view_of o.now) me object.now dep.now) }
 {
-    if let Some(why) = strange(o, me, object) {
-        return Some(why);
-    }
-    if let Some(why) = fixed(o, object) {
-        return Some(why);
-    }
     if names_nothing(net, o, dep) {
         return Some(Why::NotThere);
     }
@@ -96,6 +90,20 @@ pub fn add_dep(net: &Net, o: &Owners, me: Ws, object: &Obj, dep: &Dep) -> Option
         return Some(Why::AlreadyThere);
     }
     None
+}
+
+/// Why a dependency is not added to an object.
+#[tactic(auto, unfolding(model::specs::Verdicts::reasons))]
+pub fn add_dep(net: &Net, o: &Owners, me: Ws, object: &Obj, dep: &Dep) -> Option<Why>
+    ensures { result ≡ first_of_these (reasons net.now (view_of o.now) me (AddDep object.now dep.now)) }
+{
+    if let Some(why) = strange(o, me, object) {
+        return Some(why);
+    }
+    if let Some(why) = fixed(o, object) {
+        return Some(why);
+    }
+    unfit(net, o, me, object, dep)
 }
 
 /// Why a dependency of an object is not waived, by its number from 1.

@@ -19,11 +19,14 @@ const MOST_STREAMS: usize = 4096;
 const MOST_JOBS: usize = 16_384;
 
 /// Whether a plan is held. A plan's run is above 0 but in entries that no master makes.
-#[tactic(auto, using(crate::proofs::Held::without_plan))]
+#[tactic(auto, using(crate::proofs::Held::with_run))]
 pub fn has_plan(o: &Owners) -> bool
     ensures { result ≡ spec.has_plan (view_of o.now) }
 {
-    o.run() > 0 || has_plan_among_events(o)
+    if o.run() > 0 {
+        return true;
+    }
+    has_plan_among_events(o)
 }
 
 /// Whether the master's event at a place, counted from 1, is a plan.

@@ -1,5 +1,5 @@
 -- The last of several, and what stands behind it.
-use Rattle.std.proofs.Common.{[], ℕ, ◌<◌, ◌∙◌, ◌||◌, ◌∷◌, ◌≡◌, ◌≤◌, Bool, List, None, Option, Some, ap, arith, cond}
+use Rattle.std.proofs.Common.{[], ℕ, ◌+◌, ◌∙◌, ◌||◌, ◌∷◌, ◌≡◌, ◌≤◌, Bool, List, None, Option, Some, ap, arith, cond}
 use Rattle.std.proofs.Common.{drop, eqb, false, filter, find, flat_map, get_or, inl, inr, length, map, refl, slice_get, suc, sym}
 use Rattle.std.proofs.Common.{true, zero}
 use Rattle.std.specs.Bool.{then_some}
@@ -31,14 +31,14 @@ or_right : (a b : Bool) → (a || b) ≡ false → b ≡ false
 or_right true b h = cc
 or_right false b h = h
 
--- where s is not among the numbers, it makes no difference that it passes too
-pub absent : (other : ℕ → Bool) (s : ℕ) (ns : List ℕ) → has ns s ≡ false
-    → last_that (λ n. (s == n) || other n) ns ≡ last_that other ns
-absent other s [] h = refl
-absent other s (x ∷ xs) h =
+-- where s is not among the numbers, it makes no difference that it is looked for too
+pub absent : (others : List ℕ) (s : ℕ) (ns : List ℕ) → has ns s ≡ false
+    → last_that (has (s ∷ others)) ns ≡ last_that (has others) ns
+absent others s [] h = refl
+absent others s (x ∷ xs) h =
     let apart : s == x ≡ false = flip s x ∙ or_left (x == s) (has xs s) h in
-    let rest : last_that (λ n. (s == n) || other n) xs ≡ last_that other xs =
-    absent other s xs (or_right (x == s) (has xs s) h)
+    let rest : last_that (has (s ∷ others)) xs ≡ last_that (has others) xs =
+    absent others s xs (or_right (x == s) (has xs s) h)
     in
     rw (rest, apart) refl
 
@@ -47,25 +47,50 @@ kept None x b = refl
 kept (Some y) x b = refl
 
 -- s stands at i, and not behind it
-pub behind : (other : ℕ → Bool) (s : ℕ) (ns : List ℕ) (i : ℕ) → slice_get ns i ≡ Some s
+behind : (others : List ℕ) (s : ℕ) (ns : List ℕ) (i : ℕ) → slice_get ns i ≡ Some s
     → has (drop (suc i) ns) s ≡ false
-    → last_that (λ n. (s == n) || other n) ns ≡ option_or (last_that other (drop (suc i) ns)) (Some s)
-behind other s [] i e h = cc
-behind other s (x ∷ xs) zero e h =
+    → last_that (has (s ∷ others)) ns ≡ option_or (last_that (has others) (drop (suc i) ns)) (Some s)
+behind others s [] i e h = cc
+behind others s (x ∷ xs) zero e h =
     let same : x ≡ s = cc in
-    rw (same, absent other s xs h, itself s) refl
-behind other s (x ∷ xs) (suc i) e h =
-    rw (behind other s xs i e h)
-    (kept (last_that other (drop (suc i) xs)) s (then_some ((s == x) || other x) x))
+    rw (same, absent others s xs h, itself s) refl
+behind others s (x ∷ xs) (suc i) e h =
+    rw (behind others s xs i e h)
+    (kept (last_that (has others) (drop (suc i) xs)) s (then_some ((s == x) || has others x) x))
 
 -- the same, looked at from an index on
-pub behind_from : (other : ℕ → Bool) (s : ℕ) (ns : List ℕ) (from i : ℕ) → from ≤ i → slice_get ns i ≡ Some s
+from_on : (others : List ℕ) (s : ℕ) (ns : List ℕ) (from i : ℕ) → from ≤ i → slice_get ns i ≡ Some s
     → has (drop (suc i) ns) s ≡ false
-    → last_that (λ n. (s == n) || other n) (drop from ns) ≡ option_or (last_that other (drop (suc i) ns)) (Some s)
-behind_from other s [] from i low e h = cc
-behind_from other s (x ∷ xs) zero i low e h = behind other s (x ∷ xs) i e h
-behind_from other s (x ∷ xs) (suc from) zero low e h = absurd (omega arith)
-behind_from other s (x ∷ xs) (suc from) (suc i) low e h = behind_from other s xs from i (omega arith) e h
+    → last_that (has (s ∷ others)) (drop from ns) ≡ option_or (last_that (has others) (drop (suc i) ns)) (Some s)
+from_on others s [] from i low e h = cc
+from_on others s (x ∷ xs) zero i low e h = behind others s (x ∷ xs) i e h
+from_on others s (x ∷ xs) (suc from) zero low e h = absurd (omega arith)
+from_on others s (x ∷ xs) (suc from) (suc i) low e h = from_on others s xs from i (omega arith) e h
+
+pub behind_from : (others : List ℕ) (s : ℕ) (ns : List ℕ) (from i : ℕ) → from ≤ i → slice_get ns i ≡ Some s
+    → has (drop (i + 1) ns) s ≡ false
+    → last_that (has (s ∷ others)) (drop from ns) ≡ option_or (last_that (has others) (drop (i + 1) ns)) (Some s)
+behind_from others s ns from i low e h =
+    let one : i + 1 ≡ suc i = omega arith in
+    rw one (from_on others s ns from i low e (rw one at h))
+
+-- one number further to the front
+one_before : (s : ℕ) (ns : List ℕ) (i x : ℕ) → slice_get ns i ≡ Some x → x == s ≡ false
+    → has (drop (suc i) ns) s ≡ false → has (drop i ns) s ≡ false
+one_before s [] i x e f h = cc
+one_before s (y ∷ ys) zero x e f h = let same : y ≡ x = cc in rw (same, f) h
+one_before s (y ∷ ys) (suc i) x e f h = one_before s ys i x e f h
+
+pub absent_before : (s : ℕ) (ns : List ℕ) (i x : ℕ) → slice_get ns i ≡ Some x → x == s ≡ false
+    → has (drop (i + 1) ns) s ≡ false → has (drop i ns) s ≡ false
+absent_before s ns i x e f h =
+    let one : i + 1 ≡ suc i = omega arith in one_before s ns i x e f (rw one at h)
+
+pub absent_past : (s : ℕ) (ns : List ℕ) (i : ℕ) → length ns ≤ i → has (drop i ns) s ≡ false
+absent_past s [] zero h = refl
+absent_past s [] (suc i) h = refl
+absent_past s (x ∷ xs) zero h = absurd (omega arith)
+absent_past s (x ∷ xs) (suc i) h = absent_past s xs i (omega arith)
 
 pub never : (ns : List ℕ) → last_that (λ n. false) ns ≡ None
 never [] = refl
@@ -164,3 +189,36 @@ last_all V w name =
 -- where no document is left
 pub last_end : (ns : List ℕ) (found : Option ℕ) → option_or (last_that (has []) ns) found ≡ found
 last_end ns found = rw (never ns) refl
+
+-- a document of the name is looked for too
+pub met : (w : ℕ) (name : List ℕ) (all rest : List StreamDoc) (d : StreamDoc) → all ≡ d ∷ rest
+    → is_called w name d ≡ true
+    → map (λ (e : StreamDoc). e.no) (filter (is_called w name) all)
+    ≡ d.no ∷ map (λ (e : StreamDoc). e.no) (filter (is_called w name) rest)
+met w name all rest d e called = rw (e, called) refl
+
+nothing_at : (s : ℕ) (ns : List ℕ) (i : ℕ) → slice_get ns i ≡ None → has (drop i ns) s ≡ false
+nothing_at s [] zero e = refl
+nothing_at s [] (suc i) e = refl
+nothing_at s (x ∷ xs) zero e = cc
+nothing_at s (x ∷ xs) (suc i) e = nothing_at s xs i e
+
+stands_at : (s : ℕ) (o : Option ℕ) → option_map_or (λ (n : ℕ). n == s) o false ≡ true → o ≡ Some s
+stands_at s None h = cc
+stands_at s (Some n) h = elim (eqb_tells n s) [ inl e ↦ ap Some e.1 | inr e ↦ (let f = e.0 in cc) ]
+
+-- where s stands at i, and not behind it
+pub found_at : (others : List ℕ) (s : ℕ) (ns : List ℕ) (from i : ℕ) → from ≤ i
+    → option_map_or (λ (n : ℕ). n == s) (slice_get ns i) false ≡ true → has (drop (i + 1) ns) s ≡ false
+    → last_that (has (s ∷ others)) (drop from ns) ≡ option_or (last_that (has others) (drop (i + 1) ns)) (Some s)
+found_at others s ns from i low at h = behind_from others s ns from i low (stands_at s (slice_get ns i) at) h
+
+-- where s does not stand at i, nor behind it
+pub not_found_at : (s : ℕ) (ns : List ℕ) (i : ℕ) → option_map_or (λ (n : ℕ). n == s) (slice_get ns i) false ≡ false
+    → has (drop (i + 1) ns) s ≡ false → has (drop i ns) s ≡ false
+not_found_at s ns i at h = go (slice_get ns i) refl at
+  where
+    go : (o : Option ℕ) → slice_get ns i ≡ o → option_map_or (λ (n : ℕ). n == s) o false ≡ false
+        → has (drop i ns) s ≡ false
+    go None e k = nothing_at s ns i e
+    go (Some x) e k = absent_before s ns i x e k h

@@ -1,6 +1,8 @@
 //! What the names of a line stand for. No look-up takes memory, but for the text that a dependency brings along.
-ghost use Rattle.std.specs.Prelude.{◌≡◌, ◌≤◌, ◌||◌, ◌==◌, ℕ, Bool, IfOk, drop, length, option_map};
-ghost use Rattle.std.specs.Option.{IfSome, option_or};
+ghost use Rattle.std.specs.Prelude.{◌≡◌, ◌≤◌, ◌∷◌, ◌==◌, ℕ, List, IfOk, drop, false, length, option_map};
+ghost use Rattle.std.specs.Prelude.{slice_get};
+ghost use Rattle.std.specs.Option.{IfSome, option_map_or, option_or};
+ghost use Rattle.model.specs.Words.{has};
 ghost use Rattle.model.specs.History.{view_of};
 ghost use Rattle.conman_orders.specs.Names as spec;
 ghost use Rattle.conman_orders.specs.Names.{last_that};
@@ -90,17 +92,26 @@ fn is_called_at(o: &Owners, s: StreamNo, w: Ws, name: &str) -> bool
     }
 }
 
+/// Whether this number stands at an index.
+fn is_at(numbers: &[StreamNo], i: usize, s: StreamNo) -> bool
+    ensures { result ≡ option_map_or (λ n. n == s) (slice_get numbers.now i) false }
+{
+    match numbers.get(i) {
+        None => false,
+        Some(number) => number.0 == s.0,
+    }
+}
+
 /// The index behind the last such number, from an index on. None where it does not stand there.
-#[tactic(auto, using(crate::proofs::Latest::absent, crate::proofs::Latest::behind_from))]
+#[tactic(auto, using(crate::proofs::Latest::absent, crate::proofs::Latest::behind_from, crate::proofs::Latest::absent_before, crate::proofs::Latest::absent_past))]
 fn behind_last(numbers: &[StreamNo], from: usize, s: StreamNo) -> Option<usize>
     requires { from ≤ length numbers.now }
     ensures within { IfSome result (λ next. next ≤ length numbers.now) }
-    ensures told { (other : ℕ → Bool) → last_that (λ n. (s == n) || other n) (drop from numbers.now)
-        ≡ told_behind other numbers.now from s result }
+    ensures told { (others : List ℕ) → last_that (has (s ∷ others)) (drop from numbers.now)
+        ≡ told_behind others numbers.now from s result }
 {
     for i in (from..numbers.len()).rev() {
-        let number = numbers[i];
-        if number.0 == s.0 {
+        if is_at(numbers, i, s) {
             return Some(i + 1);
         }
     }
@@ -118,9 +129,9 @@ struct Latest {
 fn looked_for(members: &[StreamNo], latest: &Latest, s: StreamNo) -> Latest
     requires { latest.now.next ≤ length members.now }
     ensures within { result.next ≤ length members.now }
-    ensures told { (other : ℕ → Bool) →
-        option_or (last_that (λ n. (s == n) || other n) (drop latest.now.next members.now)) latest.now.found
-        ≡ option_or (last_that other (drop result.next members.now)) result.found }
+    ensures told { (others : List ℕ) →
+        option_or (last_that (has (s ∷ others)) (drop latest.now.next members.now)) latest.now.found
+        ≡ option_or (last_that (has others) (drop result.next members.now)) result.found }
 {
     match behind_last(members, latest.next, s) {
         None => Latest {
@@ -135,7 +146,7 @@ fn looked_for(members: &[StreamNo], latest: &Latest, s: StreamNo) -> Latest
 }
 
 /// The last member of this workstation and name.
-#[tactic(auto, using(crate::proofs::Latest::last_all, crate::proofs::Latest::last_end))]
+#[tactic(auto, using(crate::proofs::Latest::last_all, crate::proofs::Latest::last_end, crate::proofs::Latest::met))]
 fn last_member(o: &Owners, w: Ws, name: &str) -> Option<StreamNo>
     ensures { result ≡ spec.last_member (view_of o.now) w name.now }
 {

@@ -1,5 +1,6 @@
 //! Why a command on a job or a stream is declined.
-ghost use Rattle.std.specs.Prelude.{◌≡◌, ◌∷◌, ◌||◌, ℕ, [], Some, option_and_then};
+ghost use Rattle.std.specs.Prelude.{◌≡◌, ◌∷◌, ◌||◌, ℕ, [], Some, length, nat_le, option_and_then};
+ghost use Rattle.std.specs.List.{list_any};
 ghost use Rattle.std.specs.Option.{option_copied};
 ghost use Rattle.model.specs.Types.{AddDep, AltPri, Cancel, Confirm, DelDep, Events, Job, Kill, Net as Nets, ReplyOwn};
 ghost use Rattle.model.specs.Types.{Release, Rerun, StreamLimit};
@@ -7,7 +8,9 @@ ghost use Rattle.model.specs.Words.{first_of_these};
 ghost use Rattle.model.specs.History.{view_of};
 ghost use Rattle.model.specs.Catalogue.{owner};
 ghost use Rattle.model.specs.Facts.{is_cancelled};
-ghost use Rattle.model.specs.Dependencies.{dep};
+ghost use Rattle.model.specs.Equalities.{dep_eq};
+ghost use Rattle.model.specs.Dependencies.{NumberedDep, dep, deps, unwaived_deps};
+ghost use Rattle.model.specs.Verdicts as verdicts;
 ghost use Rattle.model.specs.Verdicts.{begun, over, reasons};
 ghost use Rattle.conman_orders.specs.Equals as spec;
 ghost use Rattle.conman_orders.specs.Equals.{first_equal};
@@ -72,8 +75,22 @@ fn fixed(o: &Owners, object: &Obj) -> Option<Why>
     None
 }
 
+/// Whether an equal dependency of the object is not waived.
+fn has_equal(o: &Owners, object: &Obj, dep: &Dep) -> bool
+    ensures { result ≡ list_any (λ (p : NumberedDep). dep_eq dep.now p.dep)
+        (unwaived_deps (view_of o.now) object.now) }
+{
+    equal_dep(o, object, dep).is_some()
+}
+
+/// Whether the object has as many dependencies as it may, or this one asks for more units than a resource can have.
+fn is_out_of_range(o: &Owners, object: &Obj, dep: &Dep) -> bool
+    ensures { result ≡ (nat_le 64 (length (deps (view_of o.now) object.now)) || verdicts.asks_too_much dep.now) }
+{
+    o.dep_count(*object) >= MOST_DEPENDENCIES || asks_too_much(dep)
+}
+
 /// Why a dependency is not added to an object, by what it names and by those that are there.
-#[tactic(auto, using(crate::proofs::Equal::equal_any))]
 fn unfit(net: &Net, o: &Owners, me: Ws, object: &Obj, dep: &Dep) -> Option<Why>
     ensures { result ≡ first_of_these (added_reasons net.now (view_of o.now) me object.now dep.now) }
 {
@@ -83,27 +100,23 @@ fn unfit(net: &Net, o: &Owners, me: Ws, object: &Obj, dep: &Dep) -> Option<Why>
     if names_foreign(net, me, dep) {
         return Some(Why::NotMine);
     }
-    if o.dep_count(*object) >= MOST_DEPENDENCIES || asks_too_much(dep) {
+    if is_out_of_range(o, object, dep) {
         return Some(Why::OutOfRange);
     }
-    if equal_dep(o, object, dep).is_some() {
+    if has_equal(o, object, dep) {
         return Some(Why::AlreadyThere);
     }
     None
 }
 
-/// Why a dependency is not added to an object.
-#[tactic(auto, unfolding(model::specs::Verdicts::reasons))]
+/// Why a dependency is not added to an object: as far as the object goes, for what keeps it from being released.
 pub fn add_dep(net: &Net, o: &Owners, me: Ws, object: &Obj, dep: &Dep) -> Option<Why>
     ensures { result ≡ first_of_these (reasons net.now (view_of o.now) me (AddDep object.now dep.now)) }
 {
-    if let Some(why) = strange(o, me, object) {
-        return Some(why);
+    match release(o, me, object) {
+        Some(why) => Some(why),
+        None => unfit(net, o, me, object, dep),
     }
-    if let Some(why) = fixed(o, object) {
-        return Some(why);
-    }
-    unfit(net, o, me, object, dep)
 }
 
 /// Why a dependency of an object is not waived, by its number from 1.

@@ -283,25 +283,18 @@ fn switch_mgr(network: &Network, ws: &Text) -> Result<Order, ResolveFault>
     Ok((Ws(0), Cmd::SwitchMgr(w)))
 }
 
-/// The command that a line gives, and the workstation that it goes to, where it is typed at the workstation `me`, which
-/// took these entries.
-///
-/// Unless memory runs out, the answer is exactly the one that is due. Only a dependency's text and a submitted stream
-/// take memory, so a line that gives no command is told without any.
-#[tactic(auto, unfolding(crate::specs::Orders::due_order))]
-pub fn resolve(
+/// The row of a line in the table.
+#[tactic(auto, using(crate::proofs::Commands::add_dep_gives, crate::proofs::Commands::del_dep_gives, crate::proofs::Commands::submit_gives), unfolding(crate::specs::Orders::due_order))]
+fn row(
     alloc: Global,
     network: &Network,
     o: &Owners,
     me: Ws,
     line: &Line,
 ) -> Result<Order, ResolveFault>
-    ensures answer { HadMemory result → result ≡ due_order network.now (view_of o.now) me line.now }
-    ensures order { HadMemory result → (to : ℕ) (cmd : Cmds) →
-        (result ≡ Ok (to, cmd)) ↔ IsOrder network.now (view_of o.now) me line.now to cmd }
-    ensures unknown_name { HadMemory result → (n : ℕ) →
-        IsErrOf result (fault.UnknownName n) ↔ HasUnknownName network.now (view_of o.now) me line.now n }
-    ensures not_a_command { IsErrOf result fault.NotACommand ↔ GivesNoCommand network.now (view_of o.now) me line.now }
+    ensures answer { Gives result (due_order network.now (view_of o.now) me line.now) }
+    ensures not_a_command { GivesNoCommand network.now (view_of o.now) me line.now
+        → result ≡ Err fault.NotACommand }
 {
     match line {
         Line::AddDep(object, dep) => add_dep(network, o, me, object, dep),
@@ -334,4 +327,27 @@ pub fn resolve(
         | Line::Shutdown
         | Line::JNextPlan(_) => Err(ResolveFault::NotACommand),
     }
+}
+
+/// The command that a line gives, and the workstation that it goes to, where it is typed at the workstation `me`, which
+/// took these entries.
+///
+/// Unless memory runs out, the answer is exactly the one that is due. Only the text of an own prompt and a submitted
+/// stream take memory; that a line gives no command is told without any.
+pub fn resolve(
+    alloc: Global,
+    network: &Network,
+    o: &Owners,
+    me: Ws,
+    line: &Line,
+) -> Result<(Ws, Cmd), ResolveFault>
+    ensures answer { HadMemory result → result ≡ due_order network.now (view_of o.now) me line.now }
+    ensures order { HadMemory result → (to : ℕ) (cmd : Cmds) →
+        (result ≡ Ok (to, cmd)) ↔ IsOrder network.now (view_of o.now) me line.now to cmd }
+    ensures unknown_name { HadMemory result → (n : ℕ) →
+        IsErrOf result (fault.UnknownName n) ↔ HasUnknownName network.now (view_of o.now) me line.now n }
+    ensures not_a_command { IsErrOf result fault.NotACommand
+        ↔ GivesNoCommand network.now (view_of o.now) me line.now }
+{
+    row(alloc, network, o, me, line)
 }

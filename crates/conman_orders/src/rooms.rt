@@ -9,7 +9,7 @@ ghost use Rattle.model.specs.Verdicts as verdicts;
 ghost use Rattle.conman_orders.specs.Held.{is_plan_at};
 
 use crate::objects::is_member;
-use base_types::{Body, Feed, StreamDraft, Ws};
+use base_types::{Body, Feed, StreamDraft, StreamNo, Ws};
 use owner_fold::Owners;
 
 /// The most streams of a plan.
@@ -94,6 +94,32 @@ fn are_streams_too_many(o: &Owners, draft: &StreamDraft) -> bool
     o.members().len() >= MOST_STREAMS
 }
 
+/// Whether a stream is a member, as it was asked last.
+#[derive(Drop)]
+struct Asked {
+    stream: u32,
+    is_member: bool,
+}
+
+/// Whether the stream is a member, asked only where it is not the stream that was asked last.
+fn ask(o: &Owners, last: &Asked, s: StreamNo) -> Asked
+    requires { last.now.is_member ≡ spec.is_member (view_of o.now) last.now.stream }
+    ensures stream { result.stream ≡ s }
+    ensures member { result.is_member ≡ spec.is_member (view_of o.now) s }
+{
+    if last.stream == s.0 {
+        Asked {
+            stream: last.stream,
+            is_member: last.is_member,
+        }
+    } else {
+        Asked {
+            stream: s.0,
+            is_member: is_member(o, s),
+        }
+    }
+}
+
 /// Whether the plan would have too many jobs with those of the draft.
 #[tactic(auto, unfolding(model::specs::NewPlan::are_jobs_too_many, model::specs::Catalogue::is_member))]
 fn are_jobs_too_many(o: &Owners, draft: &StreamDraft) -> bool
@@ -104,8 +130,14 @@ fn are_jobs_too_many(o: &Owners, draft: &StreamDraft) -> bool
         return true;
     }
     let mut left = MOST_JOBS - jobs;
+    let mut asked = Asked {
+        stream: 0,
+        is_member: is_member(o, StreamNo(0)),
+    };
+    // The jobs of a stream stand together, so each stream is asked once.
     for (parent, _) in o.jobs() {
-        if is_member(o, parent.no) {
+        asked = ask(o, &asked, parent.no);
+        if asked.is_member {
             if left == 0 {
                 return true;
             }

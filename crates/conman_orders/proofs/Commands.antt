@@ -38,3 +38,6 @@ pub submit_gives : (net : Net) (ws text : List ℕ) (alias : Option (List ℕ)) 
 unfolding submit
 submit_gives net ws text alias priority =
     known_gives 1 (workstation net ws) (λ w. Ok (0, Submit (submitted w text alias priority))) (λ w e. cc)
+
+-- of all of them
+pub ruleset rows_give = (add_dep_gives, del_dep_gives, submit_gives)

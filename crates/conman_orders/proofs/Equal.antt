@@ -1,5 +1,6 @@
 -- The first equal dependency of an object, one dependency further.
-use Rattle.std.proofs.Common.{[], ℕ, ◌&&◌, ◌+◌, ◌<◌, ◌∷◌, ◌≡◌, ◌≤◌, Bool, List, None, Option, Some, arith, cond, drop, false}
+use Rattle.std.proofs.Common.{[], ℕ, ◌&&◌, ◌+◌, ◌<◌, ◌∷◌, ◌≡◌, ◌≤◌, Bool, List, None, Option, Some, arith, cond}
+use Rattle.std.proofs.Common.{drop, false}
 use Rattle.std.proofs.Common.{◌||◌, filter, find, is_some, length, not, option_map, refl, slice_get, suc, true, zero}
 use Rattle.std.specs.List.{list_any}
 use Rattle.model.specs.Types.{Dep, Obj}
@@ -71,7 +72,8 @@ any_found test (p ∷ ps) = go (test p) (any_found test ps)
   where
     go : (b : Bool)
         → list_any test ps ≡ is_some (option_map (λ (q : NumberedDep). q.number) (find test ps))
-        → (b || list_any test ps) ≡ is_some (option_map (λ (q : NumberedDep). q.number) (cond b (Some p) (find test ps)))
+        → (b || list_any test ps)
+        ≡ is_some (option_map (λ (q : NumberedDep). q.number) (cond b (Some p) (find test ps)))
     go true h = refl
     go false h = h
 
@@ -80,3 +82,6 @@ pub equal_any : (V : View) (o : Obj) (d : Dep)
     → list_any (λ (p : NumberedDep). dep_eq d p.dep) (unwaived_deps V o) ≡ is_some (first_equal V o d)
 unfolding first_equal
 equal_any V o d = any_found (λ (p : NumberedDep). dep_eq d p.dep) (unwaived_deps V o)
+
+-- what a walk over the dependencies needs
+pub ruleset equal_steps = (equal_all, equal_step, equal_end)

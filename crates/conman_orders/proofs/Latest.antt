@@ -1,6 +1,7 @@
 -- The last of several, and what stands behind it.
 use Rattle.std.proofs.Common.{[], ℕ, ◌+◌, ◌∙◌, ◌||◌, ◌∷◌, ◌≡◌, ◌≤◌, Bool, List, None, Option, Some, ap, arith, cond}
-use Rattle.std.proofs.Common.{drop, eqb, false, filter, find, flat_map, get_or, inl, inr, length, map, refl, slice_get, suc, sym}
+use Rattle.std.proofs.Common.{drop, eqb, false, filter, find, flat_map, inl, inr, length, map, refl, slice_get, suc}
+use Rattle.std.proofs.Common.{sym}
 use Rattle.std.proofs.Common.{true, zero}
 use Rattle.std.specs.Bool.{then_some}
 use Rattle.std.specs.Option.{option_map_or, option_or}
@@ -111,10 +112,12 @@ unknown {X} number test known (x ∷ xs) n h =
     apart : has known (number x) ≡ false → number x == n ≡ false
     apart k = elim (eqb_tells (number x) n) [ inl e ↦ (let f = ap (has known) e.1 in cc) | inr e ↦ e.0 ]
 
-    put : (b : Bool) → number x == n ≡ false → has (map number (filter test (firsts number (number x ∷ known) xs))) n ≡ false
+    put : (b : Bool) → number x == n ≡ false
+        → has (map number (filter test (firsts number (number x ∷ known) xs))) n ≡ false
         → has
         (map number
-        (cond b (x ∷ filter test (firsts number (number x ∷ known) xs)) (filter test (firsts number (number x ∷ known) xs))))
+        (cond b (x ∷ filter test (firsts number (number x ∷ known) xs))
+        (filter test (firsts number (number x ∷ known) xs))))
         n
         ≡ false
     put true e k = rw e k
@@ -141,7 +144,8 @@ passes {X} number test known (x ∷ xs) n =
     here : (b t : Bool) → number x == n ≡ b → test x ≡ t
         → option_map_or test (find (λ (y : X). number y == n) (firsts number (number x ∷ known) xs)) false
         ≡ has (map number (filter test (firsts number (number x ∷ known) xs))) n
-        → option_map_or test (cond b (Some x) (find (λ (y : X). number y == n) (firsts number (number x ∷ known) xs))) false
+        → option_map_or test
+        (cond b (Some x) (find (λ (y : X). number y == n) (firsts number (number x ∷ known) xs))) false
         ≡ has
         (map number
         (cond t (x ∷ filter test (firsts number (number x ∷ known) xs))

@@ -103,7 +103,7 @@ fn is_at(numbers: &[StreamNo], i: usize, s: StreamNo) -> bool
 }
 
 /// The index behind the last such number, from an index on. None where it does not stand there.
-#[tactic(auto, using(crate::proofs::Latest::absent, crate::proofs::Latest::behind_from, crate::proofs::Latest::absent_before, crate::proofs::Latest::absent_past))]
+#[tactic(auto, using(crate::proofs::Latest::found_at, crate::proofs::Latest::absent_past))]
 fn behind_last(numbers: &[StreamNo], from: usize, s: StreamNo) -> Option<usize>
     requires { from ≤ length numbers.now }
     ensures within { IfSome result (λ next. next ≤ length numbers.now) }

@@ -43,7 +43,7 @@ fn is_equal_at(o: &Owners, object: &Obj, dep: &Dep, i: u16) -> bool
 }
 
 /// The number of the first dependency of the object that equals this one and is not waived.
-#[tactic(auto, using(crate::proofs::Equal::equal_all, crate::proofs::Equal::equal_step, crate::proofs::Equal::equal_end))]
+#[tactic(auto, using(crate::proofs::Equal::equal_steps))]
 pub fn equal_dep(o: &Owners, object: &Obj, dep: &Dep) -> Option<u16>
     ensures { result ≡ first_equal (view_of o.now) object.now dep.now }
 {

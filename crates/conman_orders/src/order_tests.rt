@@ -3,30 +3,47 @@ use crate::fixtures::{first_plan, network, obeyed, second_plan};
 use crate::{ResolveFault, Verdict, judge, resolve};
 use base_types::{Cmd, JobNo, Obj, Why, Ws};
 use conman_syntax::parse_command;
+use network_tree::Network;
 use owner_fold::Owners;
 use std::alloc::Global;
 use std::test::Fail;
 
+const JOB_REST: &str =
+    r#"logon: "", cond: Items { items: [] }, recovery: Stop, deps: Items { items: [] }"#;
+
+const STREAM_REST: &str = "limit: None, carry: false, deps: Items { items: [] }";
+
 type Answer = Result<(Ws, Cmd), ResolveFault>;
 
-fn resolved(alloc: Global, owners: &Owners, w: u16, typed: &str) -> Result<Answer, Fail> {
-    match parse_command(alloc, typed) {
-        Ok(line) => Ok(resolve(alloc, &network(alloc)?, owners, Ws(w), &line)),
-        Err(_) => Err("no line")?,
+fn is_shown(alloc: Global, answer: &Answer, shown: &str) -> Result<bool, Fail> {
+    match answer {
+        Ok((to, cmd)) => Ok(format!(in alloc; "{} {cmd:?}", to.0)?.as_str() == shown),
+        Err(fault) => Ok(format!(in alloc; "{fault:?}")?.as_str() == shown),
     }
 }
 
 /// Whether the line, typed at w, gives what is shown so.
-fn gives(alloc: Global, owners: &Owners, w: u16, typed: &str, shown: &str) -> Result<bool, Fail> {
-    match resolved(alloc, owners, w, typed)? {
-        Ok((to, cmd)) => Ok(format!(in alloc; "{} {cmd:?}", to.0)?.as_str() == shown),
-        Err(fault) => Ok(format!(in alloc; "{fault:?}")?.as_str() == shown),
+fn gives(
+    alloc: Global,
+    network: &Network,
+    owners: &Owners,
+    w: u16,
+    typed: &str,
+    shown: &str,
+) -> Result<bool, Fail> {
+    match parse_command(alloc, typed) {
+        Ok(line) => {
+            let answer = resolve(alloc, network, owners, Ws(w), &line);
+            is_shown(alloc, &answer, shown)
+        }
+        Err(_) => Ok(false),
     }
 }
 
 #[test]
 fn commands_on_objects(rt: HostRuntime) -> Result<(), Fail> {
     let alloc = rt.alloc();
+    let net = network(alloc)?;
     let owners = second_plan(alloc)?;
     for (typed, shown) in [
         // The last member of the name, whatever its number.
@@ -48,7 +65,7 @@ fn commands_on_objects(rt: HostRuntime) -> Result<(), Fail> {
             "0 ReplyOwn(Job(JobNo(1)), 2, false)",
         ),
     ] {
-        assert!(rt; gives(alloc, &owners, 0, typed, shown)?, "at {typed}");
+        assert!(rt; gives(alloc, &net, &owners, 0, typed, shown)?, "at {typed}");
     }
     Ok(())
 }
@@ -56,6 +73,7 @@ fn commands_on_objects(rt: HostRuntime) -> Result<(), Fail> {
 #[test]
 fn other_commands(rt: HostRuntime) -> Result<(), Fail> {
     let alloc = rt.alloc();
+    let net = network(alloc)?;
     let owners = second_plan(alloc)?;
     for (typed, shown) in [
         ("fence M;10", "0 Fence(10)"),
@@ -70,8 +88,8 @@ fn other_commands(rt: HostRuntime) -> Result<(), Fail> {
         ("switchmgr ANY;D", "0 SwitchMgr(Ws(1))"),
     ] {
         // Wherever it is typed.
-        assert!(rt; gives(alloc, &owners, 0, typed, shown)?, "at {typed}");
-        assert!(rt; gives(alloc, &owners, 2, typed, shown)?, "at {typed}");
+        assert!(rt; gives(alloc, &net, &owners, 0, typed, shown)?, "at {typed}");
+        assert!(rt; gives(alloc, &net, &owners, 2, typed, shown)?, "at {typed}");
     }
     Ok(())
 }
@@ -79,6 +97,7 @@ fn other_commands(rt: HostRuntime) -> Result<(), Fail> {
 #[test]
 fn names_at_another_workstation(rt: HostRuntime) -> Result<(), Fail> {
     let alloc = rt.alloc();
+    let net = network(alloc)?;
     let owners = first_plan(alloc)?;
     for (typed, shown) in [
         ("cancel job M#S.A", "0 Cancel(Job(JobNo(1)))"),
@@ -92,7 +111,7 @@ fn names_at_another_workstation(rt: HostRuntime) -> Result<(), Fail> {
             "0 AddDep(Job(JobNo(1)), FollowsStream(StreamNo(2)))",
         ),
     ] {
-        assert!(rt; gives(alloc, &owners, 2, typed, shown)?, "at {typed}");
+        assert!(rt; gives(alloc, &net, &owners, 2, typed, shown)?, "at {typed}");
     }
     Ok(())
 }
@@ -100,6 +119,7 @@ fn names_at_another_workstation(rt: HostRuntime) -> Result<(), Fail> {
 #[test]
 fn added_dependencies(rt: HostRuntime) -> Result<(), Fail> {
     let alloc = rt.alloc();
+    let net = network(alloc)?;
     let owners = second_plan(alloc)?;
     for (typed, dep) in [
         ("follows=M#S[1].B", "FollowsJob(JobNo(2))"),
@@ -112,7 +132,10 @@ fn added_dependencies(rt: HostRuntime) -> Result<(), Fail> {
     ] {
         let line = format!(in alloc; "ads S;{typed}")?;
         let shown = format!(in alloc; "0 AddDep(Stream(StreamNo(3)), {dep})")?;
-        assert!(rt; gives(alloc, &owners, 0, &line, &shown)?, "at {typed}");
+        assert!(rt;
+            gives(alloc, &net, &owners, 0, &line, &shown)?,
+            "at {typed}"
+        );
     }
     Ok(())
 }
@@ -120,6 +143,7 @@ fn added_dependencies(rt: HostRuntime) -> Result<(), Fail> {
 #[test]
 fn deleted_dependencies(rt: HostRuntime) -> Result<(), Fail> {
     let alloc = rt.alloc();
+    let net = network(alloc)?;
     let mut owners = first_plan(alloc)?;
     for (typed, shown) in [
         ("ddj S.A;prompt=\"ready?\"", "0 DelDep(Job(JobNo(1)), 1)"),
@@ -129,29 +153,33 @@ fn deleted_dependencies(rt: HostRuntime) -> Result<(), Fail> {
         ("ddj S.A;follows=X", "UnknownName(2)"),
         ("ddj S.X;at=5", "UnknownName(1)"),
     ] {
-        assert!(rt; gives(alloc, &owners, 0, typed, shown)?, "at {typed}");
+        assert!(rt; gives(alloc, &net, &owners, 0, typed, shown)?, "at {typed}");
     }
     obeyed(&mut owners, 0, Cmd::DelDep(Obj::Job(JobNo(1)), 1))?;
     let waived = "ddj S.A;prompt=\"ready?\"";
-    assert!(rt; gives(alloc, &owners, 0, waived, "UnknownName(2)")?);
+    assert!(rt; gives(alloc, &net, &owners, 0, waived, "UnknownName(2)")?);
     Ok(())
 }
 
 #[test]
 fn submitted_streams(rt: HostRuntime) -> Result<(), Fail> {
     let alloc = rt.alloc();
+    let net = network(alloc)?;
     let owners = first_plan(alloc)?;
     for (typed, w, name, priority, text) in [
         ("submit docommand M#\"true\"", 0, "ADHOC", 10, "true"),
         ("sbd L#\"a b\";alias=ONE;priority=255", 2, "ONE", 255, "a b"),
     ] {
-        let job = format!(in alloc;
-            "JobDraft {{ ws: Ws({w}), name: \"{name}\", priority: {priority}, work: Command(\"{text}\"), logon: \"\", cond: Items {{ items: [] }}, recovery: Stop, deps: Items {{ items: [] }} }}"
-        )?;
-        let shown = format!(in alloc;
-            "0 Submit(StreamDraft {{ ws: Ws({w}), name: \"{name}\", priority: 10, limit: None, carry: false, deps: Items {{ items: [] }}, jobs: Items {{ items: [{job}] }} }})"
-        )?;
-        assert!(rt; gives(alloc, &owners, 2, typed, &shown)?, "at {typed}");
+        let named = format!(in alloc; "ws: Ws({w}), name: \"{name}\", priority")?;
+        let work = format!(in alloc; "work: Command(\"{text}\")")?;
+        let job = format!(in alloc; "JobDraft {{ {named}: {priority}, {work}, {JOB_REST} }}")?;
+        let jobs = format!(in alloc; "jobs: Items {{ items: [{job}] }}")?;
+        let draft = format!(in alloc; "StreamDraft {{ {named}: 10, {STREAM_REST}, {jobs} }}")?;
+        let shown = format!(in alloc; "0 Submit({draft})")?;
+        assert!(rt;
+            gives(alloc, &net, &owners, 2, typed, &shown)?,
+            "at {typed}"
+        );
     }
     Ok(())
 }
@@ -159,6 +187,7 @@ fn submitted_streams(rt: HostRuntime) -> Result<(), Fail> {
 #[test]
 fn unknown_names(rt: HostRuntime) -> Result<(), Fail> {
     let alloc = rt.alloc();
+    let net = network(alloc)?;
     let owners = second_plan(alloc)?;
     for (typed, n) in [
         ("rerun X#S.A", 1),
@@ -189,7 +218,10 @@ fn unknown_names(rt: HostRuntime) -> Result<(), Fail> {
         ("adj S.X;prompt=X", 1),
     ] {
         let shown = format!(in alloc; "UnknownName({n})")?;
-        assert!(rt; gives(alloc, &owners, 0, typed, &shown)?, "at {typed}");
+        assert!(rt;
+            gives(alloc, &net, &owners, 0, typed, &shown)?,
+            "at {typed}"
+        );
     }
     Ok(())
 }
@@ -197,6 +229,7 @@ fn unknown_names(rt: HostRuntime) -> Result<(), Fail> {
 #[test]
 fn lines_without_a_command(rt: HostRuntime) -> Result<(), Fail> {
     let alloc = rt.alloc();
+    let net = network(alloc)?;
     let owners = first_plan(alloc)?;
     for typed in [
         "showjobs",
@@ -211,26 +244,40 @@ fn lines_without_a_command(rt: HostRuntime) -> Result<(), Fail> {
         "jnextplan 12/26/2003",
     ] {
         assert!(rt;
-            gives(alloc, &owners, 0, typed, "NotACommand")?,
+            gives(alloc, &net, &owners, 0, typed, "NotACommand")?,
             "at {typed}"
         );
     }
     Ok(())
 }
 
+/// Whether the line, typed at w, gives a command that its owner obeys, and that the workstation other declines.
+fn is_obeyed(
+    alloc: Global,
+    network: &Network,
+    owners: &Owners,
+    w: u16,
+    typed: &str,
+    other: u16,
+) -> bool {
+    let Ok(line) = parse_command(alloc, typed) else {
+        return false;
+    };
+    match resolve(alloc, network, owners, Ws(w), &line) {
+        Ok((to, cmd)) => {
+            judge(network, owners, to, &cmd) == Verdict::Obey
+                && judge(network, owners, Ws(other), &cmd) == Verdict::Decline(Why::NotMine)
+        }
+        Err(_) => false,
+    }
+}
+
 #[test]
 fn a_command_over_two_hops(rt: HostRuntime) -> Result<(), Fail> {
     let alloc = rt.alloc();
+    let net = network(alloc)?;
     let owners = first_plan(alloc)?;
     // Typed at L for a job of M, and obeyed there.
-    match resolved(alloc, &owners, 2, "cancel job M#S.A")? {
-        Ok((to, cmd)) => {
-            assert_eq!(rt; to, Ws(0));
-            assert!(rt; judge(&network(alloc)?, &owners, to, &cmd) == Verdict::Obey);
-            let elsewhere = judge(&network(alloc)?, &owners, Ws(2), &cmd);
-            assert!(rt; elsewhere == Verdict::Decline(Why::NotMine));
-        }
-        Err(_) => assert!(rt; false),
-    }
+    assert!(rt; is_obeyed(alloc, &net, &owners, 2, "cancel job M#S.A", 2));
     Ok(())
 }

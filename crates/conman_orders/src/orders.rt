@@ -284,7 +284,7 @@ fn switch_mgr(network: &Network, ws: &Text) -> Result<Order, ResolveFault>
 }
 
 /// The row of a line in the table.
-#[tactic(auto, using(crate::proofs::Commands::add_dep_gives, crate::proofs::Commands::del_dep_gives, crate::proofs::Commands::submit_gives), unfolding(crate::specs::Orders::due_order))]
+#[tactic(auto, using(crate::proofs::Commands::rows_give), unfolding(crate::specs::Orders::due_order))]
 fn row(
     alloc: Global,
     network: &Network,

@@ -12,7 +12,9 @@ loop-doc-preserved-then-is_called c =
     let left = streams_left c.loop-doc.doc-iterator in
     let rest = streams_left c.next.new.self in
     let members = c.as_slice-members.result.now in
-    let numbers = met c.args.w c.args.name.now left rest c.in-Some.doc.now c.in-Some.ensures.steps (sym c.if-is_called.ensures) in
+    let numbers =
+    met c.args.w c.args.name.now left rest c.in-Some.doc.now c.in-Some.ensures.steps (sym c.if-is_called.ensures)
+    in
     record {
       within = c.looked_for-latest.ensures.within;
       found =

@@ -1,6 +1,5 @@
 //! The dependency that a command adds.
 ghost use Rattle.std.specs.Prelude.{◌≡◌};
-ghost use Rattle.std.specs.List.{list_any};
 ghost use Rattle.std.specs.Option.{option_copied};
 ghost use Rattle.model.specs.Words.{nth};
 ghost use Rattle.model.specs.Equalities.{dep_eq, text_eq, until_eq};

@@ -2,7 +2,7 @@
 ghost use Rattle.std.specs.Prelude.{◌≡◌, ◌∷◌, ◌||◌, ℕ, [], Some, length, nat_le, option_and_then};
 ghost use Rattle.std.specs.List.{list_any};
 ghost use Rattle.std.specs.Option.{option_copied};
-ghost use Rattle.model.specs.Types.{AddDep, AltPri, Cancel, Confirm, DelDep, Events, Job, Kill, Net as Nets, ReplyOwn};
+ghost use Rattle.model.specs.Types.{AddDep, AltPri, Cancel, Confirm, DelDep, Events, Kill, Net as Nets, ReplyOwn};
 ghost use Rattle.model.specs.Types.{Release, Rerun, StreamLimit};
 ghost use Rattle.model.specs.Words.{first_of_these};
 ghost use Rattle.model.specs.History.{view_of};

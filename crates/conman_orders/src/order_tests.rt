@@ -251,22 +251,23 @@ fn lines_without_a_command(rt: HostRuntime) -> Result<(), Fail> {
     Ok(())
 }
 
-/// Whether the line, typed at w, gives a command that its owner obeys, and that the workstation other declines.
-fn is_obeyed(
-    alloc: Global,
-    network: &Network,
-    owners: &Owners,
-    w: u16,
-    typed: &str,
-    other: u16,
-) -> bool {
-    let Ok(line) = parse_command(alloc, typed) else {
-        return false;
-    };
-    match resolve(alloc, network, owners, Ws(w), &line) {
+/// Whether the command is obeyed where it goes, and declined at another workstation, whose object it is not.
+fn is_obeyed_there(network: &Network, owners: &Owners, answer: &Answer, other: u16) -> bool {
+    match answer {
         Ok((to, cmd)) => {
-            judge(network, owners, to, &cmd) == Verdict::Obey
-                && judge(network, owners, Ws(other), &cmd) == Verdict::Decline(Why::NotMine)
+            judge(network, owners, *to, cmd) == Verdict::Obey
+                && judge(network, owners, Ws(other), cmd) == Verdict::Decline(Why::NotMine)
+        }
+        Err(_) => false,
+    }
+}
+
+/// The same of the command of a line that is typed at that other workstation.
+fn is_obeyed_from(alloc: Global, network: &Network, owners: &Owners, w: u16, typed: &str) -> bool {
+    match parse_command(alloc, typed) {
+        Ok(line) => {
+            let answer = resolve(alloc, network, owners, Ws(w), &line);
+            is_obeyed_there(network, owners, &answer, w)
         }
         Err(_) => false,
     }
@@ -278,6 +279,6 @@ fn a_command_over_two_hops(rt: HostRuntime) -> Result<(), Fail> {
     let net = network(alloc)?;
     let owners = first_plan(alloc)?;
     // Typed at L for a job of M, and obeyed there.
-    assert!(rt; is_obeyed(alloc, &net, &owners, 2, "cancel job M#S.A", 2));
+    assert!(rt; is_obeyed_from(alloc, &net, &owners, 2, "cancel job M#S.A"));
     Ok(())
 }

@@ -312,3 +312,48 @@ fn the_first_document_of_a_number_counts(rt: HostRuntime) -> Result<(), Fail> {
     assert!(rt; owners.owner(Obj::Job(JobNo(1))) == Some(Ws(0)));
     Ok(())
 }
+
+/// The numbers of the streams of the catalogue.
+fn stream_numbers(alloc: Global, owners: &Owners) -> Result<Items<u32>, Fail> {
+    let mut numbers = Items::new(alloc);
+    for doc in owners.streams() {
+        numbers.push(doc.no.0)?;
+    }
+    Ok(numbers)
+}
+
+/// The numbers of the jobs of the catalogue.
+fn job_numbers(alloc: Global, owners: &Owners) -> Result<Items<u32>, Fail> {
+    let mut numbers = Items::new(alloc);
+    for (_, doc) in owners.jobs() {
+        numbers.push(doc.no.0)?;
+    }
+    Ok(numbers)
+}
+
+/// The numbers of the jobs of M with an open launch.
+fn open_numbers(alloc: Global, owners: &Owners) -> Result<Items<u32>, Fail> {
+    let mut numbers = Items::new(alloc);
+    for (_, doc) in owners.open_launches(Ws(0)) {
+        numbers.push(doc.no.0)?;
+    }
+    Ok(numbers)
+}
+
+#[test]
+fn streams_and_jobs_are_walked_in_order(rt: HostRuntime) -> Result<(), Fail> {
+    let owners = in_use(rt.alloc())?;
+    let streams = stream_numbers(rt.alloc(), &owners)?;
+    assert!(rt; streams.as_slice() == [1].as_slice());
+    let jobs = job_numbers(rt.alloc(), &owners)?;
+    assert!(rt; jobs.as_slice() == [1, 2].as_slice());
+    Ok(())
+}
+
+#[test]
+fn open_launches_are_walked(rt: HostRuntime) -> Result<(), Fail> {
+    let owners = in_use(rt.alloc())?;
+    let open = open_numbers(rt.alloc(), &owners)?;
+    assert!(rt; open.as_slice() == [1].as_slice());
+    Ok(())
+}

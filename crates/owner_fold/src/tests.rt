@@ -113,10 +113,12 @@ fn launched_once(alloc: Global) -> Result<Owners, Fail> {
 #[test]
 fn a_launch_is_open(rt: HostRuntime) -> Result<(), Fail> {
     let owners = launched_once(rt.alloc())?;
+    assert!(rt; owners.has_plan());
     assert_eq!(rt; owners.run(), 1);
     assert_eq!(rt; owners.members().len(), 1);
     assert!(rt; owners.open_launch(JobNo(1)) == Some(1));
     assert!(rt; !owners.is_started(JobNo(1), 1));
+    assert!(rt; !owners.is_last_started(JobNo(1)));
     assert!(rt; owners.last_outcome(JobNo(1)) == None);
     assert!(rt; owners.is_released(StreamNo(1)));
     assert!(rt; !owners.is_ended(StreamNo(1)));
@@ -331,6 +333,15 @@ fn job_numbers(alloc: Global, owners: &Owners) -> Result<Items<u32>, Fail> {
     Ok(numbers)
 }
 
+/// The numbers of the jobs of the stream of this number.
+fn numbers_of_stream(alloc: Global, owners: &Owners, no: u32) -> Result<Items<u32>, Fail> {
+    let mut numbers = Items::new(alloc);
+    for (_, doc) in owners.jobs_of_stream(StreamNo(no)) {
+        numbers.push(doc.no.0)?;
+    }
+    Ok(numbers)
+}
+
 /// The numbers of the jobs of M with an open launch.
 fn open_numbers(alloc: Global, owners: &Owners) -> Result<Items<u32>, Fail> {
     let mut numbers = Items::new(alloc);
@@ -355,5 +366,26 @@ fn open_launches_are_walked(rt: HostRuntime) -> Result<(), Fail> {
     let owners = in_use(rt.alloc())?;
     let open = open_numbers(rt.alloc(), &owners)?;
     assert!(rt; open.as_slice() == [1].as_slice());
+    Ok(())
+}
+
+#[test]
+fn a_start_is_that_of_the_last_launch(rt: HostRuntime) -> Result<(), Fail> {
+    let mut owners = launched_once(rt.alloc())?;
+    event(&mut owners, 4, Body::Started(JobNo(1), 1))?;
+    assert!(rt; owners.is_last_started(JobNo(1)));
+    launched(&mut owners, rt.alloc(), 5, 1, 2)?;
+    assert!(rt; !owners.is_last_started(JobNo(1)));
+    assert!(rt; owners.is_started(JobNo(1), 1));
+    Ok(())
+}
+
+#[test]
+fn jobs_of_a_stream_are_walked(rt: HostRuntime) -> Result<(), Fail> {
+    let owners = in_use(rt.alloc())?;
+    let jobs = numbers_of_stream(rt.alloc(), &owners, 1)?;
+    assert!(rt; jobs.as_slice() == [1, 2].as_slice());
+    let others = numbers_of_stream(rt.alloc(), &owners, 2)?;
+    assert!(rt; others.is_empty());
     Ok(())
 }

@@ -70,11 +70,11 @@ impl Night {
         may_end(&self.net, &self.owners, M, S)
     }
 
-    /// The job whose first dependency is the UNTIL that is due.
+    /// The job whose dependency is the UNTIL that is due.
     fn until_due(&self) -> Option<u32> {
         match until_due(&self.net, &self.owners, M) {
-            Some((Obj::Job(j), 1)) => Some(j.0),
-            _ => None,
+            Some(until) => job_number(&until.0),
+            None => None,
         }
     }
 
@@ -386,4 +386,11 @@ fn a_tracker_follows_the_entries(rt: HostRuntime) -> Result<(), Fail> {
     let best = best_after(&night.net, &mut night.owners, &mut tracker, M, &entry)?;
     assert!(rt; best == None);
     Ok(())
+}
+
+fn job_number(obj: &Obj) -> Option<u32> {
+    match obj {
+        Obj::Job(j) => Some(j.0),
+        Obj::Stream(_) => None,
+    }
 }

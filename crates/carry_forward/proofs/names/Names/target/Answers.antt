@@ -1,0 +1,4 @@
+use Rattle.carry_forward.proofs.names.Names.target.Goals as goal
+
+pub returns : goal.returns
+returns c = ?

@@ -1,0 +1,4 @@
+use Rattle.carry_forward.proofs.names.jobs_of_document.Goals as goal
+
+pub loop-i-preserved : goal.loop-i-preserved
+loop-i-preserved c = ?

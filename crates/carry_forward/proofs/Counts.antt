@@ -1,11 +1,11 @@
 -- Counts over lists, one item further.
 use Rattle.std.proofs.Common.{[], if◌then◌else◌, ℕ, ◌+◌, ◌++◌, ◌<◌, ◌∙◌, ◌∷◌, ◌≡◌, ◌≢◌, ◌||◌, ◌⊎◌, Bool, List}
 use Rattle.std.proofs.Common.{ap, arith, cond, drop, eqb, false, filter, get_or, inl, inr, length, map, nat_lt}
-use Rattle.std.proofs.Common.{refl, suc, sym, take, true, zero}
+use Rattle.std.proofs.Common.{Option, cons_option, filter_map, refl, suc, sym, take, true, zero}
 use Rattle.std.proofs.lemmas.Bool.Decides.{eqb_tells}
 use Rattle.std.specs.List.{list_any}
 use Rattle.std.proofs.lemmas.List.{append-nil, drop_more, map-append, take_more}
-use Rattle.std.proofs.lemmas.List.Elements.{filter-append}
+use Rattle.std.proofs.lemmas.List.Elements.{filter-append, filter_map-append}
 use Rattle.std.proofs.lemmas.List.Sums.{sum_by-cons}
 use Rattle.model.specs.Types.{Events, StreamDraft}
 use Rattle.model.specs.Words.{below, has, numbers_from}
@@ -21,15 +21,20 @@ drafts_more drafts i draft low at =
     ∙ sum_by-cons (λ (d : StreamDraft). length d.jobs) draft (drop (i + 1) drafts)
 
 numbers_more : (from n : ℕ) → numbers_from from (suc n) ≡ numbers_from from n ++ (from + n) ∷ []
-numbers_more from zero = ap (λ (k : ℕ). k ∷ []) (omega arith)
+numbers_more from zero =
+    let e : from ≡ from + 0 = omega arith in
+    ap (λ (k : ℕ). k ∷ []) e
 numbers_more from (suc n) =
+    let e : from + 1 + n ≡ from + suc n = omega arith in
     ap (λ (l : List ℕ). from ∷ l)
-    (numbers_more (from + 1) n ∙ ap (λ (k : ℕ). numbers_from (from + 1) n ++ k ∷ []) (omega arith))
+    (numbers_more (from + 1) n ∙ ap (λ (k : ℕ). numbers_from (from + 1) n ++ k ∷ []) e)
 
 below_more : (n : ℕ) → below (n + 1) ≡ below n ++ n ∷ []
 below_more n =
-    ap below (omega arith)
-    ∙ (numbers_more 0 n ∙ ap (λ (k : ℕ). below n ++ k ∷ []) (omega arith))
+    let next : n + 1 ≡ suc n = omega arith in
+    let here : 0 + n ≡ n = omega arith in
+    ap (λ (k : ℕ). numbers_from 0 k) next
+    ∙ (numbers_more 0 n ∙ ap (λ (k : ℕ). numbers_from 0 n ++ k ∷ []) here)
 
 -- the counts of one more workstation
 pub seen_more : (V : View) (w : ℕ)
@@ -52,6 +57,13 @@ seen_more V w =
         ≡ cond b (filter some (map counted (below w)) ++ counted w ∷ []) (filter some (map counted (below w)))
     go true = refl
     go false = append-nil (filter some (map counted (below w)))
+
+-- what is made of one more item
+pub made_more : {X Y : Type 0} (make : X → Option Y) (xs : List X) (i : ℕ) (x : X) → i < length xs → x ≡ get_or xs i x
+    → filter_map make (take (i + 1) xs) ≡ filter_map make (take i xs) ++ cons_option (make x) []
+made_more make xs i x low at =
+    ap (filter_map make) (take_more xs i x low ∙ (λ p. take i xs ++ sym at p ∷ []))
+    ∙ filter_map-append make (take i xs) (x ∷ [])
 
 any_more : (test : ℕ → Bool) (ks : List ℕ) (x : ℕ) → list_any test (ks ++ x ∷ []) ≡ (list_any test ks || test x)
 any_more test [] x = or_false (test x)

@@ -5,7 +5,8 @@ use Rattle.std.proofs.Common.{option_and_then, option_map, subst, sym, true}
 use Rattle.std.proofs.lemmas.Bool.Decides.{eqb_tells}
 use Rattle.std.proofs.lemmas.List.{drop_more, map-append, reverse-append}
 use Rattle.std.specs.Cmp.Lexicographic.{bytes_decides}
-use Rattle.std.specs.List.{enumerate_from, reverse}
+use Rattle.std.specs.List.{enumerate_from}
+use Rattle.std.specs.Prelude.{reverse}
 use Rattle.std.specs.Map.{lookup}
 use Rattle.std.specs.Option.{option_copied, option_or}
 use Rattle.indexmap.specs.IndexMap.{insert_entry}
@@ -56,9 +57,6 @@ module _ {K X A : Type 0} (f : K → A) (same : A → A → Bool) (tells : (a b 
   inserted a [] k v = refl
   inserted a (e ∷ es) k v = go (same (f k) (f e.0)) refl (inserted a es k v)
     where
-
-
-
       go : (b : Bool) → same (f k) (f e.0) ≡ b
           → lookup (λ (l : K). same a (f l)) (insert_entry (λ (p q : K). same (f p) (f q)) es k v)
           ≡ cond (same a (f k)) (Some v) (lookup (λ (l : K). same a (f l)) es)
@@ -242,3 +240,11 @@ pub told_read : (r : Option (Bor Target)) (o : Option Target) → option_copied 
     → option_map (λ (t : Bor Target). told_target t.now) r ≡ option_map told_target o
 told_read None o h = ap (option_map told_target) h
 told_read (Some t) o h = ap (option_map told_target) h
+
+pub told_job_so : (r : Option (Bor Target)) (o : Option Named) (t : Bor Target) (name : List ℕ) (j : Option ℕ)
+    → j ≡ job_at t.now.jobs.entries name → r ≡ Some t
+    → option_map (λ (t : Bor Target). told_target t.now) r ≡ option_map told_named o
+    → j ≡ option_and_then (resolve_job name) o
+told_job_so r o t name j found is h =
+    found
+    ∙ (sym (ap (option_and_then (λ (t : Bor Target). job_at t.now.jobs.entries name)) is) ∙ told_job r o name h)

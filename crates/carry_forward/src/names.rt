@@ -2,7 +2,7 @@
 ghost use Rattle.std.specs.Prelude.{◌≡◌, ◌+◌, ◌≤◌, ◌^◌, ◌++◌, ◌∷◌, [], IfOk, OnOk, List, length, map, option_map, option_and_then};
 ghost use Rattle.std.specs.List.{enumerate_from};
 ghost use Rattle.model.specs.NewPlan.{Named, NamedJob, named_doc, named_fresh, resolve_job, resolve_stream};
-ghost use Rattle.carry_forward.specs.Known.{AreJobsOf, IsIndexOf, IsTarget, docs_of, named_job, named_jobs};
+ghost use Rattle.carry_forward.specs.Known.{AreJobsOf, IsIndexOf, IsTarget, docs_of, job_at, named_job, named_jobs};
 ghost use Rattle.carry_forward.specs.Known.{numbered_jobs, told_named, told_target};
 
 use crate::numbers::Fresh;
@@ -22,6 +22,25 @@ type StreamNames<'a> = IndexMap<(u16, &'a Text), Target<'a>>;
 struct Target<'a> {
     number: u32,
     jobs: JobNames<'a>,
+}
+
+impl<'a> Target<'a> {
+    /// The number of the stream.
+    fn stream(&self) -> StreamNo
+        ensures { result ≡ self.now.number }
+    {
+        StreamNo(self.number)
+    }
+
+    /// The number of a job by its name.
+    fn job(&self, name: &'a Text) -> Option<JobNo>
+        ensures { result ≡ job_at self.now.jobs.entries name.now }
+    {
+        match self.jobs.get(&name) {
+            None => None,
+            Some(number) => Some(JobNo(*number)),
+        }
+    }
 }
 
 /// Puts a job before the others: it takes the place of one of its name.
@@ -189,21 +208,19 @@ impl<'a> Names<'a> {
     {
         match self.target(ws, name) {
             None => None,
-            Some(target) => Some(StreamNo(target.number)),
+            Some(target) => Some(target.stream()),
         }
     }
 
     /// The number of a job, by its name, of the stream that a workstation and name resolve to.
+    #[tactic(auto, using(crate::proofs::Indexed::told_job_so))]
     pub(crate) fn job(&self, ws: Ws, name: &'a Text, job: &'a Text) -> Option<JobNo>
         ensures { result ≡ option_and_then (resolve_job job.now)
             (resolve_stream self.now.fresh self.now.earlier ws name.now) }
     {
         match self.target(ws, name) {
             None => None,
-            Some(target) => match target.jobs.get(&job) {
-                None => None,
-                Some(number) => Some(JobNo(*number)),
-            },
+            Some(target) => target.job(job),
         }
     }
 }

@@ -22,6 +22,7 @@ use std::alloc::Global;
 use std::slice::from_ref;
 
 /// The documents of these streams, without those that the catalogue lacks.
+#[tactic(auto, using(crate::proofs::Counts::made_more))]
 fn docs_of_streams<'a>(
     alloc: Global,
     o: &'a Owners,

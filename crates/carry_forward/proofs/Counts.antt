@@ -1,9 +1,9 @@
 -- Counts over lists, one item further.
 use Rattle.std.proofs.Common.{[], if◌then◌else◌, ℕ, ◌+◌, ◌++◌, ◌<◌, ◌∙◌, ◌∷◌, ◌≡◌, ◌≢◌, ◌||◌, ◌⊎◌, Bool, List}
 use Rattle.std.proofs.Common.{ap, arith, cond, drop, eqb, false, filter, get_or, inl, inr, length, map, nat_lt}
-use Rattle.std.proofs.Common.{Option, cons_option, filter_map, refl, suc, sym, take, true, zero}
+use Rattle.std.proofs.Common.{None, Option, Some, filter_map, refl, suc, sym, take, true, zero}
 use Rattle.std.proofs.lemmas.Bool.Decides.{eqb_tells}
-use Rattle.std.specs.List.{list_any}
+use Rattle.std.specs.List.{cons_option, list_any}
 use Rattle.std.proofs.lemmas.List.{append-nil, drop_more, map-append, take_more}
 use Rattle.std.proofs.lemmas.List.Elements.{filter-append, filter_map-append}
 use Rattle.std.proofs.lemmas.List.Sums.{sum_by-cons}
@@ -64,6 +64,24 @@ pub made_more : {X Y : Type 0} (make : X → Option Y) (xs : List X) (i : ℕ) (
 made_more make xs i x low at =
     ap (filter_map make) (take_more xs i x low ∙ (λ p. take i xs ++ sym at p ∷ []))
     ∙ filter_map-append make (take i xs) (x ∷ [])
+
+-- and where that item makes one, or none
+pub made_some : {X Y : Type 0} (make : X → Option Y) (xs : List X) (i : ℕ) (x : X) (o : Option Y) (y : Y)
+    → i < length xs → x ≡ get_or xs i x → o ≡ make x → o ≡ Some y
+    → filter_map make (take i xs) ++ y ∷ [] ≡ filter_map make (take (i + 1) xs)
+made_some {X} {Y} make xs i x o y low at made is =
+    sym
+    (made_more make xs i x low at
+    ∙ ap (λ (p : Option Y). filter_map make (take i xs) ++ cons_option p []) (sym made ∙ is))
+
+pub made_none : {X Y : Type 0} (make : X → Option Y) (xs : List X) (i : ℕ) (x : X) (o : Option Y) → i < length xs
+    → x ≡ get_or xs i x → o ≡ make x → o ≡ None
+    → filter_map make (take i xs) ≡ filter_map make (take (i + 1) xs)
+made_none {X} {Y} make xs i x o low at made is =
+    sym
+    (made_more make xs i x low at
+    ∙ (ap (λ (p : Option Y). filter_map make (take i xs) ++ cons_option p []) (sym made ∙ is)
+    ∙ append-nil (filter_map make (take i xs))))
 
 any_more : (test : ℕ → Bool) (ks : List ℕ) (x : ℕ) → list_any test (ks ++ x ∷ []) ≡ (list_any test ks || test x)
 any_more test [] x = or_false (test x)

@@ -1,19 +1,19 @@
 -- An index of names, one job or stream further.
 use Rattle.std.proofs.Common.{[], ℕ, ◌&&◌, ◌+◌, ◌++◌, ◌<◌, ◌∙◌, ◌∷◌, ◌≡◌, ◌≢◌, ◌⊎◌, Bool, Bor, List, None, Option, Some}
 use Rattle.std.proofs.Common.{ap, arith, bytes_eq, cond, drop, eqb, false, find, get_or, inl, inr, length, map, refl}
-use Rattle.std.proofs.Common.{option_and_then, option_map, subst, sym, true}
+use Rattle.std.proofs.Common.{option_and_then, option_map, subst, sym, take, true}
 use Rattle.std.proofs.lemmas.Bool.Decides.{eqb_tells}
-use Rattle.std.proofs.lemmas.List.{drop_more, map-append, reverse-append}
+use Rattle.std.proofs.lemmas.List.{drop_more, map-append, reverse-append, take_more}
 use Rattle.std.specs.Cmp.Lexicographic.{bytes_decides}
 use Rattle.std.specs.List.{enumerate_from}
 use Rattle.std.specs.Prelude.{reverse}
 use Rattle.std.specs.Map.{lookup}
 use Rattle.std.specs.Option.{option_copied, option_or}
 use Rattle.indexmap.specs.IndexMap.{insert_entry}
-use Rattle.model.specs.Types.{JobDoc, JobDraft}
+use Rattle.model.specs.Types.{JobDoc, JobDraft, StreamDoc}
 use Rattle.model.specs.Equalities.{text_eq}
-use Rattle.model.specs.NewPlan.{Fresh, Named, NamedJob, is_named, named_fresh, resolve_job, resolve_stream}
-use Rattle.carry_forward.specs.Known.{AreJobsOf, IsIndexOf, IsTarget, Told, job_at, named_job}
+use Rattle.model.specs.NewPlan.{Fresh, Named, NamedJob, is_named, named_doc, named_fresh, resolve_job, resolve_stream}
+use Rattle.carry_forward.specs.Known.{AreJobsOf, IsIndexOf, IsTarget, Told, docs_of, job_at, named_job}
 use Rattle.carry_forward.specs.Known.{named_jobs, numbered_jobs, told_at, told_named, told_target}
 use Rattle.carry_forward.specs.declared.names.Target.{Target}
 
@@ -109,7 +109,7 @@ key_itself : (a : ℕ × List ℕ) → are_one_key a a ≡ true
 key_itself a = go (eqb_tells a.0 a.0)
   where
     go : ((eqb a.0 a.0 ≡ true) × (a.0 ≡ a.0)) ⊎ ((eqb a.0 a.0 ≡ false) × (a.0 ≢ a.0)) → are_one_key a a ≡ true
-    go (inl e) = λ j. cond (e.0 j) (text_itself a.1 j) false
+    go (inl e) = λ j. e.0 j && text_itself a.1 j
     go (inr e) = absurd (e.1 refl)
 
 -- one more job, which comes before the others
@@ -206,6 +206,21 @@ module _ (es new : List ((ℕ × Bor (List ℕ)) × Target)) (k : ℕ × Bor (Li
           ≡ option_map told_named (cond b (Some s) (find (is_named w name) (reverse earlier)))
       go true e = ap Some told
       go false e = e
+
+-- the earlier streams up to a place are those before it and that at the place
+pub earlier_at : (es new : List ((ℕ × Bor (List ℕ)) × Target)) (docs : List (Bor StreamDoc)) (i : ℕ) (d : Bor StreamDoc)
+    → i < length docs → d ≡ get_or docs i d
+    → ((earlier : List Named) → IsIndexOf es [] earlier → IsIndexOf new [] (earlier ++ named_doc d.now ∷ []))
+    → IsIndexOf es [] (map named_doc (docs_of (take i docs)))
+    → IsIndexOf new [] (map named_doc (docs_of (take (i + 1) docs)))
+earlier_at es new docs i d low at more h =
+    subst (λ (l : List Named). IsIndexOf new [] l)
+    (sym
+    (ap (λ (l : List (Bor StreamDoc)). map named_doc (docs_of l))
+    (take_more docs i d low ∙ (λ p. take i docs ++ sym at p ∷ []))
+    ∙ (ap (map named_doc) (map-append (λ (b : Bor StreamDoc). b.now) (take i docs) (d ∷ []))
+    ∙ map-append named_doc (docs_of (take i docs)) (d.now ∷ []))))
+    (more (map named_doc (docs_of (take i docs))) h)
 
 -- the fresh streams from a place on are that at the place and those from the next on
 pub fresh_at : (es new : List ((ℕ × Bor (List ℕ)) × Target)) (xs : List Fresh) (i n : ℕ) (x : Fresh)

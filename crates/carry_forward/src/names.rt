@@ -20,7 +20,7 @@ type StreamNames<'a> = IndexMap<(u16, &'a Text), Target<'a>>;
 /// A stream that a name stands for.
 #[derive(Drop)]
 struct Target<'a> {
-    number: u32,
+    number: StreamNo,
     jobs: JobNames<'a>,
 }
 
@@ -29,7 +29,7 @@ impl<'a> Target<'a> {
     fn stream(&self) -> StreamNo
         ensures { result ≡ self.now.number }
     {
-        StreamNo(self.number)
+        self.number
     }
 
     /// The number of a job by its name.
@@ -106,6 +106,16 @@ fn put_stream<'a>(
     }
 }
 
+/// What the name of an earlier stream stands for.
+fn earlier_target<'a>(alloc: Global, doc: &'a StreamDoc) -> Result<Target<'a>, NoMemory>
+    ensures { IfOk result (λ t. IsTarget t (named_doc doc.now)) }
+{
+    Ok(Target {
+        number: doc.no,
+        jobs: jobs_of_document(alloc, doc.jobs.as_slice())?,
+    })
+}
+
 /// Earlier streams by workstation and name. Of one name the last counts.
 fn earlier_names<'a>(
     alloc: Global,
@@ -115,21 +125,18 @@ fn earlier_names<'a>(
 {
     let mut names = IndexMap::new(alloc);
     for doc in earlier {
-        let target = Target {
-            number: doc.no.0,
-            jobs: jobs_of_document(alloc, doc.jobs.as_slice())?,
-        };
+        let target = earlier_target(alloc, *doc)?;
         put_stream(&mut names, doc.ws.0, &doc.name, target)?;
     }
     Ok(names)
 }
 
-/// What a fresh stream's name stands for.
+/// What the name of a fresh stream stands for.
 fn fresh_target<'a>(alloc: Global, fresh: &Fresh<'a>) -> Result<Target<'a>, NoMemory>
     ensures { IfOk result (λ t. IsTarget t (named_fresh fresh.now)) }
 {
     Ok(Target {
-        number: fresh.number,
+        number: StreamNo(fresh.number),
         jobs: jobs_of_draft(alloc, fresh.first_job, fresh.draft.jobs.as_slice())?,
     })
 }

@@ -39,24 +39,22 @@ fn docs_of_streams<'a>(
     Ok(docs)
 }
 
-/// The first cause, if any, why these streams and the drafts are no plan: too many streams, or too many jobs.
-fn check_room(
+/// Why these streams and the drafts are no plan, if they are none: too many streams, or else too many jobs.
+fn room_fault(
     alloc: Global,
     o: &Owners,
     earlier: &[StreamNo],
     drafts: &[StreamDraft],
-) -> Result<(), CarryFault>
-    ensures ok { IsOk result → room_fault (view_of o.now) earlier.now drafts.now ≡ None }
-    ensures causes { (f : CarryFault) → result ≡ Err f → f ≢ CarryFault.NoMemory →
-        room_fault (view_of o.now) earlier.now drafts.now ≡ Some f }
+) -> Result<Option<CarryFault>, NoMemory>
+    ensures { IfOk result (λ fault. fault ≡ room_fault (view_of o.now) earlier.now drafts.now) }
 {
     if are_streams_too_many(earlier, drafts) {
-        return Err(CarryFault::PlanFull(MOST_STREAMS));
+        return Ok(Some(CarryFault::PlanFull(MOST_STREAMS)));
     }
     if are_jobs_too_many(alloc, o, earlier, drafts)? {
-        return Err(CarryFault::PlanFull(MOST_JOBS));
+        return Ok(Some(CarryFault::PlanFull(MOST_JOBS)));
     }
-    Ok(())
+    Ok(None)
 }
 
 /// The documents of drafts with numbers after these, over these earlier streams.
@@ -73,7 +71,8 @@ fn fresh_documents(
     let fresh = fresh_streams(alloc, last_stream(o), last_job(o), drafts)?;
     let known = docs_of_streams(alloc, o, earlier)?;
     let names = Names::of(alloc, fresh.as_slice(), known.as_slice())?;
-    documents(alloc, &names, fresh.as_slice())
+    let docs = documents(alloc, &names, fresh.as_slice())?;
+    Ok(docs)
 }
 
 /// The plan of a new day: its run, the counts of events at which it cuts, the streams that it carries, and the drafts
@@ -99,7 +98,11 @@ pub fn next_plan(
         return Err(CarryFault::NumbersSpent);
     }
     let carried = carried_streams(o)?;
-    check_room(alloc, o, carried.as_slice(), drafts.as_slice())?;
+    let full = room_fault(alloc, o, carried.as_slice(), drafts.as_slice())?;
+    match full {
+        Some(fault) => return Err(fault),
+        None => {}
+    }
     let docs = fresh_documents(alloc, o, carried.as_slice(), drafts.as_slice())?;
     let cut = cut(alloc, net, o)?;
     Ok(Body::NewPlan(1 + run, cut, carried, docs))
@@ -121,13 +124,19 @@ pub fn numbered(alloc: Global, o: &Owners, draft: &StreamDraft) -> Result<Stream
         return Err(CarryFault::NumbersSpent);
     }
     let members = o.members().as_slice();
-    check_room(alloc, o, members, drafts)?;
+    let full = room_fault(alloc, o, members, drafts)?;
+    match full {
+        Some(fault) => return Err(fault),
+        None => {}
+    }
     let fresh = Fresh {
         number: 1 + last_stream,
         first_job: 1 + u64::from(last_job),
         draft,
     };
     let known = docs_of_streams(alloc, o, members)?;
-    let names = Names::of(alloc, from_ref(&fresh), known.as_slice())?;
-    Ok(document(alloc, &names, &fresh)?)
+    let one = from_ref(&fresh);
+    let names = Names::of(alloc, one, known.as_slice())?;
+    let doc = document(alloc, &names, &fresh)?;
+    Ok(doc)
 }

@@ -65,6 +65,20 @@ spent_so V drafts slice s j b same streams jobs is =
     (is
     ∙ (λ p. nat_lt 4294967295 (streams p + length (same p)) || nat_lt 4294967295 (jobs p + jobs_in_drafts (same p))))
 
+-- what a plan's room says, where neither runs nor numbers are spent
+pub plan_room : (V : View) (drafts slice : List StreamDraft) (carried : List ℕ) (full : Option CarryFault)
+    → nat_le 4294967295 (last_run (V (Events 0))) ≡ false → are_numbers_spent V drafts ≡ false → slice ≡ drafts
+    → carried ≡ carried_members V → full ≡ room_fault V carried slice → plan_fault V drafts ≡ full
+plan_room V drafts slice carried full run numbers same members_of is =
+    room_last V drafts run numbers ∙ sym (is ∙ (λ p. room_fault V (members_of p) (same p)))
+
+-- and where a stream is submitted
+pub stream_room : (V : View) (draft : StreamDraft) (slice : List StreamDraft) (earlier : List ℕ)
+    (full : Option CarryFault) → are_numbers_spent V (draft ∷ []) ≡ false → slice ≡ draft ∷ [] → earlier ≡ members V
+    → full ≡ room_fault V earlier slice → submit_fault V draft ≡ full
+stream_room V draft slice earlier full numbers same members_of is =
+    submit_room V draft numbers ∙ sym (is ∙ (λ p. room_fault V (members_of p) (same p)))
+
 -- the documents of drafts, from their parts
 pub documents_so : (V : View) (earlier : List ℕ) (drafts : List StreamDraft) (s j : ℕ) (fresh : List Fresh)
     (known : List StreamDoc) (f e : List Named) (docs : List StreamDoc) → s ≡ last_stream V → j ≡ last_job V

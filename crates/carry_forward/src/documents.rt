@@ -41,7 +41,6 @@ fn resolved<'a>(names: &Names<'a>, dep: &'a DraftDep) -> Result<Option<Dep>, NoM
 }
 
 /// The dependencies of a draft, without those that do not resolve.
-#[tactic(auto, using(crate::proofs::Counts::made_more))]
 fn dependencies<'a>(
     alloc: Global,
     names: &Names<'a>,

@@ -1,9 +1,9 @@
 //! The plan of a new day, and the document of a submitted stream.
-ghost use Rattle.std.specs.Prelude.{◌≡◌, ◌≢◌, ◌∷◌, [], IfOk, IsOk, None, Some, Ok, Err, ◌⊎◌, filter_map, length, nat_lt, ◌+◌, ◌<◌, ◌^◌};
+ghost use Rattle.std.specs.Prelude.{◌≡◌, ◌≢◌, IfOk, IsOk, None, Some, Err, filter_map, length, ◌+◌, ◌<◌, ◌^◌};
 ghost use Rattle.model.specs.History.{view_of};
 ghost use Rattle.model.specs.Catalogue.{stream};
 ghost use Rattle.model.specs.NewPlan as spec;
-ghost use Rattle.model.specs.NewPlan.{are_jobs_too_many, are_streams_too_many, plan_of, jobs_in_drafts};
+ghost use Rattle.model.specs.NewPlan.{plan_of, jobs_in_drafts};
 ghost use Rattle.carry_forward.specs.Faults.{plan_fault, submit_fault, room_fault};
 ghost use Rattle.carry_forward.specs.Known.{docs_of};
 
@@ -22,7 +22,6 @@ use std::alloc::Global;
 use std::slice::from_ref;
 
 /// The documents of these streams, without those that the catalogue lacks.
-#[tactic(auto, using(crate::proofs::Counts::made_more))]
 fn docs_of_streams<'a>(
     alloc: Global,
     o: &'a Owners,
@@ -78,7 +77,7 @@ fn fresh_documents(
 /// The plan of a new day: its run, the counts of events at which it cuts, the streams that it carries, and the drafts
 /// as documents. The faults are tested in the order of `CarryFault`. Want of memory may come in place of a plan and of
 /// `PlanFull`, and of no other answer.
-#[tactic(auto, using(crate::proofs::Causes::runs_first, crate::proofs::Causes::numbers_next, crate::proofs::Causes::room_last))]
+#[tactic(auto, using(crate::proofs::Causes::runs_first))]
 pub fn next_plan(
     alloc: Global,
     net: &Network,
@@ -110,7 +109,6 @@ pub fn next_plan(
 
 /// The document of a submitted stream: the only fresh one, over the members of the plan. `RunsSpent` does not come.
 /// Want of memory may come in place of a document and of `PlanFull`, and of no other answer.
-#[tactic(auto, using(crate::proofs::Causes::submit_numbers, crate::proofs::Causes::submit_room))]
 pub fn numbered(alloc: Global, o: &Owners, draft: &StreamDraft) -> Result<StreamDoc, CarryFault>
     ensures value { IfOk result (λ doc. doc ≡ spec.numbered (view_of o.now) draft.now) }
     ensures accepted { IsOk result → submit_fault (view_of o.now) draft.now ≡ None }

@@ -11,7 +11,6 @@ use network_tree::Network;
 use owner_fold::Owners;
 use std::alloc::Global;
 
-
 /// Whether a stream is marked, and neither cancelled nor ended. False outside the catalogue.
 #[tactic(auto, unfolding(model::specs::NewPlan::is_carried, model::specs::Catalogue::owner))]
 fn is_carried(o: &Owners, s: StreamNo) -> bool

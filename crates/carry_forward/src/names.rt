@@ -117,10 +117,7 @@ fn earlier_target<'a>(alloc: Global, doc: &'a StreamDoc) -> Result<Target<'a>, N
 }
 
 /// Earlier streams by workstation and name. Of one name the last counts.
-fn earlier_names<'a>(
-    alloc: Global,
-    earlier: &[&'a StreamDoc],
-) -> Result<StreamNames<'a>, NoMemory>
+fn earlier_names<'a>(alloc: Global, earlier: &[&'a StreamDoc]) -> Result<StreamNames<'a>, NoMemory>
     ensures { IfOk result (λ names. IsIndexOf names.entries [] (map named_doc (docs_of earlier.now))) }
 {
     let mut names = IndexMap::new(alloc);

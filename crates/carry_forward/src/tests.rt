@@ -161,7 +161,10 @@ fn first_day(alloc: Global) -> Result<Owners, Fail> {
     drafts.push(unmarked)?;
     let mut owners = Owners::new(alloc);
     next_day(alloc, &mut owners, &drafts)?;
-    take(&mut owners, Body::StreamEnded(StreamNo(2), Seen::new(alloc)))?;
+    take(
+        &mut owners,
+        Body::StreamEnded(StreamNo(2), Seen::new(alloc)),
+    )?;
     Ok(owners)
 }
 
@@ -249,7 +252,10 @@ fn two_drafts(alloc: Global) -> Result<StreamDrafts, NoMemory> {
 fn a_name_stands_for_the_last_carried_stream(rt: HostRuntime) -> Result<(), Fail> {
     let alloc = rt.alloc();
     let text = meant_alone(alloc, follows(alloc, "S")?)?;
-    assert_eq!(rt; text.as_str(), "Items { items: [FollowsStream(StreamNo(2))] }");
+    assert_eq!(rt;
+        text.as_str(),
+        "Items { items: [FollowsStream(StreamNo(2))] }"
+    );
     let text = meant_alone(alloc, follows_job(alloc, "S", "A")?)?;
     assert_eq!(rt; text.as_str(), "Items { items: [FollowsJob(JobNo(2))] }");
     Ok(())
@@ -259,7 +265,10 @@ fn a_name_stands_for_the_last_carried_stream(rt: HostRuntime) -> Result<(), Fail
 fn a_name_stands_for_the_first_fresh_stream(rt: HostRuntime) -> Result<(), Fail> {
     let alloc = rt.alloc();
     let text = meant(alloc, two_drafts(alloc)?, follows(alloc, "S")?)?;
-    assert_eq!(rt; text.as_str(), "Items { items: [FollowsStream(StreamNo(3))] }");
+    assert_eq!(rt;
+        text.as_str(),
+        "Items { items: [FollowsStream(StreamNo(3))] }"
+    );
     let text = meant(alloc, two_drafts(alloc)?, follows_job(alloc, "S", "A")?)?;
     assert_eq!(rt; text.as_str(), "Items { items: [FollowsJob(JobNo(5))] }");
     Ok(())
@@ -327,7 +336,10 @@ fn numbers_are_spent(rt: HostRuntime) -> Result<(), Fail> {
     let spent = Some(CarryFault::NumbersSpent);
     assert_eq!(rt; fault_after(alloc, 1, LAST, 1, &drafts)?, spent);
     assert_eq!(rt; fault_after(alloc, 1, 1, LAST, &drafts)?, spent);
-    assert_eq!(rt; fault_after(alloc, 1, LAST, LAST, &Items::new(alloc))?, None);
+    assert_eq!(rt;
+        fault_after(alloc, 1, LAST, LAST, &Items::new(alloc))?,
+        None
+    );
     Ok(())
 }
 
@@ -401,7 +413,10 @@ fn a_submitted_job_follows_a_job_of_a_member(rt: HostRuntime) -> Result<(), Fail
     let doc = numbered(alloc, &owners, &follower(alloc)?)?;
     let deps = doc.jobs.get(0).map(|doc| &doc.deps);
     let text = format!(in alloc; "{deps:?}")?;
-    assert_eq!(rt; text.as_str(), "Some(Items { items: [FollowsJob(JobNo(9))] })");
+    assert_eq!(rt;
+        text.as_str(),
+        "Some(Items { items: [FollowsJob(JobNo(9))] })"
+    );
     Ok(())
 }
 

@@ -115,18 +115,23 @@ fn planned(alloc: Global, drafts: &StreamDrafts) -> Option<usize> {
     }
 }
 
+/// How many streams the drafts have, or the plan of them. None where there is no plan.
+fn count(alloc: Global, plans: bool) -> Option<usize> {
+    let drafts = drafts(alloc).ok()?;
+    if plans {
+        planned(alloc, &drafts)
+    } else {
+        Some(drafts.len())
+    }
+}
+
 fn main(rt: HostRuntime) -> io::Result<()> {
-    let alloc = rt.alloc();
     let plans = match env::args(&rt) {
         Ok(words) => words.count() > 1,
         Err(_) => false,
     };
-    let count = match drafts(alloc) {
-        Ok(drafts) if plans => planned(alloc, &drafts),
-        Ok(drafts) => Some(drafts.len()),
-        Err(_) => None,
-    };
-    println!(rt; "{count:?}")?;
+    let count = count(rt.alloc(), plans).unwrap_or(0);
+    println!(rt; "{count}")?;
     Ok(())
 }
 PROGRAM

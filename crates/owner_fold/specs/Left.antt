@@ -1,5 +1,5 @@
 -- What the iterators have still to give.
-use Rattle.std.specs.Prelude.{List, filter_map}
+use Rattle.std.specs.Prelude.{◌==◌, List, filter, filter_map}
 use Rattle.model.specs.Types.{Body, Cmd, Entry, Feed, StreamDoc}
 use Rattle.model.specs.History.{list_of}
 use Rattle.model.specs.Catalogue.{StreamJob}
@@ -9,6 +9,7 @@ use Rattle.owner_fold.specs.declared.bodies.Bodies.{Bodies}
 use Rattle.owner_fold.specs.declared.bodies.Commands.{Commands}
 use Rattle.owner_fold.specs.declared.catalogue.Streams.{Streams}
 use Rattle.owner_fold.specs.declared.catalogue.PlannedJobs.{PlannedJobs}
+use Rattle.owner_fold.specs.declared.catalogue.StreamJobs.{StreamJobs}
 
 -- the bodies of the feed among the entries that are left
 abbrev pub bodies_left : Bodies → List Body
@@ -25,3 +26,8 @@ streams_left it = filter_map (doc_at it.entries.now) it.spots.now
 -- the jobs that are left, each with its stream
 unfoldable pub jobs_left : PlannedJobs → List StreamJob
 jobs_left it = filter_map (job_at it.entries.now) it.spots.now
+
+-- those of one stream
+unfoldable pub stream_jobs_left : StreamJobs → List StreamJob
+stream_jobs_left it =
+    filter (λ (p : StreamJob). p.parent.no == it.stream) (filter_map (job_at it.entries.now) it.spots.now)

@@ -1,12 +1,13 @@
 //! The streams and jobs of the plan.
-ghost use Rattle.std.specs.Prelude.{◌≡◌, option_map};
+ghost use Rattle.std.specs.Prelude.{◌≡◌, ◌==◌, option_map};
 ghost use Rattle.std.specs.Option.{option_copied};
 ghost use Rattle.std.specs.Iterator.{YieldsFirstBy, YieldsFirstRef, item_count};
 ghost use Rattle.model.specs.Types.{Job, StreamDoc as Doc};
 ghost use Rattle.model.specs.History.{view_of};
-ghost use Rattle.model.specs.Catalogue.{StreamJob, catalogue, jobs, members, stream, job, stream_of, owner};
+ghost use Rattle.model.specs.Catalogue.{StreamJob, catalogue, jobs, jobs_of_stream, members, stream, job};
+ghost use Rattle.model.specs.Catalogue.{stream_of, owner};
 ghost use Rattle.owner_fold.specs.Spots.{stream_job};
-ghost use Rattle.owner_fold.specs.Left.{jobs_left, streams_left};
+ghost use Rattle.owner_fold.specs.Left.{jobs_left, stream_jobs_left, streams_left};
 
 use crate::holdings::Owners;
 use crate::spots::{JobSpot, StreamSpot, planned_job_at, stream_at};
@@ -68,6 +69,44 @@ impl<'a> Iterator for PlannedJobs<'a> {
     }
 }
 
+/// The jobs of one stream of the catalogue, each with the stream, in the order of the catalogue.
+#[derive(Drop)]
+pub struct StreamJobs<'a> {
+    pub(crate) entries: &'a [Entry],
+    pub(crate) spots: &'a [JobSpot],
+    pub(crate) stream: StreamNo,
+}
+
+/// The document is that of this stream.
+fn has_number(doc: &StreamDoc, s: StreamNo) -> bool
+    ensures { result ≡ (doc.now.no == s) }
+{
+    doc.no.0 == s.0
+}
+
+impl<'a> Iterator for StreamJobs<'a> {
+    type Item = (&'a StreamDoc, &'a JobDoc);
+
+    ghost next_gives = { YieldsFirstBy (λ p. stream_job p.0.now p.1.now) stream_jobs_left };
+
+    ghost remaining = { item_count stream_jobs_left };
+
+    #[tactic(auto, unfolding(crate::specs::Left::stream_jobs_left))]
+    fn next(&mut self) -> Option<(&'a StreamDoc, &'a JobDoc)> {
+        let spots = self.spots;
+        for (i, spot) in spots.iter().enumerate() {
+            if let Some((parent, job)) = planned_job_at(self.entries, spot) {
+                if has_number(parent, self.stream) {
+                    self.spots = &spots[i + 1..];
+                    return Some((parent, job));
+                }
+            }
+        }
+        self.spots = &spots[spots.len()..];
+        None
+    }
+}
+
 impl Owners {
     /// The streams of the catalogue, in its order.
     #[tactic(auto, unfolding(crate::specs::Left::streams_left))]
@@ -88,6 +127,18 @@ impl Owners {
         PlannedJobs {
             entries: self.entries(),
             spots: self.job_spots(),
+        }
+    }
+
+    /// The jobs of a stream, each with the stream, in the order of the catalogue. None of one outside the catalogue.
+    #[tactic(auto, unfolding(crate::specs::Left::stream_jobs_left, model::specs::Catalogue::jobs_of_stream))]
+    pub fn jobs_of_stream(&self, s: StreamNo) -> StreamJobs<'_>
+        ensures { stream_jobs_left result ≡ jobs_of_stream (view_of self.now) s }
+    {
+        StreamJobs {
+            entries: self.entries(),
+            spots: self.job_spots(),
+            stream: s,
         }
     }
 

@@ -4,9 +4,9 @@ ghost use Rattle.std.specs.Option.{option_or};
 ghost use Rattle.model.specs.Types.{Job, Stream};
 ghost use Rattle.model.specs.History.{view_of};
 ghost use Rattle.model.specs.Catalogue.{told_by_owner};
-ghost use Rattle.model.specs.Facts.{launches, reruns, open_launch, is_started, last_outcome, is_due, is_good};
-ghost use Rattle.model.specs.Facts.{is_released, is_ended, is_cancelled, is_fulfilled, is_until_recorded, own_reply};
-ghost use Rattle.model.specs.Facts.{priority, stream_limit};
+ghost use Rattle.model.specs.Facts.{launches, reruns, open_launch, is_started, is_last_started, last_outcome, is_due};
+ghost use Rattle.model.specs.Facts.{is_good, is_released, is_ended, is_cancelled, is_fulfilled, is_until_recorded};
+ghost use Rattle.model.specs.Facts.{own_reply, priority, stream_limit};
 ghost use Rattle.owner_fold.specs.Outcomes.{told_outcome};
 
 use crate::holdings::Owners;
@@ -55,6 +55,17 @@ impl Owners {
         match self.owner_of(&o) {
             None => false,
             Some(w) => self.is_started_at(w, j, number),
+        }
+    }
+
+    /// Whether the start of a job's last launch was told after that launch. False outside the catalogue.
+    pub fn is_last_started(&self, j: JobNo) -> bool
+        ensures { result ≡ told_by_owner false (is_last_started j) (view_of self.now) (Job j) }
+    {
+        let o = Obj::Job(j);
+        match self.owner_of(&o) {
+            None => false,
+            Some(w) => self.is_last_started_at(w, j),
         }
     }
 

@@ -7,7 +7,7 @@ ghost use Rattle.model.specs.Words.{nth};
 ghost use Rattle.model.specs.History.{list_of, view_of};
 ghost use Rattle.model.specs.Facts.{commands};
 ghost use Rattle.model.specs.Turn.{ordered_command};
-ghost use Rattle.model.specs.Catalogue.{catalogue, jobs, members};
+ghost use Rattle.model.specs.Catalogue.{catalogue, has_plan, jobs, members};
 ghost use Rattle.owner_fold.specs.Spots.{doc_at, job_at};
 ghost use Rattle.owner_fold.specs.Left.{bodies_left, commands_left};
 ghost use Rattle.owner_fold.specs.Plans.{AreShort};
@@ -112,6 +112,14 @@ impl Owners {
         ensures { result.now ≡ members (view_of self.now) }
     {
         &self.plan.members
+    }
+
+    /// Whether a plan is held, be it one without members.
+    #[tactic(auto, unfolding(model::specs::Catalogue::has_plan))]
+    pub fn has_plan(&self) -> bool
+        ensures { result ≡ has_plan (view_of self.now) }
+    {
+        self.plan.named.is_some()
     }
 
     /// The entries, in the order in which they were taken.

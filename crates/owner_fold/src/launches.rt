@@ -4,13 +4,13 @@ ghost use Rattle.std.specs.List.{list_any};
 ghost use Rattle.model.specs.Types.{Events};
 ghost use Rattle.model.specs.History.{list_of};
 ghost use Rattle.model.specs.Facts.{last_launch, first_end, end_of, open_launch, is_good, is_open, last_outcome};
-ghost use Rattle.model.specs.Facts.{is_confirm_of, commands};
+ghost use Rattle.model.specs.Facts.{commands, is_confirm_of, is_last_started, is_start_of};
 ghost use Rattle.owner_fold.specs.Launches.{launch_at};
 ghost use Rattle.owner_fold.specs.Outcomes.{told_outcome};
 
 use crate::bodies::{Bodies, Commands, same_feed};
 use crate::holdings::Owners;
-use crate::sayings::is_confirm;
+use crate::sayings::{is_confirm, is_start};
 use base_types::{Body, Entry, Feed, JobNo, Ws};
 
 /// How a launch ended.
@@ -99,6 +99,22 @@ fn is_confirmed(j: JobNo, later: &[Entry], feed: &Feed) -> bool
     false
 }
 
+/// The start of this launch is told among the bodies of a feed.
+fn is_start_told(j: JobNo, number: u32, later: &[Entry], feed: &Feed) -> bool
+    ensures { result ≡ list_any (is_start_of j number) (list_of later.now feed.now) }
+{
+    let bodies = Bodies {
+        entries: later,
+        feed: *feed,
+    };
+    for body in bodies {
+        if is_start(j, number, body) {
+            return true;
+        }
+    }
+    false
+}
+
 impl Owners {
     /// The number of the last launch of a job, and the entries after it.
     #[tactic(auto, unfolding(model::specs::History::list_of, model::specs::Facts::last_launch))]
@@ -154,6 +170,17 @@ impl Owners {
         ensures { result ≡ is_open j (list_of self.now (Events w)) }
     {
         self.open_launch_at(w, j).is_some()
+    }
+
+    #[tactic(auto, unfolding(model::specs::Facts::is_last_started))]
+    pub(crate) fn is_last_started_at(&self, w: Ws, j: JobNo) -> bool
+        ensures { result ≡ is_last_started j (list_of self.now (Events w)) }
+    {
+        let feed = Feed::Events(w);
+        match self.last_launch(w, j) {
+            None => false,
+            Some((number, later)) => is_start_told(j, number, later, &feed),
+        }
     }
 
     #[tactic(auto, unfolding(model::specs::Facts::is_good))]

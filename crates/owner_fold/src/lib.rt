@@ -22,7 +22,7 @@ mod spots;
 mod tests;
 mod units;
 
-pub use catalogue::{PlannedJobs, Streams};
+pub use catalogue::{PlannedJobs, StreamJobs, Streams};
 pub use holdings::Owners;
 pub use launches::Outcome;
 pub use units::OpenLaunches;

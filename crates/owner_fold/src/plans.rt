@@ -30,7 +30,7 @@ pub(crate) fn is_planning(e: &Entry) -> bool
 pub(crate) struct Plan {
     pub(crate) spots: Spots,
     /// What the last plan and the streams added to it name, None before the first plan.
-    named: Option<StreamNos>,
+    pub(crate) named: Option<StreamNos>,
     /// Those among them that the catalogue has.
     pub(crate) members: StreamNos,
 }

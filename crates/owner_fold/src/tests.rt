@@ -113,10 +113,12 @@ fn launched_once(alloc: Global) -> Result<Owners, Fail> {
 #[test]
 fn a_launch_is_open(rt: HostRuntime) -> Result<(), Fail> {
     let owners = launched_once(rt.alloc())?;
+    assert!(rt; owners.has_plan());
     assert_eq!(rt; owners.run(), 1);
     assert_eq!(rt; owners.members().len(), 1);
     assert!(rt; owners.open_launch(JobNo(1)) == Some(1));
     assert!(rt; !owners.is_started(JobNo(1), 1));
+    assert!(rt; !owners.is_last_started(JobNo(1)));
     assert!(rt; owners.last_outcome(JobNo(1)) == None);
     assert!(rt; owners.is_released(StreamNo(1)));
     assert!(rt; !owners.is_ended(StreamNo(1)));
@@ -310,5 +312,80 @@ fn the_first_document_of_a_number_counts(rt: HostRuntime) -> Result<(), Fail> {
     assert!(rt; owners.planned_job(JobNo(1)).is_some());
     assert!(rt; owners.stream_of(JobNo(1)) == Some(StreamNo(1)));
     assert!(rt; owners.owner(Obj::Job(JobNo(1))) == Some(Ws(0)));
+    Ok(())
+}
+
+/// The numbers of the streams of the catalogue.
+fn stream_numbers(alloc: Global, owners: &Owners) -> Result<Items<u32>, Fail> {
+    let mut numbers = Items::new(alloc);
+    for doc in owners.streams() {
+        numbers.push(doc.no.0)?;
+    }
+    Ok(numbers)
+}
+
+/// The numbers of the jobs of the catalogue.
+fn job_numbers(alloc: Global, owners: &Owners) -> Result<Items<u32>, Fail> {
+    let mut numbers = Items::new(alloc);
+    for (_, doc) in owners.jobs() {
+        numbers.push(doc.no.0)?;
+    }
+    Ok(numbers)
+}
+
+/// The numbers of the jobs of the stream of this number.
+fn numbers_of_stream(alloc: Global, owners: &Owners, no: u32) -> Result<Items<u32>, Fail> {
+    let mut numbers = Items::new(alloc);
+    for (_, doc) in owners.jobs_of_stream(StreamNo(no)) {
+        numbers.push(doc.no.0)?;
+    }
+    Ok(numbers)
+}
+
+/// The numbers of the jobs of M with an open launch.
+fn open_numbers(alloc: Global, owners: &Owners) -> Result<Items<u32>, Fail> {
+    let mut numbers = Items::new(alloc);
+    for (_, doc) in owners.open_launches(Ws(0)) {
+        numbers.push(doc.no.0)?;
+    }
+    Ok(numbers)
+}
+
+#[test]
+fn streams_and_jobs_are_walked_in_order(rt: HostRuntime) -> Result<(), Fail> {
+    let owners = in_use(rt.alloc())?;
+    let streams = stream_numbers(rt.alloc(), &owners)?;
+    assert!(rt; streams.as_slice() == [1].as_slice());
+    let jobs = job_numbers(rt.alloc(), &owners)?;
+    assert!(rt; jobs.as_slice() == [1, 2].as_slice());
+    Ok(())
+}
+
+#[test]
+fn open_launches_are_walked(rt: HostRuntime) -> Result<(), Fail> {
+    let owners = in_use(rt.alloc())?;
+    let open = open_numbers(rt.alloc(), &owners)?;
+    assert!(rt; open.as_slice() == [1].as_slice());
+    Ok(())
+}
+
+#[test]
+fn a_start_is_that_of_the_last_launch(rt: HostRuntime) -> Result<(), Fail> {
+    let mut owners = launched_once(rt.alloc())?;
+    event(&mut owners, 4, Body::Started(JobNo(1), 1))?;
+    assert!(rt; owners.is_last_started(JobNo(1)));
+    launched(&mut owners, rt.alloc(), 5, 1, 2)?;
+    assert!(rt; !owners.is_last_started(JobNo(1)));
+    assert!(rt; owners.is_started(JobNo(1), 1));
+    Ok(())
+}
+
+#[test]
+fn jobs_of_a_stream_are_walked(rt: HostRuntime) -> Result<(), Fail> {
+    let owners = in_use(rt.alloc())?;
+    let jobs = numbers_of_stream(rt.alloc(), &owners, 1)?;
+    assert!(rt; jobs.as_slice() == [1, 2].as_slice());
+    let others = numbers_of_stream(rt.alloc(), &owners, 2)?;
+    assert!(rt; others.is_empty());
     Ok(())
 }

@@ -7,7 +7,7 @@ use std::io::{self, Write};
 
 /// The name of the workstation, and the empty text for one that is not in the network.
 #[tactic(auto, unfolding(crate::specs::Names::name_of))]
-pub(crate) fn name<'a>(net: &'a Net, ws: &Ws) -> &'a str
+pub fn name<'a>(net: &'a Net, ws: &Ws) -> &'a str
     ensures { result.now ≡ spec.name_of net.now ws.now }
 {
     match net.nodes.get(ws.0 as usize) {

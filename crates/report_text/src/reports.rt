@@ -4,7 +4,9 @@ ghost use Rattle.report_text.specs.Reports as spec;
 
 use crate::bodies::write_body;
 use crate::names::{name, write_feed};
-use base_types::{Bytes, Entry, FeedCount, Items, Net, NoMemory, NodePart, PairCount, ReportParts, Start};
+use base_types::{
+    Bytes, Entry, FeedCount, Items, Net, NoMemory, NodePart, PairCount, ReportParts, Start,
+};
 use std::alloc::Global;
 use std::io::{self, Write};
 

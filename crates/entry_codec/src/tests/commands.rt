@@ -165,3 +165,57 @@ fn a_submitted_draft(rt: HostRuntime) -> Result<(), Fail> {
     }
     Ok(())
 }
+
+/// A draft that is empty but for one job, which is empty too, up to the condition of that job.
+const EMPTY: [u8; 26] = [
+    17, 0, 0, 0, 0, 0, 0, 0, 0, 0, 0, 0, 0, 0, 0, 1, 0, 0, 0, 0, 0, 0, 0, 0, 0, 0,
+];
+
+/// Whether the bytes behind that front, before a count of 0 dependencies, are read as this condition and recovery.
+fn is_end(
+    alloc: Global,
+    bytes: &[u8],
+    ops: &[CondOp],
+    recovery: Recovery,
+) -> Result<bool, EntryFault> {
+    let front = joined(alloc, &EMPTY, bytes)?;
+    let bytes = joined(alloc, front.as_slice(), &[0, 0, 0, 0])?;
+    let Cmd::Submit(draft) = command(alloc, bytes.as_slice())? else {
+        return Ok(false);
+    };
+    match draft.jobs.as_slice() {
+        [job] => Ok(job.cond.as_slice() == ops && job.recovery == recovery),
+        _ => Ok(false),
+    }
+}
+
+#[test]
+fn comparisons(rt: HostRuntime) -> Result<(), Fail> {
+    let alloc = rt.alloc();
+    for (byte, rel) in [
+        (0, Rel::Eq),
+        (1, Rel::Ne),
+        (2, Rel::Lt),
+        (3, Rel::Le),
+        (4, Rel::Gt),
+        (5, Rel::Ge),
+    ] {
+        let ops = [CondOp::Cmp(rel, i32::MIN)];
+        assert!(rt; is_end(alloc, &[1, byte, 0x80, 0, 0, 0, 0], &ops, Recovery::Stop)?);
+    }
+    Ok(())
+}
+
+#[test]
+fn operations_and_recoveries(rt: HostRuntime) -> Result<(), Fail> {
+    let alloc = rt.alloc();
+    let ops = [CondOp::And, CondOp::Or, CondOp::Not];
+    for (byte, recovery) in [
+        (0, Recovery::Stop),
+        (1, Recovery::Continue),
+        (2, Recovery::Rerun),
+    ] {
+        assert!(rt; is_end(alloc, &[3, 6, 7, 8, byte], &ops, recovery)?);
+    }
+    Ok(())
+}

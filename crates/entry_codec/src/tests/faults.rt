@@ -2,7 +2,6 @@
 use crate::EntryFault::{BadField, Short, TooMuch, Version};
 use crate::{EntryFault, read_entry};
 use std::alloc::Global;
-use std::test::Fail;
 
 /// The fault of the bytes. Bytes that are an entry, or too many, have none here.
 fn fault(alloc: Global, bytes: &[u8]) -> Option<EntryFault> {
@@ -90,26 +89,43 @@ fn a_count_without_items(rt: HostRuntime) {
 }
 
 #[test]
-fn choices_and_flags(rt: HostRuntime) {
+fn feeds_and_kinds(rt: HostRuntime) {
     let alloc = rt.alloc();
-    let feed = [1, 2, 0, 0];
-    assert_eq!(rt; fault(alloc, &feed), Some(BadField(1)));
-    let order_of_events = [1, 0, 0, 0, 0, 0, 0, 1, 15, 15];
-    assert_eq!(rt; fault(alloc, &order_of_events), Some(BadField(8)));
-    let clock_of_orders = [1, 1, 0, 0, 0, 0, 0, 0, 0, 1, 3, 0, 0, 0, 0, 0, 0, 0, 100];
-    assert_eq!(rt; fault(alloc, &clock_of_orders), Some(BadField(10)));
-    for choice in [0, 19, 255] {
-        let command = [1, 1, 0, 0, 0, 0, 0, 0, 0, 1, 15, choice];
-        assert_eq!(rt; fault(alloc, &command), Some(BadField(11)));
+    assert_eq!(rt; fault(alloc, &[1, 2, 0, 0]), Some(BadField(1)));
+    for kind in [0, 15, 16, 255] {
+        let event = [1, 0, 0, 0, 0, 0, 0, 1, kind, 15];
+        assert_eq!(rt; fault(alloc, &event), Some(BadField(8)));
     }
-    let flag = [1, 1, 0, 0, 0, 0, 0, 0, 0, 1, 15, 13, 0, 1, 2];
-    assert_eq!(rt; fault(alloc, &flag), Some(BadField(14)));
+    for kind in [0, 3, 14, 16] {
+        let order = [1, 1, 0, 0, 0, 0, 0, 0, 0, 1, kind, 15];
+        assert_eq!(rt; fault(alloc, &order), Some(BadField(10)));
+    }
+}
+
+#[test]
+fn choices_of_commands(rt: HostRuntime) {
+    let alloc = rt.alloc();
+    for choice in [0, 19, 255] {
+        let order = [1, 1, 0, 0, 0, 0, 0, 0, 0, 1, 15, choice];
+        assert_eq!(rt; fault(alloc, &order), Some(BadField(11)));
+    }
     let object = [1, 1, 0, 0, 0, 0, 0, 0, 0, 1, 15, 3, 2, 0, 0, 0, 1];
     assert_eq!(rt; fault(alloc, &object), Some(BadField(12)));
-    let reason = [1, 0, 0, 0, 0, 0, 0, 1, 14, 0, 0, 0, 0, 0, 1, 11];
-    assert_eq!(rt; fault(alloc, &reason), Some(BadField(15)));
+    let flag = [1, 1, 0, 0, 0, 0, 0, 0, 0, 1, 15, 13, 0, 1, 2];
+    assert_eq!(rt; fault(alloc, &flag), Some(BadField(14)));
     let left = [1, 1, 0, 0, 0, 0, 0, 0, 0, 1, 15, 16, 0];
     assert_eq!(rt; fault(alloc, &left), Some(TooMuch(12)));
+}
+
+#[test]
+fn reasons_and_marks(rt: HostRuntime) {
+    let alloc = rt.alloc();
+    for reason in [0, 11] {
+        let declined = [1, 0, 0, 0, 0, 0, 0, 1, 14, 0, 0, 0, 0, 0, 1, reason];
+        assert_eq!(rt; fault(alloc, &declined), Some(BadField(15)));
+    }
+    let mark = [1, 0, 0, 0, 0, 0, 0, 1, 6, 0, 0, 0, 0, 9, 0, 1, 3];
+    assert_eq!(rt; fault(alloc, &mark), Some(BadField(16)));
 }
 
 /// A prompt for job 9 is added: up to the length of its text.
@@ -138,14 +154,49 @@ fn texts(rt: HostRuntime) {
 }
 
 #[test]
-fn conditions(rt: HostRuntime) -> Result<(), Fail> {
+fn choices_of_dependencies(rt: HostRuntime) {
     let alloc = rt.alloc();
-    // a draft without name, limit and dependencies, and its job without name, command and logon
-    let mut bytes = [0; 39];
-    bytes[..12].copy_from_slice(&[1, 1, 0, 0, 0, 0, 0, 0, 0, 1, 15, 17]);
-    // behind workstation, name, priority, limit, carry and the count of dependencies
-    bytes[26] = 1;
-    // behind the count of jobs, workstation, name, priority, work and logon
+    for choice in [0, 9, 255] {
+        let mut bytes = PROMPT;
+        bytes[17] = choice;
+        assert_eq!(rt; fault(alloc, &bytes), Some(BadField(17)));
+    }
+}
+
+/// A draft without name, limit and dependencies is submitted, and its job without name, command, logon and condition:
+/// up to the job's recovery.
+const DRAFT: [u8; 39] = [
+    1, 1, 0, 0, 0, 0, 0, 0, 0, 1, 15, 17, 0, 0, 0, 0, 0, 0, 0, 0, 0, 0, 0, 0, 0, 0, 1, 0, 0, 0, 0,
+    0, 0, 0, 0, 0, 0, 0, 0,
+];
+
+#[test]
+fn flags_of_a_draft(rt: HostRuntime) {
+    let alloc = rt.alloc();
+    let mut limit = DRAFT;
+    limit[17] = 2;
+    assert_eq!(rt; fault(alloc, &limit), Some(BadField(17)));
+    let mut carry = DRAFT;
+    carry[18] = 2;
+    assert_eq!(rt; fault(alloc, &carry), Some(BadField(18)));
+}
+
+#[test]
+fn choices_of_its_job(rt: HostRuntime) {
+    let alloc = rt.alloc();
+    assert_eq!(rt; fault(alloc, &DRAFT), Some(Short(39)));
+    let mut work = DRAFT;
+    work[32] = 2;
+    assert_eq!(rt; fault(alloc, &work), Some(BadField(32)));
+    let mut recovery = DRAFT;
+    recovery[38] = 3;
+    assert_eq!(rt; fault(alloc, &recovery), Some(BadField(38)));
+}
+
+#[test]
+fn conditions(rt: HostRuntime) {
+    let alloc = rt.alloc();
+    let mut bytes = DRAFT;
     bytes[37] = 64;
     assert_eq!(rt; fault(alloc, &bytes[..38]), Some(Short(38)));
     bytes[37] = 65;
@@ -153,5 +204,4 @@ fn conditions(rt: HostRuntime) -> Result<(), Fail> {
     bytes[37] = 1;
     bytes[38] = 9;
     assert_eq!(rt; fault(alloc, &bytes), Some(BadField(38)));
-    Ok(())
 }

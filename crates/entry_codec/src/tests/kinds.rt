@@ -1,5 +1,5 @@
 //! Every kind of event.
-use super::{event, text};
+use super::{event, read_parts, text};
 use crate::{EntryFault, read_entry, write_entry};
 use base_types::{
     Body, Cmd, CondOp, Dep, Deps, Entry, Feed, Items, JobDoc, JobNo, Moment, Obj, OnUntil,
@@ -20,6 +20,19 @@ fn a_clock(rt: HostRuntime) -> Result<(), Fail> {
     let written = write_entry(alloc, &entry)?;
     assert_eq!(rt; written.as_slice(), bytes.as_slice());
     assert!(rt; same(&read_entry(alloc, &bytes)?, &entry));
+    Ok(())
+}
+
+#[test]
+fn an_order(rt: HostRuntime) -> Result<(), Fail> {
+    let alloc = rt.alloc();
+    let entry = read_parts(alloc, &[1, 1, 0, 3, 1, 2, 0, 1, 0, 1], &[15, 15])?;
+    let order = Entry {
+        feed: Feed::Orders(Ws(3), Ws(258)),
+        place: 65_537,
+        body: Body::Order(Cmd::Start),
+    };
+    assert!(rt; same(&entry, &order));
     Ok(())
 }
 
@@ -170,5 +183,29 @@ fn a_plan(rt: HostRuntime) -> Result<(), Fail> {
     carried.push(StreamNo(258))?;
     let plan = Body::NewPlan(2, cut, carried, Items::new(alloc));
     assert!(rt; is_read(alloc, &bytes, &plan));
+    Ok(())
+}
+
+/// Whether it is the stream S of the master, of priority 10 and with nothing else.
+fn is_plain(doc: &StreamDoc) -> bool {
+    let head = (doc.no, doc.ws, doc.name.as_str(), doc.priority) == (StreamNo(1), Ws(0), "S", 10);
+    let flags = doc.limit.is_none() && !doc.carry;
+    head && flags && doc.deps.is_empty() && doc.jobs.is_empty()
+}
+
+#[test]
+fn a_plan_with_a_stream(rt: HostRuntime) -> Result<(), Fail> {
+    let alloc = rt.alloc();
+    let bytes = [
+        1, 0, 0, 0, 1, 0, 0, 0, 0, 0, 0, 0, 0, 0, 0, 0, 1, 0, 0, 0, 1, 0, 0, 0, 1, 0x53, 10, 0, 0,
+        0, 0, 0, 0, 0, 0, 0, 0,
+    ];
+    let Body::NewPlan(1, _, _, docs) = event(alloc, &bytes)? else {
+        return Err("no plan".into());
+    };
+    assert_eq!(rt; docs.len(), 1);
+    for doc in docs.as_slice() {
+        assert!(rt; is_plain(doc));
+    }
     Ok(())
 }

@@ -1,6 +1,0 @@
-mod Commands
-mod Equal
-mod Latest
-mod Reasons
-mod Sizes
-mod Texts

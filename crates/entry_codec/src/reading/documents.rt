@@ -1,0 +1,167 @@
+//! The documents of streams and jobs, and their parts.
+ghost use Rattle.std.specs.Prelude.{◌≡◌, ◌≤◌, length, nat_le, IfOk};
+ghost use Rattle.std.specs.Int.{w8};
+ghost use Rattle.entry_codec.specs.Read.{Gives, IsPlace, one};
+ghost use Rattle.entry_codec.specs.Fields.{i32_at, items_at, number_with};
+ghost use Rattle.entry_codec.specs.Parts.{cond_at, op_at, work_at};
+ghost use Rattle.base_types.specs.declared.CondOp.TheVariants.{Cmp};
+
+use crate::EntryFault;
+use crate::reading::fields::{read_flag, read_i32, read_text, read_u8, read_u16, read_u32};
+use crate::reading::lists::{Read, read_limit, read_list};
+use crate::reading::parts::read_recovery;
+use base_types::{Cond, CondOp, Items, JobDoc, JobNo, Rel, StreamDoc, StreamNo, Work, Ws};
+use std::alloc::Global;
+
+impl Read for JobDoc {
+    ghost use Rattle.entry_codec.specs.Parts.{job_at};
+
+    ghost reader = { job_at };
+
+    #[tactic(auto, unfolding(crate::specs::Read::chain, crate::specs::Parts::job_at))]
+    fn read(alloc: Global, from: &[u8], at: usize) -> Result<(JobDoc, usize), EntryFault> {
+        let (no, next) = read_u32(from, at)?;
+        let (ws, next) = read_u16(from, next)?;
+        let (name, next) = read_text(alloc, from, next)?;
+        let (priority, next) = read_u8(from, next)?;
+        let (work, next) = read_work(alloc, from, next)?;
+        let (logon, next) = read_text(alloc, from, next)?;
+        let (cond, next) = read_cond(alloc, from, next)?;
+        let (recovery, next) = read_recovery(from, next)?;
+        let (deps, next) = read_list(alloc, from, next)?;
+        let doc = JobDoc {
+            no: JobNo(no),
+            ws: Ws(ws),
+            name,
+            priority,
+            work,
+            logon,
+            cond,
+            recovery,
+            deps,
+        };
+        Ok((doc, next))
+    }
+}
+
+impl Read for StreamDoc {
+    ghost use Rattle.entry_codec.specs.Parts.{stream_at};
+
+    ghost reader = { stream_at };
+
+    #[tactic(auto, unfolding(crate::specs::Read::chain, crate::specs::Parts::stream_at))]
+    fn read(alloc: Global, from: &[u8], at: usize) -> Result<(StreamDoc, usize), EntryFault> {
+        let (no, next) = read_u32(from, at)?;
+        let (ws, next) = read_u16(from, next)?;
+        let (name, next) = read_text(alloc, from, next)?;
+        let (priority, next) = read_u8(from, next)?;
+        let (limit, next) = read_limit(from, next)?;
+        let (carry, next) = read_flag(from, next)?;
+        let (deps, next) = read_list(alloc, from, next)?;
+        let (jobs, next) = read_list(alloc, from, next)?;
+        let doc = StreamDoc {
+            no: StreamNo(no),
+            ws: Ws(ws),
+            name,
+            priority,
+            limit,
+            carry,
+            deps,
+            jobs,
+        };
+        Ok((doc, next))
+    }
+}
+
+/// What a job runs: its choice and its text.
+#[tactic(auto, unfolding(crate::specs::Read::chain, crate::specs::Fields::choice_at, crate::specs::Parts::work_at))]
+pub(crate) fn read_work(alloc: Global, from: &[u8], at: usize) -> Result<(Work, usize), EntryFault>
+    requires { IsPlace from.now at }
+    ensures reads { Gives result (work_at from.now at) }
+    ensures within { IfOk result (λ r. r.1 ≤ length from.now) }
+{
+    match read_u8(from, at)? {
+        (0, next) => {
+            let (text, next) = read_text(alloc, from, next)?;
+            Ok((Work::Command(text), next))
+        }
+        (1, next) => {
+            let (text, next) = read_text(alloc, from, next)?;
+            Ok((Work::Script(text), next))
+        }
+        _ => Err(EntryFault::BadField(at as u32)),
+    }
+}
+
+/// A condition: a count of at most 64 in one byte, and the operations.
+#[tactic(auto, unfolding(crate::specs::Read::chain, crate::specs::Parts::cond_at))]
+pub(crate) fn read_cond(alloc: Global, from: &[u8], at: usize) -> Result<(Cond, usize), EntryFault>
+    requires { IsPlace from.now at }
+    ensures reads { Gives result (cond_at from.now at) }
+    ensures within { IfOk result (λ r. r.1 ≤ length from.now) }
+{
+    let (count, next) = read_op_count(from, at)?;
+    read_ops(alloc, count, from, next)
+}
+
+/// A number in one byte that is at most 64.
+#[tactic(auto, unfolding(crate::specs::Fields::number_with))]
+fn read_op_count(from: &[u8], at: usize) -> Result<(u8, usize), EntryFault>
+    requires { IsPlace from.now at }
+    ensures reads { Gives result (number_with w8 (λ n. nat_le n 64) from.now at) }
+    ensures within { IfOk result (λ r. r.1 ≤ length from.now) }
+{
+    let (count, next) = read_u8(from, at)?;
+    if count > 64 {
+        return Err(EntryFault::BadField(at as u32));
+    }
+    Ok((count, next))
+}
+
+/// So many operations.
+fn read_ops(alloc: Global, count: u8, from: &[u8], at: usize) -> Result<(Cond, usize), EntryFault>
+    requires { IsPlace from.now at }
+    ensures reads { Gives result (items_at op_at count from.now at) }
+    ensures within { IfOk result (λ r. r.1 ≤ length from.now) }
+{
+    let mut ops = Items::new(alloc);
+    let mut next = at;
+    for _ in 0..count {
+        let (op, after) = read_op(from, next)?;
+        ops.push(op)?;
+        next = after;
+    }
+    Ok((ops, next))
+}
+
+/// A comparison with its code, or another operation.
+#[tactic(auto, unfolding(crate::specs::Read::chain, crate::specs::Fields::choice_at, crate::specs::Parts::op_at))]
+fn read_op(from: &[u8], at: usize) -> Result<(CondOp, usize), EntryFault>
+    requires { IsPlace from.now at }
+    ensures reads { Gives result (op_at from.now at) }
+    ensures within { IfOk result (λ r. r.1 ≤ length from.now) }
+{
+    match read_u8(from, at)? {
+        (0, next) => read_comparison(Rel::Eq, from, next),
+        (1, next) => read_comparison(Rel::Ne, from, next),
+        (2, next) => read_comparison(Rel::Lt, from, next),
+        (3, next) => read_comparison(Rel::Le, from, next),
+        (4, next) => read_comparison(Rel::Gt, from, next),
+        (5, next) => read_comparison(Rel::Ge, from, next),
+        (6, next) => Ok((CondOp::And, next)),
+        (7, next) => Ok((CondOp::Or, next)),
+        (8, next) => Ok((CondOp::Not, next)),
+        _ => Err(EntryFault::BadField(at as u32)),
+    }
+}
+
+/// The code of a comparison.
+#[tactic(auto, unfolding(crate::specs::Read::chain))]
+fn read_comparison(rel: Rel, from: &[u8], at: usize) -> Result<(CondOp, usize), EntryFault>
+    requires { IsPlace from.now at }
+    ensures reads { Gives result (one i32_at (Cmp rel) from.now at) }
+    ensures within { IfOk result (λ r. r.1 ≤ length from.now) }
+{
+    let (code, next) = read_i32(from, at)?;
+    Ok((CondOp::Cmp(rel, code), next))
+}

@@ -1,0 +1,10 @@
+//! Values put at the end of bytes, each as `model` spells it. Where memory runs out, a part of the value may have been
+//! put.
+mod bodies;
+mod commands;
+mod dependencies;
+mod documents;
+mod drafts;
+pub(crate) mod entries;
+mod lists;
+mod parts;

@@ -1,0 +1,47 @@
+//! The drafts of streams and jobs.
+use crate::writing::documents::{put_cond, put_work};
+use crate::writing::lists::{Put, put_flag, put_limit, put_list};
+use crate::writing::parts::recovery_choice;
+use base_types::{Bytes, JobDraft, NoMemory, StreamDraft};
+use byte_fields::{put_text, put_u8, put_u16};
+
+impl Put for JobDraft {
+    ghost use Rattle.model.specs.Fit.{IsFitJobDraft};
+    ghost use Rattle.model.specs.Spelling.{job_draft_bytes};
+
+    ghost is_fit = { IsFitJobDraft };
+
+    ghost spelling = { job_draft_bytes };
+
+    #[tactic(auto, unfolding(model::specs::Spelling::job_draft_bytes))]
+    fn put(&self, out: &mut Bytes) -> Result<(), NoMemory> {
+        put_u16(out, self.ws.0)?;
+        put_text(out, self.name.as_str())?;
+        put_u8(out, self.priority)?;
+        put_work(out, &self.work)?;
+        put_text(out, self.logon.as_str())?;
+        put_cond(out, &self.cond)?;
+        put_u8(out, recovery_choice(self.recovery))?;
+        put_list(out, &self.deps)
+    }
+}
+
+impl Put for StreamDraft {
+    ghost use Rattle.model.specs.Fit.{IsFitDraft};
+    ghost use Rattle.model.specs.Spelling.{stream_draft_bytes};
+
+    ghost is_fit = { IsFitDraft };
+
+    ghost spelling = { stream_draft_bytes };
+
+    #[tactic(auto, unfolding(model::specs::Spelling::stream_draft_bytes))]
+    fn put(&self, out: &mut Bytes) -> Result<(), NoMemory> {
+        put_u16(out, self.ws.0)?;
+        put_text(out, self.name.as_str())?;
+        put_u8(out, self.priority)?;
+        put_limit(out, self.limit)?;
+        put_flag(out, self.carry)?;
+        put_list(out, &self.deps)?;
+        put_list(out, &self.jobs)
+    }
+}

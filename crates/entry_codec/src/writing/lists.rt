@@ -1,0 +1,67 @@
+//! Lists, options and what stands in them.
+ghost use Rattle.std.specs.Prelude.{◌≡◌, ◌++◌, OnOk};
+ghost use Rattle.model.specs.Fields.{flag_bytes, list_bytes, option_bytes, u16_bytes};
+ghost use Rattle.model.specs.Fit.{AreFit};
+
+use base_types::{Bytes, Items, NoMemory, StreamNo};
+use byte_fields::{put_u8, put_u16, put_u32};
+
+/// A value that stands in lists.
+pub(crate) trait Put {
+    ghost use Rattle.std.specs.Prelude.{List, ℕ};
+
+    /// What the value has to be.
+    ghost is_fit: { Self → Type 0 };
+
+    /// Its bytes.
+    ghost spelling: { Self → List ℕ };
+
+    /// Adds the bytes of the value.
+    fn put(&self, out: &mut Bytes) -> Result<(), NoMemory>
+        requires { is_fit self.now }
+        ensures { OnOk result (out.new ≡ out.old ++ spelling self.now) };
+}
+
+impl Put for StreamNo {
+    ghost use Rattle.model.specs.Fields.{u32_bytes};
+
+    ghost is_fit = { λ _. Unit {0} };
+
+    ghost spelling = { u32_bytes };
+
+    fn put(&self, out: &mut Bytes) -> Result<(), NoMemory> {
+        put_u32(out, self.0)
+    }
+}
+
+/// Adds the count of the items, and each of them.
+pub(crate) fn put_list<T: Put>(out: &mut Bytes, items: &Items<T>) -> Result<(), NoMemory>
+    requires { AreFit T.is_fit items.now }
+    ensures { OnOk result (out.new ≡ out.old ++ list_bytes T.spelling items.now) }
+{
+    put_u32(out, items.len() as u32)?;
+    for item in items.as_slice() {
+        item.put(out)?;
+    }
+    Ok(())
+}
+
+/// Adds 1 for yes, 0 for no.
+pub(crate) fn put_flag(out: &mut Bytes, flag: bool) -> Result<(), NoMemory>
+    ensures { OnOk result (out.new ≡ out.old ++ flag_bytes flag) }
+{
+    if flag { put_u8(out, 1) } else { put_u8(out, 0) }
+}
+
+/// Adds a flag, and the limit where there is one.
+pub(crate) fn put_limit(out: &mut Bytes, limit: Option<u16>) -> Result<(), NoMemory>
+    ensures { OnOk result (out.new ≡ out.old ++ option_bytes u16_bytes limit) }
+{
+    match limit {
+        None => put_u8(out, 0),
+        Some(limit) => {
+            put_u8(out, 1)?;
+            put_u16(out, limit)
+        }
+    }
+}

@@ -1,0 +1,94 @@
+//! Feeds, counts, objects and choices.
+ghost use Rattle.std.specs.Prelude.{◌≡◌, ◌++◌, ◌<◌, ◌^◌, OnOk};
+ghost use Rattle.model.specs.Fit.{IsFitSeen};
+ghost use Rattle.model.specs.Spelling.{feed_bytes, obj_bytes, seen_bytes};
+ghost use Rattle.model.specs.Spelling as spelled;
+
+use base_types::{Bytes, Feed, NoMemory, Obj, OnUntil, Recovery, Seen, Why};
+use byte_fields::{put_u8, put_u16, put_u32};
+
+/// Adds a feed: its choice and its workstations.
+pub(crate) fn put_feed(out: &mut Bytes, feed: &Feed) -> Result<(), NoMemory>
+    ensures { OnOk result (out.new ≡ out.old ++ feed_bytes feed.now) }
+{
+    match feed {
+        Feed::Events(w) => {
+            put_u8(out, 0)?;
+            put_u16(out, w.0)
+        }
+        Feed::Orders(a, w) => {
+            put_u8(out, 1)?;
+            put_u16(out, a.0)?;
+            put_u16(out, w.0)
+        }
+    }
+}
+
+/// Adds how many counts there are, and each workstation with its count.
+pub(crate) fn put_seen(out: &mut Bytes, seen: &Seen) -> Result<(), NoMemory>
+    requires { IsFitSeen seen.now }
+    ensures { OnOk result (out.new ≡ out.old ++ seen_bytes seen.now) }
+{
+    put_u32(out, seen.len() as u32)?;
+    for (w, count) in seen.as_slice() {
+        put_u16(out, w.0)?;
+        put_u32(out, *count)?;
+    }
+    Ok(())
+}
+
+/// Adds a job or a stream: its choice and its number.
+pub(crate) fn put_obj(out: &mut Bytes, obj: &Obj) -> Result<(), NoMemory>
+    ensures { OnOk result (out.new ≡ out.old ++ obj_bytes obj.now) }
+{
+    match obj {
+        Obj::Job(job) => {
+            put_u8(out, 0)?;
+            put_u32(out, job.0)
+        }
+        Obj::Stream(stream) => {
+            put_u8(out, 1)?;
+            put_u32(out, stream.0)
+        }
+    }
+}
+
+/// The choice of what a passed UNTIL does.
+pub(crate) fn until_choice(mark: OnUntil) -> u8
+    ensures { result ≡ spelled.until_code mark }
+{
+    match mark {
+        OnUntil::Suppr => 0,
+        OnUntil::Cont => 1,
+        OnUntil::Canc => 2,
+    }
+}
+
+/// The choice of what follows a bad end.
+pub(crate) fn recovery_choice(recovery: Recovery) -> u8
+    ensures { result ≡ spelled.recovery_code recovery }
+{
+    match recovery {
+        Recovery::Stop => 0,
+        Recovery::Continue => 1,
+        Recovery::Rerun => 2,
+    }
+}
+
+/// The choice of a reason.
+pub(crate) fn why_choice(why: Why) -> u8
+    ensures { result ≡ spelled.why_code why }
+{
+    match why {
+        Why::NotMine => 1,
+        Why::NotThere => 2,
+        Why::Running => 3,
+        Why::NotRunning => 4,
+        Why::NotEnded => 5,
+        Why::Ended => 6,
+        Why::AlreadyThere => 7,
+        Why::OutOfRange => 8,
+        Why::NotMaster => 9,
+        Why::NotBuilt => 10,
+    }
+}

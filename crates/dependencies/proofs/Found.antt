@@ -1,0 +1,163 @@
+-- Each job and each stream of the catalogue is found by its number.
+use Rattle.std.proofs.Common.{◌≡◌, ◌∷◌, ◌||◌, [], ℕ, Bool, List, Some, ap, cond, false, refl, subst, sym, true}
+use Rattle.std.proofs.lemmas.Bool.{eq-eqb, eqb-true}
+use Rattle.std.specs.List.{AllByRecursion}
+use Rattle.std.specs.Prelude.{◌==◌, IfSome, eqb, find, flat_map, map}
+use Rattle.model.specs.Types.{Events, JobDoc, StreamDoc}
+use Rattle.model.specs.Words.{firsts, has}
+use Rattle.model.specs.History.{View}
+use Rattle.model.specs.Catalogue.{StreamJob, catalogue, docs_in, job, jobs, jobs_in, owner, stream}
+use Rattle.dependencies.specs.Planned.{ArePlannedJobs, ArePlannedStreams, IsPlannedJob, IsPlannedStream}
+use Rattle.dependencies.proofs.Lists.{all_both, all_flat, all_found, all_such, there_if}
+
+or_left_false : (a b : Bool) → (a || b) ≡ false → a ≡ false
+or_left_false true b h = cc
+or_left_false false b h = refl
+
+or_right_false : (a b : Bool) → (a || b) ≡ false → b ≡ false
+or_right_false true b h = cc
+or_right_false false b h = h
+
+-- of what counts, none was known
+firsts_fresh : {X : Type 0} (number : X → ℕ) (known : List ℕ) (xs : List X)
+    → AllByRecursion (λ (x : X). has known (number x) ≡ false) (firsts number known xs)
+firsts_fresh number known [] = tt
+firsts_fresh {X} number known (x ∷ xs) =
+    go (has known (number x)) refl (firsts_fresh number known xs) (firsts_fresh number (number x ∷ known) xs)
+  where
+    go : (b : Bool) → has known (number x) ≡ b
+        → AllByRecursion (λ (y : X). has known (number y) ≡ false) (firsts number known xs)
+        → AllByRecursion (λ (y : X). has (number x ∷ known) (number y) ≡ false) (firsts number (number x ∷ known) xs)
+        → AllByRecursion (λ (y : X). has known (number y) ≡ false)
+        (cond b (firsts number known xs) (x ∷ firsts number (number x ∷ known) xs))
+    go true e h k = h
+    go false e h k = (
+      e,
+      all_such (λ (y : X). has (number x ∷ known) (number y) ≡ false)
+          (λ (y : X). has known (number y) ≡ false) _ (λ y f. or_right_false (eqb (number x) (number y)) _ f) k,
+    )
+
+-- it is the first of its number
+abbrev pub IsFound : {X : Type 0} → (X → ℕ) → List X → X → Type 0
+IsFound {X} number xs x = find (λ (y : X). number y == number x) xs ≡ Some x
+
+firsts_found : {X : Type 0} (number : X → ℕ) (known : List ℕ) (xs : List X)
+    → AllByRecursion (IsFound number (firsts number known xs)) (firsts number known xs)
+firsts_found number known [] = tt
+firsts_found {X} number known (x ∷ xs) =
+    go (has known (number x)) (firsts_found number known xs) (firsts_found number (number x ∷ known) xs)
+    (firsts_fresh number (number x ∷ known) xs)
+  where
+    later : (y : X) → has (number x ∷ known) (number y) ≡ false
+        → IsFound number (firsts number (number x ∷ known) xs) y
+        → IsFound number (x ∷ firsts number (number x ∷ known) xs) y
+    later y f g = rw (or_left_false (eqb (number x) (number y)) _ f) g
+
+    itself : IsFound number (x ∷ firsts number (number x ∷ known) xs) x
+    itself = rw (eq-eqb (number x) (number x) refl) refl
+
+    go : (b : Bool)
+        → AllByRecursion (IsFound number (firsts number known xs)) (firsts number known xs)
+        → AllByRecursion (IsFound number (firsts number (number x ∷ known) xs)) (firsts number (number x ∷ known) xs)
+        → AllByRecursion (λ (y : X). has (number x ∷ known) (number y) ≡ false) (firsts number (number x ∷ known) xs)
+        → AllByRecursion (IsFound number (cond b (firsts number known xs)
+        (x ∷ firsts number (number x ∷ known) xs)))
+        (cond b (firsts number known xs) (x ∷ firsts number (number x ∷ known) xs))
+    go true h k f = h
+    go false h k f = (
+      itself,
+      all_both _ _ (IsFound number (x ∷ firsts number (number x ∷ known) xs))
+          (firsts number (number x ∷ known) xs) later f k,
+    )
+
+-- what holds of all holds of those that count
+firsts_all : {X : Type 0} (P : X → Type 0) (number : X → ℕ) (known : List ℕ) (xs : List X) → AllByRecursion P xs
+    → AllByRecursion P (firsts number known xs)
+firsts_all P number known [] h = tt
+firsts_all {X} P number known (x ∷ xs) h =
+    go (has known (number x)) (firsts_all P number known xs h.1) (firsts_all P number (number x ∷ known) xs h.1)
+  where
+    go : (b : Bool) → AllByRecursion P (firsts number known xs)
+        → AllByRecursion P (firsts number (number x ∷ known) xs)
+        → AllByRecursion P (cond b (firsts number known xs) (x ∷ firsts number (number x ∷ known) xs))
+    go true k l = k
+    go false k l = (h.0, l)
+
+-- a stream that is found by its number is planned
+planned_stream : (V : View) (d : StreamDoc) → stream V d.no ≡ Some d → IsPlannedStream V d
+unfolding owner
+planned_stream V d e = record { found = e; owned = rw e refl }
+
+-- the streams of the catalogue are planned
+pub streams_planned : (V : View) → ArePlannedStreams V (catalogue V)
+unfolding stream catalogue
+streams_planned V =
+    all_such
+    (IsFound (λ (d : StreamDoc). d.no) (firsts (λ (d : StreamDoc). d.no) [] (flat_map docs_in (V (Events 0)))))
+    (IsPlannedStream V) _ (λ d e. planned_stream V d e)
+    (firsts_found (λ (d : StreamDoc). d.no) [] (flat_map docs_in (V (Events 0))))
+
+parents_in : (V : View) (d : StreamDoc) (placed : List JobDoc) → IsPlannedStream V d
+    → AllByRecursion (λ (p : StreamJob). IsPlannedStream V p.parent)
+    (map (λ (j : JobDoc). record { parent = d; doc = j }) placed)
+parents_in V d [] h = tt
+parents_in V d (j ∷ js) h = (h, parents_in V d js h)
+
+-- so are the streams of its jobs
+parents_planned : (V : View) → AllByRecursion (λ (p : StreamJob). IsPlannedStream V p.parent) (jobs V)
+unfolding jobs
+parents_planned V =
+    firsts_all (λ (p : StreamJob). IsPlannedStream V p.parent) (λ (p : StreamJob). p.doc.no) []
+    (flat_map jobs_in (catalogue V))
+    (all_flat (λ (p : StreamJob). IsPlannedStream V p.parent) jobs_in (catalogue V)
+    (all_such (IsPlannedStream V)
+    (λ (d : StreamDoc). AllByRecursion (λ (p : StreamJob). IsPlannedStream V p.parent) (jobs_in d)) (catalogue V)
+    (λ d h. parents_in V d d.jobs h) (streams_planned V)))
+
+planned_job : (V : View) (p : StreamJob) → job V p.doc.no ≡ Some p → IsPlannedStream V p.parent → IsPlannedJob V p
+unfolding owner
+planned_job V p e h = record { found = e; owned = rw e refl; parent = h }
+
+-- and its jobs
+pub jobs_planned : (V : View) → ArePlannedJobs V (jobs V)
+unfolding job jobs
+jobs_planned V =
+    all_both (λ (p : StreamJob). job V p.doc.no ≡ Some p) (λ (p : StreamJob). IsPlannedStream V p.parent)
+    (IsPlannedJob V) (jobs V) (λ p e h. planned_job V p e h)
+    (firsts_found (λ (p : StreamJob). p.doc.no) [] (flat_map jobs_in (catalogue V))) (parents_planned V)
+
+found_job : (V : View) (j : ℕ) (p : StreamJob) → job V j ≡ Some p → IsPlannedJob V p × ((p.doc.no == j) ≡ true)
+unfolding job
+found_job V j p e =
+    there_if (λ (p : StreamJob). IsPlannedJob V p × ((p.doc.no == j) ≡ true)) (job V j) p
+    (all_found (IsPlannedJob V) (λ (p : StreamJob). p.doc.no == j) (jobs V) (jobs_planned V)) e
+
+-- the job that is found has the number
+pub job_number : (V : View) (j : ℕ) (p : StreamJob) → job V j ≡ Some p → p.doc.no ≡ j
+job_number V j p e = eqb-true p.doc.no j (found_job V j p e).1
+
+-- and is planned
+pub job_planned : (V : View) (j : ℕ) (p : StreamJob) → job V j ≡ Some p → IsPlannedJob V p
+job_planned V j p e = (found_job V j p e).0
+
+found_stream : (V : View) (s : ℕ) (d : StreamDoc) → stream V s ≡ Some d → IsPlannedStream V d × ((d.no == s) ≡ true)
+unfolding stream
+found_stream V s d e =
+    there_if (λ (d : StreamDoc). IsPlannedStream V d × ((d.no == s) ≡ true)) (stream V s) d
+    (all_found (IsPlannedStream V) (λ (d : StreamDoc). d.no == s) (catalogue V) (streams_planned V)) e
+
+-- the stream that is found has the number
+pub stream_number : (V : View) (s : ℕ) (d : StreamDoc) → stream V s ≡ Some d → d.no ≡ s
+stream_number V s d e = eqb-true d.no s (found_stream V s d e).1
+
+-- and is planned
+pub stream_planned : (V : View) (s : ℕ) (d : StreamDoc) → stream V s ≡ Some d → IsPlannedStream V d
+stream_planned V s d e = (found_stream V s d e).0
+
+-- the jobs that a walk begins with
+pub jobs_left_planned : (V : View) (left : List StreamJob) → left ≡ jobs V → ArePlannedJobs V left
+jobs_left_planned V left e = subst (λ (ps : List StreamJob). ArePlannedJobs V ps) (sym e) (jobs_planned V)
+
+-- the streams that a walk begins with
+pub streams_left_planned : (V : View) (left : List StreamDoc) → left ≡ catalogue V → ArePlannedStreams V left
+streams_left_planned V left e = subst (λ (ds : List StreamDoc). ArePlannedStreams V ds) (sym e) (streams_planned V)

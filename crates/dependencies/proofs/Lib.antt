@@ -1,0 +1,6 @@
+mod Lists
+mod Found
+mod Behind
+mod Lowest
+mod Better
+mod Both

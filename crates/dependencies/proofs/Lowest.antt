@@ -1,0 +1,76 @@
+-- The lowest number of those that pass, one item further.
+use Rattle.std.proofs.Common.{◌≡◌, ◌∙◌, ◌∷◌, [], ℕ, Bool, List, None, Option, Some, ap, arith, cond, false, map, refl}
+use Rattle.std.proofs.Common.{subst, true}
+use Rattle.std.proofs.lemmas.Bool.Decides.{nat_tests}
+use Rattle.std.specs.Prelude.{◌&&◌, filter, nat_lt}
+use Rattle.model.specs.Words.{least, lesser}
+
+-- the lower of two numbers that may be there
+abbrev pub lower_of : Option ℕ → Option ℕ → Option ℕ
+lower_of None b = b
+lower_of (Some a) b = Some (lesser a b)
+
+two : (a x : ℕ) → cond (nat_lt x a) x a ≡ cond (nat_lt a x) a x
+two a x = grind (arith, nat_tests)
+
+three : (a x b : ℕ)
+    → cond (nat_lt (cond (nat_lt b x) b x) a) (cond (nat_lt b x) b x) a
+    ≡ cond (nat_lt b (cond (nat_lt a x) a x)) b (cond (nat_lt a x) a x)
+three a x b = grind (arith, nat_tests)
+
+-- the next number is the lowest so far, or the one before is
+lower_further : (before : Option ℕ) (x : ℕ) (rest : Option ℕ)
+    → lower_of before (Some (lesser x rest)) ≡ lower_of (Some (lesser x before)) rest
+lower_further None x None = refl
+lower_further None x (Some b) = refl
+lower_further (Some a) x None = ap Some (two a x)
+lower_further (Some a) x (Some b) = ap Some (three a x b)
+
+-- nothing is left
+pub lower_last : (before : Option ℕ) → lower_of before None ≡ before
+lower_last None = refl
+lower_last (Some a) = refl
+
+-- the numbers of those that pass three tests, the last on the number
+abbrev pub numbers_of : {X : Type 0} → (X → Bool) → (X → Bool) → (ℕ → Bool) → (X → ℕ) → List X → List ℕ
+numbers_of p q r number xs = filter r (map number (filter q (filter p xs)))
+
+one_more : {X : Type 0} (p q : X → Bool) (r : ℕ → Bool) (number : X → ℕ) (x : X) (xs : List X)
+    → (p x && (q x && r (number x))) ≡ true
+    → numbers_of p q r number (x ∷ xs) ≡ number x ∷ numbers_of p q r number xs
+one_more {X} p q r number x xs h = go (p x) (q x) (r (number x)) refl refl refl h
+  where
+    go : (a b c : Bool) → p x ≡ a → q x ≡ b → r (number x) ≡ c → (a && (b && c)) ≡ true
+        → numbers_of p q r number (x ∷ xs) ≡ number x ∷ numbers_of p q r number xs
+    go true true true e f g h = rw (e, f, g) refl
+    go true true false e f g h = cc
+    go true false c e f g h = cc
+    go false b c e f g h = cc
+
+no_more : {X : Type 0} (p q : X → Bool) (r : ℕ → Bool) (number : X → ℕ) (x : X) (xs : List X)
+    → (p x && (q x && r (number x))) ≡ false → numbers_of p q r number (x ∷ xs) ≡ numbers_of p q r number xs
+no_more {X} p q r number x xs h = go (p x) (q x) (r (number x)) refl refl refl h
+  where
+    go : (a b c : Bool) → p x ≡ a → q x ≡ b → r (number x) ≡ c → (a && (b && c)) ≡ false
+        → numbers_of p q r number (x ∷ xs) ≡ numbers_of p q r number xs
+    go true true true e f g h = cc
+    go true true false e f g h = rw (e, f, g) refl
+    go true false c e f g h = rw (e, f) refl
+    go false b c e f g h = rw e refl
+
+-- an item that passes
+pub lowest_with : {X : Type 0} (p q : X → Bool) (r : ℕ → Bool) (number : X → ℕ) (x : X) (xs : List X)
+    (all before : Option ℕ) → (p x && (q x && r (number x))) ≡ true
+    → all ≡ lower_of before (least (numbers_of p q r number (x ∷ xs)))
+    → all ≡ lower_of (Some (lesser (number x) before)) (least (numbers_of p q r number xs))
+lowest_with p q r number x xs all before h e =
+    e ∙ ap (λ (l : List ℕ). lower_of before (least l)) (one_more p q r number x xs h)
+        ∙ lower_further before (number x) (least (numbers_of p q r number xs))
+
+-- an item that does not
+pub lowest_without : {X : Type 0} (p q : X → Bool) (r : ℕ → Bool) (number : X → ℕ) (x : X) (xs : List X)
+    (all before : Option ℕ) → (p x && (q x && r (number x))) ≡ false
+    → all ≡ lower_of before (least (numbers_of p q r number (x ∷ xs)))
+    → all ≡ lower_of before (least (numbers_of p q r number xs))
+lowest_without p q r number x xs all before h e =
+    e ∙ ap (λ (l : List ℕ). lower_of before (least l)) (no_more p q r number x xs h)

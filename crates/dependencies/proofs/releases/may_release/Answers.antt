@@ -1,0 +1,7 @@
+use Rattle.std.proofs.Common.{sym}
+use Rattle.model.specs.History.{view_of}
+use Rattle.dependencies.proofs.Found.{stream_planned}
+use Rattle.dependencies.proofs.releases.may_release.Goals as goal
+
+pub may_release_in-requires : goal.may_release_in-requires
+may_release_in-requires c = stream_planned (view_of c.args.o.now) c.args.s c.in-Some.doc.now (sym c.in-Some.ensures)

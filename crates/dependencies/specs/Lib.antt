@@ -1,0 +1,3 @@
+pub mod Left
+pub mod Planned
+pub mod Ranks

@@ -31,6 +31,7 @@ mod walks;
 
 pub use candidates::{Readiness, Scan};
 pub use launches::ready;
+pub use priorities::{job_priority, stream_priority};
 pub use releases::{may_end, may_release};
 pub use untils::until_due;
-pub use waits::sat;
+pub use waits::{all_satisfied, sat};

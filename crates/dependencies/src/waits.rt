@@ -43,7 +43,7 @@ pub(crate) fn is_met(net: &Network, o: &Owners, w: Ws, obj: &Obj, i: u16, dep: &
 
 /// Whether each dependency of an object of w is waived or met.
 #[tactic(auto, unfolding(model::specs::Dependencies::all_satisfied))]
-pub(crate) fn all_satisfied(net: &Network, o: &Owners, w: Ws, obj: &Obj) -> bool
+pub fn all_satisfied(net: &Network, o: &Owners, w: Ws, obj: &Obj) -> bool
     requires { owner (view_of o.now) obj.now ≡ Some w }
     ensures { result ≡ spec.all_satisfied net.now (view_of o.now) w obj.now }
 {

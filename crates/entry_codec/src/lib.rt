@@ -11,7 +11,9 @@ mod tests;
 mod writing;
 
 pub use reading::entries::read_entry;
+pub use writing::documents::put_stream;
 pub use writing::entries::write_entry;
+pub use writing::lists::put_flag;
 
 /// Why bytes are no entry: their first fault from the left. Places count from 0.
 #[derive(Clone, Copy, Debug, PartialEq, Eq)]

@@ -3,8 +3,8 @@
 mod bodies;
 mod commands;
 mod dependencies;
-mod documents;
+pub(crate) mod documents;
 mod drafts;
 pub(crate) mod entries;
-mod lists;
+pub(crate) mod lists;
 mod parts;

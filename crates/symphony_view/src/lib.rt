@@ -8,6 +8,7 @@
 mod counts;
 mod listings;
 mod prompts;
+mod ranges;
 mod states;
 mod symphonies;
 #[cfg(test)]

@@ -1,5 +1,5 @@
 //! The listing of a plan, as text.
-ghost use Rattle.std.specs.Prelude.{◌≡◌, ◌++◌, IfOk, OnOk, flat_map};
+ghost use Rattle.std.specs.Prelude.{◌≡◌, ◌++◌, ◌≤◌, IfOk, OnOk, flat_map, length};
 ghost use Rattle.std.specs.List.{enumerate_from};
 ghost use Rattle.model.specs.Words.{below};
 ghost use Rattle.model.specs.Network.{node_count};
@@ -11,8 +11,11 @@ ghost use Rattle.symphony_view.specs.Listings as spec;
 ghost use Rattle.symphony_view.specs.Words as words;
 
 use crate::prompts::{prompt_state, prompt_word};
+use crate::ranges::{prompts, resources};
 use crate::states::{job_word, state_of_job, state_of_stream, stream_word};
-use base_types::{Bytes, Feed, Items, JobDoc, NoMemory, PromptDef, Resource, StreamDoc, StreamNo, Ws};
+use base_types::{
+    Bytes, Feed, Items, JobDoc, NoMemory, PromptDef, Resource, StreamDoc, StreamNo, Ws,
+};
 use network_tree::Network;
 use owner_fold::Owners;
 use report_text::name;
@@ -40,7 +43,7 @@ fn write_listing(out: &mut Vec<u8>, net: &Network, o: &Owners) -> io::Result<()>
     write_plan(out, o)?;
     write_cpus(out, net, o)?;
     write_resources(out, net, o)?;
-    write_prompts(out, net.net().prompts.as_slice(), o)?;
+    write_prompts(out, prompts(net), o)?;
     write_members(out, net, o)
 }
 
@@ -75,7 +78,12 @@ fn write_cpu(out: &mut Vec<u8>, net: &Network, o: &Owners, w: Ws) -> io::Result<
     let name = name(net.net(), &w);
     let activity = activity_word(o.is_stopped(w));
     let clock = o.now(w).0;
-    write!(out, "cpu {name} fence {} limit {} clock {clock} {activity}\n", o.fence(w), o.limit(w))
+    write!(
+        out,
+        "cpu {name} fence {} limit {} clock {clock} {activity}\n",
+        o.fence(w),
+        o.limit(w)
+    )
 }
 
 fn activity_word(stopped: bool) -> &'static str
@@ -89,7 +97,7 @@ fn write_resources(out: &mut Vec<u8>, net: &Network, o: &Owners) -> io::Result<(
         ++ flat_map (spec.resource_line net.now (view_of o.now)) (enumerate_from 1 net.now.resources)) }
 {
     let mut number = 0;
-    for resource in net.net().resources.as_slice() {
+    for resource in resources(net) {
         number += 1;
         write_resource(out, net, o, number, resource)?;
     }
@@ -115,6 +123,7 @@ fn write_resource(
 }
 
 fn write_prompts(out: &mut Vec<u8>, prompts: &[PromptDef], o: &Owners) -> io::Result<()>
+    requires { length prompts.now ≤ 65535 }
     ensures { OnOk result (out.new.items ≡ out.old.items
         ++ flat_map (spec.prompt_line (view_of o.now)) (enumerate_from 1 prompts.now)) }
 {
@@ -164,7 +173,12 @@ fn write_stream(out: &mut Vec<u8>, net: &Network, o: &Owners, doc: &StreamDoc) -
 {
     let ws = name(net.net(), &doc.ws);
     let state = stream_word(state_of_stream(net, o, doc));
-    write!(out, "stream {} {ws}#{} {state}\n", doc.no.0, doc.name.as_str())
+    write!(
+        out,
+        "stream {} {ws}#{} {state}\n",
+        doc.no.0,
+        doc.name.as_str()
+    )
 }
 
 fn write_jobs(out: &mut Vec<u8>, net: &Network, o: &Owners, doc: &StreamDoc) -> io::Result<()>

@@ -88,7 +88,11 @@ pub(crate) fn state_of_job(net: &Network, o: &Owners, parent: &StreamDoc, doc: &
     ensures { told_job result ≡ spec.job_state net.now (view_of o.now) (stream_job parent.now doc.now) }
 {
     if o.open_launch(doc.no).is_some() {
-        return if o.is_last_started(doc.no) { JobState::Exec } else { JobState::Intro };
+        return if o.is_last_started(doc.no) {
+            JobState::Exec
+        } else {
+            JobState::Intro
+        };
     }
     if o.is_good(doc.no) {
         return JobState::Succ;
@@ -143,7 +147,11 @@ pub(crate) fn state_of_stream(net: &Network, o: &Owners, doc: &StreamDoc) -> Str
     if kinds.running || !kinds.bad {
         return StreamState::Exec;
     }
-    if kinds.held { StreamState::Stuck } else { StreamState::Abend }
+    if kinds.held {
+        StreamState::Stuck
+    } else {
+        StreamState::Abend
+    }
 }
 
 /// The word of a job's state in a listing.

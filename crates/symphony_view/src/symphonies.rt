@@ -1,22 +1,25 @@
 //! The bytes of Symphony.
-ghost use Rattle.std.specs.Prelude.{◌≡◌, ◌++◌, IfOk, OnOk, flat_map};
+ghost use Rattle.std.specs.Prelude.{◌≡◌, ◌++◌, ◌≤◌, IfOk, OnOk, codes, flat_map, length};
 ghost use Rattle.std.specs.List.{All, enumerate_from};
 ghost use Rattle.model.specs.Words.{below};
 ghost use Rattle.model.specs.Network.{node_count};
 ghost use Rattle.model.specs.History.{view_of};
 ghost use Rattle.model.specs.Catalogue.{members};
-ghost use Rattle.model.specs.Fields.{flag_bytes, list_bytes, u32_bytes};
+ghost use Rattle.model.specs.Fields.{list_bytes, u32_bytes};
 ghost use Rattle.model.specs.Fit.{IsFit, IsFitStream};
 ghost use Rattle.owner_fold.specs.Spots.{stream_job};
 ghost use Rattle.dependencies.specs.Planned.{IsPlannedJob, IsPlannedStream};
 ghost use Rattle.symphony_view.specs.Symphonies as spec;
 
 use crate::prompts::{prompt_number, prompt_state};
+use crate::ranges::{prompts, resources};
 use crate::states::{job_number, state_of_job, state_of_stream, stream_number};
-use base_types::{Bytes, Feed, Items, JobDoc, NoMemory, PromptDef, Resource, StreamDoc, StreamNo, Ws};
+use base_types::{
+    Bytes, Feed, Items, JobDoc, NoMemory, PromptDef, Resource, StreamDoc, StreamNo, Ws,
+};
 use byte_fields::{put_u8, put_u16, put_u32, put_u64};
 use dependencies::{job_priority, stream_priority};
-use entry_codec::put_stream;
+use entry_codec::{put_flag, put_stream};
 use network_tree::Network;
 use owner_fold::Owners;
 use std::alloc::Global;
@@ -44,8 +47,8 @@ fn put_symphony(out: &mut Bytes, net: &Network, o: &Owners) -> Result<(), NoMemo
     put_cpus(out, net, o)?;
     put_u32(out, o.run())?;
     put_members(out, net, o)?;
-    put_resources(out, net.net().resources.as_slice(), o)?;
-    put_prompts(out, net.net().prompts.as_slice(), o)
+    put_resources(out, resources(net), o)?;
+    put_prompts(out, prompts(net), o)
 }
 
 /// The four bytes at the beginning.
@@ -56,12 +59,6 @@ fn put_mark(out: &mut Bytes) -> Result<(), NoMemory>
     put_u8(out, b'W')?;
     put_u8(out, b'S')?;
     put_u8(out, b'Y')
-}
-
-fn put_flag(out: &mut Bytes, flag: bool) -> Result<(), NoMemory>
-    ensures { OnOk result (out.new ≡ out.old ++ flag_bytes flag) }
-{
-    put_u8(out, if flag { 1 } else { 0 })
 }
 
 /// How many items a list has.
@@ -135,7 +132,12 @@ fn put_planned(out: &mut Bytes, net: &Network, o: &Owners, doc: &StreamDoc) -> R
 }
 
 #[tactic(auto, unfolding(crate::specs::Symphonies::numbered_job_bytes))]
-fn put_numbered_job(out: &mut Bytes, net: &Network, o: &Owners, job: &JobDoc) -> Result<(), NoMemory>
+fn put_numbered_job(
+    out: &mut Bytes,
+    net: &Network,
+    o: &Owners,
+    job: &JobDoc,
+) -> Result<(), NoMemory>
     ensures { OnOk result (out.new ≡ out.old ++ spec.numbered_job_bytes net.now (view_of o.now) job.now) }
 {
     match o.planned_job(job.no) {
@@ -162,6 +164,7 @@ fn put_job(
 }
 
 fn put_resources(out: &mut Bytes, resources: &[Resource], o: &Owners) -> Result<(), NoMemory>
+    requires { length resources.now ≤ 65535 }
     ensures { OnOk result (out.new ≡ out.old
         ++ list_bytes (spec.resource_bytes (view_of o.now)) (enumerate_from 1 resources.now)) }
 {
@@ -175,14 +178,23 @@ fn put_resources(out: &mut Bytes, resources: &[Resource], o: &Owners) -> Result<
 }
 
 #[tactic(auto, unfolding(crate::specs::Symphonies::resource_bytes))]
-fn put_resource(out: &mut Bytes, o: &Owners, number: u16, resource: &Resource) -> Result<(), NoMemory>
+fn put_resource(
+    out: &mut Bytes,
+    o: &Owners,
+    number: u16,
+    resource: &Resource,
+) -> Result<(), NoMemory>
     ensures { OnOk result (out.new ≡ out.old ++ spec.resource_bytes (view_of o.now) (number, resource.now)) }
 {
     put_u64(out, o.used(resource.ws, number))?;
-    put_u16(out, o.total_set(resource.ws, number).unwrap_or(resource.total))
+    put_u16(
+        out,
+        o.total_set(resource.ws, number).unwrap_or(resource.total),
+    )
 }
 
 fn put_prompts(out: &mut Bytes, prompts: &[PromptDef], o: &Owners) -> Result<(), NoMemory>
+    requires { length prompts.now ≤ 65535 }
     ensures { OnOk result (out.new ≡ out.old
         ++ list_bytes (spec.prompt_bytes (view_of o.now)) (enumerate_from 1 prompts.now)) }
 {

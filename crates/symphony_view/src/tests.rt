@@ -129,7 +129,12 @@ fn the_listing_of_the_smallest_night(rt: HostRuntime) -> Result<(), Fail> {
     let net = network(rt.alloc())?;
     let owners = smallest_night(rt.alloc())?;
     let shown = listing(rt.alloc(), &net, &owners)?;
-    assert!(rt; is_text(&shown, "plan 1\ncpu M fence 0 limit 10 clock 0 running\nstream 1 M#S SUCC\njob 1 M#S.A SUCC 1\n"));
+    assert!(rt;
+        is_text(
+            &shown,
+            "plan 1\ncpu M fence 0 limit 10 clock 0 running\nstream 1 M#S SUCC\njob 1 M#S.A SUCC 1\n"
+        )
+    );
     Ok(())
 }
 
@@ -158,7 +163,12 @@ fn a_priority_at_the_fence_is_held(rt: HostRuntime) -> Result<(), Fail> {
     obeyed(&mut owners, 2, 1, Cmd::Fence(10))?;
     released(rt.alloc(), &mut owners, 3)?;
     let shown = listing(rt.alloc(), &net, &owners)?;
-    assert!(rt; is_text(&shown, "plan 1\ncpu M fence 10 limit 10 clock 0 running\nstream 1 M#S EXEC\njob 1 M#S.A FENCE 0\n"));
+    assert!(rt;
+        is_text(
+            &shown,
+            "plan 1\ncpu M fence 10 limit 10 clock 0 running\nstream 1 M#S EXEC\njob 1 M#S.A FENCE 0\n"
+        )
+    );
     Ok(())
 }
 
@@ -170,7 +180,12 @@ fn a_priority_above_the_fence_is_ready(rt: HostRuntime) -> Result<(), Fail> {
     released(rt.alloc(), &mut owners, 3)?;
     event(&mut owners, 4, Body::Clock(Moment(7)))?;
     let shown = listing(rt.alloc(), &net, &owners)?;
-    assert!(rt; is_text(&shown, "plan 1\ncpu M fence 9 limit 10 clock 7 running\nstream 1 M#S EXEC\njob 1 M#S.A READY 0\n"));
+    assert!(rt;
+        is_text(
+            &shown,
+            "plan 1\ncpu M fence 9 limit 10 clock 7 running\nstream 1 M#S EXEC\njob 1 M#S.A READY 0\n"
+        )
+    );
     Ok(())
 }
 
@@ -181,10 +196,20 @@ fn a_launch_is_introduced_and_then_executes(rt: HostRuntime) -> Result<(), Fail>
     released(rt.alloc(), &mut owners, 2)?;
     launched(rt.alloc(), &mut owners, 3, 1)?;
     let shown = listing(rt.alloc(), &net, &owners)?;
-    assert!(rt; is_text(&shown, "plan 1\ncpu M fence 0 limit 10 clock 0 running\nstream 1 M#S EXEC\njob 1 M#S.A INTRO 1\n"));
+    assert!(rt;
+        is_text(
+            &shown,
+            "plan 1\ncpu M fence 0 limit 10 clock 0 running\nstream 1 M#S EXEC\njob 1 M#S.A INTRO 1\n"
+        )
+    );
     event(&mut owners, 4, Body::Started(JobNo(1), 1))?;
     let shown = listing(rt.alloc(), &net, &owners)?;
-    assert!(rt; is_text(&shown, "plan 1\ncpu M fence 0 limit 10 clock 0 running\nstream 1 M#S EXEC\njob 1 M#S.A EXEC 1\n"));
+    assert!(rt;
+        is_text(
+            &shown,
+            "plan 1\ncpu M fence 0 limit 10 clock 0 running\nstream 1 M#S EXEC\njob 1 M#S.A EXEC 1\n"
+        )
+    );
     Ok(())
 }
 
@@ -197,7 +222,12 @@ fn a_lost_launch_ends_the_stream_badly(rt: HostRuntime) -> Result<(), Fail> {
     event(&mut owners, 4, Body::Lost(JobNo(1), 1))?;
     obeyed(&mut owners, 5, 1, Cmd::Stop)?;
     let shown = listing(rt.alloc(), &net, &owners)?;
-    assert!(rt; is_text(&shown, "plan 1\ncpu M fence 0 limit 10 clock 0 stopped\nstream 1 M#S ABEND\njob 1 M#S.A ABEND 1\n"));
+    assert!(rt;
+        is_text(
+            &shown,
+            "plan 1\ncpu M fence 0 limit 10 clock 0 stopped\nstream 1 M#S ABEND\njob 1 M#S.A ABEND 1\n"
+        )
+    );
     Ok(())
 }
 
@@ -210,7 +240,11 @@ fn a_cancelled_job_ends_its_stream(rt: HostRuntime) -> Result<(), Fail> {
     let seen = seen(rt.alloc(), 3)?;
     event(&mut owners, 4, Body::StreamEnded(StreamNo(1), seen))?;
     let shown = listing(rt.alloc(), &net, &owners)?;
-    assert!(rt; is_text(&shown, "plan 1\ncpu M fence 0 limit 10 clock 0 running\nstream 1 M#S SUCC\njob 1 M#S.A CANCEL 0\n"));
+    assert!(rt;
+        is_text(
+            &shown,
+            "plan 1\ncpu M fence 0 limit 10 clock 0 running\nstream 1 M#S SUCC\njob 1 M#S.A CANCEL 0\n"
+        )
+    );
     Ok(())
 }
-

@@ -1,8 +1,8 @@
 //! The documents of streams and jobs, and their parts.
 ghost use Rattle.std.specs.Prelude.{◌≡◌, ◌++◌, OnOk};
 ghost use Rattle.model.specs.Fields.{i32_bytes};
-ghost use Rattle.model.specs.Fit.{IsFitCond, IsFitWork};
-ghost use Rattle.model.specs.Spelling.{cond_bytes, op_bytes, work_bytes};
+ghost use Rattle.model.specs.Fit.{IsFitCond, IsFitStream, IsFitWork};
+ghost use Rattle.model.specs.Spelling.{cond_bytes, op_bytes, stream_doc_bytes, work_bytes};
 ghost use Rattle.model.specs.Spelling as spelled;
 
 use crate::writing::lists::{Put, put_flag, put_limit, put_list};
@@ -51,6 +51,14 @@ impl Put for StreamDoc {
         put_list(out, &self.deps)?;
         put_list(out, &self.jobs)
     }
+}
+
+/// Adds the bytes of a stream's document. Where memory runs out, a part of them may have been added.
+pub fn put_stream(out: &mut Bytes, doc: &StreamDoc) -> Result<(), NoMemory>
+    requires { IsFitStream doc.now }
+    ensures { OnOk result (out.new ≡ out.old ++ stream_doc_bytes doc.now) }
+{
+    doc.put(out)
 }
 
 /// Adds what a job runs: its choice and its text.

@@ -47,7 +47,7 @@ pub(crate) fn put_list<T: Put>(out: &mut Bytes, items: &Items<T>) -> Result<(), 
 }
 
 /// Adds 1 for yes, 0 for no.
-pub(crate) fn put_flag(out: &mut Bytes, flag: bool) -> Result<(), NoMemory>
+pub fn put_flag(out: &mut Bytes, flag: bool) -> Result<(), NoMemory>
     ensures { OnOk result (out.new ≡ out.old ++ flag_bytes flag) }
 {
     if flag { put_u8(out, 1) } else { put_u8(out, 0) }

@@ -3,17 +3,19 @@
 use Rattle.std.specs.Fmt.{decimal}
 use Rattle.std.specs.List.{enumerate_from}
 use Rattle.std.specs.Option.{option_map_or}
-use Rattle.std.specs.Prelude.{[], if◌then◌else◌, ℕ, ◌++◌, ◌==◌, List, codes, flat_map, length}
+use Rattle.std.specs.Prelude.{[], if◌then◌else◌, ℕ, ◌++◌, ◌==◌, List, codes, flat_map}
 use Rattle.model.specs.Types.{Events, JobDoc, Net, PromptDef, Resource, StreamDoc}
 use Rattle.model.specs.Words.{below}
 use Rattle.model.specs.Network.{node_count}
 use Rattle.model.specs.History.{View}
 use Rattle.model.specs.Catalogue.{StreamJob, has_plan, job, members, stream}
-use Rattle.model.specs.Facts.{fence, global_reply, is_stopped, launches, limit, now, total}
+use Rattle.model.specs.Facts.{global_reply, launches, total}
 use Rattle.model.specs.Dependencies.{used}
 use Rattle.model.specs.NewPlan.{last_run}
 use Rattle.model.specs.States.{job_state, stream_state}
 use Rattle.report_text.specs.Names.{name_of}
+use Rattle.symphony_view.specs.Cpus.{cpu_of}
+use Rattle.symphony_view.specs.declared.cpus.Cpu.{Cpu}
 use Rattle.symphony_view.specs.Words.{activity_word, job_word, prompt_state, prompt_word, stream_word}
 
 -- `plan RUN`, or `no plan`
@@ -21,14 +23,21 @@ unfoldable pub plan_line : View → List ℕ
 plan_line V =
     if has_plan V then codes "plan " ++ decimal (last_run (V (Events 0))) ++ codes "\n" else codes "no plan\n"
 
--- `cpu W fence F limit L clock T running`, or `stopped`, where an event of W is held
+-- `cpu W fence F limit L`
+unfoldable pub settings_text : List ℕ → Cpu → List ℕ
+settings_text name c = codes "cpu " ++ name ++ codes " fence " ++ decimal c.fence ++ codes " limit " ++ decimal c.limit
+
+-- ` clock T running`, or `stopped`
+unfoldable pub clock_text : Cpu → List ℕ
+clock_text c = codes " clock " ++ decimal c.clock ++ codes " " ++ activity_word c.stopped ++ codes "\n"
+
+-- both, where an event of the workstation is held
+unfoldable pub told_line : List ℕ → Cpu → List ℕ
+told_line name c = if c.held == 0 then codes "" else settings_text name c ++ clock_text c
+
+-- by the events of the workstation
 unfoldable pub cpu_line : Net → View → ℕ → List ℕ
-cpu_line net V w =
-    let events = V (Events w) in
-    if length events == 0 then codes "" else
-    codes "cpu " ++ name_of net w ++ codes " fence " ++ decimal (fence events) ++ codes " limit "
-    ++ decimal (limit events) ++ codes " clock " ++ decimal (now events) ++ codes " "
-    ++ activity_word (is_stopped events) ++ codes "\n"
+cpu_line net V w = told_line (name_of net w) (cpu_of (V (Events w)))
 
 -- `resource W#R used U total T`
 unfoldable pub resource_line : Net → View → ℕ × Resource → List ℕ

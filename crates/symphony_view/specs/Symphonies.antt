@@ -2,27 +2,37 @@
 -- the resources, and the prompts.
 use Rattle.std.specs.List.{enumerate_from}
 use Rattle.std.specs.Option.{option_map_or}
-use Rattle.std.specs.Prelude.{[], ℕ, ◌++◌, List, codes, flat_map, length}
+use Rattle.std.specs.Prelude.{[], ℕ, ◌++◌, List, codes, flat_map}
 use Rattle.model.specs.Types.{Events, JobDoc, Net, PromptDef, Resource, StreamDoc}
 use Rattle.model.specs.Words.{below}
 use Rattle.model.specs.Network.{node_count}
 use Rattle.model.specs.History.{View}
 use Rattle.model.specs.Catalogue.{StreamJob, job, members, stream}
-use Rattle.model.specs.Facts.{fence, global_reply, is_stopped, launches, limit, now, total}
+use Rattle.model.specs.Facts.{global_reply, launches, total}
 use Rattle.model.specs.Dependencies.{used}
 use Rattle.model.specs.Readiness.{job_priority, stream_priority}
 use Rattle.model.specs.NewPlan.{last_run}
 use Rattle.model.specs.States.{job_state, stream_state}
 use Rattle.model.specs.Fields.{flag_bytes, list_bytes, u16_bytes, u32_bytes, u64_bytes, u8_bytes}
 use Rattle.model.specs.Spelling.{stream_doc_bytes}
+use Rattle.symphony_view.specs.Cpus.{cpu_of}
+use Rattle.symphony_view.specs.declared.cpus.Cpu.{Cpu}
 use Rattle.symphony_view.specs.Words.{job_number, prompt_number, prompt_state, stream_number}
 
--- how many of a workstation's events are held, its fence, limit and clock, and whether it is stopped
+-- how many of a workstation's events are held, its fence and its limit
+unfoldable pub settings_bytes : Cpu → List ℕ
+settings_bytes c = u32_bytes c.held ++ u8_bytes c.fence ++ u16_bytes c.limit
+
+-- its clock, and whether it is stopped
+unfoldable pub clock_bytes : Cpu → List ℕ
+clock_bytes c = u64_bytes c.clock ++ flag_bytes c.stopped
+
+unfoldable pub fields_of : Cpu → List ℕ
+fields_of c = settings_bytes c ++ clock_bytes c
+
+-- by its events
 unfoldable pub cpu_bytes : View → ℕ → List ℕ
-cpu_bytes V w =
-    let events = V (Events w) in
-    u32_bytes (length events) ++ u8_bytes (fence events) ++ u16_bytes (limit events) ++ u64_bytes (now events)
-    ++ flag_bytes (is_stopped events)
+cpu_bytes V w = fields_of (cpu_of (V (Events w)))
 
 -- a job's state, its launches and its priority
 unfoldable pub job_bytes : Net → View → StreamJob → List ℕ

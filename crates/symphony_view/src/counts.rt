@@ -1,5 +1,5 @@
 //! Which kinds of states the jobs of a stream have.
-ghost use Rattle.std.specs.Prelude.{◌≡◌, ◌||◌};
+ghost use Rattle.std.specs.Prelude.{◌≡◌, ◌||◌, map};
 ghost use Rattle.std.specs.List.{list_any};
 ghost use Rattle.model.specs.History.{view_of};
 ghost use Rattle.model.specs.Catalogue.{jobs_of_stream};
@@ -44,14 +44,14 @@ fn kinds_with(kinds: Kinds, state: JobState) -> Kinds
 }
 
 /// Those of the jobs of a stream.
-#[tactic(auto, unfolding(model::specs::States::states_of))]
+#[tactic(auto, using(crate::proofs::Planned::stream_jobs_planned))]
 pub(crate) fn kinds_of_jobs(net: &Network, o: &Owners, s: StreamNo) -> Kinds
     ensures running { result.running ≡
-        list_any (λ p. spec.is_running_state (spec.job_state net.now (view_of o.now) p)) (jobs_of_stream (view_of o.now) s) }
+        list_any spec.is_running_state (map (spec.job_state net.now (view_of o.now)) (jobs_of_stream (view_of o.now) s)) }
     ensures bad { result.bad ≡
-        list_any (λ p. spec.is_bad_state (spec.job_state net.now (view_of o.now) p)) (jobs_of_stream (view_of o.now) s) }
+        list_any spec.is_bad_state (map (spec.job_state net.now (view_of o.now)) (jobs_of_stream (view_of o.now) s)) }
     ensures held { result.held ≡
-        list_any (λ p. spec.is_hold_state (spec.job_state net.now (view_of o.now) p)) (jobs_of_stream (view_of o.now) s) }
+        list_any spec.is_hold_state (map (spec.job_state net.now (view_of o.now)) (jobs_of_stream (view_of o.now) s)) }
 {
     let mut kinds = Kinds {
         running: false,

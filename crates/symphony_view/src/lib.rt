@@ -6,6 +6,8 @@
 #![tactic(auto)]
 
 mod counts;
+mod cpus;
+mod launches;
 mod listings;
 mod prompts;
 mod ranges;

@@ -10,12 +10,11 @@ ghost use Rattle.dependencies.specs.Planned.{IsPlannedJob, IsPlannedStream};
 ghost use Rattle.symphony_view.specs.Listings as spec;
 ghost use Rattle.symphony_view.specs.Words as words;
 
+use crate::cpus::{Cpu, cpu_of};
 use crate::prompts::{prompt_state, prompt_word};
 use crate::ranges::{prompts, resources};
 use crate::states::{job_word, state_of_job, state_of_stream, stream_word};
-use base_types::{
-    Bytes, Feed, Items, JobDoc, NoMemory, PromptDef, Resource, StreamDoc, StreamNo, Ws,
-};
+use base_types::{Bytes, Items, JobDoc, NoMemory, PromptDef, Resource, StreamDoc, StreamNo, Ws};
 use network_tree::Network;
 use owner_fold::Owners;
 use report_text::name;
@@ -58,6 +57,7 @@ fn write_plan(out: &mut Vec<u8>, o: &Owners) -> io::Result<()>
     }
 }
 
+#[tactic(auto, using(crate::proofs::Belows::one_more))]
 fn write_cpus(out: &mut Vec<u8>, net: &Network, o: &Owners) -> io::Result<()>
     ensures { OnOk result (out.new.items ≡ out.old.items
         ++ flat_map (spec.cpu_line net.now (view_of o.now)) (below (node_count net.now))) }
@@ -72,18 +72,33 @@ fn write_cpus(out: &mut Vec<u8>, net: &Network, o: &Owners) -> io::Result<()>
 fn write_cpu(out: &mut Vec<u8>, net: &Network, o: &Owners, w: Ws) -> io::Result<()>
     ensures { OnOk result (out.new.items ≡ out.old.items ++ spec.cpu_line net.now (view_of o.now) w) }
 {
-    if o.count(Feed::Events(w)) == 0 {
+    write_told(out, name(net.net(), &w), &cpu_of(o, w))
+}
+
+#[tactic(auto, unfolding(crate::specs::Listings::told_line))]
+fn write_told(out: &mut Vec<u8>, name: &str, cpu: &Cpu) -> io::Result<()>
+    ensures { OnOk result (out.new.items ≡ out.old.items ++ spec.told_line name.now cpu.now) }
+{
+    if cpu.held == 0 {
         return Ok(());
     }
-    let name = name(net.net(), &w);
-    let activity = activity_word(o.is_stopped(w));
-    let clock = o.now(w).0;
-    write!(
-        out,
-        "cpu {name} fence {} limit {} clock {clock} {activity}\n",
-        o.fence(w),
-        o.limit(w)
-    )
+    write_settings(out, name, cpu)?;
+    write_clock(out, cpu)
+}
+
+#[tactic(auto, unfolding(crate::specs::Listings::settings_text))]
+fn write_settings(out: &mut Vec<u8>, name: &str, cpu: &Cpu) -> io::Result<()>
+    ensures { OnOk result (out.new.items ≡ out.old.items ++ spec.settings_text name.now cpu.now) }
+{
+    write!(out, "cpu {name} fence {} limit {}", cpu.fence, cpu.limit)
+}
+
+#[tactic(auto, unfolding(crate::specs::Listings::clock_text))]
+fn write_clock(out: &mut Vec<u8>, cpu: &Cpu) -> io::Result<()>
+    ensures { OnOk result (out.new.items ≡ out.old.items ++ spec.clock_text cpu.now) }
+{
+    let activity = activity_word(cpu.stopped);
+    write!(out, " clock {} {activity}\n", cpu.clock)
 }
 
 fn activity_word(stopped: bool) -> &'static str
@@ -153,7 +168,7 @@ fn write_members(out: &mut Vec<u8>, net: &Network, o: &Owners) -> io::Result<()>
     Ok(())
 }
 
-#[tactic(auto, unfolding(crate::specs::Listings::member_lines))]
+#[tactic(auto, unfolding(crate::specs::Listings::member_lines, crate::specs::Listings::stream_lines))]
 fn write_member(out: &mut Vec<u8>, net: &Network, o: &Owners, s: StreamNo) -> io::Result<()>
     ensures { OnOk result (out.new.items ≡ out.old.items ++ spec.member_lines net.now (view_of o.now) s) }
 {

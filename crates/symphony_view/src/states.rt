@@ -1,5 +1,5 @@
 //! The states of jobs and streams: the first line that applies.
-ghost use Rattle.std.specs.Prelude.{◌≡◌, ◌≢◌, IsSome, None, Some, option_map};
+ghost use Rattle.std.specs.Prelude.{◌≡◌, ◌≢◌, None, Some, if◌then◌else◌, option_map};
 ghost use Rattle.model.specs.History.{view_of};
 ghost use Rattle.model.specs.Catalogue.{job, stream};
 ghost use Rattle.model.specs.States as spec;
@@ -7,9 +7,10 @@ ghost use Rattle.owner_fold.specs.Spots.{stream_job};
 ghost use Rattle.dependencies.specs.Planned.{IsPlannedJob, IsPlannedStream};
 ghost use Rattle.symphony_view.specs.Words as words;
 ghost use Rattle.symphony_view.specs.Words.{told_job, told_stream};
-ghost use Rattle.symphony_view.specs.Waiting.{state_of_waiting};
+ghost use Rattle.symphony_view.specs.Tables.{state_of_launches, state_of_planned, state_of_waiting};
 
 use crate::counts::kinds_of_jobs;
+use crate::launches::{is_due, is_good, is_last_started, is_open, last_outcome};
 use base_types::{JobDoc, JobNo, Obj, StreamDoc, StreamNo};
 use dependencies::{all_satisfied, job_priority};
 use network_tree::Network;
@@ -82,29 +83,44 @@ pub fn stream_state(net: &Network, o: &Owners, s: StreamNo) -> StreamState
 }
 
 /// The state of a job with its stream.
-#[tactic(auto, unfolding(model::specs::States::job_state))]
+#[tactic(auto, using(crate::proofs::Tables::job_state_is))]
 pub(crate) fn state_of_job(net: &Network, o: &Owners, parent: &StreamDoc, doc: &JobDoc) -> JobState
     requires { IsPlannedJob (view_of o.now) (stream_job parent.now doc.now) }
     ensures { told_job result ≡ spec.job_state net.now (view_of o.now) (stream_job parent.now doc.now) }
 {
-    if o.open_launch(doc.no).is_some() {
-        return if o.is_last_started(doc.no) {
-            JobState::Exec
-        } else {
-            JobState::Intro
-        };
+    state_by_launches(net, o, parent, doc)
+}
+
+/// The state of a job by its launches, or else by what it waits for.
+fn state_by_launches(net: &Network, o: &Owners, parent: &StreamDoc, doc: &JobDoc) -> JobState
+    requires { IsPlannedJob (view_of o.now) (stream_job parent.now doc.now) }
+    ensures { told_job result ≡ state_of_launches net.now (view_of o.now) (stream_job parent.now doc.now) }
+{
+    if is_open(o, parent, doc) {
+        return state_of_open(is_last_started(o, parent, doc));
     }
-    if o.is_good(doc.no) {
+    if is_good(o, parent, doc) {
         return JobState::Succ;
     }
-    if !o.is_due(doc.no) {
-        match o.last_outcome(doc.no) {
-            Some(Outcome::Failed) => return JobState::Fail,
-            Some(_) => return JobState::Abend,
-            None => {}
-        }
+    if is_due(o, parent, doc) {
+        return state_before_launch(net, o, parent, doc);
     }
-    state_before_launch(net, o, parent, doc)
+    match last_outcome(o, parent, doc) {
+        Some(Outcome::Failed) => JobState::Fail,
+        Some(_) => JobState::Abend,
+        None => state_before_launch(net, o, parent, doc),
+    }
+}
+
+/// The state of a job with an open launch.
+fn state_of_open(started: bool) -> JobState
+    ensures { told_job result ≡ (if started then spec.JobState.Exec else spec.JobState.Intro) }
+{
+    if started {
+        JobState::Exec
+    } else {
+        JobState::Intro
+    }
 }
 
 /// The state of a job that no launch decides.
@@ -125,10 +141,19 @@ fn state_before_launch(net: &Network, o: &Owners, parent: &StreamDoc, doc: &JobD
 }
 
 /// The state of a stream by its document.
-#[tactic(auto, unfolding(model::specs::States::stream_state))]
+#[tactic(auto, using(crate::proofs::Tables::stream_state_is))]
 pub(crate) fn state_of_stream(net: &Network, o: &Owners, doc: &StreamDoc) -> StreamState
     requires { IsPlannedStream (view_of o.now) doc.now }
     ensures { told_stream result ≡ spec.stream_state net.now (view_of o.now) doc.now }
+{
+    state_by_jobs(net, o, doc)
+}
+
+/// The state of a stream by what is told of it, or else by its jobs.
+#[tactic(auto, unfolding(model::specs::States::states_of))]
+fn state_by_jobs(net: &Network, o: &Owners, doc: &StreamDoc) -> StreamState
+    requires { IsPlannedStream (view_of o.now) doc.now }
+    ensures { told_stream result ≡ state_of_planned net.now (view_of o.now) doc.now }
 {
     if o.is_cancelled(Obj::Stream(doc.no)) {
         return StreamState::Cancel;

@@ -1,16 +1,17 @@
 //! The bytes of Symphony.
 ghost use Rattle.std.specs.Prelude.{◌≡◌, ◌++◌, ◌≤◌, IfOk, OnOk, codes, flat_map, length};
-ghost use Rattle.std.specs.List.{All, enumerate_from};
+ghost use Rattle.std.specs.List.{enumerate_from};
 ghost use Rattle.model.specs.Words.{below};
 ghost use Rattle.model.specs.Network.{node_count};
 ghost use Rattle.model.specs.History.{view_of};
 ghost use Rattle.model.specs.Catalogue.{members};
 ghost use Rattle.model.specs.Fields.{list_bytes, u32_bytes};
-ghost use Rattle.model.specs.Fit.{IsFit, IsFitStream};
+ghost use Rattle.model.specs.Fit.{AreFitEntries, IsFitStream};
 ghost use Rattle.owner_fold.specs.Spots.{stream_job};
 ghost use Rattle.dependencies.specs.Planned.{IsPlannedJob, IsPlannedStream};
 ghost use Rattle.symphony_view.specs.Symphonies as spec;
 
+use crate::cpus::{Cpu, cpu_of};
 use crate::prompts::{prompt_number, prompt_state};
 use crate::ranges::{prompts, resources};
 use crate::states::{job_number, state_of_job, state_of_stream, stream_number};
@@ -28,7 +29,7 @@ use std::alloc::Global;
 ///
 /// `NoMemory` where memory runs out; a list of more than 4,294,967,295 members counts as such.
 pub fn symphony(alloc: Global, net: &Network, o: &Owners) -> Result<Bytes, NoMemory>
-    requires { All IsFit o.now }
+    requires { AreFitEntries o.now }
     ensures { IfOk result (λ bytes. bytes ≡ spec.symphony_of net.now (view_of o.now)) }
 {
     let mut out = Items::new(alloc);
@@ -38,7 +39,7 @@ pub fn symphony(alloc: Global, net: &Network, o: &Owners) -> Result<Bytes, NoMem
 
 #[tactic(auto, unfolding(crate::specs::Symphonies::symphony_of))]
 fn put_symphony(out: &mut Bytes, net: &Network, o: &Owners) -> Result<(), NoMemory>
-    requires { All IsFit o.now }
+    requires { AreFitEntries o.now }
     ensures { OnOk result (out.new ≡ out.old ++ spec.symphony_of net.now (view_of o.now)) }
 {
     put_mark(out)?;
@@ -71,6 +72,7 @@ fn put_count(out: &mut Bytes, count: usize) -> Result<(), NoMemory>
     }
 }
 
+#[tactic(auto, using(crate::proofs::Belows::one_more))]
 fn put_cpus(out: &mut Bytes, net: &Network, o: &Owners) -> Result<(), NoMemory>
     ensures { OnOk result (out.new ≡ out.old
         ++ flat_map (spec.cpu_bytes (view_of o.now)) (below (node_count net.now))) }
@@ -85,15 +87,36 @@ fn put_cpus(out: &mut Bytes, net: &Network, o: &Owners) -> Result<(), NoMemory>
 fn put_cpu(out: &mut Bytes, o: &Owners, w: Ws) -> Result<(), NoMemory>
     ensures { OnOk result (out.new ≡ out.old ++ spec.cpu_bytes (view_of o.now) w) }
 {
-    put_u32(out, o.count(Feed::Events(w)))?;
-    put_u8(out, o.fence(w))?;
-    put_u16(out, o.limit(w))?;
-    put_u64(out, o.now(w).0)?;
-    put_flag(out, o.is_stopped(w))
+    put_fields(out, &cpu_of(o, w))
+}
+
+#[tactic(auto, unfolding(crate::specs::Symphonies::fields_of))]
+fn put_fields(out: &mut Bytes, cpu: &Cpu) -> Result<(), NoMemory>
+    ensures { OnOk result (out.new ≡ out.old ++ spec.fields_of cpu.now) }
+{
+    put_settings(out, cpu)?;
+    put_clock(out, cpu)
+}
+
+#[tactic(auto, unfolding(crate::specs::Symphonies::settings_bytes))]
+fn put_settings(out: &mut Bytes, cpu: &Cpu) -> Result<(), NoMemory>
+    ensures { OnOk result (out.new ≡ out.old ++ spec.settings_bytes cpu.now) }
+{
+    put_u32(out, cpu.held)?;
+    put_u8(out, cpu.fence)?;
+    put_u16(out, cpu.limit)
+}
+
+#[tactic(auto, using(crate::proofs::Joins::joined), unfolding(crate::specs::Symphonies::clock_bytes))]
+fn put_clock(out: &mut Bytes, cpu: &Cpu) -> Result<(), NoMemory>
+    ensures { OnOk result (out.new ≡ out.old ++ spec.clock_bytes cpu.now) }
+{
+    put_u64(out, cpu.clock)?;
+    put_flag(out, cpu.stopped)
 }
 
 fn put_members(out: &mut Bytes, net: &Network, o: &Owners) -> Result<(), NoMemory>
-    requires { All IsFit o.now }
+    requires { AreFitEntries o.now }
     ensures { OnOk result (out.new ≡ out.old
         ++ list_bytes (spec.member_bytes net.now (view_of o.now)) (members (view_of o.now))) }
 {
@@ -107,7 +130,7 @@ fn put_members(out: &mut Bytes, net: &Network, o: &Owners) -> Result<(), NoMemor
 
 #[tactic(auto, unfolding(crate::specs::Symphonies::member_bytes))]
 fn put_member(out: &mut Bytes, net: &Network, o: &Owners, s: StreamNo) -> Result<(), NoMemory>
-    requires { All IsFit o.now }
+    requires { AreFitEntries o.now }
     ensures { OnOk result (out.new ≡ out.old ++ spec.member_bytes net.now (view_of o.now) s) }
 {
     match o.stream(s) {
@@ -163,12 +186,21 @@ fn put_job(
     put_u8(out, job_priority(o, parent, doc))
 }
 
+#[tactic(auto, using(crate::proofs::Numbered::listed))]
 fn put_resources(out: &mut Bytes, resources: &[Resource], o: &Owners) -> Result<(), NoMemory>
     requires { length resources.now ≤ 65535 }
     ensures { OnOk result (out.new ≡ out.old
         ++ list_bytes (spec.resource_bytes (view_of o.now)) (enumerate_from 1 resources.now)) }
 {
     put_count(out, resources.len())?;
+    put_each_resource(out, resources, o)
+}
+
+fn put_each_resource(out: &mut Bytes, resources: &[Resource], o: &Owners) -> Result<(), NoMemory>
+    requires { length resources.now ≤ 65535 }
+    ensures { OnOk result (out.new ≡ out.old
+        ++ flat_map (spec.resource_bytes (view_of o.now)) (enumerate_from 1 resources.now)) }
+{
     let mut number = 0;
     for resource in resources {
         number += 1;
@@ -193,12 +225,21 @@ fn put_resource(
     )
 }
 
+#[tactic(auto, using(crate::proofs::Numbered::listed))]
 fn put_prompts(out: &mut Bytes, prompts: &[PromptDef], o: &Owners) -> Result<(), NoMemory>
     requires { length prompts.now ≤ 65535 }
     ensures { OnOk result (out.new ≡ out.old
         ++ list_bytes (spec.prompt_bytes (view_of o.now)) (enumerate_from 1 prompts.now)) }
 {
     put_count(out, prompts.len())?;
+    put_each_prompt(out, prompts, o)
+}
+
+fn put_each_prompt(out: &mut Bytes, prompts: &[PromptDef], o: &Owners) -> Result<(), NoMemory>
+    requires { length prompts.now ≤ 65535 }
+    ensures { OnOk result (out.new ≡ out.old
+        ++ flat_map (spec.prompt_bytes (view_of o.now)) (enumerate_from 1 prompts.now)) }
+{
     let mut number = 0;
     for prompt in prompts {
         number += 1;

@@ -1,7 +1,6 @@
 //! The Symphony of a worked history, byte by byte.
 ghost use Rattle.std.specs.Prelude.{OnOk};
-ghost use Rattle.std.specs.List.{All};
-ghost use Rattle.model.specs.Fit.{IsFit};
+ghost use Rattle.model.specs.Fit.{AreFitEntries};
 
 use super::network;
 use crate::symphony;
@@ -57,8 +56,8 @@ const SHOWN: [u8; 95] = [
 
 /// Takes the entry that these bytes spell, where it is the next of its feed.
 fn take(alloc: Global, owners: &mut Owners, bytes: &[u8]) -> Result<(), Fail>
-    requires { All IsFit owners.old }
-    ensures { OnOk result (All IsFit owners.new) }
+    requires { AreFitEntries owners.old }
+    ensures { OnOk result (AreFitEntries owners.new) }
 {
     let entry = read_entry(alloc, bytes)?;
     if entry.place > 0 && owners.count(entry.feed) == entry.place - 1 {

@@ -1,4 +1,4 @@
-use Rattle.std.proofs.Common.{◌≡◌, ◌||◌}
+use Rattle.std.proofs.Common.{◌≡◌, ◌||◌, map}
 use Rattle.std.specs.List.{list_any}
 use Rattle.model.specs.History.{view_of}
 use Rattle.model.specs.Catalogue.{jobs_of_stream}
@@ -9,15 +9,12 @@ use Rattle.symphony_view.proofs.counts.kinds_of_jobs.Given as goal
 
 abbrev pub invariant-loop-parent : goal.invariant-loop-parent
 invariant-loop-parent l =
-    let state = job_state l.net (view_of l.o) in
-    let left = stream_jobs_left l.parent-iterator in
-    let all = jobs_of_stream (view_of l.o) l.s in
+    let V = view_of l.o in
+    let left = map (job_state l.net V) (stream_jobs_left l.parent-iterator) in
+    let all = map (job_state l.net V) (jobs_of_stream V l.fn.s) in
     record {
-      planned : ArePlannedJobs (view_of l.o) left;
-      running : list_any (λ p. is_running_state (state p)) all
-          ≡ (l.kinds.running || list_any (λ p. is_running_state (state p)) left);
-      bad : list_any (λ p. is_bad_state (state p)) all
-          ≡ (l.kinds.bad || list_any (λ p. is_bad_state (state p)) left);
-      held : list_any (λ p. is_hold_state (state p)) all
-          ≡ (l.kinds.held || list_any (λ p. is_hold_state (state p)) left);
+      planned : ArePlannedJobs V (stream_jobs_left l.parent-iterator);
+      running : list_any is_running_state all ≡ (l.kinds.running || list_any is_running_state left);
+      bad : list_any is_bad_state all ≡ (l.kinds.bad || list_any is_bad_state left);
+      held : list_any is_hold_state all ≡ (l.kinds.held || list_any is_hold_state left);
     }

@@ -1,5 +1,5 @@
 -- The tables of states are choices one after the other.
-use Rattle.std.proofs.Common.{[], ◌&&◌, ◌∷◌, ◌≡◌, Bool, List, None, Option, Some, false, refl, sym, true}
+use Rattle.std.proofs.Common.{[], ◌&&◌, ◌∷◌, ◌≡◌, Bool, List, None, Option, Some, false, refl, true}
 use Rattle.std.specs.List.{list_any}
 use Rattle.std.specs.Prelude.{if◌then◌else◌, ◌||◌, nat_le, not, unwrap_or}
 use Rattle.model.specs.Types.{Events, Job, Net, Stream, StreamDoc}
@@ -13,7 +13,7 @@ use Rattle.model.specs.Dependencies.{all_satisfied}
 use Rattle.model.specs.Readiness.{job_priority}
 use Rattle.model.specs.States.{JobState, StreamState, is_bad_state, is_ended_or_lost, is_failed, is_hold_state}
 use Rattle.model.specs.States.{is_running_state, job_state, states_of, stream_state}
-use Rattle.symphony_view.specs.Tables.{ended_or, state_of_launches, state_of_planned, state_of_waiting}
+use Rattle.symphony_view.specs.Tables.{ended_or, state_of_launches, state_of_planned}
 
 launches_first : (open_ started good due : Bool) (outcome : Option Outcome) (rest : List (Bool × JobState))
     → unwrap_or (first_of_these

@@ -4,7 +4,7 @@ use Rattle.std.proofs.Common.{true}
 use Rattle.std.specs.Prelude.{◌==◌, filter, option_map}
 use Rattle.model.specs.Types.{Net}
 use Rattle.model.specs.History.{View}
-use Rattle.model.specs.Catalogue.{StreamJob, job, jobs, jobs_of}
+use Rattle.model.specs.Catalogue.{StreamJob, jobs, jobs_of}
 use Rattle.model.specs.Readiness.{best, better_of, is_better, is_ready, is_ready_in}
 use Rattle.dependencies.specs.Planned.{IsPlannedJob}
 use Rattle.dependencies.specs.Ranks.{better_rank, rank_of}

@@ -1,6 +1,6 @@
 -- The lowest number of those that pass, one item further.
-use Rattle.std.proofs.Common.{◌≡◌, ◌∙◌, ◌∷◌, [], ℕ, Bool, List, None, Option, Some, ap, arith, cond, false, map, refl}
-use Rattle.std.proofs.Common.{subst, true}
+use Rattle.std.proofs.Common.{◌≡◌, ◌∙◌, ◌∷◌, ℕ, Bool, List, None, Option, Some, ap, arith, cond, false, map, refl}
+use Rattle.std.proofs.Common.{true}
 use Rattle.std.proofs.lemmas.Bool.Decides.{nat_tests}
 use Rattle.std.specs.Prelude.{◌&&◌, filter, nat_lt}
 use Rattle.model.specs.Words.{least, lesser}

@@ -1,6 +1,6 @@
 -- Bodies that are read are those that stand there.
-use Rattle.std.proofs.Common.{◌≡◌, ℕ, ◌+◌, ◌<◌, ◌≤◌, Bool, true, false, not, List, [], ◌∷◌, ◌++◌, length}
-use Rattle.std.proofs.Common.{Result, Ok, Err, refl, arith}
+use Rattle.std.proofs.Common.{◌≡◌, ℕ, Bool, true, false, not, List, [], ◌∷◌}
+use Rattle.std.proofs.Common.{Ok, refl, arith}
 use Rattle.std.proofs.lemmas.List.Elements.{recursion_from_All, All-from_recursion}
 use Rattle.std.specs.List.{All}
 use Rattle.model.specs.Types.{Feed, Events, Orders, Body, NewPlan, Added, Clock, Released, StreamEnded, UntilPassed}
@@ -10,8 +10,8 @@ use Rattle.model.specs.Invariant.{is_order, has_its_feed}
 use Rattle.model.specs.Fit.{IsFitBody, IsFitSeen, IsFitStream}
 use Rattle.model.specs.Ranges.{IsU32, CountInRange, StreamInRange, BodyInRange}
 use Rattle.model.specs.Spelling.{body_bytes}
-use Rattle.entry_codec.specs.Read.{Reader, chain, gives, one, two, three, four}
-use Rattle.entry_codec.specs.Fields.{u8_at, u16_at, u32_at, u64_at, i32_at, choice_at, flag_at, list_at, seen_at}
+use Rattle.entry_codec.specs.Read.{Reader, one, two, three, four}
+use Rattle.entry_codec.specs.Fields.{u16_at, u32_at, u64_at, i32_at, flag_at, list_at, seen_at}
 use Rattle.entry_codec.specs.Parts.{obj_at, until_at, stream_at}
 use Rattle.entry_codec.specs.Commands.{cmd_at}
 use Rattle.entry_codec.specs.Entries.{why_at, event_at, order_at, body_at}

@@ -1,15 +1,15 @@
 -- Choices: their rows, each of which spells its own number and what stands behind it.
-use Rattle.std.proofs.Common.{◌≡◌, ℕ, ◌+◌, ◌<◌, ◌≤◌, Bool, true, false, cond, eqb, List, [], ◌∷◌, ◌++◌, length}
+use Rattle.std.proofs.Common.{◌≡◌, ℕ, ◌+◌, ◌<◌, ◌≤◌, Bool, true, false, eqb, List, [], ◌∷◌, ◌++◌, length}
 use Rattle.std.proofs.Common.{Option}
-use Rattle.std.proofs.Common.{Some, None, Result, Ok, Err, refl, sym, ap, subst, ◌∙◌, arith}
+use Rattle.std.proofs.Common.{Some, None, Result, Ok, refl, sym, ap, subst, ◌∙◌, arith}
 use Rattle.std.proofs.lemmas.Bool.{eqb-true}
 use Rattle.std.specs.List.{AllByRecursion}
 use Rattle.std.specs.Prelude.{IfSome}
-use Rattle.model.specs.Fields.{u8_bytes, flag_bytes, option_bytes}
+use Rattle.model.specs.Fields.{flag_bytes, option_bytes}
 use Rattle.entry_codec.specs.declared.EntryFault.{EntryFault}
-use Rattle.entry_codec.specs.Read.{Reader, and_then, chain, gives, one, two, three, four}
+use Rattle.entry_codec.specs.Read.{Reader, and_then, gives, one, two, three, four}
 use Rattle.entry_codec.specs.Fields.{u8_at, row_of, behind, choice_at, flag_at, option_at}
-use Rattle.entry_codec.proofs.Readers.{◌&◌, IsBytes, Stands, IsReader, Step, within, starts, nothing, joined, split}
+use Rattle.entry_codec.proofs.Readers.{◌&◌, IsBytes, Stands, IsReader, within, starts, nothing, joined, split}
 use Rattle.entry_codec.proofs.Readers.{came, step, on, same_value}
 use Rattle.entry_codec.proofs.Numbers.{u8_reader}
 

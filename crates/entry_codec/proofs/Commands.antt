@@ -1,12 +1,12 @@
 -- Commands that are read are those that stand there.
-use Rattle.std.proofs.Common.{◌≡◌, ℕ, ◌+◌, ◌<◌, ◌≤◌, List, [], ◌∷◌, ◌++◌, length, Result, Ok, Err, refl, arith}
+use Rattle.std.proofs.Common.{◌≡◌, ℕ, List, [], ◌∷◌, Ok, refl, arith}
 use Rattle.model.specs.Types.{Cmd, AddDep, DelDep, Release, AltPri, Cancel, Confirm, Kill, Rerun, Fence, Limit}
 use Rattle.model.specs.Types.{StreamLimit, Total, ReplyGlobal, ReplyOwn, Stop, Submit, SwitchMgr}
 use Rattle.model.specs.Fit.{IsFitCmd}
 use Rattle.model.specs.Ranges.{CmdInRange}
 use Rattle.model.specs.Spelling.{cmd_bytes}
-use Rattle.entry_codec.specs.Read.{Reader, chain, gives, one, two, three}
-use Rattle.entry_codec.specs.Fields.{u8_at, u16_at, u32_at, choice_at, flag_at}
+use Rattle.entry_codec.specs.Read.{Reader, gives, one, two, three}
+use Rattle.entry_codec.specs.Fields.{u8_at, u16_at, u32_at, flag_at}
 use Rattle.entry_codec.specs.Parts.{obj_at, dep_at, stream_draft_at}
 use Rattle.entry_codec.specs.Commands.{cmd_at}
 use Rattle.entry_codec.proofs.Readers.{◌&◌, Stands, IsReader}

@@ -1,21 +1,20 @@
 -- Conditions and the dependencies of drafts that are read are those that stand there.
 use Rattle.std.proofs.Common.{◌≡◌, ℕ, ◌+◌, ◌<◌, ◌≤◌, Bool, true, false, cond, eqb, List, [], ◌∷◌, ◌++◌, length}
 use Rattle.std.proofs.Common.{Option}
-use Rattle.std.proofs.Common.{Some, None, Result, Ok, Err, refl, sym, ap, subst, ◌∙◌, arith}
+use Rattle.std.proofs.Common.{Some, None, Ok, refl, sym, subst, arith}
 use Rattle.std.proofs.lemmas.Bool.{eqb-true, ne_eqb, leb-true, le-leb}
 use Rattle.std.specs.List.{AllByRecursion}
-use Rattle.std.specs.Prelude.{IfSome, flat_map, nat_le, IsUtf8}
+use Rattle.std.specs.Prelude.{IfSome, flat_map, nat_le}
 use Rattle.std.specs.Int.{w8}
 use Rattle.model.specs.Types.{Dep, FollowsJob, FollowsStream, Needs, Prompt, At, Until, Outside, Global, Own}
 use Rattle.model.specs.Types.{DraftDep, Follows, Plain, CondOp}
 use Rattle.model.specs.Fields.{u8_bytes, u16_bytes, text_bytes, option_bytes}
-use Rattle.model.specs.Fit.{IsFitText, IsFitCond, IsFitDraftDep}
+use Rattle.model.specs.Fit.{IsFitCond, IsFitDraftDep}
 use Rattle.model.specs.Ranges.{IsU8, IsU16, DraftDepInRange, OpInRange}
 use Rattle.model.specs.Spelling.{dep_bytes, draft_dep_bytes, op_bytes, cond_bytes}
-use Rattle.entry_codec.specs.declared.EntryFault.{EntryFault}
-use Rattle.entry_codec.specs.Read.{Reader, and_then, chain, gives, one, three}
-use Rattle.entry_codec.specs.Fields.{u8_at, u16_at, text_at, option_at, items_at, number_with}
-use Rattle.entry_codec.specs.Parts.{dep_at, draft_dep_at, op_at, cond_at}
+use Rattle.entry_codec.specs.Read.{Reader, one, three}
+use Rattle.entry_codec.specs.Fields.{u8_at, u16_at, text_at, option_at, number_with}
+use Rattle.entry_codec.specs.Parts.{dep_at, draft_dep_at, cond_at}
 use Rattle.entry_codec.proofs.Readers.{IsBytes, Stands, IsReader, within, starts, joined, split, came, step, on}
 use Rattle.entry_codec.proofs.Readers.{same_value}
 use Rattle.entry_codec.proofs.Numbers.{u8_reader, u16_reader, tested}

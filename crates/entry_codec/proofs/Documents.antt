@@ -1,19 +1,16 @@
 -- Documents and drafts that are read are those that stand there.
-use Rattle.std.proofs.Common.{◌≡◌, ℕ, ◌+◌, ◌<◌, ◌≤◌, List, [], ◌∷◌, ◌++◌, length, Result, Ok, Err, refl, sym, ap}
-use Rattle.std.proofs.Common.{subst, ◌∙◌, arith, Option, Some, None}
+use Rattle.std.proofs.Common.{◌≡◌, ℕ, ◌≤◌, List, [], ◌∷◌, length, Ok, sym, ap}
+use Rattle.std.proofs.Common.{subst}
 use Rattle.std.proofs.lemmas.List.Elements.{recursion_from_All, All-from_recursion}
 use Rattle.std.specs.List.{All, AllByRecursion}
-use Rattle.std.specs.Prelude.{IfSome}
 use Rattle.model.specs.Types.{JobDoc, StreamDoc, JobDraft, StreamDraft}
 use Rattle.model.specs.Fields.{u8_bytes, u16_bytes, u32_bytes, text_bytes, list_bytes, flag_bytes, option_bytes}
 use Rattle.model.specs.Fit.{AreFit, IsFitDep, IsFitDraftDep, IsFitJob, IsFitStream, IsFitJobDraft, IsFitDraft}
-use Rattle.model.specs.Ranges.{IsU16, DepInRange, DraftDepInRange, OpInRange, JobInRange, StreamInRange}
+use Rattle.model.specs.Ranges.{DepInRange, DraftDepInRange, OpInRange, JobInRange, StreamInRange}
 use Rattle.model.specs.Ranges.{JobDraftInRange, DraftInRange}
 use Rattle.model.specs.Spelling.{dep_bytes, draft_dep_bytes, work_bytes, cond_bytes, recovery_code, job_doc_bytes}
 use Rattle.model.specs.Spelling.{stream_doc_bytes, job_draft_bytes, stream_draft_bytes}
-use Rattle.entry_codec.specs.Read.{Reader, chain, gives}
-use Rattle.entry_codec.specs.Fields.{list_at, flag_at, option_at}
-use Rattle.entry_codec.specs.Parts.{dep_at, draft_dep_at, job_at, stream_at, job_draft_at, stream_draft_at}
+use Rattle.entry_codec.specs.Parts.{job_at, stream_at, job_draft_at, stream_draft_at}
 use Rattle.entry_codec.proofs.Readers.{IsBytes, Stands, IsReader, starts, step, on, same_value, in_order, peeled}
 use Rattle.entry_codec.proofs.Readers.{at_end}
 use Rattle.entry_codec.proofs.Numbers.{u8_reader, u16_reader, u32_reader}

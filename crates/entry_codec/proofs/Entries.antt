@@ -1,20 +1,15 @@
 -- Entries that are read are those that the bytes spell.
-use Rattle.std.proofs.Common.{◌≡◌, ℕ, ◌+◌, ◌<◌, ◌≤◌, Bool, true, false, cond, eqb, List, [], ◌∷◌, ◌++◌, length, drop}
-use Rattle.std.proofs.Common.{Result, Ok, Err, refl, sym, ap, subst, ◌∙◌, arith}
-use Rattle.std.proofs.lemmas.Bool.{eqb-true, eq-eqb, ne_eqb, ltb-true, lt-ltb}
-use Rattle.std.proofs.lemmas.List.{append-nil}
-use Rattle.std.specs.Prelude.{nat_lt}
-use Rattle.byte_fields.specs.Places.{StandsAt}
+use Rattle.std.proofs.Common.{◌≡◌, ℕ, ◌≤◌, Bool, true, false, cond, eqb, List, [], ◌∷◌, length}
+use Rattle.std.proofs.Common.{Ok, Err, refl, sym, ap, subst, arith}
+use Rattle.std.proofs.lemmas.Bool.{eqb-true, eq-eqb, ltb-true, lt-ltb}
 use Rattle.model.specs.Types.{Entry}
 use Rattle.model.specs.Fields.{u8_bytes, u32_bytes}
 use Rattle.model.specs.Fit.{IsFit}
 use Rattle.model.specs.Ranges.{InRange}
 use Rattle.model.specs.Spelling.{feed_bytes, body_bytes, entry_bytes}
-use Rattle.entry_codec.specs.declared.EntryFault.{EntryFault}
-use Rattle.entry_codec.specs.declared.EntryFault.TheVariants.{Version, TooMuch}
-use Rattle.entry_codec.specs.Read.{Reader, and_then, chain, gives}
+use Rattle.entry_codec.specs.declared.EntryFault.TheVariants.{Version}
 use Rattle.entry_codec.specs.Fields.{u8_at}
-use Rattle.entry_codec.specs.Entries.{version_at, entry_at, entry_in}
+use Rattle.entry_codec.specs.Entries.{version_at, entry_at}
 use Rattle.entry_codec.proofs.Readers.{IsBytes, Stands, IsReader, starts, came, step, on, same_value, in_order}
 use Rattle.entry_codec.proofs.Readers.{peeled, at_end}
 use Rattle.entry_codec.proofs.Numbers.{u8_reader}

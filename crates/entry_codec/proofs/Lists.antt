@@ -1,11 +1,11 @@
 -- Lists that are read are those that stand there, item by item.
-use Rattle.std.proofs.Common.{◌≡◌, ℕ, zero, suc, ◌+◌, ◌<◌, ◌≤◌, List, [], ◌∷◌, ◌++◌, length, Result, Ok, Err, refl}
-use Rattle.std.proofs.Common.{sym, ap, subst, ◌∙◌, arith}
+use Rattle.std.proofs.Common.{◌≡◌, ℕ, zero, suc, ◌+◌, ◌≤◌, List, [], ◌∷◌, length, Ok, refl}
+use Rattle.std.proofs.Common.{sym, ap, subst, arith}
 use Rattle.std.specs.List.{AllByRecursion}
 use Rattle.std.specs.Prelude.{flat_map}
 use Rattle.model.specs.Fields.{u32_bytes, list_bytes}
-use Rattle.entry_codec.specs.Read.{Reader, chain, gives}
-use Rattle.entry_codec.specs.Fields.{u32_at, items_at, list_at}
+use Rattle.entry_codec.specs.Read.{Reader}
+use Rattle.entry_codec.specs.Fields.{items_at, list_at}
 use Rattle.entry_codec.proofs.Readers.{IsBytes, Stands, IsReader, within, starts, nothing, joined, split, step, on}
 use Rattle.entry_codec.proofs.Readers.{same_value}
 use Rattle.entry_codec.proofs.Numbers.{u32_reader}

@@ -1,21 +1,20 @@
 -- Numbers that are read are those that stand there.
-use Rattle.std.proofs.Common.{◌≡◌, ℕ, ℤ, zero, suc, ◌+◌, ◌^◌, ◌<◌, ◌≤◌, Bool, true, false, cond, ltb, List, [], ◌∷◌}
-use Rattle.std.proofs.Common.{◌++◌, length, get_or, take, drop, Result, Ok, Err, refl, sym, ap, subst, ◌∙◌, arith}
-use Rattle.std.proofs.Common.{inl, inr, IsTrue}
+use Rattle.std.proofs.Common.{◌≡◌, ℕ, ◌+◌, ◌^◌, ◌<◌, ◌≤◌, Bool, true, false, cond, ltb, List, [], ◌∷◌}
+use Rattle.std.proofs.Common.{◌++◌, length, take, drop, Ok, Err, refl, sym, ap, subst, ◌∙◌, arith}
+use Rattle.std.proofs.Common.{inl, inr}
 use Rattle.std.proofs.lemmas.Bool.{cases_lt, ltb-false, le-ltb}
 use Rattle.std.proofs.lemmas.List.{take_at, drop-drop, take-append-drop, length-take, length-drop, get_or-drop}
-use Rattle.std.proofs.lemmas.List.{get_or-take, get_or_past, length-append}
+use Rattle.std.proofs.lemmas.List.{get_or-take, get_or_past}
 use Rattle.std.proofs.lemmas.Nat.{be_bytes_2, be_bytes_4, be_bytes_8, from_be_bytes-to_be_bytes_2}
 use Rattle.std.proofs.lemmas.Nat.{from_be_bytes-to_be_bytes_4, from_be_bytes-to_be_bytes_8}
-use Rattle.std.specs.Int.{Width, w8, w16, w32, w64, byte_len, from_be_bytes, to_be_bytes}
+use Rattle.std.specs.Int.{Width, w8, w16, w32, w64, byte_len, from_be_bytes}
 use Rattle.byte_fields.specs.Places.{StandsAt}
 use Rattle.model.specs.Fields.{u8_bytes, u16_bytes, u32_bytes, u64_bytes}
 use Rattle.model.specs.Ranges.{IsU8, IsU16, IsU32, IsU64}
 use Rattle.entry_codec.specs.declared.EntryFault.{EntryFault}
 use Rattle.entry_codec.specs.declared.EntryFault.TheVariants.{Short, BadField}
-use Rattle.entry_codec.specs.Read.{Reader, and_then}
 use Rattle.entry_codec.specs.Fields.{number_at, number_with}
-use Rattle.entry_codec.proofs.Readers.{IsBytes, Stands, IsReader, came, same_value}
+use Rattle.entry_codec.proofs.Readers.{IsBytes, Stands, IsReader, came}
 
 IsBytes-drop : (n : ℕ) (bytes : List ℕ) → IsBytes bytes → IsBytes (drop n bytes)
 IsBytes-drop n bytes h i = rw get_or-drop (h (n + i))

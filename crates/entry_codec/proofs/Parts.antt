@@ -1,31 +1,26 @@
 -- Feeds, objects, dependencies and choices that are read are those that stand there.
-use Rattle.std.proofs.Common.{◌≡◌, ℕ, ◌+◌, ◌<◌, ◌≤◌, Bool, true, false, cond, eqb, List, [], ◌∷◌, ◌++◌, length}
-use Rattle.std.proofs.Common.{Option}
-use Rattle.std.proofs.Common.{Some, None, Result, Ok, Err, refl, sym, ap, subst, ◌∙◌, arith}
-use Rattle.std.proofs.lemmas.Bool.{eqb-true, ne_eqb}
-use Rattle.std.specs.Prelude.{IfSome}
+use Rattle.std.proofs.Common.{◌≡◌, ℕ, List, [], ◌∷◌}
+use Rattle.std.proofs.Common.{Ok, refl, arith}
 use Rattle.model.specs.Types.{Feed, Events, Orders, Obj, Job, Stream, OnUntil, Suppr, Cont, Canc, Dep, FollowsJob}
-use Rattle.model.specs.Types.{FollowsStream, Needs, Prompt, At, Until, Outside, Global, Own, DraftDep, Follows}
-use Rattle.model.specs.Types.{Plain, Work, Command, Script, Recovery, Rel, Eq, Ne, Lt, Le, Gt, Ge, CondOp, Cmp, And}
+use Rattle.model.specs.Types.{FollowsStream, Needs, Prompt, At, Until, Outside, Global, Own}
+use Rattle.model.specs.Types.{Work, Command, Script, Recovery, Eq, Ne, Lt, Le, Gt, Ge, CondOp, Cmp, And}
 use Rattle.model.specs.Types.{Or, Not, Why, NotMine, NotThere, Running, NotRunning, NotEnded, AlreadyThere}
 use Rattle.model.specs.Types.{OutOfRange, NotMaster, NotBuilt}
-use Rattle.model.specs.Fields.{u8_bytes, u16_bytes, u32_bytes, u64_bytes, text_bytes, option_bytes}
-use Rattle.model.specs.Fit.{IsFitDep, IsFitDraftDep, IsFitWork}
-use Rattle.model.specs.Ranges.{IsU16, IsU32, FeedInRange, ObjInRange, DepInRange, DraftDepInRange, OpInRange}
+use Rattle.model.specs.Fields.{u8_bytes}
+use Rattle.model.specs.Fit.{IsFitDep, IsFitWork}
+use Rattle.model.specs.Ranges.{FeedInRange, ObjInRange, DepInRange, OpInRange}
 use Rattle.model.specs.Ranges.{WorkInRange}
-use Rattle.model.specs.Spelling.{feed_bytes, obj_bytes, until_code, dep_bytes, draft_dep_bytes, op_bytes, work_bytes}
+use Rattle.model.specs.Spelling.{feed_bytes, obj_bytes, until_code, dep_bytes, op_bytes, work_bytes}
 use Rattle.model.specs.Spelling.{recovery_code, why_code}
-use Rattle.entry_codec.specs.declared.EntryFault.{EntryFault}
-use Rattle.entry_codec.specs.Read.{Reader, and_then, chain, gives, one, two, three}
-use Rattle.entry_codec.specs.Fields.{u8_at, u16_at, u32_at, u64_at, i32_at, text_at, option_at, choice_at}
-use Rattle.entry_codec.specs.Parts.{feed_at, obj_at, until_at, dep_at, draft_dep_at, op_at, work_at, recovery_at}
+use Rattle.entry_codec.specs.Read.{Reader, gives, one, two}
+use Rattle.entry_codec.specs.Fields.{u16_at, u32_at, u64_at, i32_at, text_at}
+use Rattle.entry_codec.specs.Parts.{feed_at, obj_at, until_at, dep_at, op_at, work_at, recovery_at}
 use Rattle.entry_codec.specs.Entries.{why_at}
-use Rattle.entry_codec.proofs.Readers.{◌&◌, IsBytes, Stands, IsReader, within, starts, joined, split, came, step, on}
-use Rattle.entry_codec.proofs.Readers.{same_value}
-use Rattle.entry_codec.proofs.Numbers.{u8_reader, u16_reader, u32_reader, u64_reader}
+use Rattle.entry_codec.proofs.Readers.{◌&◌, Stands, IsReader}
+use Rattle.entry_codec.proofs.Numbers.{u16_reader, u32_reader, u64_reader}
 use Rattle.entry_codec.proofs.Texts.{text_reader, i32_reader}
-use Rattle.entry_codec.proofs.Choices.{IsRow, row_0, row_1, row_2, choice_found, again_0, again_1, again_2}
-use Rattle.entry_codec.proofs.Choices.{option_reader, Any}
+use Rattle.entry_codec.proofs.Choices.{row_0, row_1, row_2, choice_found, again_0, again_1, again_2}
+use Rattle.entry_codec.proofs.Choices.{Any}
 
 -- feeds
 abbrev feed_rows : List (ℕ × Reader Feed)

@@ -1,5 +1,5 @@
 -- What was put behind a front is put behind all that stood before the front.
-use Rattle.std.proofs.Common.{◌≡◌, ℕ, List, ◌++◌, Result, Ok, Err, sym, ap, ◌∙◌, append_assoc}
+use Rattle.std.proofs.Common.{◌≡◌, ℕ, List, ◌++◌, Result, Ok, Err, ap, ◌∙◌, append_assoc}
 use Rattle.std.specs.Result.{OnOk}
 
 pub behind_a_front : {X E : Type 0} (r : Result X E) (old front last now new : List ℕ) → now ≡ old ++ front

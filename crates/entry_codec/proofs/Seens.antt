@@ -1,7 +1,6 @@
 -- Counts of workstations that are read ascend without zeros, and those that do are read.
-use Rattle.std.proofs.Common.{◌≡◌, ℕ, zero, suc, ◌+◌, ◌<◌, ◌≤◌, true, ◌&&◌, List, [], ◌∷◌, ◌++◌, length, Result, Ok}
-use Rattle.std.proofs.Common.{Err}
-use Rattle.std.proofs.Common.{refl, sym, ap, subst, ◌∙◌, arith, IsTrue}
+use Rattle.std.proofs.Common.{◌≡◌, ℕ, zero, suc, ◌+◌, ◌≤◌, true, ◌&&◌, List, [], ◌∷◌, length, Ok}
+use Rattle.std.proofs.Common.{refl, sym, ap, subst, arith}
 use Rattle.std.proofs.lemmas.Bool.{and_parts, and_from}
 use Rattle.std.specs.List.{AllByRecursion}
 use Rattle.std.specs.Prelude.{flat_map, nat_le, nat_lt}
@@ -11,8 +10,7 @@ use Rattle.model.specs.Invariant.{ascends_from}
 use Rattle.model.specs.Fields.{u16_bytes, u32_bytes}
 use Rattle.model.specs.Ranges.{IsU16, IsU32, CountInRange}
 use Rattle.model.specs.Spelling.{count_bytes, seen_bytes}
-use Rattle.entry_codec.specs.Read.{Reader, chain, gives}
-use Rattle.entry_codec.specs.Fields.{u32_at, count_at, counts_at, seen_at, number_with}
+use Rattle.entry_codec.specs.Fields.{count_at, counts_at, seen_at, number_with}
 use Rattle.entry_codec.proofs.Readers.{IsBytes, Stands, IsReader, within, starts, nothing, joined, split, step, on}
 use Rattle.entry_codec.proofs.Readers.{same_value}
 use Rattle.entry_codec.proofs.Numbers.{u16_reader, u32_reader, tested}

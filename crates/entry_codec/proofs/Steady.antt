@@ -1,6 +1,6 @@
 -- Readers that go by the bytes of their fields alone: what is read, and what is bad, stays so whatever follows.
-use Rattle.std.proofs.Common.{◌≡◌, ℕ, zero, suc, ◌+◌, ◌<◌, ◌≤◌, ◌⊎◌, inl, inr, Bool, true, false, cond, ltb, List, []}
-use Rattle.std.proofs.Common.{◌∷◌, ◌++◌, length, take, drop, Option, Some, None, Result, Ok, Err, refl, sym, ap}
+use Rattle.std.proofs.Common.{◌≡◌, ℕ, zero, suc, ◌+◌, ◌≤◌, ◌⊎◌, inl, inr, Bool, true, false, cond, ltb, List, []}
+use Rattle.std.proofs.Common.{◌∷◌, ◌++◌, length, take, drop, Some, Result, Ok, Err, refl, ap}
 use Rattle.std.proofs.Common.{subst}
 use Rattle.std.proofs.Common.{◌∙◌, arith, length-append}
 use Rattle.std.proofs.lemmas.Bool.{ltb-false, le-ltb}
@@ -13,10 +13,10 @@ use Rattle.std.specs.Int.{Width, w8, w16, w32, byte_len, from_be_bytes}
 use Rattle.entry_codec.specs.declared.EntryFault.{EntryFault}
 use Rattle.entry_codec.specs.declared.EntryFault.TheVariants.{Short, Version, BadField, TooMuch, NoMemory}
 use Rattle.entry_codec.specs.Read.{Reader, and_then, chain, gives, one, two, three, four}
-use Rattle.entry_codec.specs.Fields.{u8_at, u32_at, number_at, number_with, text_at, row_of, behind, choice_at}
+use Rattle.entry_codec.specs.Fields.{u8_at, number_at, number_with, text_at, row_of, behind, choice_at}
 use Rattle.entry_codec.specs.Fields.{items_at}
 use Rattle.entry_codec.specs.Fields.{list_at, count_at, counts_at, seen_at}
-use Rattle.entry_codec.proofs.Readers.{Came, came}
+use Rattle.entry_codec.proofs.Readers.{came}
 
 -- what kind of fault it is
 abbrev pub IsShort : EntryFault → Type 0

@@ -1,19 +1,19 @@
 -- Every reader of an entry's parts goes by the bytes of its fields alone.
-use Rattle.std.proofs.Common.{◌≡◌, ℕ, ◌+◌, ◌⊎◌, inl, inr, Bool, true, false, cond, List, [], ◌∷◌, ◌++◌, Option, Some}
-use Rattle.std.proofs.Common.{None, Result, Ok, Err, refl, ap, ◌∙◌}
-use Rattle.std.specs.Prelude.{nat_eq, nat_le, nat_lt}
+use Rattle.std.proofs.Common.{◌≡◌, ℕ, Bool, true, false, cond, List, ◌++◌, Some}
+use Rattle.std.proofs.Common.{None, Result, Ok, Err}
+use Rattle.std.specs.Prelude.{nat_eq, nat_le}
 use Rattle.std.specs.Int.{w8, w16, w32, w64, cast_signed}
-use Rattle.model.specs.Types.{Feed, Events, Orders, Entry, Body, NewPlan, Added, Clock, Released, StreamEnded}
+use Rattle.model.specs.Types.{Feed, Events, Orders, NewPlan, Added, Clock, Released, StreamEnded}
 use Rattle.model.specs.Types.{UntilPassed, Launched, Started, Failed, Ended, Lost, Fulfilled, Obeyed, Declined}
 use Rattle.model.specs.Types.{Order, Cmd, AddDep, DelDep, Release, AltPri, Cancel, Confirm, Kill, Rerun, Fence}
 use Rattle.model.specs.Types.{Limit, StreamLimit, Total, ReplyGlobal, ReplyOwn, Stop, Submit, SwitchMgr, Why}
 use Rattle.model.specs.Types.{NotMine, NotThere, Running, NotRunning, NotEnded, AlreadyThere, OutOfRange, NotMaster}
-use Rattle.model.specs.Types.{NotBuilt, Obj, Job, Stream, OnUntil, Suppr, Cont, Canc, Dep, FollowsJob}
+use Rattle.model.specs.Types.{NotBuilt, Job, Stream, Suppr, Cont, Canc, FollowsJob}
 use Rattle.model.specs.Types.{FollowsStream, Needs, Prompt, At, Until, Outside, Global, Own, DraftDep, Follows}
-use Rattle.model.specs.Types.{Plain, Work, Command, Script, Recovery, Eq, Ne, Lt, Le, Gt, Ge, CondOp, Cmp, And, Or}
-use Rattle.model.specs.Types.{Not, JobDoc, StreamDoc, JobDraft, StreamDraft}
+use Rattle.model.specs.Types.{Plain, Command, Script, Recovery, Eq, Ne, Lt, Le, Gt, Ge, Cmp, And, Or}
+use Rattle.model.specs.Types.{Not}
 use Rattle.entry_codec.specs.declared.EntryFault.{EntryFault}
-use Rattle.entry_codec.specs.Read.{Reader, and_then, chain, gives, one, three}
+use Rattle.entry_codec.specs.Read.{Reader, one, three}
 use Rattle.entry_codec.specs.Fields.{u8_at, u16_at, u32_at, u64_at, i32_at, text_at, option_at, flag_at}
 use Rattle.entry_codec.specs.Parts.{feed_at, obj_at, until_at, dep_at, draft_dep_at, op_at, cond_at, work_at}
 use Rattle.entry_codec.specs.Parts.{recovery_at, job_at, stream_at, job_draft_at, stream_draft_at}

@@ -1,23 +1,22 @@
 -- Texts and signed numbers that are read are those that stand there.
-use Rattle.std.proofs.Common.{◌≡◌, ℕ, ℤ, ◌+◌, ◌^◌, ◌<◌, ◌≤◌, Bool, true, false, cond, ltb, leb, List, [], ◌∷◌, ◌++◌}
-use Rattle.std.proofs.Common.{length, take, drop, Result, Ok, Err, refl, sym, ap, subst, ◌∙◌, arith, inl, inr}
-use Rattle.std.proofs.lemmas.Bool.{ltb-true, ltb-false, le-ltb, lt-ltb, leb-true, le-leb, lt-leb, ne_eqb}
-use Rattle.std.proofs.lemmas.List.{take_at, drop_at, drop-drop, take-append-drop, length-take, length-drop}
+use Rattle.std.proofs.Common.{◌≡◌, ℕ, ℤ, ◌+◌, ◌≤◌, Bool, true, false, cond, ltb, List, ◌++◌}
+use Rattle.std.proofs.Common.{length, take, drop, Ok, Err, refl, sym, ap, subst, ◌∙◌, arith}
+use Rattle.std.proofs.lemmas.Bool.{ltb-false, le-ltb, leb-true, le-leb}
+use Rattle.std.proofs.lemmas.List.{take_at, drop-drop, take-append-drop, length-take, length-drop}
 use Rattle.std.proofs.lemmas.Str.{IsUtf8-from_is_utf8, is_utf8-from_IsUtf8}
 use Rattle.std.proofs.lemmas.Int.{to_z-of_z, of_z-to_z}
 use Rattle.std.proofs.Math.Facts.{Fits-of_z, Fits-lt-pow, sfits_to_z}
 use mir.Val.{Fits}
 use Rattle.std.specs.Prelude.{nat_le, IsUtf8}
 use Rattle.std.specs.Str.{is_utf8}
-use Rattle.std.specs.Int.{w16, w32, cast_signed, cast_unsigned, from_be_bytes}
+use Rattle.std.specs.Int.{w16, w32, cast_signed, cast_unsigned}
 use Rattle.byte_fields.specs.Places.{StandsAt}
 use Rattle.model.specs.Fields.{u16_bytes, u32_bytes, i32_bytes, text_bytes}
 use Rattle.model.specs.Ranges.{IsU16, IsI32}
 use Rattle.entry_codec.specs.declared.EntryFault.{EntryFault}
 use Rattle.entry_codec.specs.declared.EntryFault.TheVariants.{Short, BadField}
-use Rattle.entry_codec.specs.Read.{Reader, and_then}
-use Rattle.entry_codec.specs.Fields.{number_at, number_with, text_at, i32_at}
-use Rattle.entry_codec.proofs.Readers.{IsBytes, Stands, IsReader, within, starts, joined, split, came, step, on}
+use Rattle.entry_codec.specs.Fields.{number_with, text_at, i32_at}
+use Rattle.entry_codec.proofs.Readers.{IsBytes, Stands, IsReader, starts, joined, split, came, step, on}
 use Rattle.entry_codec.proofs.Readers.{same_value}
 use Rattle.entry_codec.proofs.Numbers.{u16_reader, u32_reader, tested}
 

@@ -1,8 +1,7 @@
 -- What the answer of reading tells of the bytes.
-use Rattle.std.proofs.Common.{◌≡◌, ◌≢◌, ℕ, ◌<◌, List, ◌++◌, length, Result, Ok, Err, subst, sym, ◌∙◌}
+use Rattle.std.proofs.Common.{◌≡◌, ◌≢◌, ℕ, List, ◌++◌, Result, Ok, Err, subst}
 use Rattle.std.specs.Prelude.{IfOk, IfErr}
 use Rattle.std.specs.Result.{IsErrOf}
-use Rattle.byte_fields.specs.Places.{StandsAt}
 use Rattle.model.specs.Types.{Entry}
 use Rattle.model.specs.Fit.{IsFit}
 use Rattle.model.specs.Ranges.{InRange}

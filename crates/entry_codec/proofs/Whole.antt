@@ -1,26 +1,24 @@
 -- What the whole of the bytes are: an entry's spelling, or where and how they fail to be one.
-use Rattle.std.proofs.Common.{◌≡◌, ◌≢◌, ℕ, ◌+◌, ◌<◌, ◌≤◌, ◌⊎◌, inl, inr, Bool, true, false, cond, eqb, List, [], ◌∷◌}
-use Rattle.std.proofs.Common.{◌++◌, length, drop, Result, Ok, Err, refl, sym, ap, subst, ◌∙◌, arith, append_assoc}
+use Rattle.std.proofs.Common.{◌≡◌, ℕ, ◌<◌, ◌≤◌, ◌⊎◌, inl, inr, Bool, true, false, cond, eqb, List, [], ◌∷◌}
+use Rattle.std.proofs.Common.{◌++◌, length, drop, Result, Ok, Err, refl, sym, ap, subst, ◌∙◌, arith}
 use Rattle.std.proofs.Common.{length-append}
 use Rattle.std.proofs.lemmas.Bool.{eqb-true, eqb-false, eq-eqb, ne_eqb}
 use Rattle.std.proofs.lemmas.List.{append-nil, drop_all}
 use Rattle.std.specs.Prelude.{nat_lt}
 use Rattle.std.specs.Int.{w8, w32}
 use Rattle.byte_fields.specs.Places.{StandsAt}
-use Rattle.model.specs.Types.{Feed, Entry, Body}
-use Rattle.model.specs.Fit.{IsFit}
-use Rattle.model.specs.Ranges.{InRange}
+use Rattle.model.specs.Types.{Entry}
 use Rattle.model.specs.Spelling.{entry_bytes}
 use Rattle.entry_codec.specs.declared.EntryFault.{EntryFault}
 use Rattle.entry_codec.specs.declared.EntryFault.TheVariants.{Short, Version, BadField, TooMuch, NoMemory}
-use Rattle.entry_codec.specs.Read.{Reader, and_then, chain, gives, all_of}
-use Rattle.entry_codec.specs.Fields.{u8_at, number_at, number_with}
+use Rattle.entry_codec.specs.Read.{Reader, and_then, chain, gives}
+use Rattle.entry_codec.specs.Fields.{u8_at, number_with}
 use Rattle.entry_codec.specs.Parts.{feed_at}
 use Rattle.entry_codec.specs.Entries.{body_at, version_at, entry_at, entry_in, HasOtherVersion, IsLeftAt, IsLasting}
-use Rattle.entry_codec.proofs.Readers.{IsBytes, Stands, IsReader, Came, came}
+use Rattle.entry_codec.proofs.Readers.{IsBytes, Stands, came}
 use Rattle.entry_codec.proofs.Numbers.{u8_reader}
 use Rattle.entry_codec.proofs.Entries.{EntryFits, entry_reader}
-use Rattle.entry_codec.proofs.Steady.{IsSteady, IsShort, IsBad, Fails, Failed, failed, gives_steady, number_steady}
+use Rattle.entry_codec.proofs.Steady.{IsSteady, IsShort, Fails, failed, gives_steady, number_steady}
 use Rattle.entry_codec.proofs.Steady.{number_with_steady, number_is_short, then_goes_on, then_steady, same_fault}
 use Rattle.entry_codec.proofs.SteadyEntries.{feed_steady, body_steady}
 

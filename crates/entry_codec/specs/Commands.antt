@@ -1,5 +1,5 @@
 -- Commands as they are read. The number of a row is the choice that leads to it.
-use Rattle.std.specs.Prelude.{List, [], ◌∷◌}
+use Rattle.std.specs.Prelude.{[], ◌∷◌}
 use Rattle.model.specs.Types.{Cmd, AddDep, DelDep, Release, AltPri, Cancel, Confirm, Kill, Rerun, Fence, Limit}
 use Rattle.model.specs.Types.{StreamLimit, Total, ReplyGlobal, ReplyOwn, Stop, Submit, SwitchMgr}
 use Rattle.entry_codec.specs.Read.{Reader, gives, one, two, three}

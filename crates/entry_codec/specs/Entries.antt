@@ -10,7 +10,7 @@ use Rattle.model.specs.Fit.{IsFit}
 use Rattle.model.specs.Spelling.{entry_bytes}
 use Rattle.entry_codec.specs.declared.EntryFault.{EntryFault}
 use Rattle.entry_codec.specs.declared.EntryFault.TheVariants.{Short, Version, BadField, TooMuch, NoMemory}
-use Rattle.entry_codec.specs.Read.{Reader, ◌>>=◌, and_then, chain, gives, one, two, three, four, all_of}
+use Rattle.entry_codec.specs.Read.{Reader, ◌>>=◌, and_then, gives, one, two, three, four, all_of}
 use Rattle.entry_codec.specs.Fields.{u8_at, u16_at, u32_at, u64_at, i32_at, number_with, choice_at, flag_at}
 use Rattle.entry_codec.specs.Fields.{list_at, seen_at}
 use Rattle.entry_codec.specs.Parts.{feed_at, obj_at, until_at, stream_at}

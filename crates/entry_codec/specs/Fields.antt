@@ -6,7 +6,7 @@ use Rattle.std.specs.Int.{Width, w8, w16, w32, w64, byte_len, from_be_bytes, cas
 use Rattle.std.specs.Str.{is_utf8}
 use Rattle.model.specs.History.{Seen}
 use Rattle.entry_codec.specs.declared.EntryFault.TheVariants.{Short, BadField}
-use Rattle.entry_codec.specs.Read.{Reader, ◌>>=◌, and_then, chain, gives, one, two}
+use Rattle.entry_codec.specs.Read.{Reader, ◌>>=◌, and_then, gives, one, two}
 
 -- a number, the highest byte first
 unfoldable pub number_at : Width → Reader ℕ

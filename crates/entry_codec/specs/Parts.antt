@@ -1,12 +1,12 @@
 -- Dependencies, documents and drafts as they are read, part by part.
 -- The number of a row is the choice that leads to it.
-use Rattle.std.specs.Prelude.{◌==◌, ℕ, List, [], ◌∷◌, nat_le, if◌then◌else◌}
+use Rattle.std.specs.Prelude.{◌==◌, List, [], ◌∷◌, nat_le, if◌then◌else◌}
 use Rattle.std.specs.Int.{w8}
 use Rattle.model.specs.Types.{Feed, Events, Orders, Obj, Job, Stream, OnUntil, Suppr, Cont, Canc, Dep, FollowsJob}
 use Rattle.model.specs.Types.{FollowsStream, Needs, Prompt, At, Until, Outside, Global, Own, DraftDep, Follows}
 use Rattle.model.specs.Types.{Plain, Work, Command, Script, Recovery, Eq, Ne, Lt, Le, Gt, Ge, CondOp, Cmp, And}
 use Rattle.model.specs.Types.{Or, Not, JobDoc, StreamDoc, JobDraft, StreamDraft}
-use Rattle.entry_codec.specs.Read.{Reader, ◌>>=◌, and_then, chain, gives, one, two, three}
+use Rattle.entry_codec.specs.Read.{Reader, ◌>>=◌, and_then, gives, one, two, three}
 use Rattle.entry_codec.specs.Fields.{u8_at, u16_at, u32_at, u64_at, i32_at, number_with, text_at, choice_at, flag_at}
 use Rattle.entry_codec.specs.Fields.{option_at, items_at, list_at}
 

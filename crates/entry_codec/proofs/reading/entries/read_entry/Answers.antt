@@ -1,9 +1,7 @@
-use Rattle.std.proofs.Common.{◌≡◌, Result, Ok, Err, sym, subst, arith}
+use Rattle.std.proofs.Common.{Result, subst, arith}
 use Rattle.model.specs.Types.{Entry}
 use Rattle.entry_codec.specs.declared.EntryFault.{EntryFault}
-use Rattle.entry_codec.specs.declared.EntryFault.TheVariants.{Version, TooMuch}
 use Rattle.entry_codec.specs.Read.{Gives}
-use Rattle.entry_codec.specs.Entries.{entry_in}
 use Rattle.entry_codec.proofs.Whole.{whole_again, version_again, left_again}
 use Rattle.entry_codec.proofs.Told.{is_found, tells_version, tells_left, stays}
 use Rattle.entry_codec.proofs.reading.entries.read_entry.Goals as goal

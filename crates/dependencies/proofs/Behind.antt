@@ -15,13 +15,13 @@ abbrev pub left_behind : View → Obj → ℕ → List NumberedDep
 left_behind V o n =
     filter (λ (p : NumberedDep). not (is_waived V o p.number)) (numbered_deps (n + 1) (drop n (deps V o)))
 
-drop_none : {X : Type 0} (xs : List X) (n : ℕ) → slice_get xs n ≡ None → drop n xs ≡ []
+pub drop_none : {X : Type 0} (xs : List X) (n : ℕ) → slice_get xs n ≡ None → drop n xs ≡ []
 drop_none [] zero e = refl
 drop_none [] (suc n) e = refl
 drop_none (x ∷ xs) zero e = cc
 drop_none (x ∷ xs) (suc n) e = drop_none xs n e
 
-drop_some : {X : Type 0} (xs : List X) (n : ℕ) (x : X) → slice_get xs n ≡ Some x → drop n xs ≡ x ∷ drop (suc n) xs
+pub drop_some : {X : Type 0} (xs : List X) (n : ℕ) (x : X) → slice_get xs n ≡ Some x → drop n xs ≡ x ∷ drop (suc n) xs
 drop_some [] zero x e = cc
 drop_some [] (suc n) x e = cc
 drop_some (y ∷ xs) zero x e = cc
@@ -49,7 +49,7 @@ pub next_waived : (V : View) (o : Obj) (n : ℕ) (d : Dep) → dep V o (n + 1) �
     → left_behind V o n ≡ left_behind V o (n + 1)
 next_waived V o n d e h = rw (next_is V o n d e, h) refl
 
-drop_all : {X : Type 0} (xs : List X) (n : ℕ) → length xs ≤ n → drop n xs ≡ []
+pub drop_all : {X : Type 0} (xs : List X) (n : ℕ) → length xs ≤ n → drop n xs ≡ []
 drop_all [] zero h = refl
 drop_all [] (suc n) h = refl
 drop_all (x ∷ xs) zero h = absurd (omega arith)

@@ -1,6 +1,6 @@
-mod Lists
-mod Found
-mod Behind
-mod Lowest
+pub mod Lists
+pub mod Found
+pub mod Behind
+pub mod Lowest
 mod Better
 mod Both

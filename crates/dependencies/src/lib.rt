@@ -31,7 +31,9 @@ mod walks;
 
 pub use candidates::{Readiness, Scan};
 pub use launches::ready;
+pub use members::is_member;
 pub use priorities::{job_priority, stream_priority};
-pub use releases::{may_end, may_release};
+pub use releases::{may_end, may_end_in, may_release, may_release_in};
 pub use untils::until_due;
 pub use waits::{all_satisfied, sat};
+pub use walks::{UnwaivedDeps, unwaived_deps};

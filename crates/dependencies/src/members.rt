@@ -8,7 +8,7 @@ use owner_fold::Owners;
 
 /// Whether the stream is a member of the plan.
 #[tactic(auto, unfolding(model::specs::Catalogue::is_member))]
-pub(crate) fn is_member(o: &Owners, s: StreamNo) -> bool
+pub fn is_member(o: &Owners, s: StreamNo) -> bool
     ensures { result ≡ spec.is_member (view_of o.now) s }
 {
     for member in o.members().as_slice() {

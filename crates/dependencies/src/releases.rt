@@ -26,7 +26,7 @@ pub fn may_release(net: &Network, o: &Owners, w: Ws, s: StreamNo) -> bool
 }
 
 /// Whether a stream of the catalogue may be released at w.
-fn may_release_in(net: &Network, o: &Owners, w: Ws, doc: &StreamDoc) -> bool
+pub fn may_release_in(net: &Network, o: &Owners, w: Ws, doc: &StreamDoc) -> bool
     requires { IsPlannedStream (view_of o.now) doc.now }
     ensures { result ≡ spec.may_release_in net.now (view_of o.now) w doc.now }
 {
@@ -50,7 +50,7 @@ pub fn may_end(_net: &Network, o: &Owners, w: Ws, s: StreamNo) -> bool
 }
 
 /// Whether a stream of the catalogue may end at w.
-fn may_end_in(o: &Owners, w: Ws, doc: &StreamDoc) -> bool
+pub fn may_end_in(o: &Owners, w: Ws, doc: &StreamDoc) -> bool
     requires { IsPlannedStream (view_of o.now) doc.now }
     ensures { result ≡ spec.may_end_in (view_of o.now) w doc.now }
 {

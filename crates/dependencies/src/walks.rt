@@ -10,7 +10,7 @@ use owner_fold::Owners;
 
 /// The dependencies of an object that are not waived, each with its number from 1, in order.
 #[derive(Drop)]
-pub(crate) struct UnwaivedDeps<'a> {
+pub struct UnwaivedDeps<'a> {
     pub(crate) owners: &'a Owners,
     pub(crate) obj: Obj,
     /// How many dependencies lie behind.
@@ -44,7 +44,7 @@ impl<'a> Iterator for UnwaivedDeps<'a> {
 
 /// The dependencies of an object that are not waived.
 #[tactic(auto, unfolding(model::specs::Dependencies::unwaived_deps))]
-pub(crate) fn unwaived_deps<'a>(o: &'a Owners, obj: &Obj) -> UnwaivedDeps<'a>
+pub fn unwaived_deps<'a>(o: &'a Owners, obj: &Obj) -> UnwaivedDeps<'a>
     ensures { deps_left result ≡ spec.unwaived_deps (view_of o.now) obj.now }
 {
     UnwaivedDeps {

@@ -1,7 +1,7 @@
-pub mod Clocks
+pub mod Times
 pub mod Cited
 pub mod Gatherings
-pub mod Issuers
+pub mod Leasts
 pub mod Lost
 pub mod Members
 pub mod Owned

@@ -6,7 +6,7 @@ use Rattle.model.specs.Catalogue.{StreamJob, is_member}
 use Rattle.model.specs.OwnMembers.{own_jobs}
 use Rattle.owner_fold.specs.Left.{jobs_left}
 use Rattle.batchman_core.specs.Comings.{any_comes_of}
-use Rattle.batchman_core.proofs.Clocks.{objects_of}
+use Rattle.batchman_core.proofs.Times.{objects_of}
 use Rattle.batchman_core.proofs.clocks.time_of_jobs_comes.Given as goal
 
 abbrev pub invariant-loop-parent : goal.invariant-loop-parent

@@ -6,7 +6,7 @@ use Rattle.model.specs.Catalogue.{is_member}
 use Rattle.model.specs.OwnMembers.{own_streams}
 use Rattle.owner_fold.specs.Left.{streams_left}
 use Rattle.batchman_core.specs.Comings.{any_comes_of}
-use Rattle.batchman_core.proofs.Clocks.{objects_of}
+use Rattle.batchman_core.proofs.Times.{objects_of}
 use Rattle.batchman_core.proofs.clocks.time_of_streams_comes.Given as goal
 
 abbrev pub invariant-loop-doc : goal.invariant-loop-doc

@@ -1,0 +1,7 @@
+mod Commands
+mod Equal
+mod Held
+mod Latest
+mod Reasons
+mod Sizes
+mod Texts

@@ -1,0 +1,265 @@
+-- An index of names, one job or stream further.
+use Rattle.std.proofs.Common.{[], ℕ, ◌&&◌, ◌+◌, ◌++◌, ◌<◌, ◌∙◌, ◌∷◌, ◌≡◌, ◌≢◌, ◌⊎◌, Bool, Bor, List, None, Option, Some}
+use Rattle.std.proofs.Common.{ap, arith, bytes_eq, cond, drop, eqb, false, find, get_or, inl, inr, length, map, refl}
+use Rattle.std.proofs.Common.{option_and_then, option_map, subst, sym, take, true}
+use Rattle.std.proofs.lemmas.Bool.Decides.{eqb_tells}
+use Rattle.std.proofs.lemmas.List.{drop_more, map-append, reverse-append, take_more}
+use Rattle.std.specs.Cmp.Lexicographic.{bytes_decides}
+use Rattle.std.specs.List.{enumerate_from}
+use Rattle.std.specs.Prelude.{reverse}
+use Rattle.std.specs.Map.{lookup}
+use Rattle.std.specs.Option.{option_copied, option_or}
+use Rattle.indexmap.specs.IndexMap.{insert_entry}
+use Rattle.model.specs.Types.{JobDoc, JobDraft, StreamDoc}
+use Rattle.model.specs.Equalities.{text_eq}
+use Rattle.model.specs.NewPlan.{Fresh, Named, NamedJob, is_named, named_doc, named_fresh, resolve_job, resolve_stream}
+use Rattle.carry_forward.specs.Known.{AreJobsOf, IsIndexOf, IsTarget, Told, docs_of, job_at, named_job}
+use Rattle.carry_forward.specs.Known.{named_jobs, numbered_jobs, told_at, told_named, told_target}
+use Rattle.carry_forward.specs.declared.names.Target.{Target}
+
+eqb_flip : (a b : ℕ) → eqb a b ≡ eqb b a
+eqb_flip a b =
+    elim (eqb_tells a b) [
+      | inl e ↦ elim (eqb_tells b a) [ inl f ↦ e.0 ∙ sym f.0 | inr f ↦ absurd (f.1 (sym e.1)) ]
+      | inr e ↦ elim (eqb_tells b a) [ inl f ↦ absurd (e.1 (sym f.1)) | inr f ↦ e.0 ∙ sym f.0 ]
+    ]
+
+-- both say whether two texts are one
+text_bytes : (a b : List ℕ) → text_eq a b ≡ bytes_eq b a
+text_bytes [] [] = refl
+text_bytes [] (y ∷ ys) = refl
+text_bytes (x ∷ xs) [] = refl
+text_bytes (x ∷ xs) (y ∷ ys) = λ j. eqb_flip x y j && text_bytes xs ys j
+
+-- a query finds what is inserted at its key, and all else that it found before
+module _ {K X A : Type 0} (f : K → A) (same : A → A → Bool) (tells : (a b : A) → same a b ≡ true → a ≡ b)
+    (itself : (a : A) → same a a ≡ true) where
+  collapse : (c : Bool) (x y z : Option X) → cond c z y ≡ cond c z (cond c x y)
+  collapse true x y z = refl
+  collapse false x y z = refl
+
+  swapped : (a : A) (k l : K) (x y z : Option X) → same (f k) (f l) ≡ false
+      → cond (same a (f l)) x (cond (same a (f k)) y z) ≡ cond (same a (f k)) y (cond (same a (f l)) x z)
+  swapped a k l x y z apart = go (same a (f k)) (same a (f l)) refl refl
+    where
+      go : (b c : Bool) → same a (f k) ≡ b → same a (f l) ≡ c → cond c x (cond b y z) ≡ cond b y (cond c x z)
+      go true true p q =
+          let one : f k ≡ f l = sym (tells a (f k) p) ∙ tells a (f l) q in
+          let both : same (f k) (f l) ≡ true = ap (same (f k)) (sym one) ∙ itself (f k) in
+          absurd (cc)
+      go true false p q = refl
+      go false true p q = refl
+      go false false p q = refl
+
+  pub inserted : (a : A) (es : List (K × X)) (k : K) (v : X)
+      → lookup (λ (l : K). same a (f l)) (insert_entry (λ (p q : K). same (f p) (f q)) es k v)
+      ≡ cond (same a (f k)) (Some v) (lookup (λ (l : K). same a (f l)) es)
+  inserted a [] k v = refl
+  inserted a (e ∷ es) k v = go (same (f k) (f e.0)) refl (inserted a es k v)
+    where
+      go : (b : Bool) → same (f k) (f e.0) ≡ b
+          → lookup (λ (l : K). same a (f l)) (insert_entry (λ (p q : K). same (f p) (f q)) es k v)
+          ≡ cond (same a (f k)) (Some v) (lookup (λ (l : K). same a (f l)) es)
+          → lookup (λ (l : K). same a (f l))
+          (cond b ((e.0, v) ∷ es) (e ∷ insert_entry (λ (p q : K). same (f p) (f q)) es k v))
+          ≡ cond (same a (f k)) (Some v)
+          (cond (same a (f e.0)) (Some e.1) (lookup (λ (l : K). same a (f l)) es))
+      go true q h =
+          collapse (same a (f e.0)) (Some e.1) (lookup (λ (l : K). same a (f l)) es) (Some v)
+          ∙ ap (λ (t : A). cond (same a t) (Some v)
+          (cond (same a (f e.0)) (Some e.1) (lookup (λ (l : K). same a (f l)) es)))
+          (sym (tells (f k) (f e.0) q))
+      go false q h =
+          ap (cond (same a (f e.0)) (Some e.1)) h
+          ∙ swapped a k e.0 (Some e.1) (Some v) (lookup (λ (l : K). same a (f l)) es) q
+
+-- texts
+text_tells : (a b : List ℕ) → bytes_eq a b ≡ true → a ≡ b
+text_tells a b h = (bytes_decides a b).0 h
+
+text_itself : (a : List ℕ) → bytes_eq a a ≡ true
+text_itself a = (bytes_decides a a).1 refl
+
+abbrev pub text_of : Bor (List ℕ) → List ℕ
+text_of k = k.now
+
+-- workstations with names
+abbrev pub key_of : ℕ × Bor (List ℕ) → ℕ × List ℕ
+key_of k = (k.0, k.1.now)
+
+abbrev pub are_one_key : ℕ × List ℕ → ℕ × List ℕ → Bool
+are_one_key a b = eqb a.0 b.0 && bytes_eq a.1 b.1
+
+key_tells : (a b : ℕ × List ℕ) → are_one_key a b ≡ true → a ≡ b
+key_tells a b h = go (eqb_tells a.0 b.0)
+  where
+    first : (p q : Bool) → (p && q) ≡ true → p ≡ true
+    first true q h = refl
+    first false q h = cc
+
+    second : (p q : Bool) → (p && q) ≡ true → q ≡ true
+    second true q h = h
+    second false q h = cc
+
+    go : ((eqb a.0 b.0 ≡ true) × (a.0 ≡ b.0)) ⊎ ((eqb a.0 b.0 ≡ false) × (a.0 ≢ b.0)) → a ≡ b
+    go (inl e) = λ j. (e.1 j, text_tells a.1 b.1 (second (eqb a.0 b.0) (bytes_eq a.1 b.1) h) j)
+    go (inr e) = absurd (let t : eqb a.0 b.0 ≡ true = first (eqb a.0 b.0) (bytes_eq a.1 b.1) h in cc)
+
+key_itself : (a : ℕ × List ℕ) → are_one_key a a ≡ true
+key_itself a = go (eqb_tells a.0 a.0)
+  where
+    go : ((eqb a.0 a.0 ≡ true) × (a.0 ≡ a.0)) ⊎ ((eqb a.0 a.0 ≡ false) × (a.0 ≢ a.0)) → are_one_key a a ≡ true
+    go (inl e) = λ j. e.0 j && text_itself a.1 j
+    go (inr e) = absurd (e.1 refl)
+
+-- one more job, which comes before the others
+pub jobs_more : (es new : List (Bor (List ℕ) × ℕ)) (k : Bor (List ℕ)) (number : ℕ)
+    → new ≡ insert_entry (λ (p q : Bor (List ℕ)). bytes_eq p.now q.now) es k number
+    → (jobs : List NamedJob) → AreJobsOf es jobs → AreJobsOf new (named_job k.now number ∷ jobs)
+jobs_more es new k number grown jobs h name =
+    ap (λ (l : List (Bor (List ℕ) × ℕ)). job_at l name) grown
+    ∙ (inserted text_of bytes_eq text_tells text_itself name es k number
+    ∙ (ap (λ (b : Bool). cond b (Some number) (job_at es name)) (sym (text_bytes k.now name))
+    ∙ go (text_eq k.now name) (h name)))
+  where
+    go : (b : Bool)
+        → job_at es name ≡ option_map (λ (j : NamedJob). j.number) (find (λ (j : NamedJob). text_eq j.name name) jobs)
+        → cond b (Some number) (job_at es name)
+        ≡ option_map (λ (j : NamedJob). j.number)
+        (cond b (Some (named_job k.now number)) (find (λ (j : NamedJob). text_eq j.name name) jobs))
+    go true e = refl
+    go false e = e
+
+-- the jobs from a place on are that at the place and those from the next on
+pub jobs_at : (es new : List (Bor (List ℕ) × ℕ)) (docs : List JobDoc) (i n : ℕ) (job : JobDoc) (j : NamedJob)
+    → i + 1 ≡ n → i < length docs → job ≡ get_or docs i job → j ≡ named_job job.name job.no
+    → ((jobs : List NamedJob) → AreJobsOf es jobs → AreJobsOf new (j ∷ jobs))
+    → AreJobsOf es (named_jobs (drop n docs)) → AreJobsOf new (named_jobs (drop i docs))
+jobs_at es new docs i n job j next low at is more h =
+    subst (AreJobsOf new)
+    ((λ p. is p ∷ named_jobs (drop n docs))
+    ∙ ap named_jobs (sym (drop_more docs i job low ∙ (λ p. sym at p ∷ drop (next p) docs))))
+    (more (named_jobs (drop n docs)) h)
+
+-- and so of drafts with their numbers
+pub drafts_at : (es new : List (Bor (List ℕ) × ℕ)) (drafts : List JobDraft) (first i n : ℕ) (job : JobDraft)
+    (j : NamedJob) → i + 1 ≡ n → i < length drafts → job ≡ get_or drafts i job → j ≡ named_job job.name (first + i)
+    → ((jobs : List NamedJob) → AreJobsOf es jobs → AreJobsOf new (j ∷ jobs))
+    → AreJobsOf es (numbered_jobs (enumerate_from (first + n) (drop n drafts)))
+    → AreJobsOf new (numbered_jobs (enumerate_from (first + i) (drop i drafts)))
+drafts_at es new drafts first i n job j next low at is more h =
+    let on : first + n ≡ first + i + 1 = omega (arith, next) in
+    let rest : List NamedJob = numbered_jobs (enumerate_from (first + i + 1) (drop n drafts)) in
+    subst (AreJobsOf new)
+    ((λ p. is p ∷ rest)
+    ∙ ap (λ (l : List JobDraft). numbered_jobs (enumerate_from (first + i) l))
+    (sym (drop_more drafts i job low ∙ (λ p. sym at p ∷ drop (next p) drafts))))
+    (more rest (subst (λ (m : ℕ). AreJobsOf es (numbered_jobs (enumerate_from m (drop n drafts)))) on h))
+
+-- what the index keeps of a stream tells the same
+pub told_so : (t : Target) (s : Named) → t.number ≡ s.number → AreJobsOf t.jobs.entries s.jobs → IsTarget t s
+told_so t s number jobs = λ j. (number j, λ name. jobs name j)
+
+abbrev are_one : ℕ × Bor (List ℕ) → ℕ × Bor (List ℕ) → Bool
+are_one p q = are_one_key (key_of p) (key_of q)
+
+-- the index after one more stream at its key
+module _ (es new : List ((ℕ × Bor (List ℕ)) × Target)) (k : ℕ × Bor (List ℕ)) (t : Target)
+    (grown : new ≡ insert_entry are_one es k t) where
+  put : (s : Named) → k.0 ≡ s.ws → k.1.now ≡ s.name → (w : ℕ) (name : List ℕ)
+      → told_at new w name
+      ≡ option_map told_target
+      (cond (is_named w name s) (Some t) (lookup (λ (l : ℕ × Bor (List ℕ)). are_one_key (w, name) (key_of l)) es))
+  put s ws named w name =
+      ap (λ (l : List ((ℕ × Bor (List ℕ)) × Target)). told_at l w name) grown
+      ∙ (ap (option_map told_target) (inserted key_of are_one_key key_tells key_itself (w, name) es k t)
+      ∙ ap (λ (b : Bool). option_map told_target
+      (cond b (Some t) (lookup (λ (l : ℕ × Bor (List ℕ)). are_one_key (w, name) (key_of l)) es)))
+      (λ j. (eqb_flip w k.0 ∙ ap (λ (v : ℕ). eqb v w) ws) j
+      && (sym (text_bytes k.1.now name) ∙ ap (λ (n : List ℕ). text_eq n name) named) j))
+
+  -- a fresh stream, which comes before the others
+  pub fresh_more : (fresh earlier : List Named) (s : Named) → IsTarget t s → k.0 ≡ s.ws → k.1.now ≡ s.name
+      → IsIndexOf es fresh earlier → IsIndexOf new (s ∷ fresh) earlier
+  fresh_more fresh earlier s told ws named h w name = put s ws named w name ∙ go (is_named w name s) (h w name)
+    where
+      go : (b : Bool) → told_at es w name ≡ option_map told_named (resolve_stream fresh earlier w name)
+          → option_map told_target
+          (cond b (Some t) (lookup (λ (l : ℕ × Bor (List ℕ)). are_one_key (w, name) (key_of l)) es))
+          ≡ option_map told_named
+          (option_or (cond b (Some s) (find (is_named w name) fresh)) (find (is_named w name) (reverse earlier)))
+      go true e = ap Some told
+      go false e = e
+
+  -- an earlier stream, which comes before those that are earlier still
+  pub earlier_more : (earlier : List Named) (s : Named) → IsTarget t s → k.0 ≡ s.ws → k.1.now ≡ s.name
+      → IsIndexOf es [] earlier → IsIndexOf new [] (earlier ++ s ∷ [])
+  earlier_more earlier s told ws named h w name =
+      put s ws named w name
+      ∙ (go (is_named w name s) (h w name)
+      ∙ ap (λ (l : List Named). option_map told_named (find (is_named w name) l))
+      (sym (reverse-append earlier (s ∷ []))))
+    where
+      go : (b : Bool) → told_at es w name ≡ option_map told_named (resolve_stream [] earlier w name)
+          → option_map told_target
+          (cond b (Some t) (lookup (λ (l : ℕ × Bor (List ℕ)). are_one_key (w, name) (key_of l)) es))
+          ≡ option_map told_named (cond b (Some s) (find (is_named w name) (reverse earlier)))
+      go true e = ap Some told
+      go false e = e
+
+-- the earlier streams up to a place are those before it and that at the place
+pub earlier_at : (es new : List ((ℕ × Bor (List ℕ)) × Target)) (docs : List (Bor StreamDoc)) (i : ℕ) (d : Bor StreamDoc)
+    → i < length docs → d ≡ get_or docs i d
+    → ((earlier : List Named) → IsIndexOf es [] earlier → IsIndexOf new [] (earlier ++ named_doc d.now ∷ []))
+    → IsIndexOf es [] (map named_doc (docs_of (take i docs)))
+    → IsIndexOf new [] (map named_doc (docs_of (take (i + 1) docs)))
+earlier_at es new docs i d low at more h =
+    subst (λ (l : List Named). IsIndexOf new [] l)
+    (sym
+    (ap (λ (l : List (Bor StreamDoc)). map named_doc (docs_of l))
+    (take_more docs i d low ∙ (λ p. take i docs ++ sym at p ∷ []))
+    ∙ (ap (map named_doc) (map-append (λ (b : Bor StreamDoc). b.now) (take i docs) (d ∷ []))
+    ∙ map-append named_doc (docs_of (take i docs)) (d.now ∷ []))))
+    (more (map named_doc (docs_of (take i docs))) h)
+
+-- the fresh streams from a place on are that at the place and those from the next on
+pub fresh_at : (es new : List ((ℕ × Bor (List ℕ)) × Target)) (xs : List Fresh) (i n : ℕ) (x : Fresh)
+    → i + 1 ≡ n → i < length xs → x ≡ get_or xs i x
+    → ((fresh earlier : List Named) → IsIndexOf es fresh earlier → IsIndexOf new (named_fresh x ∷ fresh) earlier)
+    → (earlier : List Named) → IsIndexOf es (map named_fresh (drop n xs)) earlier
+    → IsIndexOf new (map named_fresh (drop i xs)) earlier
+fresh_at es new xs i n x next low at more earlier h =
+    subst (λ (l : List Named). IsIndexOf new l earlier)
+    (ap (map named_fresh) (sym (drop_more xs i x low ∙ (λ p. sym at p ∷ drop (next p) xs))))
+    (more (map named_fresh (drop n xs)) earlier h)
+
+-- what a target tells, of its number and of a job
+pub told_number : (r : Option (Bor Target)) (o : Option Named)
+    → option_map (λ (t : Bor Target). told_target t.now) r ≡ option_map told_named o
+    → option_map (λ (t : Bor Target). t.now.number) r ≡ option_map (λ (s : Named). s.number) o
+told_number None None h = refl
+told_number None (Some s) h = cc
+told_number (Some t) None h = cc
+told_number (Some t) (Some s) h = ap (option_map (λ (p : Told). p.0)) h
+
+pub told_job : (r : Option (Bor Target)) (o : Option Named) (name : List ℕ)
+    → option_map (λ (t : Bor Target). told_target t.now) r ≡ option_map told_named o
+    → option_and_then (λ (t : Bor Target). job_at t.now.jobs.entries name) r ≡ option_and_then (resolve_job name) o
+told_job None None name h = refl
+told_job None (Some s) name h = cc
+told_job (Some t) None name h = cc
+told_job (Some t) (Some s) name h = ap (option_and_then (λ (p : Told). p.1 name)) h
+
+-- what a look-up tells
+pub told_read : (r : Option (Bor Target)) (o : Option Target) → option_copied r ≡ o
+    → option_map (λ (t : Bor Target). told_target t.now) r ≡ option_map told_target o
+told_read None o h = ap (option_map told_target) h
+told_read (Some t) o h = ap (option_map told_target) h
+
+pub told_job_so : (r : Option (Bor Target)) (o : Option Named) (t : Bor Target) (name : List ℕ) (j : Option ℕ)
+    → j ≡ job_at t.now.jobs.entries name → r ≡ Some t
+    → option_map (λ (t : Bor Target). told_target t.now) r ≡ option_map told_named o
+    → j ≡ option_and_then (resolve_job name) o
+told_job_so r o t name j found is h =
+    found
+    ∙ (sym (ap (option_and_then (λ (t : Bor Target). job_at t.now.jobs.entries name)) is) ∙ told_job r o name h)

@@ -1,0 +1,61 @@
+//! What a new plan takes over: the streams that it carries, and the counts of events at which it cuts.
+ghost use Rattle.std.specs.Prelude.{◌≡◌, IfOk};
+ghost use Rattle.model.specs.Words.{below};
+ghost use Rattle.model.specs.Network.{node_count};
+ghost use Rattle.model.specs.History.{view_of};
+ghost use Rattle.model.specs.NewPlan as spec;
+ghost use Rattle.model.specs.NewPlan.{carried_members, seen_of};
+
+use base_types::{Feed, NoMemory, Obj, Seen, StreamNo, StreamNos, Ws};
+use network_tree::Network;
+use owner_fold::Owners;
+use std::alloc::Global;
+
+/// Whether a stream is marked, and neither cancelled nor ended. False outside the catalogue.
+#[tactic(auto, unfolding(model::specs::NewPlan::is_carried, model::specs::Catalogue::owner))]
+fn is_carried(o: &Owners, s: StreamNo) -> bool
+    ensures { result ≡ spec.is_carried (view_of o.now) s }
+{
+    match o.stream(s) {
+        None => false,
+        Some(doc) => {
+            if !doc.carry {
+                return false;
+            }
+            if o.is_cancelled(Obj::Stream(s)) {
+                return false;
+            }
+            !o.is_ended(s)
+        }
+    }
+}
+
+/// The members that the next plan carries, in order.
+#[tactic(auto, unfolding(model::specs::NewPlan::carried_members))]
+pub(crate) fn carried_streams(o: &Owners) -> Result<StreamNos, NoMemory>
+    ensures { IfOk result (λ carried. carried ≡ carried_members (view_of o.now)) }
+{
+    let members = o.members();
+    let mut carried = members.empty();
+    for s in members.as_slice() {
+        if is_carried(o, *s) {
+            carried.push(*s)?;
+        }
+    }
+    Ok(carried)
+}
+
+/// How many events of each workstation were taken, those without events left out.
+#[tactic(auto, using(crate::proofs::Counts::seen_more), unfolding(model::specs::NewPlan::seen_of))]
+pub(crate) fn cut(alloc: Global, net: &Network, o: &Owners) -> Result<Seen, NoMemory>
+    ensures { IfOk result (λ seen. seen ≡ seen_of (view_of o.now) (below (node_count net.now))) }
+{
+    let mut seen = Seen::new(alloc);
+    for w in 0..net.count() {
+        let count = o.count(Feed::Events(Ws(w)));
+        if count > 0 {
+            seen.push((Ws(w), count))?;
+        }
+    }
+    Ok(seen)
+}

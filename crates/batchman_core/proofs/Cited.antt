@@ -5,10 +5,10 @@ use Rattle.std.specs.Prelude.{flat_map, slice_get}
 use Rattle.model.specs.Types.{Dep, Obj}
 use Rattle.model.specs.Words.{ascending, nth}
 use Rattle.model.specs.History.{View}
-use Rattle.model.specs.Dependencies.{dep, dep_cites, deps}
+use Rattle.model.specs.Dependencies.{cites, dep, dep_cites, deps}
 use Rattle.dependencies.proofs.Behind.{drop_all, drop_none, drop_some}
 use Rattle.batchman_core.specs.Gathered.{with_all}
-use Rattle.batchman_core.proofs.Gatherings.{gathered_some}
+use Rattle.batchman_core.proofs.Gatherings.{all_gathered, gathered_some}
 
 drop_past : {X : Type 0} (xs : List X) (n : ℕ) → slice_get xs n ≡ None → drop (suc n) xs ≡ []
 drop_past [] n e = refl
@@ -18,6 +18,11 @@ drop_past (x ∷ xs) (suc n) e = drop_past xs n e
 -- what the dependencies behind the first n cite, among others
 abbrev pub cited_behind : View → Obj → ℕ → List ℕ → List ℕ
 cited_behind V o n among = with_all (flat_map (dep_cites V) (drop n (deps V o))) among
+
+-- before the walk
+pub cited_at_first : (V : View) (o : Obj) → cited_behind V o 0 [] ≡ ascending (cites V o)
+unfolding cites
+cited_at_first V o = all_gathered (flat_map (dep_cites V) (deps V o))
 
 -- the next dependency
 pub cited_next : (V : View) (o : Obj) (n : ℕ) (d : Dep) (among : List ℕ) → dep V o (n + 1) ≡ Some d

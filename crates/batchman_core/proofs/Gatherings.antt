@@ -85,7 +85,8 @@ insert_either x y zs = go (compared x y)
     go (inr (inl e)) = subst (λ (v : ℕ). insert_once x (insert_once v zs) ≡ insert_once v (insert_once x zs)) e refl
     go (inr (inr h)) = sym (insert_lower y x zs h)
 
-with_one_more : (xs : List ℕ) (y : ℕ) (among : List ℕ)
+-- one more, before the others or behind them
+pub with_one_more : (xs : List ℕ) (y : ℕ) (among : List ℕ)
     → with_all xs (insert_once y among) ≡ insert_once y (with_all xs among)
 with_one_more [] y among = refl
 with_one_more (x ∷ xs) y among =
@@ -100,10 +101,6 @@ with_both (x ∷ xs) ys among =
 pub all_gathered : (xs : List ℕ) → with_all xs [] ≡ ascending xs
 all_gathered [] = refl
 all_gathered (x ∷ xs) = ap (insert_once x) (all_gathered xs)
-
--- one more of those that are left
-pub gathered_one : (x : ℕ) (left among : List ℕ) → with_all (x ∷ left) among ≡ with_all left (insert_once x among)
-gathered_one x left among = sym (with_one_more left x among)
 
 -- some more of those that are left
 pub gathered_some : {X : Type 0} (f : X → List ℕ) (x : X) (left : List X) (among : List ℕ)

@@ -1,5 +1,6 @@
 pub mod Times
 pub mod Cited
+pub mod Counted
 pub mod Gatherings
 pub mod Leasts
 pub mod Lost

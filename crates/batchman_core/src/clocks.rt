@@ -78,7 +78,7 @@ fn time_of_job_comes(
 fn time_comes(o: &Owners, obj: &Obj, now: Moment, t: Moment) -> bool
     ensures { result ≡ any_comes now t (unwaived_deps (view_of o.now) obj.now) }
 {
-    for (_, dep) in unwaived_deps(o, obj) {
+    for (_number, dep) in unwaived_deps(o, obj) {
         if comes(dep, now, t) {
             return true;
         }

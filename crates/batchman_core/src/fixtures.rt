@@ -1,5 +1,5 @@
 //! A workstation's night in memory, taken turn by turn.
-use crate::turn_body;
+use crate::{Choice, turn_body, turn_choice};
 use base_types::{
     Body, Cmd, Deps, Entry, Feed, Items, JobDoc, JobNo, Jobs, Live, LiveJob, Moment, Net, Node,
     Recovery, Resource, Seen, StreamDoc, StreamDocs, StreamNo, Text, Work, Ws,
@@ -116,6 +116,21 @@ impl Night {
     pub fn order(&mut self, cmd: Cmd) -> Result<(), Fail> {
         let me = self.me;
         self.keep(Feed::Orders(me, me), Body::Order(cmd))
+    }
+
+    /// The choice of a turn with this reading. Nothing also where the workstation is not of the network.
+    pub fn choice(&self, t: u64) -> Choice {
+        if self.me.0 >= self.net.count() {
+            return Choice::Nothing;
+        }
+        turn_choice(
+            &self.net,
+            &self.owners,
+            &Scan,
+            self.me,
+            &self.live,
+            Moment(t),
+        )
     }
 
     /// The body of a turn with this reading. None also where the workstation is not of the network.

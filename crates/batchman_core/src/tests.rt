@@ -1,8 +1,11 @@
 //! Worked nights: what each turn keeps.
+use crate::Choice;
 use crate::fixtures::{M, Night, P, Q, job, one_job, one_stream, planned, stream};
 use base_types::{
-    Body, Cmd, Dep, Deps, Feed, Items, JobNo, Jobs, Moment, OnUntil, Seen, StreamNo, Ws,
+    Body, Cmd, Dep, Deps, DraftDep, DraftDeps, Feed, Items, JobDraft, JobNo, Jobs, Moment, OnUntil,
+    Recovery, Seen, StreamDraft, StreamNo, Text, Work, Ws,
 };
+use carry_forward::next_plan;
 use std::alloc::Global;
 use std::test::Fail;
 
@@ -295,6 +298,111 @@ fn issuers_are_answered_from_the_lowest(rt: HostRuntime) -> Result<(), Fail> {
         "Obeyed(Ws(1), 2, Stop)",
         "Obeyed(Ws(2), 1, Fence(1))",
         "Released(StreamNo(1), Seen { counts: Items { items: [(Ws(0), 4)] } })",
+        "",
+    ];
+    assert!(rt; night.turns(alloc, 1, &texts)?);
+    Ok(())
+}
+
+#[test]
+fn a_choice_names_its_object(rt: HostRuntime) -> Result<(), Fail> {
+    let alloc = rt.alloc();
+    let mut night = one_job(alloc)?;
+    assert!(rt; night.choice(1) == Choice::Release(StreamNo(1)));
+    let launched = "Launched(JobNo(1), 1, Seen { counts: Items { items: [(Ws(0), 2)] } })";
+    assert!(rt; night.turns(alloc, 1, &[RELEASED])?);
+    assert!(rt; night.choice(1) == Choice::Launch(JobNo(1)));
+    assert!(rt; night.turns(alloc, 1, &[launched])?);
+    assert!(rt; night.choice(1) == Choice::Nothing);
+    night.order(Cmd::Stop)?;
+    assert!(rt; night.choice(1) == Choice::Answer(M));
+    night.restart(alloc);
+    assert!(rt; night.choice(1) == Choice::Lost(JobNo(1)));
+    Ok(())
+}
+
+/// A stream of the master with one job.
+fn draft(alloc: Global, name: &str, deps: DraftDeps) -> Result<StreamDraft, Fail> {
+    let mut jobs = Items::new(alloc);
+    jobs.push(JobDraft {
+        ws: M,
+        name: Text::of(alloc, "J")?,
+        priority: 10,
+        work: Work::Command(Text::of(alloc, "true")?),
+        logon: Text::new(alloc),
+        cond: Items::new(alloc),
+        recovery: Recovery::Stop,
+        deps: Items::new(alloc),
+    })?;
+    Ok(StreamDraft {
+        ws: M,
+        name: Text::of(alloc, name)?,
+        priority: 10,
+        limit: None,
+        carry: false,
+        deps,
+        jobs,
+    })
+}
+
+#[test]
+fn a_submitted_stream_is_added(rt: HostRuntime) -> Result<(), Fail> {
+    let alloc = rt.alloc();
+    let mut night = one_job(alloc)?;
+    let adhoc = draft(alloc, "ADHOC", Items::new(alloc))?;
+    night.order(Cmd::Submit(adhoc))?;
+    let text = night.turn(alloc, 1)?;
+    assert!(rt; text.as_str().starts_with("Added(Ws(0), 1, StreamDoc { no: StreamNo(2), "));
+    assert!(rt; night.owners.stream_of(JobNo(2)) == Some(StreamNo(2)));
+    let texts = [
+        "Released(StreamNo(1), Seen { counts: Items { items: [(Ws(0), 2)] } })",
+        "Released(StreamNo(2), Seen { counts: Items { items: [(Ws(0), 3)] } })",
+    ];
+    assert!(rt; night.turns(alloc, 1, &texts)?);
+    Ok(())
+}
+
+/// A marked stream X and another one, each with a job.
+fn two_streams(alloc: Global) -> Result<Night, Fail> {
+    let mut docs = Items::new(alloc);
+    for (no, name, carry) in [(1, "X", true), (2, "Y", false)] {
+        let mut jobs = Items::new(alloc);
+        jobs.push(job(alloc, no, M, 10, Items::new(alloc))?)?;
+        let mut doc = stream(alloc, no, M, Items::new(alloc), jobs)?;
+        doc.name = Text::of(alloc, name)?;
+        doc.carry = carry;
+        docs.push(doc)?;
+    }
+    planned(alloc, M, docs)
+}
+
+/// The next day's plan has a stream Z, which follows X.
+fn second_day(alloc: Global) -> Result<Night, Fail> {
+    let mut night = two_streams(alloc)?;
+    let mut deps = Items::new(alloc);
+    deps.push(DraftDep::Follows(M, Text::of(alloc, "X")?, None))?;
+    let mut drafts = Items::new(alloc);
+    drafts.push(draft(alloc, "Z", deps)?)?;
+    let plan = next_plan(alloc, &night.net, &night.owners, &drafts)?;
+    night.event(M, plan)?;
+    Ok(night)
+}
+
+#[test]
+fn a_carried_stream_goes_on(rt: HostRuntime) -> Result<(), Fail> {
+    let alloc = rt.alloc();
+    let mut night = second_day(alloc)?;
+    let texts = [
+        "Released(StreamNo(1), Seen { counts: Items { items: [(Ws(0), 2)] } })",
+        "Launched(JobNo(1), 1, Seen { counts: Items { items: [(Ws(0), 3)] } })",
+        "",
+    ];
+    assert!(rt; night.turns(alloc, 1, &texts)?);
+    night.event(M, Body::Ended(JobNo(1), 1, 0, true))?;
+    let texts = [
+        "StreamEnded(StreamNo(1), Seen { counts: Items { items: [(Ws(0), 5)] } })",
+        "Released(StreamNo(3), Seen { counts: Items { items: [(Ws(0), 6)] } })",
+        "Launched(JobNo(3), 1, Seen { counts: Items { items: [(Ws(0), 7)] } })",
         "",
     ];
     assert!(rt; night.turns(alloc, 1, &texts)?);

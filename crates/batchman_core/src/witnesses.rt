@@ -128,8 +128,9 @@ fn cited(alloc: Global, o: &Owners, obj: &Obj) -> Result<Witnesses, NoMemory>
 {
     let mut found = Witnesses::new(alloc);
     for passed in 0..o.dep_count(*obj) {
-        if let Some(dep) = o.dep(*obj, passed + 1) {
-            add_cited(o, dep, &mut found)?;
+        match o.dep(*obj, passed + 1) {
+            None => continue,
+            Some(dep) => add_cited(o, dep, &mut found)?,
         }
     }
     Ok(found)
@@ -161,12 +162,13 @@ fn add_cited(o: &Owners, dep: &Dep, found: &mut Witnesses) -> Result<(), NoMemor
 }
 
 /// The owners of a stream's jobs.
+#[tactic(auto, using(crate::proofs::Gatherings::with_one_more, crate::proofs::Gatherings::all_gathered))]
 fn job_owners(alloc: Global, o: &Owners, s: StreamNo) -> Result<Witnesses, NoMemory>
     ensures { let V = view_of o.now in IfOk result (λ found. found
         ≡ ascending (map (λ (p : StreamJob). p.doc.ws) (jobs_of_stream V s))) }
 {
     let mut found = Witnesses::new(alloc);
-    for (_, doc) in o.jobs_of_stream(s) {
+    for (_parent, doc) in o.jobs_of_stream(s) {
         found.add(doc.ws)?;
     }
     Ok(found)

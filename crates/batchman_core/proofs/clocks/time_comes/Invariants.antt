@@ -5,6 +5,7 @@ use Rattle.dependencies.specs.Left.{deps_left}
 use Rattle.batchman_core.specs.Comings.{any_comes}
 use Rattle.batchman_core.proofs.clocks.time_comes.Given as goal
 
-abbrev pub invariant-loop-dep : goal.invariant-loop-dep
-invariant-loop-dep l =
-    any_comes l.fn.now l.fn.t (unwaived_deps (view_of l.o) l.obj) ≡ any_comes l.fn.now l.fn.t (deps_left l.dep-iterator)
+abbrev pub invariant-loop-number : goal.invariant-loop-number
+invariant-loop-number l =
+    any_comes l.fn.now l.fn.t (unwaived_deps (view_of l.o) l.obj)
+    ≡ any_comes l.fn.now l.fn.t (deps_left l._number-iterator)

@@ -9,7 +9,7 @@ use Rattle.batchman_core.proofs.issuers.next_issuer.Goals as goal
 pub returns-then-has_next_order : goal.returns-then-has_next_order
 unfolding next_issuer
 returns-then-has_next_order c =
-    let low : c.loop-a.a < 0 + node_count c.args.net.now = omega (arith, c.count.ensures.value) in
+    let low : c.loop-a.a < 0 + node_count c.args.net.now = omega (arith, c.count-a-end.ensures.value) in
     sym
     (least_first (λ (a : ℕ). is_some (next_order (view_of c.args.o.now) c.args.me a)) 0 (node_count c.args.net.now)
     c.loop-a.a (omega arith) low (λ k l h. c.loop-a.invariant k h)
@@ -20,4 +20,4 @@ unfolding next_issuer
 returns c =
     sym
     (least_nothing (λ (a : ℕ). is_some (next_order (view_of c.args.o.now) c.args.me a)) 0 (node_count c.args.net.now)
-    (λ k l h. c.loop-a.invariant k (omega (arith, c.count.ensures.value))))
+    (λ k l h. c.loop-a.invariant k (omega (arith, c.count-a-end.ensures.value))))

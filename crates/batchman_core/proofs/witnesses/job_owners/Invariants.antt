@@ -6,7 +6,7 @@ use Rattle.owner_fold.specs.Left.{stream_jobs_left}
 use Rattle.batchman_core.specs.Gathered.{with_all}
 use Rattle.batchman_core.proofs.witnesses.job_owners.Given as goal
 
-abbrev pub invariant-loop-doc : goal.invariant-loop-doc
-invariant-loop-doc l =
-    with_all (map (λ (p : StreamJob). p.doc.ws) (stream_jobs_left l.doc-iterator)) l.found
+abbrev pub invariant-loop-parent : goal.invariant-loop-parent
+invariant-loop-parent l =
+    with_all (map (λ (p : StreamJob). p.doc.ws) (stream_jobs_left l._parent-iterator)) l.found
     ≡ ascending (map (λ (p : StreamJob). p.doc.ws) (jobs_of_stream (view_of l.o) l.fn.s))

@@ -1,8 +1,8 @@
 -- The first cause that applies.
-use Rattle.std.proofs.Common.{[], ℕ, ◌+◌, ◌<◌, ◌∙◌, ◌∷◌, ◌≡◌, ◌||◌, Bool, List, None, Option, Some, ap, arith, false}
+use Rattle.std.proofs.Common.{[], ℕ, ◌+◌, ◌<◌, ◌∙◌, ◌∷◌, ◌≡◌, ◌||◌, Bool, List, Option, Some, ap, arith, false}
 use Rattle.std.proofs.Common.{filter_map, length, map, nat_le, nat_lt, option_map, refl, sym, true}
 use Rattle.std.proofs.lemmas.Bool.Decides.{nat_tests}
-use Rattle.model.specs.Types.{Body, Events, Net, NewPlan, StreamDoc, StreamDraft}
+use Rattle.model.specs.Types.{Events, Net, NewPlan, StreamDoc, StreamDraft}
 use Rattle.model.specs.Words.{below, first_of_these}
 use Rattle.model.specs.Network.{node_count}
 use Rattle.model.specs.History.{Seen, View}

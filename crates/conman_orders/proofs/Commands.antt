@@ -2,12 +2,12 @@
 use Rattle.std.proofs.Common.{◌≡◌, ℕ, Err, List, None, Ok, Option, Some, option_and_then}
 use Rattle.conman_syntax.specs.declared.lines.DepRef.{DepRef}
 use Rattle.conman_syntax.specs.declared.lines.ObjRef.{ObjRef}
-use Rattle.model.specs.Types.{AddDep, DelDep, Dep, Net, Obj, Submit}
+use Rattle.model.specs.Types.{AddDep, DelDep, Net, Obj, Submit}
 use Rattle.model.specs.History.{View}
 use Rattle.conman_orders.specs.Equals.{first_equal}
 use Rattle.conman_orders.specs.Names.{dep_named, workstation}
 use Rattle.conman_orders.specs.Orders.{Answer, add_dep, del_dep, known, owned_object, submit, submitted}
-use Rattle.conman_orders.specs.declared.orders.ResolveFault.TheVariants.{NotACommand, UnknownName}
+use Rattle.conman_orders.specs.declared.orders.ResolveFault.TheVariants.{NotACommand}
 
 known_gives : {A : Type 0} (n : ℕ) (o : Option A) (then_ : A → Answer) → ((a : A) → then_ a ≡ Err NotACommand → ⊥)
     → known n o then_ ≡ Err NotACommand → ⊥

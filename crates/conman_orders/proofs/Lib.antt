@@ -1,6 +1,5 @@
 mod Commands
 mod Equal
-mod Held
 mod Latest
 mod Reasons
 mod Sizes

@@ -1,5 +1,5 @@
 -- The reasons against an added dependency: first those against a release of its object.
-use Rattle.std.proofs.Common.{[], ℕ, ◌++◌, ◌∙◌, ◌∷◌, ◌||◌, ◌≡◌, Bool, None, Option, Some, ap, cond, false, refl}
+use Rattle.std.proofs.Common.{[], ℕ, ◌++◌, ◌∙◌, ◌∷◌, ◌||◌, ◌≡◌, Bool, None, Some, ap, cond, false, refl}
 use Rattle.std.proofs.Common.{sym, true}
 use Rattle.std.specs.Option.{option_or}
 use Rattle.model.specs.Types.{AddDep, Dep, Events, Net, Obj, Release, Running, Why}

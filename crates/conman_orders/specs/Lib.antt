@@ -1,5 +1,4 @@
 pub mod Equals
-pub mod Held
 pub mod Latest
 pub mod Names
 pub mod Orders

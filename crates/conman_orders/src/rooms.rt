@@ -1,15 +1,13 @@
 //! Whether the plan has room for a stream that is submitted.
 ghost use Rattle.std.specs.Prelude.{◌≡◌, [], ◌∷◌};
-ghost use Rattle.model.specs.Types.{Events};
-ghost use Rattle.model.specs.History.{list_of, view_of};
+ghost use Rattle.model.specs.History.{view_of};
 ghost use Rattle.model.specs.Catalogue as spec;
 ghost use Rattle.model.specs.Catalogue.{members};
 ghost use Rattle.model.specs.NewPlan as plans;
 ghost use Rattle.model.specs.Verdicts as verdicts;
-ghost use Rattle.conman_orders.specs.Held.{is_plan_at};
 
 use crate::objects::is_member;
-use base_types::{Body, Feed, StreamDraft, StreamNo, Ws};
+use base_types::{StreamDraft, StreamNo};
 use owner_fold::Owners;
 
 /// The most streams of a plan.
@@ -17,40 +15,6 @@ const MOST_STREAMS: usize = 4096;
 
 /// The most jobs of a plan.
 const MOST_JOBS: usize = 16_384;
-
-/// Whether a plan is held. A plan's run is above 0 but in entries that no master makes.
-#[tactic(auto, using(crate::proofs::Held::with_run))]
-pub fn has_plan(o: &Owners) -> bool
-    ensures { result ≡ spec.has_plan (view_of o.now) }
-{
-    if o.run() > 0 {
-        return true;
-    }
-    has_plan_among_events(o)
-}
-
-/// Whether the master's event at a place, counted from 1, is a plan.
-fn is_plan_at(o: &Owners, place: u32) -> bool
-    ensures { result ≡ is_plan_at (list_of o.now (Events 0)) place }
-{
-    match o.entry(Feed::Events(Ws(0)), place) {
-        Some(Body::NewPlan(_, _, _, _)) => true,
-        _ => false,
-    }
-}
-
-/// Whether one of the master's events is a plan.
-#[tactic(auto, using(crate::proofs::Held::plan_step, crate::proofs::Held::plan_held, crate::proofs::Held::plan_end))]
-fn has_plan_among_events(o: &Owners) -> bool
-    ensures { result ≡ spec.has_plan (view_of o.now) }
-{
-    for before in 0..o.count(Feed::Events(Ws(0))) {
-        if is_plan_at(o, before + 1) {
-            return true;
-        }
-    }
-    false
-}
 
 /// The greatest number of a stream in the catalogue, 0 where it is empty.
 fn last_stream(o: &Owners) -> u32

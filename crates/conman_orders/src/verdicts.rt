@@ -12,7 +12,7 @@ use crate::object_verdicts::{
     GREATEST_LIMIT, GREATEST_PRIORITY, add_dep, alt_pri, cancel, confirm, del_dep, kill, release,
     reply_own, rerun, stream_limit,
 };
-use crate::rooms::{has_no_room, has_plan};
+use crate::rooms::has_no_room;
 use base_types::{Cmd, Net, StreamDraft, Why, Ws};
 use network_tree::Network;
 use owner_fold::Owners;
@@ -67,7 +67,7 @@ fn submit(net: &Net, o: &Owners, me: Ws, draft: &StreamDraft) -> Option<Why>
     if me.0 != 0 {
         return Some(Why::NotMaster);
     }
-    if !has_plan(o) {
+    if !o.has_plan() {
         return Some(Why::NotThere);
     }
     if has_no_room(o, draft) {

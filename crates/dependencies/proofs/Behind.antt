@@ -1,7 +1,7 @@
 -- The walk over the dependencies that are not waived, one further.
-use Rattle.std.proofs.Common.{◌≡◌, ◌∙◌, ◌∷◌, ◌+◌, ◌≤◌, [], ℕ, Bool, List, None, Option, Some, add-one, ap, arith, drop}
+use Rattle.std.proofs.Common.{◌≡◌, ◌∷◌, ◌+◌, ◌≤◌, [], ℕ, List, None, Some, add-one, arith, drop}
 use Rattle.std.proofs.Common.{length, refl, subst, suc, take, zero}
-use Rattle.std.specs.Prelude.{◌++◌, cond, false, filter, flat_map, not, slice_get, true}
+use Rattle.std.specs.Prelude.{◌++◌, false, filter, flat_map, not, slice_get, true}
 use Rattle.model.specs.Types.{Dep, Obj}
 use Rattle.model.specs.Words.{nth}
 use Rattle.model.specs.History.{View}

@@ -4,7 +4,7 @@ use Rattle.std.proofs.Common.{true}
 use Rattle.std.specs.Prelude.{◌==◌, filter, option_map}
 use Rattle.model.specs.Types.{Net}
 use Rattle.model.specs.History.{View}
-use Rattle.model.specs.Catalogue.{StreamJob, job, jobs, jobs_of}
+use Rattle.model.specs.Catalogue.{StreamJob, jobs, jobs_of}
 use Rattle.model.specs.Readiness.{best, better_of, is_better, is_ready, is_ready_in}
 use Rattle.dependencies.specs.Planned.{IsPlannedJob}
 use Rattle.dependencies.specs.Ranks.{better_rank, rank_of}
@@ -81,11 +81,11 @@ further_by_ready net V w so_far p left next h e f b =
       candidate = better_of V b.candidate p;
       ranked =
           ranked_better V b.candidate p ∙ ap (λ (r : Option Rank). Some (better_rank r (rank_of V p))) b.ranked
-              ∙ ap Some (sym f);
+          ∙ ap Some (sym f);
       walked =
           b.walked
-              ∙ ap (λ (l : List StreamJob). option_map number (fold (better_of V) b.candidate l))
-              (among_here net V w p left h e);
+          ∙ ap (λ (l : List StreamJob). option_map number (fold (better_of V) b.candidate l))
+          (among_here net V w p left h e);
     }
 
 -- a job that is not
@@ -98,8 +98,8 @@ further_by_other net V w so_far p left h e b =
       ranked = b.ranked;
       walked =
           b.walked
-              ∙ ap (λ (l : List StreamJob). option_map number (fold (better_of V) b.candidate l))
-              (among_elsewhere net V w p left h e);
+          ∙ ap (λ (l : List StreamJob). option_map number (fold (better_of V) b.candidate l))
+          (among_elsewhere net V w p left h e);
     }
 
 -- behind the walk

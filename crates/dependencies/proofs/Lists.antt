@@ -1,7 +1,7 @@
 -- What holds of each element of a list.
 use Rattle.std.proofs.Common.{◌≡◌, ◌∷◌, ◌++◌, [], Bool, List, Option, cond, false, refl, subst, true, Some, None}
 use Rattle.std.specs.List.{AllByRecursion}
-use Rattle.std.specs.Prelude.{IfSome, filter, find, flat_map}
+use Rattle.std.specs.Prelude.{IfSome, find, flat_map}
 
 pub all_such : {A : Type 0} (P Q : A → Type 0) (xs : List A) → ((a : A) → P a → Q a) → AllByRecursion P xs
     → AllByRecursion Q xs

@@ -1,6 +1,6 @@
 -- The lowest number of those that pass, one item further.
-use Rattle.std.proofs.Common.{◌≡◌, ◌∙◌, ◌∷◌, [], ℕ, Bool, List, None, Option, Some, ap, arith, cond, false, map, refl}
-use Rattle.std.proofs.Common.{subst, true}
+use Rattle.std.proofs.Common.{◌≡◌, ◌∙◌, ◌∷◌, ℕ, Bool, List, None, Option, Some, ap, arith, cond, false, map, refl}
+use Rattle.std.proofs.Common.{true}
 use Rattle.std.proofs.lemmas.Bool.Decides.{nat_tests}
 use Rattle.std.specs.Prelude.{◌&&◌, filter, nat_lt}
 use Rattle.model.specs.Words.{least, lesser}
@@ -65,7 +65,7 @@ pub lowest_with : {X : Type 0} (p q : X → Bool) (r : ℕ → Bool) (number : X
     → all ≡ lower_of (Some (lesser (number x) before)) (least (numbers_of p q r number xs))
 lowest_with p q r number x xs all before h e =
     e ∙ ap (λ (l : List ℕ). lower_of before (least l)) (one_more p q r number x xs h)
-        ∙ lower_further before (number x) (least (numbers_of p q r number xs))
+    ∙ lower_further before (number x) (least (numbers_of p q r number xs))
 
 -- an item that does not
 pub lowest_without : {X : Type 0} (p q : X → Bool) (r : ℕ → Bool) (number : X → ℕ) (x : X) (xs : List X)

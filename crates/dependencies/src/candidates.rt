@@ -103,7 +103,13 @@ fn better(best: Option<Rank>, next: Rank) -> Rank
 {
     match best {
         None => next,
-        Some(before) => { if comes_before(&next, &before) { next } else { before } }
+        Some(before) => {
+            if comes_before(&next, &before) {
+                next
+            } else {
+                before
+            }
+        }
     }
 }
 

@@ -2,8 +2,8 @@
 //! ready and which of them is the best, which streams may be released or may end, and which UNTIL is due.
 //!
 //! Each call answers the definition of `model` that its clause names, in the view of the entries that the `Owners`
-//! took: `model::specs::Dependencies`, `Readiness` and `OwnMembers` have them. None takes memory. A number that the
-//! catalogue lacks is not satisfied and not ready.
+//! took: `model::specs::Dependencies`, `Readiness` and `OwnMembers` have them. None of them takes memory. A number that
+//! the catalogue lacks is not satisfied and not ready.
 //!
 //! `Readiness` is what keeps track of the best job while entries come in, with one law for all that do so. `Scan` is
 //! the plain one, which keeps nothing and walks the jobs of the catalogue at each question.
@@ -12,7 +12,7 @@
 //! facts, one on units for some facts of each holder and each of its dependencies. `sat` asks for one dependency;
 //! `ready` and `may_release` for those of one object, and `ready` for the open launches besides; `may_end` for the
 //! jobs of one stream; `until_due` and `best` for all objects of the workstation. So `best` grows with the jobs of the
-//! catalogue times the entries held, and faster where many jobs are open, need units or have limits.
+//! catalogue times these jobs and the entries held, and faster where many jobs are open, need units or have limits.
 #![tactic(auto)]
 
 mod candidates;

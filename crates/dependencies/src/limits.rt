@@ -38,7 +38,8 @@ fn has_room(o: &Owners, w: Ws, limit: u16) -> bool
 #[tactic(auto, using(crate::proofs::Both::count_both), unfolding(model::specs::Readiness::open_launch_count))]
 fn stream_has_room(o: &Owners, w: Ws, s: StreamNo, limit: u16) -> bool
     ensures { let V = view_of o.now in
-        result ≡ nat_lt (spec.open_launch_count V w (filter (λ (p : StreamJob). p.parent.no == s) (jobs_of V w))) limit }
+        let of_stream = filter (λ (p : StreamJob). p.parent.no == s) (jobs_of V w) in
+        result ≡ nat_lt (spec.open_launch_count V w of_stream) limit }
 {
     let mut room = limit;
     for (parent, _) in o.open_launches(w) {

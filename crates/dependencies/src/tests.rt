@@ -18,48 +18,76 @@ const M: Ws = Ws(0);
 
 const S: StreamNo = StreamNo(1);
 
-fn network(alloc: Global, resources: Items<Resource>) -> Result<Network, Fail> {
-    let mut nodes = Items::new(alloc);
-    nodes.push(Node {
-        name: Text::of(alloc, "M")?,
-        hop: None,
-        manager: true,
-        full: true,
-    })?;
-    let net = Net {
-        nodes,
-        resources,
-        prompts: Items::new(alloc),
-    };
-    Ok(Network::new(alloc, net)?)
+const AT: Moment = Moment(200);
+
+/// The network of M alone, and the entries that M took.
+#[derive(Drop)]
+struct Night {
+    net: Network,
+    owners: Owners,
 }
 
-fn job(
-    alloc: Global,
-    no: u32,
-    name: &str,
-    priority: u8,
-    dep: Option<Dep>,
-) -> Result<JobDoc, Fail> {
-    let mut deps = Items::new(alloc);
-    if let Some(dep) = dep {
-        deps.push(dep)?;
+impl Night {
+    /// Takes a body as the next event of M.
+    fn event(&mut self, body: Body) -> Result<(), Fail> {
+        take_next(&mut self.owners, body)
     }
-    Ok(JobDoc {
-        no: JobNo(no),
-        ws: Ws(0),
-        name: Text::of(alloc, name)?,
-        priority,
-        work: Work::Command(Text::of(alloc, "true")?),
-        logon: Text::new(alloc),
-        cond: Items::new(alloc),
-        recovery: Recovery::Stop,
-        deps,
-    })
+
+    /// M obeys a command of its own.
+    fn obeyed(&mut self, command: Cmd) -> Result<(), Fail> {
+        self.event(Body::Obeyed(M, 1, command))
+    }
+
+    fn released(&mut self, alloc: Global) -> Result<(), Fail> {
+        self.event(Body::Released(S, Seen::new(alloc)))
+    }
+
+    fn launched(&mut self, alloc: Global, no: u32) -> Result<(), Fail> {
+        self.event(Body::Launched(JobNo(no), 1, Seen::new(alloc)))
+    }
+
+    fn ended(&mut self, no: u32) -> Result<(), Fail> {
+        self.event(Body::Ended(JobNo(no), 1, 0, true))
+    }
+
+    fn passed(&mut self, no: u32, mark: OnUntil) -> Result<(), Fail> {
+        self.event(Body::UntilPassed(Obj::Job(JobNo(no)), 1, mark))
+    }
+
+    fn is_ready(&self, no: u32) -> bool {
+        ready(&self.net, &self.owners, M, JobNo(no))
+    }
+
+    fn is_satisfied(&self, no: u32, i: u16) -> bool {
+        sat(&self.net, &self.owners, Obj::Job(JobNo(no)), i)
+    }
+
+    fn may_release(&self) -> bool {
+        may_release(&self.net, &self.owners, M, S)
+    }
+
+    fn may_end(&self) -> bool {
+        may_end(&self.net, &self.owners, M, S)
+    }
+
+    /// The job whose dependency is the UNTIL that is due.
+    fn until_due(&self) -> Option<u32> {
+        match until_due(&self.net, &self.owners, M) {
+            Some(until) => job_number(&until.0),
+            None => None,
+        }
+    }
+
+    fn best(&self) -> Option<u32> {
+        let _count = self.net.count();
+        match Scan.best(&self.net, &self.owners, M) {
+            Some(j) => Some(j.0),
+            None => None,
+        }
+    }
 }
 
-/// Takes a body as the next event of M.
-fn event(owners: &mut Owners, body: Body) -> Result<(), Fail> {
+fn take_next(owners: &mut Owners, body: Body) -> Result<(), Fail> {
     let held = owners.count(Feed::Events(M));
     if held < u32::MAX {
         let entry = Entry {
@@ -72,129 +100,255 @@ fn event(owners: &mut Owners, body: Body) -> Result<(), Fail> {
     Ok(())
 }
 
-/// The first plan of M, with a stream S of these jobs.
-fn planned(alloc: Global, jobs: Items<JobDoc>) -> Result<Owners, Fail> {
-    let mut owners = Owners::new(alloc);
+fn network(alloc: Global) -> Result<Network, Fail> {
+    let mut nodes = Items::new(alloc);
+    nodes.push(Node {
+        name: Text::of(alloc, "M")?,
+        hop: None,
+        manager: true,
+        full: true,
+    })?;
+    let mut resources = Items::new(alloc);
+    resources.push(Resource {
+        ws: M,
+        name: Text::of(alloc, "R")?,
+        total: 2,
+    })?;
+    let net = Net {
+        nodes,
+        resources,
+        prompts: Items::new(alloc),
+    };
+    Ok(Network::new(alloc, net)?)
+}
+
+/// Adds a job with at most one dependency.
+fn add(
+    jobs: &mut Items<JobDoc>,
+    alloc: Global,
+    no: u32,
+    priority: u8,
+    dep: Option<Dep>,
+) -> Result<(), Fail> {
+    let mut deps = Items::new(alloc);
+    if let Some(dep) = dep {
+        deps.push(dep)?;
+    }
+    jobs.push(JobDoc {
+        no: JobNo(no),
+        ws: M,
+        name: Text::new(alloc),
+        priority,
+        work: Work::Command(Text::new(alloc)),
+        logon: Text::new(alloc),
+        cond: Items::new(alloc),
+        recovery: Recovery::Stop,
+        deps,
+    })?;
+    Ok(())
+}
+
+/// The first plan, with a stream S of these jobs.
+fn plan(alloc: Global, jobs: Items<JobDoc>) -> Result<Body, Fail> {
     let mut docs = Items::new(alloc);
     docs.push(StreamDoc {
         no: S,
         ws: M,
-        name: Text::of(alloc, "S")?,
+        name: Text::new(alloc),
         priority: 10,
         limit: None,
         carry: false,
         deps: Items::new(alloc),
         jobs,
     })?;
-    event(
-        &mut owners,
-        Body::NewPlan(1, Seen::new(alloc), Items::new(alloc), docs),
+    let seen = Seen::new(alloc);
+    let carried = Items::new(alloc);
+    Ok(Body::NewPlan(1, seen, carried, docs))
+}
+
+/// A night with the plan of these jobs.
+fn planned_night(alloc: Global, jobs: Items<JobDoc>) -> Result<Night, Fail> {
+    let net = network(alloc)?;
+    let owners = Owners::new(alloc);
+    let mut night = Night { net, owners };
+    night.event(plan(alloc, jobs)?)?;
+    Ok(night)
+}
+
+/// A job of middling priority, and two high ones, at a workstation that may have no open launch.
+fn limited(alloc: Global) -> Result<Night, Fail> {
+    let mut jobs = Items::new(alloc);
+    add(&mut jobs, alloc, 1, 10, None)?;
+    add(&mut jobs, alloc, 2, 100, None)?;
+    add(&mut jobs, alloc, 3, 101, None)?;
+    let mut night = planned_night(alloc, jobs)?;
+    night.obeyed(Cmd::Limit(0))?;
+    Ok(night)
+}
+
+/// The high jobs were launched, the higher one ended and is to run again.
+fn limited_with_a_rerun(alloc: Global) -> Result<Night, Fail> {
+    let mut night = limited(alloc)?;
+    night.released(alloc)?;
+    night.launched(alloc, 3)?;
+    night.launched(alloc, 2)?;
+    night.ended(3)?;
+    night.obeyed(Cmd::Rerun(JobNo(3)))?;
+    Ok(night)
+}
+
+/// Two jobs that need all units of the resource.
+fn needy(alloc: Global) -> Result<Night, Fail> {
+    let mut jobs = Items::new(alloc);
+    add(&mut jobs, alloc, 1, 10, Some(Dep::Needs(1, 2)))?;
+    add(&mut jobs, alloc, 2, 10, Some(Dep::Needs(1, 2)))?;
+    let mut night = planned_night(alloc, jobs)?;
+    night.released(alloc)?;
+    Ok(night)
+}
+
+/// Jobs with an UNTIL of each kind, and one that follows the third of them.
+fn timed(alloc: Global) -> Result<Night, Fail> {
+    let mut jobs = Items::new(alloc);
+    add(
+        &mut jobs,
+        alloc,
+        1,
+        10,
+        Some(Dep::Until(AT, OnUntil::Suppr)),
     )?;
-    Ok(owners)
+    add(&mut jobs, alloc, 2, 10, Some(Dep::Until(AT, OnUntil::Cont)))?;
+    add(&mut jobs, alloc, 3, 10, Some(Dep::Until(AT, OnUntil::Canc)))?;
+    add(&mut jobs, alloc, 4, 10, Some(Dep::FollowsJob(JobNo(3))))?;
+    let mut night = planned_night(alloc, jobs)?;
+    night.released(alloc)?;
+    Ok(night)
 }
 
-fn obeyed(owners: &mut Owners, command: Cmd) -> Result<(), Fail> {
-    event(owners, Body::Obeyed(M, 1, command))
-}
-
-fn best(net: &Network, owners: &Owners) -> Option<JobNo> {
-    let _count = net.count();
-    Scan.best(net, owners, M)
+/// Each UNTIL has passed, and this was recorded.
+fn timed_out(alloc: Global) -> Result<Night, Fail> {
+    let mut night = timed(alloc)?;
+    night.event(Body::Clock(AT))?;
+    night.passed(1, OnUntil::Suppr)?;
+    night.passed(2, OnUntil::Cont)?;
+    night.passed(3, OnUntil::Canc)?;
+    Ok(night)
 }
 
 #[test]
-fn only_high_jobs_pass_a_limit_of_none(rt: HostRuntime) -> Result<(), Fail> {
-    let net = network(rt.alloc(), Items::new(rt.alloc()))?;
-    let mut jobs = Items::new(rt.alloc());
-    jobs.push(job(rt.alloc(), 1, "A", 10, None)?)?;
-    jobs.push(job(rt.alloc(), 2, "B", 100, None)?)?;
-    jobs.push(job(rt.alloc(), 3, "C", 101, None)?)?;
-    let mut owners = planned(rt.alloc(), jobs)?;
-    let seen = || Seen::new(rt.alloc());
-    obeyed(&mut owners, Cmd::Limit(0))?;
-    assert!(rt; best(&net, &owners) == None);
-    assert!(rt; may_release(&net, &owners, M, S));
-    event(&mut owners, Body::Released(S, seen()))?;
-    assert!(rt; !may_release(&net, &owners, M, S));
-    assert!(rt; !ready(&net, &owners, M, JobNo(1)));
-    assert!(rt; ready(&net, &owners, M, JobNo(2)));
-    assert!(rt; best(&net, &owners) == Some(JobNo(3)));
-    event(&mut owners, Body::Launched(JobNo(3), 1, seen()))?;
-    assert!(rt; best(&net, &owners) == Some(JobNo(2)));
-    event(&mut owners, Body::Launched(JobNo(2), 1, seen()))?;
-    assert!(rt; best(&net, &owners) == None);
-    event(&mut owners, Body::Ended(JobNo(3), 1, 0, true))?;
-    obeyed(&mut owners, Cmd::Rerun(JobNo(3)))?;
-    assert!(rt; ready(&net, &owners, M, JobNo(3)));
-    obeyed(&mut owners, Cmd::Fence(101))?;
-    assert!(rt; !ready(&net, &owners, M, JobNo(3)));
-    assert!(rt; best(&net, &owners) == None);
+fn a_stream_is_released_first(rt: HostRuntime) -> Result<(), Fail> {
+    let mut night = limited(rt.alloc())?;
+    assert!(rt; night.best() == None);
+    assert!(rt; night.may_release());
+    night.released(rt.alloc())?;
+    assert!(rt; !night.may_release());
     Ok(())
 }
 
 #[test]
-fn units_are_waited_for(rt: HostRuntime) -> Result<(), Fail> {
-    let mut resources = Items::new(rt.alloc());
-    resources.push(Resource {
-        ws: M,
-        name: Text::of(rt.alloc(), "R")?,
-        total: 2,
-    })?;
-    let net = network(rt.alloc(), resources)?;
-    let mut jobs = Items::new(rt.alloc());
-    jobs.push(job(rt.alloc(), 1, "A", 10, Some(Dep::Needs(1, 2)))?)?;
-    jobs.push(job(rt.alloc(), 2, "B", 10, Some(Dep::Needs(1, 2)))?)?;
-    let mut owners = planned(rt.alloc(), jobs)?;
-    let seen = || Seen::new(rt.alloc());
-    event(&mut owners, Body::Released(S, seen()))?;
-    assert!(rt; sat(&net, &owners, Obj::Job(JobNo(2)), 1));
-    assert!(rt; !sat(&net, &owners, Obj::Job(JobNo(2)), 2));
-    assert!(rt; !sat(&net, &owners, Obj::Job(JobNo(3)), 1));
-    assert!(rt; best(&net, &owners) == Some(JobNo(1)));
-    event(&mut owners, Body::Launched(JobNo(1), 1, seen()))?;
-    assert!(rt; !sat(&net, &owners, Obj::Job(JobNo(2)), 1));
-    obeyed(&mut owners, Cmd::Total(1, 1))?;
-    event(&mut owners, Body::Ended(JobNo(1), 1, 0, true))?;
-    assert!(rt; best(&net, &owners) == None);
-    obeyed(&mut owners, Cmd::Total(1, 2))?;
-    assert!(rt; best(&net, &owners) == Some(JobNo(2)));
-    event(&mut owners, Body::Launched(JobNo(2), 1, seen()))?;
-    assert!(rt; !may_end(&net, &owners, M, S));
-    event(&mut owners, Body::Ended(JobNo(2), 1, 0, true))?;
-    assert!(rt; may_end(&net, &owners, M, S));
-    event(&mut owners, Body::StreamEnded(S, seen()))?;
-    assert!(rt; !may_end(&net, &owners, M, S));
+fn only_high_jobs_pass_a_limit_of_none(rt: HostRuntime) -> Result<(), Fail> {
+    let mut night = limited(rt.alloc())?;
+    night.released(rt.alloc())?;
+    assert!(rt; !night.is_ready(1));
+    assert!(rt; night.is_ready(2));
+    assert!(rt; night.best() == Some(3));
+    Ok(())
+}
+
+#[test]
+fn the_next_best_is_lower(rt: HostRuntime) -> Result<(), Fail> {
+    let mut night = limited(rt.alloc())?;
+    night.released(rt.alloc())?;
+    night.launched(rt.alloc(), 3)?;
+    assert!(rt; night.best() == Some(2));
+    night.launched(rt.alloc(), 2)?;
+    assert!(rt; night.best() == None);
+    Ok(())
+}
+
+#[test]
+fn a_fence_holds_what_is_not_above_it(rt: HostRuntime) -> Result<(), Fail> {
+    let mut night = limited_with_a_rerun(rt.alloc())?;
+    assert!(rt; night.is_ready(3));
+    night.obeyed(Cmd::Fence(101))?;
+    assert!(rt; !night.is_ready(3));
+    assert!(rt; night.best() == None);
+    Ok(())
+}
+
+#[test]
+fn units_in_use_are_waited_for(rt: HostRuntime) -> Result<(), Fail> {
+    let mut night = needy(rt.alloc())?;
+    assert!(rt; night.best() == Some(1));
+    assert!(rt; night.is_satisfied(2, 1));
+    night.launched(rt.alloc(), 1)?;
+    assert!(rt; !night.is_satisfied(2, 1));
+    Ok(())
+}
+
+#[test]
+fn what_is_not_there_is_not_satisfied(rt: HostRuntime) -> Result<(), Fail> {
+    let night = needy(rt.alloc())?;
+    assert!(rt; !night.is_satisfied(2, 0));
+    assert!(rt; !night.is_satisfied(2, 2));
+    assert!(rt; !night.is_satisfied(3, 1));
+    assert!(rt; !night.is_ready(3));
+    Ok(())
+}
+
+#[test]
+fn a_total_is_what_was_set_last(rt: HostRuntime) -> Result<(), Fail> {
+    let mut night = needy(rt.alloc())?;
+    night.launched(rt.alloc(), 1)?;
+    night.obeyed(Cmd::Total(1, 1))?;
+    night.ended(1)?;
+    assert!(rt; night.best() == None);
+    night.obeyed(Cmd::Total(1, 2))?;
+    assert!(rt; night.best() == Some(2));
+    Ok(())
+}
+
+#[test]
+fn a_stream_ends_once_all_jobs_did(rt: HostRuntime) -> Result<(), Fail> {
+    let mut night = needy(rt.alloc())?;
+    night.launched(rt.alloc(), 1)?;
+    night.ended(1)?;
+    night.launched(rt.alloc(), 2)?;
+    assert!(rt; !night.may_end());
+    night.ended(2)?;
+    assert!(rt; night.may_end());
     Ok(())
 }
 
 #[test]
 fn untils_are_due_at_the_reading(rt: HostRuntime) -> Result<(), Fail> {
-    let net = network(rt.alloc(), Items::new(rt.alloc()))?;
-    let at = Moment(200);
-    let mut jobs = Items::new(rt.alloc());
-    jobs.push(job(rt.alloc(), 1, "A", 10, Some(Dep::Until(at, OnUntil::Suppr)))?)?;
-    jobs.push(job(rt.alloc(), 2, "B", 10, Some(Dep::Until(at, OnUntil::Cont)))?)?;
-    jobs.push(job(rt.alloc(), 3, "C", 10, Some(Dep::Until(at, OnUntil::Canc)))?)?;
-    jobs.push(job(rt.alloc(), 4, "D", 10, Some(Dep::FollowsJob(JobNo(3))))?)?;
-    let mut owners = planned(rt.alloc(), jobs)?;
-    let seen = || Seen::new(rt.alloc());
-    event(&mut owners, Body::Released(S, seen()))?;
-    assert!(rt; until_due(&net, &owners, M) == None);
-    event(&mut owners, Body::Clock(at))?;
-    for (no, mark) in [(1, OnUntil::Suppr), (2, OnUntil::Cont), (3, OnUntil::Canc)] {
-        let obj = Obj::Job(JobNo(no));
-        assert!(rt; until_due(&net, &owners, M) == Some((obj, 1)), "job {no}");
-        event(&mut owners, Body::UntilPassed(obj, 1, mark))?;
-    }
-    assert!(rt; until_due(&net, &owners, M) == None);
-    assert!(rt; !sat(&net, &owners, Obj::Job(JobNo(1)), 1));
-    assert!(rt; sat(&net, &owners, Obj::Job(JobNo(2)), 1));
-    assert!(rt; sat(&net, &owners, Obj::Job(JobNo(4)), 1));
-    assert!(rt; best(&net, &owners) == Some(JobNo(2)));
-    event(&mut owners, Body::Launched(JobNo(2), 1, seen()))?;
-    assert!(rt; best(&net, &owners) == Some(JobNo(4)));
-    event(&mut owners, Body::Launched(JobNo(4), 1, seen()))?;
-    assert!(rt; best(&net, &owners) == None);
+    let mut night = timed(rt.alloc())?;
+    assert!(rt; night.until_due() == None);
+    night.event(Body::Clock(AT))?;
+    assert!(rt; night.until_due() == Some(1));
+    night.passed(1, OnUntil::Suppr)?;
+    assert!(rt; night.until_due() == Some(2));
+    Ok(())
+}
+
+#[test]
+fn what_follows_a_cancelled_job_goes_on(rt: HostRuntime) -> Result<(), Fail> {
+    let night = timed_out(rt.alloc())?;
+    assert!(rt; night.until_due() == None);
+    assert!(rt; !night.is_satisfied(1, 1));
+    assert!(rt; night.is_satisfied(2, 1));
+    assert!(rt; night.is_satisfied(4, 1));
+    Ok(())
+}
+
+#[test]
+fn a_job_goes_on_behind_its_until(rt: HostRuntime) -> Result<(), Fail> {
+    let mut night = timed_out(rt.alloc())?;
+    assert!(rt; night.best() == Some(2));
+    night.launched(rt.alloc(), 2)?;
+    assert!(rt; night.best() == Some(4));
+    night.launched(rt.alloc(), 4)?;
+    assert!(rt; night.best() == None);
     Ok(())
 }
 
@@ -219,21 +373,24 @@ fn best_after<R: Readiness>(
 
 #[test]
 fn a_tracker_follows_the_entries(rt: HostRuntime) -> Result<(), Fail> {
-    let net = network(rt.alloc(), Items::new(rt.alloc()))?;
-    let mut jobs = Items::new(rt.alloc());
-    jobs.push(job(rt.alloc(), 1, "A", 10, None)?)?;
-    jobs.push(job(rt.alloc(), 2, "B", 20, None)?)?;
-    let mut owners = planned(rt.alloc(), jobs)?;
+    let mut night = needy(rt.alloc())?;
     let mut tracker = Scan;
     let entry = Entry {
         feed: Feed::Events(M),
-        place: 2,
-        body: Body::Released(S, Seen::new(rt.alloc())),
+        place: 3,
+        body: Body::Launched(JobNo(1), 1, Seen::new(rt.alloc())),
     };
-    let _count = net.count();
-    if owners.count(entry.feed) == 1 {
-        let best = best_after(&net, &mut owners, &mut tracker, M, &entry)?;
-        assert!(rt; best == Some(JobNo(2)));
-    }
+    let _count = night.net.count();
+    let held = night.owners.count(entry.feed);
+    assert!(rt; held == 2);
+    let best = best_after(&night.net, &mut night.owners, &mut tracker, M, &entry)?;
+    assert!(rt; best == None);
     Ok(())
+}
+
+fn job_number(obj: &Obj) -> Option<u32> {
+    match obj {
+        Obj::Job(j) => Some(j.0),
+        Obj::Stream(_) => None,
+    }
 }

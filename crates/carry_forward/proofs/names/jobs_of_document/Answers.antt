@@ -1,4 +1,4 @@
-use Rattle.std.proofs.Common.{◌-◌, ◌∷◌, List, arith, refl, subst}
+use Rattle.std.proofs.Common.{◌-◌, ◌∷◌, List, arith, subst}
 use Rattle.model.specs.Types.{JobDoc}
 use Rattle.model.specs.NewPlan.{NamedJob}
 use Rattle.carry_forward.specs.Known.{AreJobsOf, named_job}

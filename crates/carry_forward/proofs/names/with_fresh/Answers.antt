@@ -1,4 +1,4 @@
-use Rattle.std.proofs.Common.{[], ℕ, ◌-◌, ◌∙◌, ◌≡◌, List, arith, drop, map, subst, sym}
+use Rattle.std.proofs.Common.{ℕ, ◌-◌, ◌∙◌, ◌≡◌, List, arith, drop, map, subst, sym}
 use Rattle.std.proofs.Math.Seq.{drop-length}
 use Rattle.model.specs.NewPlan.{Fresh, named_fresh}
 use Rattle.carry_forward.specs.Known.{IsIndexOf}

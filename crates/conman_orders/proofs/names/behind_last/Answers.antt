@@ -1,4 +1,4 @@
-use Rattle.std.proofs.Common.{◌+◌, ◌-◌, ◌∙◌, ◌≡◌, ◌≤◌, ap, arith, drop, sym}
+use Rattle.std.proofs.Common.{◌+◌, ◌-◌, ◌∙◌, ◌≡◌, ap, arith, drop, sym}
 use Rattle.model.specs.Words.{has}
 use Rattle.conman_orders.proofs.Latest.{absent, not_found_at}
 use Rattle.conman_orders.proofs.names.behind_last.Goals as goal

@@ -1,4 +1,4 @@
-use Rattle.std.proofs.Common.{◌∙◌, ◌∷◌, ◌≡◌, ap, drop, filter, map, sym}
+use Rattle.std.proofs.Common.{◌∙◌, ap, drop, filter, map, sym}
 use Rattle.std.specs.Option.{option_or}
 use Rattle.model.specs.Types.{StreamDoc}
 use Rattle.model.specs.Words.{has}

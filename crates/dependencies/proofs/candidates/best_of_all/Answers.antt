@@ -3,7 +3,6 @@ use Rattle.model.specs.History.{view_of}
 use Rattle.model.specs.Catalogue.{StreamJob, jobs}
 use Rattle.owner_fold.specs.Left.{jobs_left}
 use Rattle.owner_fold.specs.Spots.{stream_job}
-use Rattle.owner_fold.specs.declared.catalogue.PlannedJobs.{PlannedJobs}
 use Rattle.dependencies.specs.Planned.{ArePlannedJobs}
 use Rattle.dependencies.specs.Ranks.{better_rank}
 use Rattle.dependencies.specs.declared.candidates.Rank.{Rank}
@@ -14,7 +13,7 @@ use Rattle.dependencies.proofs.candidates.best_of_all.Goals as goal
 pub loop-parent-init : goal.loop-parent-init
 loop-parent-init c =
     let all : jobs_left c.into_iter-parent-iterator.result ≡ jobs (view_of c.args.o.now) =
-        ap jobs_left c.into_iter-parent-iterator.ensures.into_iter_gives ∙ c.jobs-parent-items.ensures
+    ap jobs_left c.into_iter-parent-iterator.ensures.into_iter_gives ∙ c.jobs-parent-items.ensures
     in
     record {
       planned = jobs_left_planned (view_of c.args.o.now) (jobs_left c.into_iter-parent-iterator.result) all;
@@ -28,11 +27,11 @@ loop-parent-preserved-then-is_ready_in c =
     let V = view_of c.args.o.now in
     let p = stream_job c.in-Some.parent.now c.in-Some.doc.now in
     let planned : ArePlannedJobs V (p ∷ jobs_left c.next.new.self) =
-        subst (λ (l : List StreamJob). ArePlannedJobs V l) c.in-Some.ensures.steps c.loop-parent.invariant.planned
+    subst (λ (l : List StreamJob). ArePlannedJobs V l) c.in-Some.ensures.steps c.loop-parent.invariant.planned
     in
     let best : IsBestSoFar c.args.net.now V c.args.w c.loop-parent.best (p ∷ jobs_left c.next.new.self) =
-        subst (λ (l : List StreamJob). IsBestSoFar c.args.net.now V c.args.w c.loop-parent.best l)
-        c.in-Some.ensures.steps c.loop-parent.invariant.best
+    subst (λ (l : List StreamJob). IsBestSoFar c.args.net.now V c.args.w c.loop-parent.best l)
+    c.in-Some.ensures.steps c.loop-parent.invariant.best
     in
     record {
       planned = planned.1;
@@ -47,11 +46,11 @@ loop-parent-preserved c =
     let V = view_of c.args.o.now in
     let p = stream_job c.in-Some.parent.now c.in-Some.doc.now in
     let planned : ArePlannedJobs V (p ∷ jobs_left c.next.new.self) =
-        subst (λ (l : List StreamJob). ArePlannedJobs V l) c.in-Some.ensures.steps c.loop-parent.invariant.planned
+    subst (λ (l : List StreamJob). ArePlannedJobs V l) c.in-Some.ensures.steps c.loop-parent.invariant.planned
     in
     let best : IsBestSoFar c.args.net.now V c.args.w c.loop-parent.best (p ∷ jobs_left c.next.new.self) =
-        subst (λ (l : List StreamJob). IsBestSoFar c.args.net.now V c.args.w c.loop-parent.best l)
-        c.in-Some.ensures.steps c.loop-parent.invariant.best
+    subst (λ (l : List StreamJob). IsBestSoFar c.args.net.now V c.args.w c.loop-parent.best l)
+    c.in-Some.ensures.steps c.loop-parent.invariant.best
     in
     record {
       planned = planned.1;

@@ -16,7 +16,7 @@ loop-parent-preserved c =
     let V = view_of c.args.o.now in
     let p = stream_job c.in-Some.parent.now c.in-Some.doc.now in
     let planned : ArePlannedJobs V (p ∷ jobs_left c.next.new.self) =
-        subst (λ (l : List StreamJob). ArePlannedJobs V l) c.in-Some.ensures.steps c.loop-parent.invariant.planned
+    subst (λ (l : List StreamJob). ArePlannedJobs V l) c.in-Some.ensures.steps c.loop-parent.invariant.planned
     in
     record {
       planned = planned.1;

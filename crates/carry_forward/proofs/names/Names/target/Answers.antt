@@ -1,4 +1,4 @@
-use Rattle.std.proofs.Common.{ℕ, ◌&&◌, ◌∙◌, ◌≡◌, Bor, List, bytes_eq, eqb, option_map}
+use Rattle.std.proofs.Common.{ℕ, ◌&&◌, ◌∙◌, Bor, List, bytes_eq, eqb, option_map}
 use Rattle.std.specs.Map.{lookup}
 use Rattle.model.specs.NewPlan.{resolve_stream}
 use Rattle.carry_forward.specs.Known.{told_named}

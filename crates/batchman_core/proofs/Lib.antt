@@ -1,3 +1,4 @@
+pub mod Answered
 pub mod Times
 pub mod Cited
 pub mod Counted

@@ -34,7 +34,6 @@ pub(crate) fn answer(
 }
 
 /// The answer to the order of an issuer at this place.
-#[tactic(auto, unfolding(model::specs::Turn::answer))]
 fn answer_to(
     alloc: Global,
     net: &Network,
@@ -54,7 +53,7 @@ fn answer_to(
 }
 
 /// The entry that an order becomes where it is obeyed.
-#[tactic(auto, unfolding(model::specs::Turn::obeyed_as))]
+#[tactic(auto, using(crate::proofs::Answered::kept), unfolding(model::specs::Turn::obeyed_as))]
 fn obeyed(
     alloc: Global,
     o: &Owners,

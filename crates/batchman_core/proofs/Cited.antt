@@ -1,10 +1,12 @@
 -- Whom the dependencies of an object cite, one dependency further.
 use Rattle.std.proofs.Common.{◌≡◌, ◌∙◌, ◌∷◌, ◌+◌, ◌≤◌, [], ℕ, List, None, Option, Some, add-one, ap, arith, drop, length}
 use Rattle.std.proofs.Common.{refl, subst, suc, sym, zero}
-use Rattle.std.specs.Prelude.{flat_map, slice_get}
-use Rattle.model.specs.Types.{Dep, Obj}
-use Rattle.model.specs.Words.{ascending, nth}
+use Rattle.std.specs.Option.{option_map_or}
+use Rattle.std.specs.Prelude.{flat_map, option_map, slice_get}
+use Rattle.model.specs.Types.{Dep, Obj, StreamDoc}
+use Rattle.model.specs.Words.{ascending, insert_once, nth}
 use Rattle.model.specs.History.{View}
+use Rattle.model.specs.Catalogue.{stream_of}
 use Rattle.model.specs.Dependencies.{cites, dep, dep_cites, deps}
 use Rattle.dependencies.proofs.Behind.{drop_all, drop_none, drop_some}
 use Rattle.batchman_core.specs.Gathered.{with_all}
@@ -46,3 +48,29 @@ cited_none V o n among e =
 pub cited_last : (V : View) (o : Obj) (n : ℕ) (among : List ℕ) → length (deps V o) ≤ n
     → cited_behind V o n among ≡ among
 cited_last V o n among h = rw (drop_all (deps V o) n h) refl
+
+-- the owner of the object's stream and whom the dependencies cite
+pub owner_gathered : (V : View) (o : Obj) (owner : ℕ) (found : List ℕ)
+    → Some owner ≡ option_map (λ (d : StreamDoc). d.ws) (stream_of V o)
+    → found ≡ insert_once owner (ascending (cites V o))
+    → found ≡ ascending (option_map_or (λ (d : StreamDoc). d.ws ∷ cites V o) (stream_of V o) [])
+owner_gathered V o owner found e h = h ∙ go (stream_of V o) e
+  where
+    go : (s : Option StreamDoc) → Some owner ≡ option_map (λ (d : StreamDoc). d.ws) s
+        → insert_once owner (ascending (cites V o))
+        ≡ ascending (option_map_or (λ (d : StreamDoc). d.ws ∷ cites V o) s [])
+    go None e = cc
+    go (Some d) e = ap (λ (n : ℕ). insert_once n (ascending (cites V o))) (same owner d.ws e)
+      where
+        same : (a b : ℕ) → Some a ≡ Some b → a ≡ b
+        same a b e = cc
+
+-- nobody outside the catalogue
+pub nobody_gathered : (V : View) (o : Obj) → None ≡ option_map (λ (d : StreamDoc). d.ws) (stream_of V o)
+    → [] ≡ ascending (option_map_or (λ (d : StreamDoc). d.ws ∷ cites V o) (stream_of V o) [])
+nobody_gathered V o e = go (stream_of V o) e
+  where
+    go : (s : Option StreamDoc) → None ≡ option_map (λ (d : StreamDoc). d.ws) s
+        → [] ≡ ascending (option_map_or (λ (d : StreamDoc). d.ws ∷ cites V o) s [])
+    go None e = refl
+    go (Some d) e = cc

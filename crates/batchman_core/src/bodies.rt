@@ -38,7 +38,8 @@ pub fn turn_body<R: Readiness>(
     ensures { IfOk result (λ b. b ≡ spec.turn_body net.now (view_of o.now) me live.now t) }
 {
     let choice = turn_choice(net, o, r, me, live, t);
-    body_of(alloc, net, o, me, t, &choice)
+    let body = body_of(alloc, net, o, me, t, &choice)?;
+    Ok(body)
 }
 
 /// The body that a choice keeps.

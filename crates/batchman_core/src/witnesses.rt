@@ -75,7 +75,8 @@ pub(crate) fn seen_by_object(alloc: Global, o: &Owners, w: Ws, obj: &Obj) -> Res
     let mut found = stream_witnesses(alloc, o, obj)?;
     found.add(MASTER)?;
     found.add(w)?;
-    found.counts(alloc, o)
+    let seen = found.counts(alloc, o)?;
+    Ok(seen)
 }
 
 /// The counts of a stream's end at w: of w, of the master, and of the owners of the stream's jobs.
@@ -86,7 +87,8 @@ pub(crate) fn seen_by_end(alloc: Global, o: &Owners, w: Ws, s: StreamNo) -> Resu
     let mut found = job_owners(alloc, o, s)?;
     found.add(MASTER)?;
     found.add(w)?;
-    found.counts(alloc, o)
+    let seen = found.counts(alloc, o)?;
+    Ok(seen)
 }
 
 /// The owner of the object's stream and whom the object's dependencies cite. Nobody outside the catalogue.
@@ -142,19 +144,17 @@ fn add_cited(o: &Owners, dep: &Dep, found: &mut Witnesses) -> Result<(), NoMemor
     ensures { OnOk result (found.new ≡ with_all (dep_cites (view_of o.now) dep.now) found.old) }
 {
     match dep {
-        Dep::FollowsJob(j) => {
-            if let Some((parent, doc)) = o.planned_job(*j) {
+        Dep::FollowsJob(j) => match o.planned_job(*j) {
+            None => Ok(()),
+            Some((parent, doc)) => {
                 found.add(parent.ws)?;
-                found.add(doc.ws)?;
+                found.add(doc.ws)
             }
-            Ok(())
-        }
-        Dep::FollowsStream(s) => {
-            if let Some(doc) = o.stream(*s) {
-                found.add(doc.ws)?;
-            }
-            Ok(())
-        }
+        },
+        Dep::FollowsStream(s) => match o.stream(*s) {
+            None => Ok(()),
+            Some(doc) => found.add(doc.ws),
+        },
         Dep::Prompt(PromptRef::Global(_)) => found.add(MASTER),
         Dep::Prompt(PromptRef::Own(_)) => Ok(()),
         Dep::Needs(_, _) | Dep::At(_) | Dep::Until(_, _) | Dep::Outside(_) => Ok(()),

@@ -1,4 +1,4 @@
-use Rattle.std.proofs.Common.{◌≡◌, ◌∙◌, ◌∷◌, ℕ, List, Some, ap, arith, rules, subst, sym}
+use Rattle.std.proofs.Common.{◌≡◌, ◌∙◌, ◌∷◌, ℕ, List, Some, ap, subst, sym}
 use Rattle.std.specs.Prelude.{◌==◌}
 use Rattle.model.specs.Words.{least, lesser}
 use Rattle.model.specs.History.{view_of}
@@ -31,7 +31,9 @@ loop-parent-preserved-then-is_lost c =
     let planned : ArePlannedJobs V (p ∷ jobs_left c.next.new.self) =
         subst (λ (l : List StreamJob). ArePlannedJobs V l) c.in-Some.ensures.steps c.loop-parent.invariant.planned
     in
-    let lower : c.lower.result ≡ lesser p.doc.no c.loop-parent.lowest = first_of (cc, search rules, grind arith) in
+    let lower : c.lower.result ≡ lesser p.doc.no c.loop-parent.lowest =
+        c.lower.ensures ∙ (λ j. lesser (c.doc.view_is j).no c.loop-parent.lowest)
+    in
     record {
       planned = planned.1;
       lowest =

@@ -1,4 +1,4 @@
-use Rattle.std.proofs.Common.{◌≡◌, ◌∙◌, ◌∷◌, ℕ, List, Some, ap, arith, rules, subst, sym}
+use Rattle.std.proofs.Common.{◌≡◌, ◌∙◌, ◌∷◌, ℕ, List, Some, ap, subst, sym}
 use Rattle.std.specs.Prelude.{◌==◌, filter}
 use Rattle.model.specs.Types.{StreamDoc}
 use Rattle.model.specs.Words.{least, lesser}
@@ -18,7 +18,9 @@ loop-doc-preserved-then-may_release_in c =
     let planned : ArePlannedStreams V (d ∷ streams_left c.next.new.self) =
         subst (λ (l : List StreamDoc). ArePlannedStreams V l) c.in-Some.ensures.steps c.loop-doc.invariant.planned
     in
-    let lower : c.lower.result ≡ lesser d.no c.loop-doc.lowest = first_of (cc, search rules, grind arith) in
+    let lower : c.lower.result ≡ lesser d.no c.loop-doc.lowest =
+        c.lower.ensures ∙ (λ j. lesser (c.doc.view_is j).no c.loop-doc.lowest)
+    in
     record {
       planned = planned.1;
       lowest =

@@ -18,7 +18,7 @@ loop-passed-preserved-in-None c =
 pub loop-passed-preserved : goal.loop-passed-preserved
 loop-passed-preserved c =
     let V = view_of c.args.o.now in
-    ap (λ (l : List ℕ). cited_behind V c.args.obj.now (c.loop-passed.passed + 1) l) c.in_ok-add_cited.ensures
+    ap (λ (l : List ℕ). cited_behind V c.args.obj.now (c.loop-passed.passed + 1) l) c.in_ok-add_cited-in-Some.ensures
     ∙ sym
     (cited_next V c.args.obj.now c.loop-passed.passed c.in-Some.dep.now c.loop-passed.found (sym c.in-Some.ensures))
     ∙ c.loop-passed.invariant

@@ -25,9 +25,9 @@ pub declined : (net : Net) (V : View) (me a : ℕ) (c : Cmd) (place : ℕ) (why 
 unfolding answer
 declined net V me a c place why e h =
     ap (λ (k : ℕ). Declined a k why) e
-        ∙ sym
-        (by_reason (Declined a (1 + answered a (V (Events me))))
-        (obeyed_as V a (1 + answered a (V (Events me))) c) (verdict net V me c) why h)
+    ∙ sym
+    (by_reason (Declined a (1 + answered a (V (Events me))))
+    (obeyed_as V a (1 + answered a (V (Events me))) c) (verdict net V me c) why h)
 
 -- it is obeyed
 pub obeyed : (net : Net) (V : View) (me a : ℕ) (c : Cmd) (place : ℕ) → place ≡ 1 + answered a (V (Events me))
@@ -35,9 +35,9 @@ pub obeyed : (net : Net) (V : View) (me a : ℕ) (c : Cmd) (place : ℕ) → pla
 unfolding answer
 obeyed net V me a c place e h b f =
     f ∙ ap (λ (k : ℕ). obeyed_as V a k c) e
-        ∙ sym
-        (without_reason (Declined a (1 + answered a (V (Events me))))
-        (obeyed_as V a (1 + answered a (V (Events me))) c) (verdict net V me c) h)
+    ∙ sym
+    (without_reason (Declined a (1 + answered a (V (Events me))))
+    (obeyed_as V a (1 + answered a (V (Events me))) c) (verdict net V me c) h)
 
 -- any other command than a submit stays as it is
 pub kept : (V : View) (a place : ℕ) (c : Cmd) → ((draft : StreamDraft) → c ≡ Submit draft → ⊥)

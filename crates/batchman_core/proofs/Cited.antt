@@ -33,7 +33,7 @@ cited_next V o n d among e =
     let at_n : slice_get (deps V o) n ≡ Some d = subst (λ i. nth (deps V o) i ≡ Some d) (add-one n) e in
     let next : drop n (deps V o) ≡ d ∷ drop (n + 1) (deps V o) = rw add-one (drop_some (deps V o) n d at_n) in
     ap (λ (l : List Dep). with_all (flat_map (dep_cites V) l) among) next
-        ∙ gathered_some (dep_cites V) d (drop (n + 1) (deps V o)) among
+    ∙ gathered_some (dep_cites V) d (drop (n + 1) (deps V o)) among
 
 -- there is none
 pub cited_none : (V : View) (o : Obj) (n : ℕ) (among : List ℕ) → dep V o (n + 1) ≡ None

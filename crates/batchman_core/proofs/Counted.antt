@@ -27,8 +27,8 @@ pub counted : (V : View) (w n : ℕ) (left : List ℕ) (before all : Seen) → n
     → before ++ seen_of V (w ∷ left) ≡ all → (before ++ (w, n) ∷ []) ++ seen_of V left ≡ all
 counted V w n left before all e h k =
     append_assoc before ((w, n) ∷ []) (seen_of V left)
-        ∙ ap (λ (l : Seen). before ++ l) (sym (one_counted V w n left e h))
-        ∙ k
+    ∙ ap (λ (l : Seen). before ++ l) (sym (one_counted V w n left e h))
+    ∙ k
 
 -- a workstation without events
 pub passed_over : (V : View) (w n : ℕ) (left : List ℕ) (before all : Seen) → n ≡ length (V (Events w))

@@ -16,7 +16,7 @@ pub key_inserted : (ks : List ℕ) (k : ℕ) → insert_key nat_cmp ks k ≡ ins
 key_inserted [] k = refl
 key_inserted (x ∷ xs) k =
     one_key k x (k ∷ x ∷ xs) (x ∷ xs) (x ∷ insert_key nat_cmp xs k)
-        ∙ ap (λ (l : List ℕ). cond (k == x) (x ∷ xs) (cond (nat_lt k x) (k ∷ x ∷ xs) (x ∷ l))) (key_inserted xs k)
+    ∙ ap (λ (l : List ℕ). cond (k == x) (x ∷ xs) (cond (nat_lt k x) (k ∷ x ∷ xs) (x ∷ l))) (key_inserted xs k)
 
 at_place : (x y : ℕ) (ys : List ℕ) → x ≡ y → insert_once x (y ∷ ys) ≡ y ∷ ys
 at_place x y ys h = grind (arith, nat_tests)
@@ -50,27 +50,27 @@ lower_step : (x y z : ℕ) (zs : List ℕ) → x < y → insert_once x (insert_o
 lower_step x y z zs h more (inl k) other =
     let low : x < z = omega arith in
     ap (insert_once x) (before_place y z zs k) ∙ before_place x y (z ∷ zs) h
-        ∙ sym
-        (ap (insert_once y) (before_place x z zs low) ∙ behind_place y x (z ∷ zs) h
-        ∙ ap (λ (l : List ℕ). x ∷ l) (before_place y z zs k))
+    ∙ sym
+    (ap (insert_once y) (before_place x z zs low) ∙ behind_place y x (z ∷ zs) h
+    ∙ ap (λ (l : List ℕ). x ∷ l) (before_place y z zs k))
 lower_step x y z zs h more (inr (inl k)) other =
     let low : x < z = omega arith in
     ap (insert_once x) (at_place y z zs k) ∙ before_place x z zs low
-        ∙ sym
-        (ap (insert_once y) (before_place x z zs low) ∙ behind_place y x (z ∷ zs) h
-        ∙ ap (λ (l : List ℕ). x ∷ l) (at_place y z zs k))
+    ∙ sym
+    (ap (insert_once y) (before_place x z zs low) ∙ behind_place y x (z ∷ zs) h
+    ∙ ap (λ (l : List ℕ). x ∷ l) (at_place y z zs k))
 lower_step x y z zs h more (inr (inr k)) (inl low) =
     ap (insert_once x) (behind_place y z zs k) ∙ before_place x z (insert_once y zs) low
-        ∙ sym
-        (ap (insert_once y) (before_place x z zs low) ∙ behind_place y x (z ∷ zs) h
-        ∙ ap (λ (l : List ℕ). x ∷ l) (behind_place y z zs k))
+    ∙ sym
+    (ap (insert_once y) (before_place x z zs low) ∙ behind_place y x (z ∷ zs) h
+    ∙ ap (λ (l : List ℕ). x ∷ l) (behind_place y z zs k))
 lower_step x y z zs h more (inr (inr k)) (inr (inl e)) =
     ap (insert_once x) (behind_place y z zs k) ∙ at_place x z (insert_once y zs) e
-        ∙ sym (ap (insert_once y) (at_place x z zs e) ∙ behind_place y z zs k)
+    ∙ sym (ap (insert_once y) (at_place x z zs e) ∙ behind_place y z zs k)
 lower_step x y z zs h more (inr (inr k)) (inr (inr high)) =
     ap (insert_once x) (behind_place y z zs k) ∙ behind_place x z (insert_once y zs) high
-        ∙ ap (λ (l : List ℕ). z ∷ l) more
-        ∙ sym (ap (insert_once y) (behind_place x z zs high) ∙ behind_place y z (insert_once x zs) k)
+    ∙ ap (λ (l : List ℕ). z ∷ l) more
+    ∙ sym (ap (insert_once y) (behind_place x z zs high) ∙ behind_place y z (insert_once x zs) k)
 
 insert_lower : (x y : ℕ) (zs : List ℕ) → x < y → insert_once x (insert_once y zs) ≡ insert_once y (insert_once x zs)
 insert_lower x y [] h = before_place x y [] h ∙ sym (behind_place y x [] h)

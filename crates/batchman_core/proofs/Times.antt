@@ -25,8 +25,8 @@ any_append p (x ∷ xs) ys = ap (λ (b : Bool). p x || b) (any_append p xs ys) �
 comes_append : (clock t : ℕ) (ps qs : List NumberedDep) → any_comes clock t (ps ++ qs) ≡ (any_comes clock t ps || any_comes clock t qs)
 comes_append clock t ps qs =
     ap (list_any (comes clock t)) (filter_map-append (λ (p : NumberedDep). dep_time p.dep) ps qs)
-        ∙ any_append (comes clock t) (filter_map (λ (p : NumberedDep). dep_time p.dep) ps)
-        (filter_map (λ (p : NumberedDep). dep_time p.dep) qs)
+    ∙ any_append (comes clock t) (filter_map (λ (p : NumberedDep). dep_time p.dep) ps)
+    (filter_map (λ (p : NumberedDep). dep_time p.dep) qs)
 
 flat_append : {A B : Type 0} (f : A → List B) (xs ys : List A) → flat_map f (xs ++ ys) ≡ flat_map f xs ++ flat_map f ys
 flat_append f [] ys = refl
@@ -61,7 +61,7 @@ pub comes_in_both : (V : View) (clock t : ℕ) (os qs : List Obj)
     → any_comes_of V clock t (os ++ qs) ≡ (any_comes_of V clock t os || any_comes_of V clock t qs)
 comes_in_both V clock t os qs =
     ap (any_comes clock t) (flat_append (unwaived_deps V) os qs)
-        ∙ comes_append clock t (flat_map (unwaived_deps V) os) (flat_map (unwaived_deps V) qs)
+    ∙ comes_append clock t (flat_map (unwaived_deps V) os) (flat_map (unwaived_deps V) qs)
 
 comes_of_first : (V : View) (clock t : ℕ) (o : Obj) (os : List Obj)
     → any_comes_of V clock t (o ∷ os) ≡ (any_comes clock t (unwaived_deps V o) || any_comes_of V clock t os)
@@ -118,8 +118,8 @@ pub due_by_streams : (V : View) (w t n : ℕ) (here : Bool) → n ≡ now (V (Ev
     → here ≡ is_clock_due V w t
 due_by_streams V w t n here e f h =
     let comes_here : any_comes_of V (now (V (Events w))) t (map (λ (d : StreamDoc). Stream d.no) (own_streams V w)) ≡ true =
-        subst (λ (m : ℕ). any_comes_of V m t (map (λ (d : StreamDoc). Stream d.no) (own_streams V w)) ≡ true) e
-        (sym f ∙ h)
+    subst (λ (m : ℕ). any_comes_of V m t (map (λ (d : StreamDoc). Stream d.no) (own_streams V w)) ≡ true) e
+    (sym f ∙ h)
     in
     h
     ∙ sym
@@ -135,13 +135,13 @@ pub due_by_jobs : (V : View) (w t n : ℕ) (above here : Bool) → n ≡ now (V 
     → here ≡ any_comes_of V n t (map (λ (p : StreamJob). Job p.doc.no) (own_jobs V w)) → here ≡ is_clock_due V w t
 due_by_jobs V w t n above here e f h g =
     let not_above : any_comes_of V (now (V (Events w))) t (map (λ (d : StreamDoc). Stream d.no) (own_streams V w)) ≡ false =
-        subst (λ (m : ℕ). any_comes_of V m t (map (λ (d : StreamDoc). Stream d.no) (own_streams V w)) ≡ false) e
-        (sym f ∙ h)
+    subst (λ (m : ℕ). any_comes_of V m t (map (λ (d : StreamDoc). Stream d.no) (own_streams V w)) ≡ false) e
+    (sym f ∙ h)
     in
     g ∙ ap (λ (m : ℕ). any_comes_of V m t (map (λ (p : StreamJob). Job p.doc.no) (own_jobs V w))) e
-        ∙ sym
-        (due_by_either V w t
-        ∙ ap
-        (λ (b : Bool).
-        b || any_comes_of V (now (V (Events w))) t (map (λ (p : StreamJob). Job p.doc.no) (own_jobs V w)))
-        not_above)
+    ∙ sym
+    (due_by_either V w t
+    ∙ ap
+    (λ (b : Bool).
+    b || any_comes_of V (now (V (Events w))) t (map (λ (p : StreamJob). Job p.doc.no) (own_jobs V w)))
+    not_above)

@@ -63,13 +63,7 @@ pub fn job(alloc: Global, no: u32, ws: Ws, priority: u8, deps: Deps) -> Result<J
 }
 
 /// A stream of these jobs.
-pub fn stream(
-    alloc: Global,
-    no: u32,
-    ws: Ws,
-    deps: Deps,
-    jobs: Jobs,
-) -> Result<StreamDoc, Fail> {
+pub fn stream(alloc: Global, no: u32, ws: Ws, deps: Deps, jobs: Jobs) -> Result<StreamDoc, Fail> {
     Ok(StreamDoc {
         no: StreamNo(no),
         ws,

@@ -109,10 +109,34 @@ fn jobs_wait_for_units(rt: HostRuntime) -> Result<(), Fail> {
 fn with_untils(alloc: Global) -> Result<Night, Fail> {
     let at = Moment(200);
     let mut jobs = Items::new(alloc);
-    add(&mut jobs, alloc, 1, 10, one(alloc, Dep::Until(at, OnUntil::Suppr))?)?;
-    add(&mut jobs, alloc, 2, 10, one(alloc, Dep::Until(at, OnUntil::Cont))?)?;
-    add(&mut jobs, alloc, 3, 10, one(alloc, Dep::Until(at, OnUntil::Canc))?)?;
-    add(&mut jobs, alloc, 4, 10, one(alloc, Dep::FollowsJob(JobNo(3)))?)?;
+    add(
+        &mut jobs,
+        alloc,
+        1,
+        10,
+        one(alloc, Dep::Until(at, OnUntil::Suppr))?,
+    )?;
+    add(
+        &mut jobs,
+        alloc,
+        2,
+        10,
+        one(alloc, Dep::Until(at, OnUntil::Cont))?,
+    )?;
+    add(
+        &mut jobs,
+        alloc,
+        3,
+        10,
+        one(alloc, Dep::Until(at, OnUntil::Canc))?,
+    )?;
+    add(
+        &mut jobs,
+        alloc,
+        4,
+        10,
+        one(alloc, Dep::FollowsJob(JobNo(3)))?,
+    )?;
     one_stream(alloc, jobs)
 }
 
@@ -188,7 +212,8 @@ fn the_agent_goes_through_its_day(rt: HostRuntime) -> Result<(), Fail> {
     ];
     assert!(rt; night.turns(alloc, 1, &texts)?);
     night.event(P, Body::Ended(JobNo(1), 1, 0, true))?;
-    let end = "StreamEnded(StreamNo(1), Seen { counts: Items { items: [(Ws(0), 2), (Ws(1), 3)] } })";
+    let end =
+        "StreamEnded(StreamNo(1), Seen { counts: Items { items: [(Ws(0), 2), (Ws(1), 3)] } })";
     assert!(rt; night.turns(alloc, 1, &[end, ""])?);
     Ok(())
 }
@@ -281,7 +306,8 @@ fn a_launch_counts_whom_it_stands_on(rt: HostRuntime) -> Result<(), Fail> {
     night.event(M, Body::Launched(JobNo(1), 1, Seen::new(alloc)))?;
     assert!(rt; night.turns(alloc, 1, &[""])?);
     night.event(M, Body::Ended(JobNo(1), 1, 0, true))?;
-    let launched = "Launched(JobNo(2), 1, Seen { counts: Items { items: [(Ws(0), 4), (Ws(2), 1)] } })";
+    let launched =
+        "Launched(JobNo(2), 1, Seen { counts: Items { items: [(Ws(0), 4), (Ws(2), 1)] } })";
     assert!(rt; night.turns(alloc, 1, &[launched, ""])?);
     Ok(())
 }
@@ -352,7 +378,10 @@ fn a_submitted_stream_is_added(rt: HostRuntime) -> Result<(), Fail> {
     let adhoc = draft(alloc, "ADHOC", Items::new(alloc))?;
     night.order(Cmd::Submit(adhoc))?;
     let text = night.turn(alloc, 1)?;
-    assert!(rt; text.as_str().starts_with("Added(Ws(0), 1, StreamDoc { no: StreamNo(2), "));
+    assert!(rt;
+        text.as_str()
+            .starts_with("Added(Ws(0), 1, StreamDoc { no: StreamNo(2), ")
+    );
     assert!(rt; night.owners.stream_of(JobNo(2)) == Some(StreamNo(2)));
     let texts = [
         "Released(StreamNo(1), Seen { counts: Items { items: [(Ws(0), 2)] } })",

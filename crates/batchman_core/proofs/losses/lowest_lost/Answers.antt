@@ -16,7 +16,7 @@ pub loop-parent-init : goal.loop-parent-init
 loop-parent-init c =
     let V = view_of c.args.o.now in
     let all : jobs_left c.into_iter-parent-iterator.result ≡ jobs V =
-        ap jobs_left c.into_iter-parent-iterator.ensures.into_iter_gives ∙ c.jobs-parent-items.ensures
+    ap jobs_left c.into_iter-parent-iterator.ensures.into_iter_gives ∙ c.jobs-parent-items.ensures
     in
     record {
       planned = jobs_left_planned V (jobs_left c.into_iter-parent-iterator.result) all;
@@ -29,10 +29,10 @@ loop-parent-preserved-then-is_lost c =
     let V = view_of c.args.o.now in
     let p = stream_job c.in-Some.parent.now c.in-Some.doc.now in
     let planned : ArePlannedJobs V (p ∷ jobs_left c.next.new.self) =
-        subst (λ (l : List StreamJob). ArePlannedJobs V l) c.in-Some.ensures.steps c.loop-parent.invariant.planned
+    subst (λ (l : List StreamJob). ArePlannedJobs V l) c.in-Some.ensures.steps c.loop-parent.invariant.planned
     in
     let lower : c.lower.result ≡ lesser p.doc.no c.loop-parent.lowest =
-        c.lower.ensures ∙ (λ j. lesser (c.doc.view_is j).no c.loop-parent.lowest)
+    c.lower.ensures ∙ (λ j. lesser (c.doc.view_is j).no c.loop-parent.lowest)
     in
     record {
       planned = planned.1;
@@ -47,12 +47,12 @@ loop-parent-preserved-then-is_lost c =
           (least (numbers_of (λ (q : StreamJob). q.doc.ws == c.args.me) any (is_lost V c.args.me c.args.live.now)
           (λ (q : StreamJob). q.doc.no) l)))
           c.in-Some.ensures.steps c.loop-parent.invariant.lowest)
-              ∙ ap
-              (λ (n : ℕ).
-              lower_of (Some n)
-              (least (numbers_of (λ (q : StreamJob). q.doc.ws == c.args.me) any (is_lost V c.args.me c.args.live.now)
-              (λ (q : StreamJob). q.doc.no) (jobs_left c.next.new.self))))
-              (sym lower);
+          ∙ ap
+          (λ (n : ℕ).
+          lower_of (Some n)
+          (least (numbers_of (λ (q : StreamJob). q.doc.ws == c.args.me) any (is_lost V c.args.me c.args.live.now)
+          (λ (q : StreamJob). q.doc.no) (jobs_left c.next.new.self))))
+          (sym lower);
     }
 
 pub loop-parent-preserved : goal.loop-parent-preserved
@@ -60,7 +60,7 @@ loop-parent-preserved c =
     let V = view_of c.args.o.now in
     let p = stream_job c.in-Some.parent.now c.in-Some.doc.now in
     let planned : ArePlannedJobs V (p ∷ jobs_left c.next.new.self) =
-        subst (λ (l : List StreamJob). ArePlannedJobs V l) c.in-Some.ensures.steps c.loop-parent.invariant.planned
+    subst (λ (l : List StreamJob). ArePlannedJobs V l) c.in-Some.ensures.steps c.loop-parent.invariant.planned
     in
     record {
       planned = planned.1;

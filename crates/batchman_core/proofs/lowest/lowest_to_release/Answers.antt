@@ -16,10 +16,10 @@ loop-doc-preserved-then-may_release_in c =
     let V = view_of c.args.o.now in
     let d = c.in-Some.doc.now in
     let planned : ArePlannedStreams V (d ∷ streams_left c.next.new.self) =
-        subst (λ (l : List StreamDoc). ArePlannedStreams V l) c.in-Some.ensures.steps c.loop-doc.invariant.planned
+    subst (λ (l : List StreamDoc). ArePlannedStreams V l) c.in-Some.ensures.steps c.loop-doc.invariant.planned
     in
     let lower : c.lower.result ≡ lesser d.no c.loop-doc.lowest =
-        c.lower.ensures ∙ (λ j. lesser (c.doc.view_is j).no c.loop-doc.lowest)
+    c.lower.ensures ∙ (λ j. lesser (c.doc.view_is j).no c.loop-doc.lowest)
     in
     record {
       planned = planned.1;
@@ -35,12 +35,12 @@ loop-doc-preserved-then-may_release_in c =
           (least (numbers_of (λ (e : StreamDoc). e.ws == c.args.w) (λ (e : StreamDoc). is_member V e.no) (may_release c.args.net.now V c.args.w)
           (λ (e : StreamDoc). e.no) l)))
           c.in-Some.ensures.steps c.loop-doc.invariant.lowest)
-              ∙ ap
-              (λ (n : ℕ).
-              lower_of (Some n)
-              (least (numbers_of (λ (e : StreamDoc). e.ws == c.args.w) (λ (e : StreamDoc). is_member V e.no) (may_release c.args.net.now V c.args.w)
-              (λ (e : StreamDoc). e.no) (streams_left c.next.new.self))))
-              (sym lower);
+          ∙ ap
+          (λ (n : ℕ).
+          lower_of (Some n)
+          (least (numbers_of (λ (e : StreamDoc). e.ws == c.args.w) (λ (e : StreamDoc). is_member V e.no) (may_release c.args.net.now V c.args.w)
+          (λ (e : StreamDoc). e.no) (streams_left c.next.new.self))))
+          (sym lower);
     }
 
 pub loop-doc-preserved : goal.loop-doc-preserved
@@ -48,7 +48,7 @@ loop-doc-preserved c =
     let V = view_of c.args.o.now in
     let d = c.in-Some.doc.now in
     let planned : ArePlannedStreams V (d ∷ streams_left c.next.new.self) =
-        subst (λ (l : List StreamDoc). ArePlannedStreams V l) c.in-Some.ensures.steps c.loop-doc.invariant.planned
+    subst (λ (l : List StreamDoc). ArePlannedStreams V l) c.in-Some.ensures.steps c.loop-doc.invariant.planned
     in
     record {
       planned = planned.1;

@@ -2,13 +2,13 @@
 use Rattle.std.proofs.Common.{◌≡◌, ◌∷◌, ◌||◌, [], ℕ, Bool, List, Some, cond, false, refl, subst, sym, true}
 use Rattle.std.proofs.lemmas.Bool.{eq-eqb, eqb-true}
 use Rattle.std.specs.List.{AllByRecursion}
-use Rattle.std.specs.Prelude.{◌==◌, eqb, find, flat_map, map}
+use Rattle.std.specs.Prelude.{◌==◌, eqb, filter, find, flat_map, map}
 use Rattle.model.specs.Types.{Events, JobDoc, StreamDoc}
 use Rattle.model.specs.Words.{firsts, has}
 use Rattle.model.specs.History.{View}
-use Rattle.model.specs.Catalogue.{StreamJob, catalogue, docs_in, job, jobs, jobs_in, owner, stream}
+use Rattle.model.specs.Catalogue.{StreamJob, catalogue, docs_in, job, jobs, jobs_in, jobs_of_stream, owner, stream}
 use Rattle.dependencies.specs.Planned.{ArePlannedJobs, ArePlannedStreams, IsPlannedJob, IsPlannedStream}
-use Rattle.dependencies.proofs.Lists.{all_both, all_flat, all_found, all_such, there_if}
+use Rattle.dependencies.proofs.Lists.{all_both, all_filter, all_flat, all_found, all_such, there_if}
 
 or_left_false : (a b : Bool) → (a || b) ≡ false → a ≡ false
 or_left_false true b h = cc
@@ -161,3 +161,11 @@ jobs_left_planned V left e = subst (λ (ps : List StreamJob). ArePlannedJobs V p
 -- the streams that a walk begins with
 pub streams_left_planned : (V : View) (left : List StreamDoc) → left ≡ catalogue V → ArePlannedStreams V left
 streams_left_planned V left e = subst (λ (ds : List StreamDoc). ArePlannedStreams V ds) (sym e) (streams_planned V)
+
+-- the jobs of a stream that a walk begins with
+pub stream_jobs_left_planned : (V : View) (s : ℕ) (left : List StreamJob) → left ≡ jobs_of_stream V s
+    → ArePlannedJobs V left
+unfolding jobs_of_stream
+stream_jobs_left_planned V s left e =
+    subst (λ (ps : List StreamJob). ArePlannedJobs V ps) (sym e)
+    (all_filter (IsPlannedJob V) (λ (p : StreamJob). p.parent.no == s) (jobs V) (jobs_planned V))

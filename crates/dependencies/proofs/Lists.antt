@@ -1,7 +1,7 @@
 -- What holds of each element of a list.
 use Rattle.std.proofs.Common.{◌≡◌, ◌∷◌, ◌++◌, [], Bool, List, Option, cond, false, refl, subst, true, Some, None}
 use Rattle.std.specs.List.{AllByRecursion}
-use Rattle.std.specs.Prelude.{IfSome, find, flat_map}
+use Rattle.std.specs.Prelude.{IfSome, filter, find, flat_map}
 
 pub all_such : {A : Type 0} (P Q : A → Type 0) (xs : List A) → ((a : A) → P a → Q a) → AllByRecursion P xs
     → AllByRecursion Q xs
@@ -22,6 +22,17 @@ pub all_flat : {A B : Type 0} (P : B → Type 0) (f : A → List B) (xs : List A
     → AllByRecursion (λ a. AllByRecursion P (f a)) xs → AllByRecursion P (flat_map f xs)
 all_flat P f [] h = tt
 all_flat P f (x ∷ xs) h = all_append P (f x) (flat_map f xs) h.0 (all_flat P f xs h.1)
+
+-- what holds of all holds of those that pass
+pub all_filter : {A : Type 0} (P : A → Type 0) (test : A → Bool) (xs : List A) → AllByRecursion P xs
+    → AllByRecursion P (filter test xs)
+all_filter P test [] h = tt
+all_filter {A} P test (x ∷ xs) h = go (test x) (all_filter P test xs h.1)
+  where
+    go : (b : Bool) → AllByRecursion P (filter test xs)
+        → AllByRecursion P (cond b (x ∷ filter test xs) (filter test xs))
+    go true k = (h.0, k)
+    go false k = k
 
 -- what is found is one of them, and passes
 pub all_found : {A : Type 0} (P : A → Type 0) (p : A → Bool) (xs : List A) → AllByRecursion P xs

@@ -13,6 +13,9 @@
 //! `ready` and `may_release` for those of one object, and `ready` for the open launches besides; `may_end` for the
 //! jobs of one stream; `until_due` and `best` for all objects of the workstation. So `best` grows with the jobs of the
 //! catalogue times these jobs and the entries held, and faster where many jobs are open, need units or have limits.
+//!
+//! The parts of these answers that the crates above ask for are public too: they take the document that counts for
+//! its number, which `specs/Planned` says.
 #![tactic(auto)]
 
 mod candidates;

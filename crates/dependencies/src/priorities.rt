@@ -8,7 +8,7 @@ ghost use Rattle.owner_fold.specs.Spots.{stream_job};
 use base_types::{JobDoc, Obj, StreamDoc};
 use owner_fold::Owners;
 
-/// The priority of a stream of the catalogue, from 0 to 101: as written unless it was set.
+/// The priority of a stream of the catalogue, from 0 to 255: as written unless it was set.
 #[tactic(auto, unfolding(model::specs::Readiness::stream_priority))]
 pub fn stream_priority(o: &Owners, doc: &StreamDoc) -> u8
     requires { IsPlannedStream (view_of o.now) doc.now }
@@ -17,7 +17,7 @@ pub fn stream_priority(o: &Owners, doc: &StreamDoc) -> u8
     o.priority_set(Obj::Stream(doc.no)).unwrap_or(doc.priority)
 }
 
-/// The priority of a job of the catalogue, from 0 to 101: as written unless it was set.
+/// The priority of a job of the catalogue, from 0 to 255: as written unless it was set.
 #[tactic(auto, unfolding(model::specs::Readiness::job_priority))]
 pub fn job_priority(o: &Owners, parent: &StreamDoc, doc: &JobDoc) -> u8
     requires { IsPlannedJob (view_of o.now) (stream_job parent.now doc.now) }

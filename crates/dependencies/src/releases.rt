@@ -63,12 +63,12 @@ pub fn may_end_in(o: &Owners, w: Ws, doc: &StreamDoc) -> bool
 }
 
 /// Whether each job of a stream is good or cancelled.
-#[tactic(auto, using(crate::proofs::Found::jobs_left_planned), unfolding(model::specs::Catalogue::jobs_of_stream))]
+#[tactic(auto, using(crate::proofs::Found::stream_jobs_left_planned))]
 fn jobs_let_end(o: &Owners, s: StreamNo) -> bool
     ensures { let V = view_of o.now in result ≡ list_all (spec.lets_stream_end V) (jobs_of_stream V s) }
 {
-    for (parent, doc) in o.jobs() {
-        if parent.no == s && !lets_stream_end(o, parent, doc) {
+    for (parent, doc) in o.jobs_of_stream(s) {
+        if !lets_stream_end(o, parent, doc) {
             return false;
         }
     }

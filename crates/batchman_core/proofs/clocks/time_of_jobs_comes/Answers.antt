@@ -1,0 +1,31 @@
+use Rattle.std.proofs.Common.{◌≡◌, ◌∙◌, ◌∷◌, List, ap, sym}
+use Rattle.std.specs.Prelude.{◌==◌}
+use Rattle.model.specs.Types.{Job}
+use Rattle.model.specs.History.{view_of}
+use Rattle.model.specs.Catalogue.{StreamJob, is_member}
+use Rattle.owner_fold.specs.Left.{jobs_left}
+use Rattle.owner_fold.specs.Spots.{stream_job}
+use Rattle.batchman_core.specs.Comings.{any_comes_of}
+use Rattle.batchman_core.proofs.Times.{comes_here, comes_later, objects_of}
+use Rattle.batchman_core.proofs.clocks.time_of_jobs_comes.Goals as goal
+
+pub returns-then-time_of_job_comes : goal.returns-then-time_of_job_comes
+returns-then-time_of_job_comes c =
+    let V = view_of c.args.o.now in
+    sym
+    (c.loop-parent.invariant
+    ∙ ap
+    (λ (l : List StreamJob). any_comes_of V c.args.now c.args.t (objects_of (λ (p : StreamJob). p.doc.ws == c.args.w) (λ (p : StreamJob). is_member V p.parent.no) (λ (p : StreamJob). Job p.doc.no) l))
+    c.in-Some.ensures.steps
+    ∙ comes_here V c.args.now c.args.t (λ (p : StreamJob). p.doc.ws == c.args.w) (λ (p : StreamJob). is_member V p.parent.no) (λ (p : StreamJob). Job p.doc.no) (stream_job c.in-Some.parent.now c.in-Some.doc.now) (jobs_left c.next.new.self)
+    (sym c.time_of_job_comes.ensures ∙ c.if-time_of_job_comes.true))
+
+pub loop-parent-preserved : goal.loop-parent-preserved
+loop-parent-preserved c =
+    let V = view_of c.args.o.now in
+    c.loop-parent.invariant
+    ∙ ap
+    (λ (l : List StreamJob). any_comes_of V c.args.now c.args.t (objects_of (λ (p : StreamJob). p.doc.ws == c.args.w) (λ (p : StreamJob). is_member V p.parent.no) (λ (p : StreamJob). Job p.doc.no) l))
+    c.in-Some.ensures.steps
+    ∙ comes_later V c.args.now c.args.t (λ (p : StreamJob). p.doc.ws == c.args.w) (λ (p : StreamJob). is_member V p.parent.no) (λ (p : StreamJob). Job p.doc.no) (stream_job c.in-Some.parent.now c.in-Some.doc.now) (jobs_left c.next.new.self)
+    (sym c.time_of_job_comes.ensures ∙ c.if-time_of_job_comes.false)

@@ -1,0 +1,30 @@
+use Rattle.std.proofs.Common.{◌≡◌, ◌∙◌, ◌∷◌, List, ap, sym}
+use Rattle.std.specs.Prelude.{◌==◌}
+use Rattle.model.specs.Types.{Stream, StreamDoc}
+use Rattle.model.specs.History.{view_of}
+use Rattle.model.specs.Catalogue.{is_member}
+use Rattle.owner_fold.specs.Left.{streams_left}
+use Rattle.batchman_core.specs.Comings.{any_comes_of}
+use Rattle.batchman_core.proofs.Times.{comes_here, comes_later, objects_of}
+use Rattle.batchman_core.proofs.clocks.time_of_streams_comes.Goals as goal
+
+pub returns-then-time_of_stream_comes : goal.returns-then-time_of_stream_comes
+returns-then-time_of_stream_comes c =
+    let V = view_of c.args.o.now in
+    sym
+    (c.loop-doc.invariant
+    ∙ ap
+    (λ (l : List StreamDoc). any_comes_of V c.args.now c.args.t (objects_of (λ (d : StreamDoc). d.ws == c.args.w) (λ (d : StreamDoc). is_member V d.no) (λ (d : StreamDoc). Stream d.no) l))
+    c.in-Some.ensures.steps
+    ∙ comes_here V c.args.now c.args.t (λ (d : StreamDoc). d.ws == c.args.w) (λ (d : StreamDoc). is_member V d.no) (λ (d : StreamDoc). Stream d.no) (c.in-Some.doc.now) (streams_left c.next.new.self)
+    (sym c.time_of_stream_comes.ensures ∙ c.if-time_of_stream_comes.true))
+
+pub loop-doc-preserved : goal.loop-doc-preserved
+loop-doc-preserved c =
+    let V = view_of c.args.o.now in
+    c.loop-doc.invariant
+    ∙ ap
+    (λ (l : List StreamDoc). any_comes_of V c.args.now c.args.t (objects_of (λ (d : StreamDoc). d.ws == c.args.w) (λ (d : StreamDoc). is_member V d.no) (λ (d : StreamDoc). Stream d.no) l))
+    c.in-Some.ensures.steps
+    ∙ comes_later V c.args.now c.args.t (λ (d : StreamDoc). d.ws == c.args.w) (λ (d : StreamDoc). is_member V d.no) (λ (d : StreamDoc). Stream d.no) (c.in-Some.doc.now) (streams_left c.next.new.self)
+    (sym c.time_of_stream_comes.ensures ∙ c.if-time_of_stream_comes.false)

@@ -1,0 +1,67 @@
+use Rattle.std.proofs.Common.{◌≡◌, ◌∙◌, ◌∷◌, ℕ, List, Some, ap, subst, sym}
+use Rattle.std.specs.Prelude.{◌==◌, filter}
+use Rattle.model.specs.Types.{StreamDoc}
+use Rattle.model.specs.Words.{least, lesser}
+use Rattle.model.specs.History.{view_of}
+use Rattle.model.specs.Catalogue.{is_member}
+use Rattle.model.specs.OwnMembers.{may_release, own_numbers}
+use Rattle.owner_fold.specs.Left.{streams_left}
+use Rattle.dependencies.specs.Planned.{ArePlannedStreams}
+use Rattle.dependencies.proofs.Lowest.{lower_of, lowest_with, lowest_without, numbers_of}
+use Rattle.batchman_core.proofs.Members.{releasable}
+use Rattle.batchman_core.proofs.lowest.lowest_to_release.Goals as goal
+
+pub loop-doc-preserved-then-may_release_in : goal.loop-doc-preserved-then-may_release_in
+loop-doc-preserved-then-may_release_in c =
+    let V = view_of c.args.o.now in
+    let d = c.in-Some.doc.now in
+    let planned : ArePlannedStreams V (d ∷ streams_left c.next.new.self) =
+    subst (λ (l : List StreamDoc). ArePlannedStreams V l) c.in-Some.ensures.steps c.loop-doc.invariant.planned
+    in
+    let lower : c.lower.result ≡ lesser d.no c.loop-doc.lowest =
+    c.lower.ensures ∙ (λ j. lesser (c.doc.view_is j).no c.loop-doc.lowest)
+    in
+    record {
+      planned = planned.1;
+      lowest =
+          lowest_with (λ (e : StreamDoc). e.ws == c.args.w) (λ (e : StreamDoc). is_member V e.no) (may_release c.args.net.now V c.args.w)
+          (λ (e : StreamDoc). e.no) d (streams_left c.next.new.self)
+          (least (filter (may_release c.args.net.now V c.args.w) (own_numbers V c.args.w))) c.loop-doc.lowest
+          (releasable c.args.net.now V c.args.w d planned.0 ∙ sym c.may_release_in.ensures ∙ c.if-may_release_in.true)
+          (subst
+          (λ (l : List StreamDoc).
+          least (filter (may_release c.args.net.now V c.args.w) (own_numbers V c.args.w))
+          ≡ lower_of c.loop-doc.lowest
+          (least (numbers_of (λ (e : StreamDoc). e.ws == c.args.w) (λ (e : StreamDoc). is_member V e.no) (may_release c.args.net.now V c.args.w)
+          (λ (e : StreamDoc). e.no) l)))
+          c.in-Some.ensures.steps c.loop-doc.invariant.lowest)
+          ∙ ap
+          (λ (n : ℕ).
+          lower_of (Some n)
+          (least (numbers_of (λ (e : StreamDoc). e.ws == c.args.w) (λ (e : StreamDoc). is_member V e.no) (may_release c.args.net.now V c.args.w)
+          (λ (e : StreamDoc). e.no) (streams_left c.next.new.self))))
+          (sym lower);
+    }
+
+pub loop-doc-preserved : goal.loop-doc-preserved
+loop-doc-preserved c =
+    let V = view_of c.args.o.now in
+    let d = c.in-Some.doc.now in
+    let planned : ArePlannedStreams V (d ∷ streams_left c.next.new.self) =
+    subst (λ (l : List StreamDoc). ArePlannedStreams V l) c.in-Some.ensures.steps c.loop-doc.invariant.planned
+    in
+    record {
+      planned = planned.1;
+      lowest =
+          lowest_without (λ (e : StreamDoc). e.ws == c.args.w) (λ (e : StreamDoc). is_member V e.no) (may_release c.args.net.now V c.args.w)
+          (λ (e : StreamDoc). e.no) d (streams_left c.next.new.self)
+          (least (filter (may_release c.args.net.now V c.args.w) (own_numbers V c.args.w))) c.loop-doc.lowest
+          (releasable c.args.net.now V c.args.w d planned.0 ∙ sym c.may_release_in.ensures ∙ c.if-may_release_in.false)
+          (subst
+          (λ (l : List StreamDoc).
+          least (filter (may_release c.args.net.now V c.args.w) (own_numbers V c.args.w))
+          ≡ lower_of c.loop-doc.lowest
+          (least (numbers_of (λ (e : StreamDoc). e.ws == c.args.w) (λ (e : StreamDoc). is_member V e.no) (may_release c.args.net.now V c.args.w)
+          (λ (e : StreamDoc). e.no) l)))
+          c.in-Some.ensures.steps c.loop-doc.invariant.lowest);
+    }

@@ -1,0 +1,122 @@
+//! What a turn keeps.
+ghost use Rattle.std.specs.Prelude.{◌≡◌, ◌+◌, ◌<◌, IfOk, Some, option_and_then, option_map};
+ghost use Rattle.model.specs.Types as types;
+ghost use Rattle.model.specs.Types.{Events, Job, Stream};
+ghost use Rattle.model.specs.Network.{node_count};
+ghost use Rattle.model.specs.History.{view_of};
+ghost use Rattle.model.specs.Catalogue.{owner};
+ghost use Rattle.model.specs.Facts.{launches, open_launch};
+ghost use Rattle.model.specs.Dependencies.{dep};
+ghost use Rattle.model.specs.OwnMembers.{UntilTime, until_in};
+ghost use Rattle.model.specs.Turn as spec;
+ghost use Rattle.batchman_core.specs.Told.{IsOwn, choice_of};
+
+use crate::answers::answer;
+use crate::choices::{Choice, turn_choice};
+use crate::faults::TurnFault;
+use crate::witnesses::{seen_by_end, seen_by_object};
+use base_types::{Body, Dep, JobNo, Live, Moment, Obj, StreamNo, Ws};
+use dependencies::Readiness;
+use network_tree::Network;
+use owner_fold::Owners;
+use std::alloc::Global;
+
+/// What `me` keeps in a turn with the reading `t`, in seconds since 1970: the body of the first rule that applies.
+/// None where no rule does. `live` has the launches with a live process. `NoMemory` leaves nothing behind.
+#[tactic(auto, unfolding(model::specs::Turn::turn_body))]
+pub fn turn_body<R: Readiness>(
+    alloc: Global,
+    net: &Network,
+    o: &Owners,
+    r: &R,
+    me: Ws,
+    live: &Live,
+    t: Moment,
+) -> Result<Option<Body>, TurnFault>
+    requires inside { me < node_count net.now }
+    requires stands { R.stands_for r.now o.now me net.now.resources net.now.prompts }
+    ensures { IfOk result (λ b. b ≡ spec.turn_body net.now (view_of o.now) me live.now t) }
+{
+    let choice = turn_choice(net, o, r, me, live, t);
+    let body = body_of(alloc, net, o, me, t, &choice)?;
+    Ok(body)
+}
+
+/// The body that a choice keeps.
+#[tactic(auto, unfolding(model::specs::Turn::body_of))]
+fn body_of(
+    alloc: Global,
+    net: &Network,
+    o: &Owners,
+    me: Ws,
+    t: Moment,
+    choice: &Choice,
+) -> Result<Option<Body>, TurnFault>
+    requires { IsOwn (view_of o.now) me choice.now }
+    ensures { IfOk result (λ b. b ≡ spec.body_of net.now (view_of o.now) me t (choice_of choice.now)) }
+{
+    match choice {
+        Choice::Clock => Ok(Some(Body::Clock(t))),
+        Choice::Lost(j) => Ok(lost(o, me, *j)),
+        Choice::Answer(a) => answer(alloc, net, o, me, *a),
+        Choice::Until(obj, i) => Ok(until_passed(o, obj, *i)),
+        Choice::Release(s) => Ok(Some(released(alloc, o, me, *s)?)),
+        Choice::End(s) => Ok(Some(ended(alloc, o, me, *s)?)),
+        Choice::Launch(j) => Ok(Some(launched(alloc, o, me, *j)?)),
+        Choice::Nothing => Ok(None),
+    }
+}
+
+/// The loss of the open launch of a job of w. None where no launch is open.
+fn lost(o: &Owners, w: Ws, j: JobNo) -> Option<Body>
+    requires { owner (view_of o.now) (Job j) ≡ Some w }
+    ensures { result ≡ option_map (types.Lost j) (open_launch j (view_of o.now (Events w))) }
+{
+    match o.open_launch(j) {
+        None => None,
+        Some(number) => Some(Body::Lost(j, number)),
+    }
+}
+
+/// The passing of the UNTIL of this number. None where the dependency is none.
+fn until_passed(o: &Owners, obj: &Obj, i: u16) -> Option<Body>
+    ensures { result ≡ option_map (λ (u : UntilTime). types.UntilPassed obj.now i u.mark)
+        (option_and_then until_in (dep (view_of o.now) obj.now i)) }
+{
+    match o.dep(*obj, i) {
+        Some(Dep::Until(_, mark)) => Some(Body::UntilPassed(*obj, i, *mark)),
+        _ => None,
+    }
+}
+
+/// The release of a stream at w.
+fn released(alloc: Global, o: &Owners, w: Ws, s: StreamNo) -> Result<Body, TurnFault>
+    ensures { let V = view_of o.now in
+        IfOk result (λ b. b ≡ types.Released s (spec.seen_for V (spec.witnesses V w (Stream s)))) }
+{
+    let seen = seen_by_object(alloc, o, w, &Obj::Stream(s))?;
+    Ok(Body::Released(s, seen))
+}
+
+/// The end of a stream at w.
+fn ended(alloc: Global, o: &Owners, w: Ws, s: StreamNo) -> Result<Body, TurnFault>
+    ensures { let V = view_of o.now in
+        IfOk result (λ b. b ≡ types.StreamEnded s (spec.seen_for V (spec.end_witnesses V w s))) }
+{
+    let seen = seen_by_end(alloc, o, w, s)?;
+    Ok(Body::StreamEnded(s, seen))
+}
+
+/// The next launch of a job of w.
+fn launched(alloc: Global, o: &Owners, w: Ws, j: JobNo) -> Result<Body, TurnFault>
+    requires { owner (view_of o.now) (Job j) ≡ Some w }
+    ensures { let V = view_of o.now in
+        IfOk result (λ b. b
+        ≡ types.Launched j (1 + launches j (V (Events w))) (spec.seen_for V (spec.witnesses V w (Job j)))) }
+{
+    let Some(number) = o.launches(j).checked_add(1) else {
+        return Err(TurnFault::NoMemory);
+    };
+    let seen = seen_by_object(alloc, o, w, &Obj::Job(j))?;
+    Ok(Body::Launched(j, number, seen))
+}

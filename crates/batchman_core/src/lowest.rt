@@ -1,0 +1,54 @@
+//! The lowest own members that may be released or may end.
+ghost use Rattle.std.specs.Prelude.{◌≡◌, filter};
+ghost use Rattle.model.specs.Words.{least, lesser};
+ghost use Rattle.model.specs.History.{view_of};
+ghost use Rattle.model.specs.OwnMembers as spec;
+
+use base_types::{StreamNo, Ws};
+use dependencies::{may_end_in, may_release_in};
+use network_tree::Network;
+use owner_fold::Owners;
+
+/// The lowest own member of w that may be released.
+#[tactic(auto, using(dependencies::proofs::Found::streams_left_planned), unfolding(model::specs::OwnMembers::own_streams, model::specs::Catalogue::streams_of))]
+pub(crate) fn lowest_to_release(net: &Network, o: &Owners, w: Ws) -> Option<StreamNo>
+    ensures { let V = view_of o.now in result ≡ least (filter (spec.may_release net.now V w) (spec.own_numbers V w)) }
+{
+    let mut lowest = None;
+    for doc in o.streams() {
+        if may_release_in(net, o, w, doc) {
+            lowest = Some(lower(lowest, doc.no.0));
+        }
+    }
+    match lowest {
+        None => None,
+        Some(number) => Some(StreamNo(number)),
+    }
+}
+
+/// The lowest own member of w that may end.
+#[tactic(auto, using(dependencies::proofs::Found::streams_left_planned), unfolding(model::specs::OwnMembers::own_streams, model::specs::Catalogue::streams_of))]
+pub(crate) fn lowest_to_end(o: &Owners, w: Ws) -> Option<StreamNo>
+    ensures { let V = view_of o.now in result ≡ least (filter (spec.may_end V w) (spec.own_numbers V w)) }
+{
+    let mut lowest = None;
+    for doc in o.streams() {
+        if may_end_in(o, w, doc) {
+            lowest = Some(lower(lowest, doc.no.0));
+        }
+    }
+    match lowest {
+        None => None,
+        Some(number) => Some(StreamNo(number)),
+    }
+}
+
+/// The lower of a number and one that may be there.
+pub(crate) fn lower(lowest: Option<u32>, number: u32) -> u32
+    ensures { result ≡ lesser number lowest }
+{
+    match lowest {
+        None => number,
+        Some(before) => before.min(number),
+    }
+}

@@ -1,0 +1,6 @@
+mod Commands
+mod Equal
+mod Latest
+mod Reasons
+mod Sizes
+mod Texts

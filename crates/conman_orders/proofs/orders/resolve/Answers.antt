@@ -1,0 +1,14 @@
+use Rattle.std.proofs.Common.{◌∙◌, sym}
+use Rattle.conman_orders.proofs.orders.resolve.Goals as goal
+
+pub returns-clause-order : goal.returns-clause-order
+returns-clause-order c =
+    λ m to cmd. (λ p. sym (c.row.ensures.answer m) ∙ p, λ q. c.row.ensures.answer m ∙ q)
+
+pub returns-clause-unknown_name : goal.returns-clause-unknown_name
+returns-clause-unknown_name c =
+    λ m n. (λ p. sym (c.row.ensures.answer m) ∙ p, λ q. c.row.ensures.answer m ∙ q)
+
+pub returns-clause-not_a_command : goal.returns-clause-not_a_command
+returns-clause-not_a_command c =
+    (λ p. sym (c.row.ensures.answer (λ e. cc)) ∙ p, λ q. c.row.ensures.not_a_command q)

@@ -1,0 +1,353 @@
+//! The command that a line gives, and the workstation that it goes to.
+ghost use Rattle.std.specs.Prelude.{◌≡◌, ◌↔◌, ℕ, IfOk, codes, unwrap_or};
+ghost use Rattle.std.specs.Result.{IsErrOf};
+ghost use Rattle.model.specs.Types.{AltPri, Cancel, Cmd as Cmds, Confirm, Kill, Release, ReplyOwn, Rerun, StreamLimit};
+ghost use Rattle.model.specs.History.{view_of};
+ghost use Rattle.model.specs.Catalogue.{owner as spec_owner};
+ghost use Rattle.conman_orders.specs.Orders as spec;
+ghost use Rattle.conman_orders.specs.Orders.{Gives, GivesNoCommand, HadMemory, HasUnknownName, IsOrder, due_order};
+ghost use Rattle.conman_orders.specs.declared.orders.ResolveFault.TheVariants as fault;
+
+use crate::names::{dep, job, object, prompt, resource, stream, workstation};
+use crate::object_verdicts::equal_dep;
+use base_types::{
+    Cmd, Copied, Items, JobDraft, JobNo, NoMemory, Obj, Recovery, StreamDraft, StreamNo, Text,
+    Work, Ws,
+};
+use conman_syntax::{DepRef, JobRef, Line, ObjRef, StreamRef};
+use network_tree::Network;
+use owner_fold::Owners;
+use std::alloc::Global;
+
+/// Why a line gives no command.
+#[derive(Clone, Copy, Debug, PartialEq, Eq)]
+pub enum ResolveFault {
+    /// The argument of this number, from 1, names what is not there, and those before it name what is.
+    UnknownName(u32),
+    /// The line is none that gives a command: it shows, or is for the node itself.
+    NotACommand,
+    /// There was no memory for the command.
+    NoMemory,
+}
+
+impl From<NoMemory> for ResolveFault {
+    ghost from_gives = { λ _ f. f ≡ fault.NoMemory };
+
+    fn from(_error: NoMemory) -> ResolveFault {
+        ResolveFault::NoMemory
+    }
+}
+
+/// A command with the workstation that it goes to.
+type Order = (Ws, Cmd);
+
+/// The workstation of an object.
+fn owner(o: &Owners, object: &Obj) -> Option<Ws>
+    ensures { result ≡ spec_owner (view_of o.now) object.now }
+{
+    o.owner(*object)
+}
+
+/// The object that is typed so, with its owner.
+fn owned_object(network: &Network, o: &Owners, me: Ws, typed: &ObjRef) -> Option<(Ws, Obj)>
+    ensures { result ≡ spec.owned_object network.now (view_of o.now) me typed.now }
+{
+    let object = object(network, o, me, typed)?;
+    let to = owner(o, &object)?;
+    Some((to, object))
+}
+
+/// The job that is typed so, with its owner.
+fn owned_job(network: &Network, o: &Owners, me: Ws, typed: &JobRef) -> Option<(Ws, JobNo)>
+    ensures { result ≡ spec.owned_job network.now (view_of o.now) me typed.now }
+{
+    let j = job(network, o, me, typed)?;
+    let to = owner(o, &Obj::Job(j))?;
+    Some((to, j))
+}
+
+/// The stream that is typed so, with its owner.
+fn owned_stream(network: &Network, o: &Owners, me: Ws, typed: &StreamRef) -> Option<(Ws, StreamNo)>
+    ensures { result ≡ spec.owned_stream network.now (view_of o.now) me typed.now }
+{
+    let s = stream(network, o, me, typed)?;
+    let to = owner(o, &Obj::Stream(s))?;
+    Some((to, s))
+}
+
+#[tactic(auto, unfolding(crate::specs::Orders::add_dep))]
+fn add_dep(
+    network: &Network,
+    o: &Owners,
+    me: Ws,
+    object: &ObjRef,
+    added: &DepRef,
+) -> Result<Order, ResolveFault>
+    ensures { Gives result (spec.add_dep network.now (view_of o.now) me object.now added.now) }
+{
+    let (to, object) = owned_object(network, o, me, object).ok_or(ResolveFault::UnknownName(1))?;
+    let dep = dep(network, o, me, added)?.ok_or(ResolveFault::UnknownName(2))?;
+    Ok((to, Cmd::AddDep(object, dep)))
+}
+
+#[tactic(auto, unfolding(crate::specs::Orders::del_dep))]
+fn del_dep(
+    network: &Network,
+    o: &Owners,
+    me: Ws,
+    object: &ObjRef,
+    waived: &DepRef,
+) -> Result<Order, ResolveFault>
+    ensures { Gives result (spec.del_dep network.now (view_of o.now) me object.now waived.now) }
+{
+    let (to, object) = owned_object(network, o, me, object).ok_or(ResolveFault::UnknownName(1))?;
+    let dep = dep(network, o, me, waived)?.ok_or(ResolveFault::UnknownName(2))?;
+    let i = equal_dep(o, &object, &dep).ok_or(ResolveFault::UnknownName(2))?;
+    Ok((to, Cmd::DelDep(object, i)))
+}
+
+#[tactic(auto, unfolding(crate::specs::Orders::on_object))]
+fn release(network: &Network, o: &Owners, me: Ws, object: &ObjRef) -> Result<Order, ResolveFault>
+    ensures { result ≡ spec.on_object network.now (view_of o.now) me object.now Release }
+{
+    let (to, object) = owned_object(network, o, me, object).ok_or(ResolveFault::UnknownName(1))?;
+    Ok((to, Cmd::Release(object)))
+}
+
+#[tactic(auto, unfolding(crate::specs::Orders::on_object))]
+fn alt_pri(
+    network: &Network,
+    o: &Owners,
+    me: Ws,
+    object: &ObjRef,
+    priority: u8,
+) -> Result<Order, ResolveFault>
+    ensures { result ≡ spec.on_object network.now (view_of o.now) me object.now (λ x. AltPri x priority) }
+{
+    let (to, object) = owned_object(network, o, me, object).ok_or(ResolveFault::UnknownName(1))?;
+    Ok((to, Cmd::AltPri(object, priority)))
+}
+
+#[tactic(auto, unfolding(crate::specs::Orders::on_object))]
+fn cancel(network: &Network, o: &Owners, me: Ws, object: &ObjRef) -> Result<Order, ResolveFault>
+    ensures { result ≡ spec.on_object network.now (view_of o.now) me object.now Cancel }
+{
+    let (to, object) = owned_object(network, o, me, object).ok_or(ResolveFault::UnknownName(1))?;
+    Ok((to, Cmd::Cancel(object)))
+}
+
+#[tactic(auto, unfolding(crate::specs::Orders::on_object))]
+fn reply_own(
+    network: &Network,
+    o: &Owners,
+    me: Ws,
+    object: &ObjRef,
+    i: u16,
+    yes: bool,
+) -> Result<Order, ResolveFault>
+    ensures { result ≡ spec.on_object network.now (view_of o.now) me object.now (λ x. ReplyOwn x i yes) }
+{
+    let (to, object) = owned_object(network, o, me, object).ok_or(ResolveFault::UnknownName(1))?;
+    Ok((to, Cmd::ReplyOwn(object, i, yes)))
+}
+
+#[tactic(auto, unfolding(crate::specs::Orders::on_job))]
+fn confirm(network: &Network, o: &Owners, me: Ws, job: &JobRef) -> Result<Order, ResolveFault>
+    ensures { result ≡ spec.on_job network.now (view_of o.now) me job.now Confirm }
+{
+    let (to, j) = owned_job(network, o, me, job).ok_or(ResolveFault::UnknownName(1))?;
+    Ok((to, Cmd::Confirm(j)))
+}
+
+#[tactic(auto, unfolding(crate::specs::Orders::on_job))]
+fn kill(network: &Network, o: &Owners, me: Ws, job: &JobRef) -> Result<Order, ResolveFault>
+    ensures { result ≡ spec.on_job network.now (view_of o.now) me job.now Kill }
+{
+    let (to, j) = owned_job(network, o, me, job).ok_or(ResolveFault::UnknownName(1))?;
+    Ok((to, Cmd::Kill(j)))
+}
+
+#[tactic(auto, unfolding(crate::specs::Orders::on_job))]
+fn rerun(network: &Network, o: &Owners, me: Ws, job: &JobRef) -> Result<Order, ResolveFault>
+    ensures { result ≡ spec.on_job network.now (view_of o.now) me job.now Rerun }
+{
+    let (to, j) = owned_job(network, o, me, job).ok_or(ResolveFault::UnknownName(1))?;
+    Ok((to, Cmd::Rerun(j)))
+}
+
+#[tactic(auto, unfolding(crate::specs::Orders::on_stream))]
+fn stream_limit(
+    network: &Network,
+    o: &Owners,
+    me: Ws,
+    stream: &StreamRef,
+    limit: u16,
+) -> Result<Order, ResolveFault>
+    ensures { result ≡ spec.on_stream network.now (view_of o.now) me stream.now (λ s. StreamLimit s limit) }
+{
+    let (to, s) = owned_stream(network, o, me, stream).ok_or(ResolveFault::UnknownName(1))?;
+    Ok((to, Cmd::StreamLimit(s, limit)))
+}
+
+#[tactic(auto, unfolding(crate::specs::Orders::on_workstation))]
+fn on_workstation(network: &Network, ws: &Text, cmd: Cmd) -> Result<Order, ResolveFault>
+    ensures { result ≡ spec.on_workstation network.now ws.now cmd }
+{
+    let to = workstation(network, ws.as_str()).ok_or(ResolveFault::UnknownName(1))?;
+    Ok((to, cmd))
+}
+
+#[tactic(auto, unfolding(crate::specs::Orders::total))]
+fn total(network: &Network, ws: &Text, name: &Text, units: u16) -> Result<Order, ResolveFault>
+    ensures { result ≡ spec.total network.now ws.now name.now units }
+{
+    let found = resource(network, ws.as_str(), name.as_str());
+    let (to, number) = found.ok_or(ResolveFault::UnknownName(1))?;
+    Ok((to, Cmd::Total(number, units)))
+}
+
+#[tactic(auto, unfolding(crate::specs::Orders::reply_global))]
+fn reply_global(network: &Network, name: &Text, yes: bool) -> Result<Order, ResolveFault>
+    ensures { result ≡ spec.reply_global network.now name.now yes }
+{
+    let number = prompt(network, name.as_str()).ok_or(ResolveFault::UnknownName(1))?;
+    Ok((Ws(0), Cmd::ReplyGlobal(number, yes)))
+}
+
+/// The name of a submitted stream and of its job.
+fn submitted_name(alloc: Global, alias: &Option<Text>) -> Result<Text, NoMemory>
+    ensures { IfOk result (λ name. name ≡ unwrap_or alias.now (codes "ADHOC")) }
+{
+    match alias {
+        Some(name) => name.copy(),
+        None => Text::of(alloc, "ADHOC"),
+    }
+}
+
+/// A stream of one job of its name, on one workstation.
+#[tactic(auto, unfolding(crate::specs::Orders::submitted))]
+fn submitted(
+    alloc: Global,
+    w: Ws,
+    text: &Text,
+    alias: &Option<Text>,
+    priority: Option<u8>,
+) -> Result<StreamDraft, NoMemory>
+    ensures { IfOk result (λ draft. draft ≡ spec.submitted w text.now alias.now priority) }
+{
+    let mut jobs = Items::new(alloc);
+    jobs.push(JobDraft {
+        ws: w,
+        name: submitted_name(alloc, alias)?,
+        priority: priority.unwrap_or(10),
+        work: Work::Command(text.copy()?),
+        logon: Text::new(alloc),
+        cond: Items::new(alloc),
+        recovery: Recovery::Stop,
+        deps: Items::new(alloc),
+    })?;
+    Ok(StreamDraft {
+        ws: w,
+        name: submitted_name(alloc, alias)?,
+        priority: 10,
+        limit: None,
+        carry: false,
+        deps: Items::new(alloc),
+        jobs,
+    })
+}
+
+#[tactic(auto, unfolding(crate::specs::Orders::submit))]
+fn submit(
+    alloc: Global,
+    network: &Network,
+    ws: &Text,
+    text: &Text,
+    alias: &Option<Text>,
+    priority: Option<u8>,
+) -> Result<Order, ResolveFault>
+    ensures { Gives result (spec.submit network.now ws.now text.now alias.now priority) }
+{
+    let w = workstation(network, ws.as_str()).ok_or(ResolveFault::UnknownName(1))?;
+    Ok((
+        Ws(0),
+        Cmd::Submit(submitted(alloc, w, text, alias, priority)?),
+    ))
+}
+
+#[tactic(auto, unfolding(crate::specs::Orders::switch_mgr))]
+fn switch_mgr(network: &Network, ws: &Text) -> Result<Order, ResolveFault>
+    ensures { result ≡ spec.switch_mgr network.now ws.now }
+{
+    let w = workstation(network, ws.as_str()).ok_or(ResolveFault::UnknownName(2))?;
+    Ok((Ws(0), Cmd::SwitchMgr(w)))
+}
+
+/// The row of a line in the table.
+#[tactic(auto, using(crate::proofs::Commands::rows_give), unfolding(crate::specs::Orders::due_order))]
+fn row(
+    alloc: Global,
+    network: &Network,
+    o: &Owners,
+    me: Ws,
+    line: &Line,
+) -> Result<Order, ResolveFault>
+    ensures answer { Gives result (due_order network.now (view_of o.now) me line.now) }
+    ensures not_a_command { GivesNoCommand network.now (view_of o.now) me line.now
+        → result ≡ Err fault.NotACommand }
+{
+    match line {
+        Line::AddDep(object, dep) => add_dep(network, o, me, object, dep),
+        Line::DelDep(object, dep) => del_dep(network, o, me, object, dep),
+        Line::Release(object) => release(network, o, me, object),
+        Line::AltPri(object, priority) => alt_pri(network, o, me, object, *priority),
+        Line::Cancel(object) => cancel(network, o, me, object),
+        Line::Confirm(job) => confirm(network, o, me, job),
+        Line::Kill(job) => kill(network, o, me, job),
+        Line::Rerun(job) => rerun(network, o, me, job),
+        Line::Fence(ws, priority) => on_workstation(network, ws, Cmd::Fence(*priority)),
+        Line::CpuLimit(ws, limit) => on_workstation(network, ws, Cmd::Limit(*limit)),
+        Line::StreamLimit(stream, limit) => stream_limit(network, o, me, stream, *limit),
+        Line::Resource(ws, name, units) => total(network, ws, name, *units),
+        Line::ReplyGlobal(name, yes) => reply_global(network, name, *yes),
+        Line::ReplyOwn(object, i, yes) => reply_own(network, o, me, object, *i, *yes),
+        Line::Start(ws) => on_workstation(network, ws, Cmd::Start),
+        Line::Stop(ws) => on_workstation(network, ws, Cmd::Stop),
+        Line::Submit(ws, text, alias, priority) => {
+            submit(alloc, network, ws, text, alias, *priority)
+        }
+        Line::SwitchMgr(_, ws) => switch_mgr(network, ws),
+        Line::ShowJobs(_)
+        | Line::ShowSchedules(_)
+        | Line::ShowCpus(_)
+        | Line::ShowPrompts(_)
+        | Line::ShowResources(_)
+        | Line::Link(_)
+        | Line::Unlink(_)
+        | Line::Shutdown
+        | Line::JNextPlan(_) => Err(ResolveFault::NotACommand),
+    }
+}
+
+/// The command that a line gives, and the workstation that it goes to, where it is typed at the workstation `me`, which
+/// took these entries.
+///
+/// Unless memory runs out, the answer is exactly the one that is due. Only the text of an own prompt and a submitted
+/// stream take memory; that a line gives no command is told without any.
+pub fn resolve(
+    alloc: Global,
+    network: &Network,
+    o: &Owners,
+    me: Ws,
+    line: &Line,
+) -> Result<(Ws, Cmd), ResolveFault>
+    ensures answer { HadMemory result → result ≡ due_order network.now (view_of o.now) me line.now }
+    ensures order { HadMemory result → (to : ℕ) (cmd : Cmds) →
+        (result ≡ Ok (to, cmd)) ↔ IsOrder network.now (view_of o.now) me line.now to cmd }
+    ensures unknown_name { HadMemory result → (n : ℕ) →
+        IsErrOf result (fault.UnknownName n) ↔ HasUnknownName network.now (view_of o.now) me line.now n }
+    ensures not_a_command { IsErrOf result fault.NotACommand
+        ↔ GivesNoCommand network.now (view_of o.now) me line.now }
+{
+    row(alloc, network, o, me, line)
+}

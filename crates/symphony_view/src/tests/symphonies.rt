@@ -1,0 +1,81 @@
+//! The Symphony of a worked history, byte by byte.
+ghost use Rattle.std.specs.Prelude.{OnOk};
+ghost use Rattle.model.specs.Fit.{AreFitEntries};
+
+use super::network;
+use crate::symphony;
+use entry_codec::read_entry;
+use owner_fold::Owners;
+use std::alloc::Global;
+use std::test::Fail;
+
+/// The first plan: stream 1 of M, S, priority 10, no limit, not carried, with job 1 of M, A, priority 10.
+const PLAN: [u8; 72] = [
+    1, 0, 0, 0, 0, 0, 0, 1, 1, // version, events of M, place, kind
+    0, 0, 0, 1, 0, 0, 0, 0, 0, 0, 0, 0, 0, 0, 0, 1, // the run, no cut, nothing carried, one stream
+    0, 0, 0, 1, 0, 0, 0, 1, b'S', 10, 0, 0, 0, 0, 0, 0, // the stream
+    0, 0, 0, 1, // with one job
+    0, 0, 0, 1, 0, 0, 0, 1, b'A', 10, 0, // the job, a command
+    0, 6, b'e', b'c', b'h', b'o', b' ', b'a', // its text
+    0, 0, 0, 0, 0, 0, 0, 0, // no logon, condition or dependency, and recovery by a stop
+];
+
+const RELEASED: [u8; 23] = [
+    1, 0, 0, 0, 0, 0, 0, 2, 4, 0, 0, 0, 1, 0, 0, 0, 1, 0, 0, 0, 0, 0, 1,
+];
+
+const LAUNCHED: [u8; 27] = [
+    1, 0, 0, 0, 0, 0, 0, 3, 7, 0, 0, 0, 1, 0, 0, 0, 1, 0, 0, 0, 1, 0, 0, 0, 0, 0, 2,
+];
+
+const ENDED: [u8; 22] = [
+    1, 0, 0, 0, 0, 0, 0, 4, 10, 0, 0, 0, 1, 0, 0, 0, 1, 0, 0, 0, 0, 1,
+];
+
+const STREAM_ENDED: [u8; 23] = [
+    1, 0, 0, 0, 0, 0, 0, 5, 5, 0, 0, 0, 1, 0, 0, 0, 1, 0, 0, 0, 0, 0, 4,
+];
+
+/// The Symphony after these five entries.
+const SHOWN: [u8; 95] = [
+    b'T', b'W', b'S', b'Y', 0, 1, // its mark and version
+    0, 1, // one workstation
+    0, 0, 0, 5, 0, 0, 10, 0, 0, 0, 0, 0, 0, 0, 0, 0, // five events, fence 0, limit 10, clock 0, running
+    0, 0, 0, 1, // the first run
+    0, 0, 0, 1, // one member
+    0, 0, 0, 1, 0, 0, 0, 1, b'S', 10, 0, 0, 0, 0, 0, 0, // its stream
+    0, 0, 0, 1, // with one job
+    0, 0, 0, 1, 0, 0, 0, 1, b'A', 10, 0, // the job, a command
+    0, 6, b'e', b'c', b'h', b'o', b' ', b'a', // its text
+    0, 0, 0, 0, 0, 0, 0, 0, // no logon, condition or dependency, and recovery by a stop
+    4, 10, // the stream is SUCC
+    5, 0, 0, 0, 1, 10, // its job is SUCC after one launch
+    0, 0, 0, 0, // no resource
+    0, 0, 0, 0, // no prompt
+];
+
+/// Takes the entry that these bytes spell, where it is the next of its feed.
+fn take(alloc: Global, owners: &mut Owners, bytes: &[u8]) -> Result<(), Fail>
+    requires { AreFitEntries owners.old }
+    ensures { OnOk result (AreFitEntries owners.new) }
+{
+    let entry = read_entry(alloc, bytes)?;
+    if entry.place > 0 && owners.count(entry.feed) == entry.place - 1 {
+        owners.take(&entry)?;
+    }
+    Ok(())
+}
+
+#[test]
+fn the_symphony_of_the_smallest_night(rt: HostRuntime) -> Result<(), Fail> {
+    let net = network(rt.alloc())?;
+    let mut owners = Owners::new(rt.alloc());
+    take(rt.alloc(), &mut owners, &PLAN)?;
+    take(rt.alloc(), &mut owners, &RELEASED)?;
+    take(rt.alloc(), &mut owners, &LAUNCHED)?;
+    take(rt.alloc(), &mut owners, &ENDED)?;
+    take(rt.alloc(), &mut owners, &STREAM_ENDED)?;
+    let shown = symphony(rt.alloc(), &net, &owners)?;
+    assert!(rt; shown.as_slice() == SHOWN.as_slice());
+    Ok(())
+}

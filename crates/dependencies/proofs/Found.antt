@@ -71,7 +71,7 @@ firsts_found {X} number known (x ∷ xs) =
     )
 
 -- what holds of all holds of those that count
-firsts_all : {X : Type 0} (P : X → Type 0) (number : X → ℕ) (known : List ℕ) (xs : List X) → AllByRecursion P xs
+pub firsts_all : {X : Type 0} (P : X → Type 0) (number : X → ℕ) (known : List ℕ) (xs : List X) → AllByRecursion P xs
     → AllByRecursion P (firsts number known xs)
 firsts_all P number known [] h = tt
 firsts_all {X} P number known (x ∷ xs) h =

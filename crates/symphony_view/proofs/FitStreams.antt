@@ -5,11 +5,11 @@ use Rattle.std.specs.List.{AllByRecursion}
 use Rattle.std.specs.Prelude.{◌==◌, filter, flat_map, map}
 use Rattle.model.specs.Types.{Added, Body, Clock, Declined, Ended, Entry, Events, Failed, Feed, Fulfilled, Launched}
 use Rattle.model.specs.Types.{Lost, NewPlan, Obeyed, Order, Released, Started, StreamDoc, StreamEnded, UntilPassed}
-use Rattle.model.specs.Words.{firsts, has}
 use Rattle.model.specs.Equalities.{feed_eq}
 use Rattle.model.specs.History.{list_of, view_of}
 use Rattle.model.specs.Catalogue.{catalogue, docs_in, stream}
 use Rattle.model.specs.Fit.{AreFitEntries, IsFit, IsFitBody, IsFitStream}
+use Rattle.dependencies.proofs.Found.{firsts_all}
 use Rattle.dependencies.proofs.Lists.{all_found, all_flat, there_if}
 
 bodies_fit : (kept : List Entry) (f : Feed) → AllByRecursion IsFit kept → AllByRecursion IsFitBody (list_of kept f)
@@ -47,25 +47,12 @@ each_docs_fit : (bs : List Body) → AllByRecursion IsFitBody bs
 each_docs_fit [] h = tt
 each_docs_fit (b ∷ bs) h = (docs_fit b h.0, each_docs_fit bs h.1)
 
-firsts_fit : (known : List ℕ) (docs : List StreamDoc) → AllByRecursion IsFitStream docs
-    → AllByRecursion IsFitStream (firsts (λ (d : StreamDoc). d.no) known docs)
-firsts_fit known [] h = tt
-firsts_fit known (d ∷ docs) h =
-    go (has known d.no) (firsts_fit known docs h.1) (firsts_fit (d.no ∷ known) docs h.1)
-  where
-    go : (b : Bool) → AllByRecursion IsFitStream (firsts (λ (d : StreamDoc). d.no) known docs)
-        → AllByRecursion IsFitStream (firsts (λ (d : StreamDoc). d.no) (d.no ∷ known) docs)
-        → AllByRecursion IsFitStream
-        (cond b (firsts (λ (d : StreamDoc). d.no) known docs) (d ∷ firsts (λ (d : StreamDoc). d.no) (d.no ∷ known) docs))
-    go true k l = k
-    go false k l = (h.0, l)
-
 pub stream_fit : (kept : List Entry) (s : ℕ) (d : StreamDoc) → AreFitEntries kept
     → stream (view_of kept) s ≡ Some d → IsFitStream d
 unfolding stream catalogue
 stream_fit kept s d h e =
     (there_if (λ (d : StreamDoc). IsFitStream d × ((d.no == s) ≡ true)) (stream (view_of kept) s) d
     (all_found IsFitStream (λ (d : StreamDoc). d.no == s) (catalogue (view_of kept))
-    (firsts_fit [] (flat_map docs_in (list_of kept (Events 0)))
+    (firsts_all IsFitStream (λ (d : StreamDoc). d.no) [] (flat_map docs_in (list_of kept (Events 0)))
     (all_flat IsFitStream docs_in (list_of kept (Events 0))
     (each_docs_fit (list_of kept (Events 0)) (bodies_fit kept (Events 0) (recursion_from_All IsFit kept h)))))) e).0

@@ -1,7 +1,6 @@
 mod Shown
 mod Few
 mod Tables
-mod Planned
 mod Belows
 mod FitStreams
 mod Numbered

@@ -44,7 +44,7 @@ fn kinds_with(kinds: Kinds, state: JobState) -> Kinds
 }
 
 /// Those of the jobs of a stream.
-#[tactic(auto, using(crate::proofs::Planned::stream_jobs_planned))]
+#[tactic(auto, using(dependencies::proofs::Found::stream_jobs_left_planned))]
 pub(crate) fn kinds_of_jobs(net: &Network, o: &Owners, s: StreamNo) -> Kinds
     ensures running { result.running ≡
         list_any spec.is_running_state (map (spec.job_state net.now (view_of o.now)) (jobs_of_stream (view_of o.now) s)) }

@@ -44,27 +44,6 @@ cited_none V o n among e =
     let past : drop (n + 1) (deps V o) ≡ [] = rw add-one (drop_past (deps V o) n at_n) in
     ap (λ (l : List Dep). with_all (flat_map (dep_cites V) l) among) (here ∙ sym past)
 
--- behind all of them
-pub cited_last : (V : View) (o : Obj) (n : ℕ) (among : List ℕ) → length (deps V o) ≤ n
-    → cited_behind V o n among ≡ among
-cited_last V o n among h = rw (drop_all (deps V o) n h) refl
-
--- the owner of the object's stream and whom the dependencies cite
-pub owner_gathered : (V : View) (o : Obj) (owner : ℕ) (found : List ℕ)
-    → Some owner ≡ option_map (λ (d : StreamDoc). d.ws) (stream_of V o)
-    → found ≡ insert_once owner (ascending (cites V o))
-    → found ≡ ascending (option_map_or (λ (d : StreamDoc). d.ws ∷ cites V o) (stream_of V o) [])
-owner_gathered V o owner found e h = h ∙ go (stream_of V o) e
-  where
-    go : (s : Option StreamDoc) → Some owner ≡ option_map (λ (d : StreamDoc). d.ws) s
-        → insert_once owner (ascending (cites V o))
-        ≡ ascending (option_map_or (λ (d : StreamDoc). d.ws ∷ cites V o) s [])
-    go None e = cc
-    go (Some d) e = ap (λ (n : ℕ). insert_once n (ascending (cites V o))) (same owner d.ws e)
-      where
-        same : (a b : ℕ) → Some a ≡ Some b → a ≡ b
-        same a b e = cc
-
 -- nobody outside the catalogue
 pub nobody_gathered : (V : View) (o : Obj) → None ≡ option_map (λ (d : StreamDoc). d.ws) (stream_of V o)
     → [] ≡ ascending (option_map_or (λ (d : StreamDoc). d.ws ∷ cites V o) (stream_of V o) [])

@@ -14,14 +14,6 @@ one_counted V w n left e h =
     subst (λ (m : ℕ). cond (nat_lt 0 m) ((w, m) ∷ rest) rest ≡ (w, n) ∷ rest) e
     (ap (λ (b : Bool). cond b ((w, n) ∷ rest) rest) h)
 
-none_counted : (V : View) (w n : ℕ) (left : List ℕ) → n ≡ length (V (Events w)) → nat_lt 0 n ≡ false
-    → seen_of V (w ∷ left) ≡ seen_of V left
-unfolding seen_of
-none_counted V w n left e h =
-    let rest : Seen = seen_of V left in
-    subst (λ (m : ℕ). cond (nat_lt 0 m) ((w, m) ∷ rest) rest ≡ rest) e
-    (ap (λ (b : Bool). cond b ((w, n) ∷ rest) rest) h)
-
 -- a workstation with events
 pub counted : (V : View) (w n : ℕ) (left : List ℕ) (before all : Seen) → n ≡ length (V (Events w)) → nat_lt 0 n ≡ true
     → before ++ seen_of V (w ∷ left) ≡ all → (before ++ (w, n) ∷ []) ++ seen_of V left ≡ all
@@ -29,9 +21,3 @@ counted V w n left before all e h k =
     append_assoc before ((w, n) ∷ []) (seen_of V left)
     ∙ ap (λ (l : Seen). before ++ l) (sym (one_counted V w n left e h))
     ∙ k
-
--- a workstation without events
-pub passed_over : (V : View) (w n : ℕ) (left : List ℕ) (before all : Seen) → n ≡ length (V (Events w))
-    → nat_lt 0 n ≡ false → before ++ seen_of V (w ∷ left) ≡ all → before ++ seen_of V left ≡ all
-passed_over V w n left before all e h k =
-    ap (λ (l : Seen). before ++ l) (sym (none_counted V w n left e h)) ∙ k

@@ -101,13 +101,3 @@ further_by_other net V w so_far p left h e b =
           ∙ ap (λ (l : List StreamJob). option_map number (fold (better_of V) b.candidate l))
           (among_elsewhere net V w p left h e);
     }
-
--- behind the walk
-pub best_at_last : (net : Net) (V : View) (w : ℕ) (so_far : Option Rank) → IsBestSoFar net V w so_far []
-    → best net V w ≡ option_map (λ (r : Rank). r.number) so_far
-best_at_last net V w so_far b = b.walked ∙ numbers b.candidate ∙ ap (option_map (λ (r : Rank). r.number)) b.ranked
-  where
-    numbers : (o : Option StreamJob)
-        → option_map number o ≡ option_map (λ (r : Rank). r.number) (option_map (rank_of V) o)
-    numbers None = refl
-    numbers (Some p) = refl

@@ -26,11 +26,6 @@ lower_further None x (Some b) = refl
 lower_further (Some a) x None = ap Some (two a x)
 lower_further (Some a) x (Some b) = ap Some (three a x b)
 
--- nothing is left
-pub lower_last : (before : Option ℕ) → lower_of before None ≡ before
-lower_last None = refl
-lower_last (Some a) = refl
-
 -- the numbers of those that pass three tests, the last on the number
 abbrev pub numbers_of : {X : Type 0} → (X → Bool) → (X → Bool) → (ℕ → Bool) → (X → ℕ) → List X → List ℕ
 numbers_of p q r number xs = filter r (map number (filter q (filter p xs)))

@@ -3,16 +3,15 @@ use Rattle.std.proofs.Common.{◌≡◌, ℕ, zero, suc, ◌+◌, ◌-◌, ◌<�
 use Rattle.std.proofs.Common.{get_or, sym, ◌∙◌, subst, ap, arith}
 use Rattle.std.proofs.lemmas.List.{take_rest}
 use Rattle.std.specs.List.{AllByRecursion}
-use Rattle.std.specs.Str.{IsUtf8}
 use Rattle.model.specs.Fields.{u32_bytes}
 use Rattle.model.specs.Ranges.{IsU8, IsU32, FeedInRange}
 use Rattle.model.specs.Spelling.{feed_bytes}
 use Rattle.model.specs.Types.{Feed}
 use Rattle.mail_frames.specs.Spelling.{kind_of, content_of, frame_bytes, IsSendable, FrameBytes, IsSpelled}
-use Rattle.mail_frames.specs.Spelling.{IsAckContent, IsAckOf}
+use Rattle.mail_frames.specs.Spelling.{IsAckContent}
 use Rattle.mail_frames.specs.declared.frames.Frame.{Frame}
 use Rattle.mail_frames.specs.declared.frames.Frame.TheVariants.{Mail, Ack, Command, Reply}
-use Rattle.mail_frames.proofs.Spelled.{content_short, frame_length}
+use Rattle.mail_frames.proofs.Spelled.{frame_length}
 
 -- ---- the content of bytes in two parts
 
@@ -34,60 +33,11 @@ content_behind front back l =
 pub spelled_long : (bytes : List ℕ) → IsSpelled bytes → 5 ≤ length bytes
 spelled_long bytes h = omega (arith, ap (λ (b : List ℕ). length b) h.1.1, frame_length h.0)
 
-pub content_is_short : (bytes : List ℕ) → IsSpelled bytes → length (drop 5 bytes) ≤ 4194304
-content_is_short bytes h =
-    omega (arith, ap (λ (b : List ℕ). length (drop 5 b)) h.1.1, content_short h.0 h.1.0)
-
 kind_is : (bytes : List ℕ) (f : Frame) → bytes ≡ frame_bytes f → get_or bytes 4 0 ≡ kind_of f
 kind_is bytes f e = ap (λ (b : List ℕ). get_or b 4 0) e
 
 content_is : (bytes : List ℕ) (f : Frame) → bytes ≡ frame_bytes f → drop 5 bytes ≡ content_of f
 content_is bytes f e = ap (λ (b : List ℕ). drop 5 b) e
-
-mail_by : (bytes : List ℕ) (f : Frame) → FrameBytes f bytes → get_or bytes 4 0 ≡ 1
-    → FrameBytes (Mail (drop 5 bytes)) bytes
-mail_by bytes (Mail entry) h k =
-    subst (λ (x : List ℕ). FrameBytes (Mail x) bytes) (sym (content_is bytes (Mail entry) h.1)) h
-mail_by bytes (Ack feed count) h k = absurd (omega (arith, kind_is bytes (Ack feed count) h.1))
-mail_by bytes (Command text) h k = absurd (omega (arith, kind_is bytes (Command text) h.1))
-mail_by bytes (Reply text) h k = absurd (omega (arith, kind_is bytes (Reply text) h.1))
-
-pub mail_built : (bytes entry : List ℕ) → IsSpelled bytes → get_or bytes 4 0 ≡ 1 → entry ≡ drop 5 bytes
-    → FrameBytes (Mail entry) bytes
-mail_built bytes entry h k e = subst (λ (x : List ℕ). FrameBytes (Mail x) bytes) (sym e) (mail_by bytes h.0 h.1 k)
-
-command_by : (bytes : List ℕ) (f : Frame) → FrameBytes f bytes → get_or bytes 4 0 ≡ 3
-    → FrameBytes (Command (drop 5 bytes)) bytes
-command_by bytes (Mail entry) h k = absurd (omega (arith, kind_is bytes (Mail entry) h.1))
-command_by bytes (Ack feed count) h k = absurd (omega (arith, kind_is bytes (Ack feed count) h.1))
-command_by bytes (Command text) h k =
-    subst (λ (x : List ℕ). FrameBytes (Command x) bytes) (sym (content_is bytes (Command text) h.1)) h
-command_by bytes (Reply text) h k = absurd (omega (arith, kind_is bytes (Reply text) h.1))
-
-pub command_built : (bytes text : List ℕ) → IsSpelled bytes → get_or bytes 4 0 ≡ 3 → text ≡ drop 5 bytes
-    → FrameBytes (Command text) bytes
-command_built bytes text h k e =
-    subst (λ (x : List ℕ). FrameBytes (Command x) bytes) (sym e) (command_by bytes h.0 h.1 k)
-
-reply_by : (bytes : List ℕ) (f : Frame) → FrameBytes f bytes → (get_or bytes 4 0 ≡ 1 → ⊥)
-    → (get_or bytes 4 0 ≡ 2 → ⊥) → (get_or bytes 4 0 ≡ 3 → ⊥) → FrameBytes (Reply (drop 5 bytes)) bytes
-reply_by bytes (Mail entry) h k l m = absurd (k (kind_is bytes (Mail entry) h.1))
-reply_by bytes (Ack feed count) h k l m = absurd (l (kind_is bytes (Ack feed count) h.1))
-reply_by bytes (Command text) h k l m = absurd (m (kind_is bytes (Command text) h.1))
-reply_by bytes (Reply text) h k l m =
-    subst (λ (x : List ℕ). FrameBytes (Reply x) bytes) (sym (content_is bytes (Reply text) h.1)) h
-
-pub reply_built : (bytes text : List ℕ) → IsSpelled bytes → (get_or bytes 4 0 ≡ 1 → ⊥) → (get_or bytes 4 0 ≡ 2 → ⊥)
-    → (get_or bytes 4 0 ≡ 3 → ⊥) → text ≡ drop 5 bytes → FrameBytes (Reply text) bytes
-reply_built bytes text h k l m e =
-    subst (λ (x : List ℕ). FrameBytes (Reply x) bytes) (sym e) (reply_by bytes h.0 h.1 k l m)
-
-pub command_text : (bytes text : List ℕ) → IsSpelled bytes → get_or bytes 4 0 ≡ 3 → text ≡ drop 5 bytes → IsUtf8 text
-command_text bytes text h k e = (command_built bytes text h k e).0.0
-
-pub reply_text : (bytes text : List ℕ) → IsSpelled bytes → (get_or bytes 4 0 ≡ 1 → ⊥) → (get_or bytes 4 0 ≡ 2 → ⊥)
-    → (get_or bytes 4 0 ≡ 3 → ⊥) → text ≡ drop 5 bytes → IsUtf8 text
-reply_text bytes text h k l m e = (reply_built bytes text h k l m e).0.0
 
 ack_by : (bytes : List ℕ) (f : Frame) → FrameBytes f bytes → get_or bytes 4 0 ≡ 2 → IsAckContent (drop 5 bytes)
 ack_by bytes (Mail entry) h k = absurd (omega (arith, kind_is bytes (Mail entry) h.1))
@@ -106,21 +56,6 @@ shape bytes f e =
     let k = kind_is bytes f e in
     let c = content_is bytes f e in
     e ∙ sym (λ i. u32_bytes (1 + length (c i)) ++ k i ∷ c i)
-
-ack_of_by : (bytes content : List ℕ) (f g : Frame) → FrameBytes f bytes → get_or bytes 4 0 ≡ 2
-    → content ≡ drop 5 bytes → IsAckOf content g → FrameBytes g bytes
-ack_of_by bytes content f (Mail entry) h k e i = absurd (omega (arith, i.0))
-ack_of_by bytes content f (Ack feed count) h k e i =
-    let c = sym e ∙ i.2 in
-    ((i.1, tt), shape bytes f h.1 ∙ (λ j. u32_bytes (1 + length (c j)) ++ k j ∷ c j))
-ack_of_by bytes content f (Command text) h k e i = absurd (omega (arith, i.0))
-ack_of_by bytes content f (Reply text) h k e i = absurd (omega (arith, i.0))
-
-pub ack_built : (bytes content : List ℕ) (g : Frame) → IsSpelled bytes → get_or bytes 4 0 ≡ 2
-    → content ≡ drop 5 bytes → IsAckOf content g → FrameBytes g bytes
-ack_built bytes content g h k e i = ack_of_by bytes content h.0 g h.1 k e i
-
--- ---- a frame that was written
 
 pub all_bytes : (l : List ℕ) → ((i : ℕ) → get_or l i 0 < 256) → AllByRecursion IsU8 l
 all_bytes [] h = tt

@@ -1,9 +1,9 @@
 -- What may come of a content: how many bytes at least, and that there are such.
-use Rattle.std.proofs.Common.{◌≡◌, ℕ, zero, suc, ◌+◌, ◌-◌, ◌<◌, ◌≤◌, List, [], ◌∷◌, ◌++◌, length, replicate}
-use Rattle.std.proofs.Common.{refl, subst, arith, length-append}
+use Rattle.std.proofs.Common.{◌≡◌, ℕ, zero, suc, ◌+◌, ◌-◌, ◌≤◌, List, [], ◌∷◌, ◌++◌, length, replicate}
+use Rattle.std.proofs.Common.{refl, arith, length-append}
 use Rattle.std.proofs.lemmas.List.{length-replicate}
 use Rattle.std.proofs.lemmas.Str.{IsUtf8-from_ascii}
-use Rattle.std.specs.Prelude.{Some, None}
+use Rattle.std.specs.Prelude.{Some}
 use Rattle.std.specs.List.{AllByRecursion}
 use Rattle.std.specs.Str.{IsUtf8, IsAscii}
 use Rattle.model.specs.Ranges.{IsU8}
@@ -71,24 +71,6 @@ can_come (Within low high more) left o h =
 
 -- ---- the byte that is next
 
-pub after_any : (b : ℕ) → b < 256 → NextAfter (λ bytes. Follows Any (b ∷ bytes)) (Some Any)
-after_any b l = (tt, λ s. (λ h. h.1, λ h. (l, h)))
-
-pub after_tag : (tag b : ℕ) → b ≡ tag → NextAfter (λ bytes. Follows (Exactly tag) (b ∷ bytes)) (Some Any)
-after_tag tag b e = (tt, λ s. (λ h. h.1, λ h. (e, h)))
-
-pub after_other : (tag b : ℕ) → (b ≡ tag → ⊥) → NextAfter (λ bytes. Follows (Exactly tag) (b ∷ bytes)) None
-after_other tag b n = λ s h. n h.0
-
-pub out_of_bounds : (low high more b : ℕ) → ((low ≤ b) × (b ≤ high) → ⊥)
-    → NextAfter (λ bytes. Follows (Within low high more) (b ∷ bytes)) None
-out_of_bounds low high more b n = λ s h. n (h.0, h.1)
-
-pub after_last : (low high more b : ℕ) → more ≡ 0 → low ≤ b → b ≤ high
-    → NextAfter (λ bytes. Follows (Within low high more) (b ∷ bytes)) (Some Lead)
-after_last low high zero b e l m = (tt, λ s. (λ h. h.2, λ h. (l, m, h)))
-after_last low high (suc n) b e l m = absurd (omega arith)
-
 goes_to : (n : ℕ) (bytes : List ℕ) → Continues (suc n) bytes → GoesOn 128 191 n bytes
 goes_to n [] h = h
 goes_to n (b ∷ bytes) h = h
@@ -100,11 +82,3 @@ goes_from n (b ∷ bytes) h = h
 later : (low high n b : ℕ) → suc n ≤ 2 → low ≤ b → b ≤ high
     → NextAfter (λ bytes. Follows (Within low high (suc n)) (b ∷ bytes)) (Some (Within 128 191 n))
 later low high n b o l m = ((omega arith, omega arith), λ s. (λ h. goes_to n s h.2, λ h. (l, m, goes_from n s h)))
-
-pub after_later : (low high more less b : ℕ) → more ≡ suc less → more ≤ 2 → low ≤ b → b ≤ high
-    → NextAfter (λ bytes. Follows (Within low high more) (b ∷ bytes)) (Some (Within 128 191 less))
-after_later low high zero less b e o l m = absurd (omega arith)
-after_later low high (suc n) less b e o l m =
-    let same : n ≡ less = omega arith in
-    subst (λ (k : ℕ). NextAfter (λ bytes. Follows (Within low high (suc n)) (b ∷ bytes)) (Some (Within 128 191 k))) same
-    (later low high n b o l m)

@@ -206,11 +206,6 @@ read_more bytes rest whole more old now new f h split w e = (
       (sym (spelling-append h.0 (f ∷ []))),
 )
 
-pub read_open : (bytes rest kept : List ℕ) (old now : List Frame) (place : Place) → ReadSoFar bytes old now rest
-    → kept ≡ rest → IsAt place rest → Reads bytes old now place kept None
-read_open bytes rest kept old now place h e i =
-    record { frames = h.0; rest = rest; each = h.1; added = h.2; stand = h.3; ends = (e, i) }
-
 pub read_bad : (bytes rest kept : List ℕ) (old now : List Frame) (count at_byte : ℕ) → ReadSoFar bytes old now rest
     → kept ≡ [] → Breaks rest count → at_byte + length rest ≡ length bytes + count
     → Reads bytes old now Start kept (Some at_byte)

@@ -1,8 +1,8 @@
 -- Places of a frame: what brings one to the next, and that a frame can be completed from each.
 use Rattle.std.proofs.Common.{◌≡◌, ℕ, suc, ◌+◌, ◌-◌, ◌*◌, ◌/◌, ◌%◌, ◌<◌, ◌≤◌, ◌↔◌, List, [], ◌∷◌, ◌++◌}
-use Rattle.std.proofs.Common.{length, replicate, take, get_or, refl, sym, ◌∙◌, subst, ap, arith}
+use Rattle.std.proofs.Common.{length, replicate, take, refl, sym, ◌∙◌, subst, ap, arith}
 use Rattle.std.proofs.Common.{length-append, append_assoc}
-use Rattle.std.proofs.lemmas.List.{append-nil, length-replicate, take_more, take_all}
+use Rattle.std.proofs.lemmas.List.{append-nil, length-replicate}
 use Rattle.std.specs.Prelude.{Some}
 use Rattle.model.specs.Fields.{u32_bytes}
 use Rattle.mail_frames.specs.Spelling.{IsSpelled}
@@ -79,16 +79,6 @@ pub no_room : (left b : ℕ) (now next : Next) → left - 1 < due next
     → SeenAfter (λ bytes. Completes (Content left now) (b ∷ bytes)) Bad
 no_room left b now next l h = λ s p. (let q = follows_long next s ((h.1 s).0 p.1) in omega (arith, p.0, q))
 
-pub one_less : (left b : ℕ) (now next : Next) (seen : Seen) → 0 < left
-    → NextAfter (λ bytes. Follows now (b ∷ bytes)) (Some next)
-    → SeenAfter (λ bytes. Completes (Content (left - 1) next) bytes) seen
-    → SeenAfter (λ bytes. Completes (Content left now) (b ∷ bytes)) seen
-one_less left b now next seen l h k =
-    seen_alike (λ s. Completes (Content left now) (b ∷ s)) (λ s. Completes (Content (left - 1) next) s) seen
-    (λ s. (λ p. (omega (arith, p.0), (h.1 s).0 p.1), λ p. (omega (arith, p.0), (h.1 s).1 p.1))) k
-
--- ---- each place can be completed
-
 module _ (n : ℕ) (low : 1 ≤ n) (high : n ≤ 4194305) where
   mail_of : IsSpelled (u32_bytes n ++ 1 ∷ replicate (n - 1) 0)
   mail_of = (behind_mail n (replicate (n - 1) 0) high).1
@@ -140,36 +130,6 @@ pub start_at : IsAt Start []
 start_at = (tt, λ b. (λ p. p, λ p. p))
 
 -- ---- one byte further, and so many
-
-abbrev Rest : Place → List ℕ → List ℕ → Type 0
-Rest place bytes rest = Completes place (bytes ++ rest)
-
-pub scan_step : (start place : Place) (bytes : List ℕ) (i b : ℕ) (seen : Seen) → i < length bytes
-    → b ≡ get_or bytes i 0 → SeenAfter (λ rest. Completes start (take i bytes ++ rest)) (Open place)
-    → SeenAfter (λ rest. Completes place (b ∷ rest)) seen
-    → SeenAfter (λ rest. Completes start (take (i + 1) bytes ++ rest)) seen
-scan_step start place bytes i b seen l e h k =
-    let more : take (i + 1) bytes ≡ take i bytes ++ b ∷ [] = take_more bytes i 0 l
-    ∙ ap (λ (x : ℕ). take i bytes ++ x ∷ []) (sym e) in
-    let same : (rest : List ℕ) → take (i + 1) bytes ++ rest ≡ take i bytes ++ b ∷ rest = λ rest. ap
-    (λ (x : List ℕ). x ++ rest) more ∙ append_assoc (take i bytes) (b ∷ []) rest in
-    seen_alike (λ rest. Completes start (take (i + 1) bytes ++ rest)) (λ rest. Completes place (b ∷ rest)) seen
-    (λ rest. (
-      λ p. (h.1 (b ∷ rest)).0 (subst (Completes start) (same rest) p),
-      λ p. subst (Completes start) (sym (same rest)) ((h.1 (b ∷ rest)).1 p),
-    )) k
-
-pub scan_none : (start : Place) (bytes : List ℕ) → IsReached start
-    → SeenAfter (λ rest. Completes start (take 0 bytes ++ rest)) (Open start)
-scan_none start bytes h = (h, λ b. (λ p. p, λ p. p))
-
-pub scan_all : (start place : Place) (bytes : List ℕ) (n : ℕ) → length bytes ≤ n
-    → SeenAfter (λ rest. Completes start (take n bytes ++ rest)) (Open place)
-    → SeenAfter (λ rest. Completes start (bytes ++ rest)) (Open place)
-scan_all start place bytes n l h =
-    subst (λ (x : List ℕ). SeenAfter (λ rest. Completes start (x ++ rest)) (Open place)) (take_all n bytes l) h
-
--- ---- bytes behind what is kept
 
 pub carry : (place : Place) (kept bytes : List ℕ) (seen : Seen) → IsAt place kept
     → SeenAfter (λ rest. Completes place (bytes ++ rest)) seen
@@ -225,12 +185,6 @@ scan_broken bytes count seen h e =
     subst (Breaks bytes) none (scan_breaks Start [] bytes count start_at (subst (Scans Start bytes count) e h))
 
 -- ---- a piece behind an unfinished frame
-
-pub piece_open : (place next : Place) (kept piece : List ℕ) (count : ℕ) (seen : Seen) → IsAt place kept
-    → Scans place piece count seen → seen ≡ Open next → IsAt next (kept ++ piece)
-piece_open place next kept piece count seen h s e =
-    (let t : Scans place piece count (Open next) = subst (Scans place piece count) e s in carry place kept piece
-    (Open next) h t.1)
 
 pub piece_whole : (place : Place) (kept piece : List ℕ) (count : ℕ) (seen : Seen) → IsAt place kept
     → Scans place piece count seen → seen ≡ Whole → IsSpelled (kept ++ take count piece)

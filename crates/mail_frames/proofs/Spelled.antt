@@ -116,9 +116,6 @@ no_frame_begins_another f g x y h i e =
     let r = same_front (content_of f) (content_of g) x y (omega (arith, p.0)) heads.1 in
     (same_frame f g h i heads.0 r.0, r.1)
 
-pub frame_long : (f : Frame) → 5 ≤ length (frame_bytes f)
-frame_long f = omega arith
-
 pub frame_length : (f : Frame) → length (frame_bytes f) ≡ 5 + length (content_of f)
 frame_length f = omega arith
 
@@ -157,9 +154,6 @@ behind_command n s l = (
   λ h. (Command s, ((h.1, omega (arith, h.0)), ap (λ (k : ℕ). u32_bytes k ++ 3 ∷ s) (omega (arith, h.0)))),
 )
 
-pub no_command : (n : ℕ) (s : List ℕ) → 4097 < n → n ≤ 4194305 → IsSpelled (u32_bytes n ++ 3 ∷ s) → ⊥
-no_command n s l m h = let p = by_command n s h.0 (omega arith) h.1.0 h.1.1 in omega (arith, p.0, p.2)
-
 by_reply : (n : ℕ) (s : List ℕ) (f : Frame) → n < 2 ^ 32 → IsFrame f → u32_bytes n ++ 4 ∷ s ≡ frame_bytes f
     → (length s + 1 ≡ n) × IsUtf8 s × (length s ≤ 1048576)
 by_reply n s (Mail entry) l h e = let p = opened n 4 s (Mail entry) l h e in absurd (omega (arith, p.1))
@@ -179,14 +173,6 @@ behind_reply n s l = (
 
 pub no_reply : (n : ℕ) (s : List ℕ) → 1048577 < n → n ≤ 4194305 → IsSpelled (u32_bytes n ++ 4 ∷ s) → ⊥
 no_reply n s l m h = let p = by_reply n s h.0 (omega arith) h.1.0 h.1.1 in omega (arith, p.0, p.2)
-
-pub no_kind : (n k : ℕ) (s : List ℕ) → n ≤ 4194305 → (k ≡ 1 → ⊥) → (k ≡ 2 → ⊥) → (k ≡ 3 → ⊥) → (k ≡ 4 → ⊥)
-    → IsSpelled (u32_bytes n ++ k ∷ s) → ⊥
-no_kind n k s l a b c d h =
-    let kinds : (f : Frame) → k ≡ kind_of f → ⊥ = elim [ Mail x ↦ a | Ack x y ↦ b | Command x ↦ c | Reply x ↦ d ] in
-    kinds h.0 (opened n k s h.0 (omega arith) h.1.0 h.1.1).1
-
--- ---- what stands behind the kind of an acknowledgement
 
 byte : (i n : ℕ) → n / 256 ^ i % 256 < 256
 byte i n = omega arith
@@ -220,10 +206,6 @@ by_ack n s (Mail entry) l h e = let p = opened n 2 s (Mail entry) l h e in absur
 by_ack n s (Ack feed count) l h e = let p = opened n 2 s (Ack feed count) l h e in by_feed n s feed count p.0 p.2
 by_ack n s (Command text) l h e = let p = opened n 2 s (Command text) l h e in absurd (omega (arith, p.1))
 by_ack n s (Reply text) l h e = let p = opened n 2 s (Reply text) l h e in absurd (omega (arith, p.1))
-
-pub no_ack : (n : ℕ) (s : List ℕ) → n ≤ 4194305 → (n ≡ 8 → ⊥) → (n ≡ 10 → ⊥) → IsSpelled (u32_bytes n ++ 2 ∷ s) → ⊥
-unfolding Tagged
-no_ack n s l a b h = elim (by_ack n s h.0 (omega arith) h.1.0 h.1.1) [ inl p ↦ a p.0 | inr p ↦ b p.0 ]
 
 bytes_of : (l : List ℕ) → AllByRecursion IsU8 l → (i : ℕ) → get_or l i 0 < 256
 bytes_of [] h i = omega arith

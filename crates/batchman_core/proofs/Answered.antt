@@ -1,7 +1,7 @@
 -- What becomes of an order, by the verdict on it.
 use Rattle.std.proofs.Common.{◌≡◌, ◌∙◌, ◌+◌, ℕ, None, Option, Some, ap, refl, sym}
 use Rattle.std.specs.Option.{option_map_or}
-use Rattle.model.specs.Types.{Body, Cmd, Declined, Events, Net, Obeyed, StreamDraft, Submit, Why}
+use Rattle.model.specs.Types.{Body, Cmd, Declined, Events, Net, Why}
 use Rattle.model.specs.History.{View}
 use Rattle.model.specs.Facts.{answered}
 use Rattle.model.specs.Turn.{answer, obeyed_as}
@@ -38,10 +38,3 @@ obeyed net V me a c place e h b f =
     ∙ sym
     (without_reason (Declined a (1 + answered a (V (Events me))))
     (obeyed_as V a (1 + answered a (V (Events me))) c) (verdict net V me c) h)
-
--- any other command than a submit stays as it is
-pub kept : (V : View) (a place : ℕ) (c : Cmd) → ((draft : StreamDraft) → c ≡ Submit draft → ⊥)
-    → obeyed_as V a place c ≡ Obeyed a place c
-unfolding obeyed_as
-kept V a place (Submit draft) h = absurd (h draft refl)
-kept V a place c h = refl

@@ -1,14 +1,14 @@
 -- Whom the dependencies of an object cite, one dependency further.
-use Rattle.std.proofs.Common.{◌≡◌, ◌∙◌, ◌∷◌, ◌+◌, ◌≤◌, [], ℕ, List, None, Option, Some, add-one, ap, arith, drop, length}
+use Rattle.std.proofs.Common.{◌≡◌, ◌∙◌, ◌∷◌, ◌+◌, [], ℕ, List, None, Option, Some, add-one, ap, drop}
 use Rattle.std.proofs.Common.{refl, subst, suc, sym, zero}
 use Rattle.std.specs.Option.{option_map_or}
 use Rattle.std.specs.Prelude.{flat_map, option_map, slice_get}
 use Rattle.model.specs.Types.{Dep, Obj, StreamDoc}
-use Rattle.model.specs.Words.{ascending, insert_once, nth}
+use Rattle.model.specs.Words.{ascending, nth}
 use Rattle.model.specs.History.{View}
 use Rattle.model.specs.Catalogue.{stream_of}
 use Rattle.model.specs.Dependencies.{cites, dep, dep_cites, deps}
-use Rattle.dependencies.proofs.Behind.{drop_all, drop_none, drop_some}
+use Rattle.dependencies.proofs.Behind.{drop_none, drop_some}
 use Rattle.batchman_core.specs.Gathered.{with_all}
 use Rattle.batchman_core.proofs.Gatherings.{all_gathered, gathered_some}
 

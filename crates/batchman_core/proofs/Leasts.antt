@@ -1,9 +1,9 @@
 -- The least of the numbers below a bound that pass a test.
-use Rattle.std.proofs.Common.{◌≡◌, ◌∙◌, ◌∷◌, ◌+◌, ◌<◌, ◌≤◌, [], ℕ, Bool, List, None, Option, Some, ap, arith, cond, false}
+use Rattle.std.proofs.Common.{◌≡◌, ◌∷◌, ◌+◌, ◌<◌, ◌≤◌, ℕ, Bool, None, Option, Some, ap, arith, cond, false}
 use Rattle.std.proofs.Common.{inl, inr, refl, subst, suc, sym, true, zero}
 use Rattle.std.proofs.lemmas.Bool.Decides.{eqb_tells, nat_tests}
 use Rattle.std.specs.Prelude.{IfSome, filter, nat_lt}
-use Rattle.model.specs.Words.{below, least, lesser, numbers_from}
+use Rattle.model.specs.Words.{least, lesser, numbers_from}
 
 module _ (test : ℕ → Bool) where
   -- where none passes, there is no least

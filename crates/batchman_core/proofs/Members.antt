@@ -1,5 +1,5 @@
 -- An own member that may be released or may end, by its document.
-use Rattle.std.proofs.Common.{◌≡◌, ◌∙◌, [], ◌∷◌, ℕ, Bool, List, Some, ap, false, refl, true}
+use Rattle.std.proofs.Common.{◌≡◌, ℕ, Bool, false, refl, true}
 use Rattle.std.specs.Prelude.{◌==◌, ◌&&◌}
 use Rattle.model.specs.Types.{Net, StreamDoc}
 use Rattle.model.specs.History.{View}

@@ -1,5 +1,5 @@
 -- Whose job is lost, and whose is the best.
-use Rattle.std.proofs.Common.{◌≡◌, ◌∙◌, ◌∷◌, [], ℕ, Bool, List, None, Option, Some, ap, cond, false, fold, map, refl, subst, sym, true}
+use Rattle.std.proofs.Common.{◌≡◌, ◌∙◌, ◌∷◌, [], ℕ, Bool, List, None, Option, Some, ap, cond, false, fold, map, refl, sym, true}
 use Rattle.std.proofs.lemmas.Bool.{eqb-true}
 use Rattle.std.specs.List.{AllByRecursion}
 use Rattle.std.specs.Option.{option_map_or}

@@ -53,7 +53,6 @@ fn answer_to(
 }
 
 /// The entry that an order becomes where it is obeyed.
-#[tactic(auto, using(crate::proofs::Answered::kept), unfolding(model::specs::Turn::obeyed_as))]
 fn obeyed(alloc: Global, o: &Owners, a: Ws, place: u32, cmd: &Cmd) -> Result<Body, TurnFault>
     ensures { IfOk result (λ b. b ≡ spec.obeyed_as (view_of o.now) a place cmd.now) }
 {

@@ -1,4 +1,4 @@
-use Rattle.std.proofs.Common.{◌≡◌, ◌∙◌, ◌∷◌, List, ap, sym}
+use Rattle.std.proofs.Common.{◌∙◌, List, ap, sym}
 use Rattle.model.specs.Dependencies.{NumberedDep}
 use Rattle.dependencies.specs.Left.{deps_left, numbered}
 use Rattle.batchman_core.specs.Comings.{any_comes}

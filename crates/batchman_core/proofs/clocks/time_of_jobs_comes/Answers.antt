@@ -1,4 +1,4 @@
-use Rattle.std.proofs.Common.{◌≡◌, ◌∙◌, ◌∷◌, List, ap, sym}
+use Rattle.std.proofs.Common.{◌∙◌, List, ap, sym}
 use Rattle.std.specs.Prelude.{◌==◌}
 use Rattle.model.specs.Types.{Job}
 use Rattle.model.specs.History.{view_of}

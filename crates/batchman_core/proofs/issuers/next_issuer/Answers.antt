@@ -1,4 +1,4 @@
-use Rattle.std.proofs.Common.{◌≡◌, ◌+◌, ◌<◌, ◌∙◌, ℕ, arith, false, sym}
+use Rattle.std.proofs.Common.{◌+◌, ◌<◌, ◌∙◌, ℕ, arith, sym}
 use Rattle.std.specs.Prelude.{is_some}
 use Rattle.model.specs.Network.{node_count}
 use Rattle.model.specs.History.{view_of}

@@ -1,5 +1,5 @@
 //! The Symphony of a worked history, byte by byte.
-ghost use Rattle.std.specs.Prelude.{OnOk};
+ghost use Rattle.std.specs.Prelude.{IfOk, OnOk};
 ghost use Rattle.model.specs.Fit.{AreFitEntries};
 
 use super::network;
@@ -66,15 +66,31 @@ fn take(alloc: Global, owners: &mut Owners, bytes: &[u8]) -> Result<(), Fail>
     Ok(())
 }
 
+/// The plan, and what comes of it up to the launch.
+fn launched(alloc: Global) -> Result<Owners, Fail>
+    ensures { IfOk result AreFitEntries }
+{
+    let mut owners = Owners::new(alloc);
+    take(alloc, &mut owners, &PLAN)?;
+    take(alloc, &mut owners, &RELEASED)?;
+    take(alloc, &mut owners, &LAUNCHED)?;
+    Ok(owners)
+}
+
+/// The whole night.
+fn smallest_night(alloc: Global) -> Result<Owners, Fail>
+    ensures { IfOk result AreFitEntries }
+{
+    let mut owners = launched(alloc)?;
+    take(alloc, &mut owners, &ENDED)?;
+    take(alloc, &mut owners, &STREAM_ENDED)?;
+    Ok(owners)
+}
+
 #[test]
 fn the_symphony_of_the_smallest_night(rt: HostRuntime) -> Result<(), Fail> {
     let net = network(rt.alloc())?;
-    let mut owners = Owners::new(rt.alloc());
-    take(rt.alloc(), &mut owners, &PLAN)?;
-    take(rt.alloc(), &mut owners, &RELEASED)?;
-    take(rt.alloc(), &mut owners, &LAUNCHED)?;
-    take(rt.alloc(), &mut owners, &ENDED)?;
-    take(rt.alloc(), &mut owners, &STREAM_ENDED)?;
+    let owners = smallest_night(rt.alloc())?;
     let shown = symphony(rt.alloc(), &net, &owners)?;
     assert!(rt; shown.as_slice() == SHOWN.as_slice());
     Ok(())

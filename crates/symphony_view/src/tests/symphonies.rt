@@ -1,9 +1,10 @@
 //! The Symphony of a worked history, byte by byte.
 ghost use Rattle.std.specs.Prelude.{IfOk, OnOk};
-ghost use Rattle.model.specs.Fit.{AreFitEntries};
+ghost use Rattle.model.specs.Fit.{AreFitEntries, IsFit};
 
 use super::network;
 use crate::symphony;
+use base_types::Entry;
 use entry_codec::read_entry;
 use owner_fold::Owners;
 use std::alloc::Global;
@@ -54,16 +55,29 @@ const SHOWN: [u8; 95] = [
     0, 0, 0, 0, // no prompt
 ];
 
+/// Takes an entry, where it is the next of its feed.
+#[tactic(auto, using(crate::proofs::FitStreams::one_more_fit))]
+fn keep(owners: &mut Owners, entry: &Entry) -> Result<(), Fail>
+    requires held { AreFitEntries owners.old }
+    requires next { IsFit entry.now }
+    ensures { OnOk result (AreFitEntries owners.new) }
+{
+    if entry.place > 0 && owners.count(entry.feed) == entry.place - 1 {
+        owners.take(entry)?;
+    }
+    Ok(())
+}
+
 /// Takes the entry that these bytes spell, where it is the next of its feed.
 fn take(alloc: Global, owners: &mut Owners, bytes: &[u8]) -> Result<(), Fail>
     requires { AreFitEntries owners.old }
     ensures { OnOk result (AreFitEntries owners.new) }
 {
-    let entry = read_entry(alloc, bytes)?;
-    if entry.place > 0 && owners.count(entry.feed) == entry.place - 1 {
-        owners.take(&entry)?;
+    if bytes.len() > 255 {
+        return Ok(());
     }
-    Ok(())
+    let entry = read_entry(alloc, bytes)?;
+    keep(owners, &entry)
 }
 
 /// The plan, and what comes of it up to the launch.

@@ -1,6 +1,6 @@
 -- The streams of fit entries are fit.
-use Rattle.std.proofs.Common.{◌≡◌, ◌∷◌, [], ℕ, Bool, List, Some, cond, false, true}
-use Rattle.std.proofs.lemmas.List.Elements.{recursion_from_All}
+use Rattle.std.proofs.Common.{◌≡◌, ◌++◌, ◌∷◌, [], ℕ, Bool, List, Some, cond, false, true}
+use Rattle.std.proofs.lemmas.List.Elements.{All-from_recursion, recursion_from_All}
 use Rattle.std.specs.List.{AllByRecursion}
 use Rattle.std.specs.Prelude.{◌==◌, filter, flat_map, map}
 use Rattle.model.specs.Types.{Added, Body, Clock, Declined, Ended, Entry, Events, Failed, Feed, Fulfilled, Launched}
@@ -10,7 +10,7 @@ use Rattle.model.specs.History.{list_of, view_of}
 use Rattle.model.specs.Catalogue.{catalogue, docs_in, stream}
 use Rattle.model.specs.Fit.{AreFitEntries, IsFit, IsFitBody, IsFitStream}
 use Rattle.dependencies.proofs.Found.{firsts_all}
-use Rattle.dependencies.proofs.Lists.{all_found, all_flat, there_if}
+use Rattle.dependencies.proofs.Lists.{all_append, all_found, all_flat, there_if}
 
 bodies_fit : (kept : List Entry) (f : Feed) → AllByRecursion IsFit kept → AllByRecursion IsFitBody (list_of kept f)
 unfolding list_of
@@ -56,3 +56,9 @@ stream_fit kept s d h e =
     (firsts_all IsFitStream (λ (d : StreamDoc). d.no) [] (flat_map docs_in (list_of kept (Events 0)))
     (all_flat IsFitStream docs_in (list_of kept (Events 0))
     (each_docs_fit (list_of kept (Events 0)) (bodies_fit kept (Events 0) (recursion_from_All IsFit kept h)))))) e).0
+
+-- fit entries and one more
+pub one_more_fit : (kept : List Entry) (e : Entry) → AreFitEntries kept → IsFit e → AreFitEntries (kept ++ e ∷ [])
+one_more_fit kept e h k =
+    All-from_recursion IsFit (kept ++ e ∷ [])
+    (all_append IsFit kept (e ∷ []) (recursion_from_All IsFit kept h) (k, tt))

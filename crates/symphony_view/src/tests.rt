@@ -3,7 +3,7 @@ mod symphonies;
 
 use crate::{JobState, StreamState, job_state, listing, stream_state};
 use base_types::{
-    Body, Bytes, Cmd, Entry, Feed, Items, JobDoc, JobNo, Moment, Net, Node, Obj, Recovery, Seen,
+    Body, Cmd, Entry, Feed, Items, JobDoc, JobNo, Moment, Net, Node, Obj, Recovery, Seen,
     StreamDoc, StreamNo, Text, Work, Ws,
 };
 use network_tree::Network;
@@ -110,31 +110,26 @@ fn smallest_night(alloc: Global) -> Result<Owners, Fail> {
     Ok(owners)
 }
 
-/// The bytes are this text.
-fn is_text(bytes: &Bytes, text: &str) -> bool {
-    bytes.as_slice() == text.as_bytes()
+/// Whether the listing of what M holds is this text.
+fn shows(alloc: Global, owners: &Owners, text: &str) -> Result<bool, Fail> {
+    let net = network(alloc)?;
+    let shown = listing(alloc, &net, owners)?;
+    Ok(shown.as_slice() == text.as_bytes())
 }
 
 #[test]
 fn without_a_plan(rt: HostRuntime) -> Result<(), Fail> {
-    let net = network(rt.alloc())?;
     let owners = Owners::new(rt.alloc());
-    let shown = listing(rt.alloc(), &net, &owners)?;
-    assert!(rt; is_text(&shown, "no plan\n"));
+    assert!(rt; shows(rt.alloc(), &owners, "no plan\n")?);
     Ok(())
 }
 
 #[test]
 fn the_listing_of_the_smallest_night(rt: HostRuntime) -> Result<(), Fail> {
-    let net = network(rt.alloc())?;
     let owners = smallest_night(rt.alloc())?;
-    let shown = listing(rt.alloc(), &net, &owners)?;
-    assert!(rt;
-        is_text(
-            &shown,
-            "plan 1\ncpu M fence 0 limit 10 clock 0 running\nstream 1 M#S SUCC\njob 1 M#S.A SUCC 1\n"
-        )
-    );
+    let text =
+        "plan 1\ncpu M fence 0 limit 10 clock 0 running\nstream 1 M#S SUCC\njob 1 M#S.A SUCC 1\n";
+    assert!(rt; shows(rt.alloc(), &owners, text)?);
     Ok(())
 }
 
@@ -156,95 +151,86 @@ fn obeyed(owners: &mut Owners, place: u32, order: u32, command: Cmd) -> Result<(
     event(owners, place, Body::Obeyed(Ws(0), order, command))
 }
 
+/// The plan of one job of priority 10, whose stream is released, with this fence.
+fn fenced(alloc: Global, fence: u8) -> Result<Owners, Fail> {
+    let mut owners = one_job(alloc)?;
+    obeyed(&mut owners, 2, 1, Cmd::Fence(fence))?;
+    released(alloc, &mut owners, 3)?;
+    Ok(owners)
+}
+
 #[test]
 fn a_priority_at_the_fence_is_held(rt: HostRuntime) -> Result<(), Fail> {
-    let net = network(rt.alloc())?;
-    let mut owners = one_job(rt.alloc())?;
-    obeyed(&mut owners, 2, 1, Cmd::Fence(10))?;
-    released(rt.alloc(), &mut owners, 3)?;
-    let shown = listing(rt.alloc(), &net, &owners)?;
-    assert!(rt;
-        is_text(
-            &shown,
-            "plan 1\ncpu M fence 10 limit 10 clock 0 running\nstream 1 M#S EXEC\njob 1 M#S.A FENCE 0\n"
-        )
-    );
+    let owners = fenced(rt.alloc(), 10)?;
+    let text =
+        "plan 1\ncpu M fence 10 limit 10 clock 0 running\nstream 1 M#S EXEC\njob 1 M#S.A FENCE 0\n";
+    assert!(rt; shows(rt.alloc(), &owners, text)?);
     Ok(())
 }
 
 #[test]
 fn a_priority_above_the_fence_is_ready(rt: HostRuntime) -> Result<(), Fail> {
-    let net = network(rt.alloc())?;
-    let mut owners = one_job(rt.alloc())?;
-    obeyed(&mut owners, 2, 1, Cmd::Fence(9))?;
-    released(rt.alloc(), &mut owners, 3)?;
+    let mut owners = fenced(rt.alloc(), 9)?;
     event(&mut owners, 4, Body::Clock(Moment(7)))?;
-    let shown = listing(rt.alloc(), &net, &owners)?;
-    assert!(rt;
-        is_text(
-            &shown,
-            "plan 1\ncpu M fence 9 limit 10 clock 7 running\nstream 1 M#S EXEC\njob 1 M#S.A READY 0\n"
-        )
-    );
+    let text =
+        "plan 1\ncpu M fence 9 limit 10 clock 7 running\nstream 1 M#S EXEC\njob 1 M#S.A READY 0\n";
+    assert!(rt; shows(rt.alloc(), &owners, text)?);
+    Ok(())
+}
+
+/// The plan of one job, which is launched.
+fn one_launch(alloc: Global) -> Result<Owners, Fail> {
+    let mut owners = one_job(alloc)?;
+    released(alloc, &mut owners, 2)?;
+    launched(alloc, &mut owners, 3, 1)?;
+    Ok(owners)
+}
+
+#[test]
+fn a_launch_is_introduced(rt: HostRuntime) -> Result<(), Fail> {
+    let owners = one_launch(rt.alloc())?;
+    let text =
+        "plan 1\ncpu M fence 0 limit 10 clock 0 running\nstream 1 M#S EXEC\njob 1 M#S.A INTRO 1\n";
+    assert!(rt; shows(rt.alloc(), &owners, text)?);
     Ok(())
 }
 
 #[test]
-fn a_launch_is_introduced_and_then_executes(rt: HostRuntime) -> Result<(), Fail> {
-    let net = network(rt.alloc())?;
-    let mut owners = one_job(rt.alloc())?;
-    released(rt.alloc(), &mut owners, 2)?;
-    launched(rt.alloc(), &mut owners, 3, 1)?;
-    let shown = listing(rt.alloc(), &net, &owners)?;
-    assert!(rt;
-        is_text(
-            &shown,
-            "plan 1\ncpu M fence 0 limit 10 clock 0 running\nstream 1 M#S EXEC\njob 1 M#S.A INTRO 1\n"
-        )
-    );
+fn a_launch_that_started_executes(rt: HostRuntime) -> Result<(), Fail> {
+    let mut owners = one_launch(rt.alloc())?;
     event(&mut owners, 4, Body::Started(JobNo(1), 1))?;
-    let shown = listing(rt.alloc(), &net, &owners)?;
-    assert!(rt;
-        is_text(
-            &shown,
-            "plan 1\ncpu M fence 0 limit 10 clock 0 running\nstream 1 M#S EXEC\njob 1 M#S.A EXEC 1\n"
-        )
-    );
+    let text =
+        "plan 1\ncpu M fence 0 limit 10 clock 0 running\nstream 1 M#S EXEC\njob 1 M#S.A EXEC 1\n";
+    assert!(rt; shows(rt.alloc(), &owners, text)?);
     Ok(())
 }
 
 #[test]
 fn a_lost_launch_ends_the_stream_badly(rt: HostRuntime) -> Result<(), Fail> {
-    let net = network(rt.alloc())?;
-    let mut owners = one_job(rt.alloc())?;
-    released(rt.alloc(), &mut owners, 2)?;
-    launched(rt.alloc(), &mut owners, 3, 1)?;
+    let mut owners = one_launch(rt.alloc())?;
     event(&mut owners, 4, Body::Lost(JobNo(1), 1))?;
     obeyed(&mut owners, 5, 1, Cmd::Stop)?;
-    let shown = listing(rt.alloc(), &net, &owners)?;
-    assert!(rt;
-        is_text(
-            &shown,
-            "plan 1\ncpu M fence 0 limit 10 clock 0 stopped\nstream 1 M#S ABEND\njob 1 M#S.A ABEND 1\n"
-        )
-    );
+    let text =
+        "plan 1\ncpu M fence 0 limit 10 clock 0 stopped\nstream 1 M#S ABEND\njob 1 M#S.A ABEND 1\n";
+    assert!(rt; shows(rt.alloc(), &owners, text)?);
     Ok(())
+}
+
+/// The plan of one job, which is cancelled, and so its stream ends.
+fn one_cancelled(alloc: Global) -> Result<Owners, Fail> {
+    let mut owners = one_job(alloc)?;
+    released(alloc, &mut owners, 2)?;
+    obeyed(&mut owners, 3, 1, Cmd::Cancel(Obj::Job(JobNo(1))))?;
+    let seen = seen(alloc, 3)?;
+    event(&mut owners, 4, Body::StreamEnded(StreamNo(1), seen))?;
+    Ok(owners)
 }
 
 #[test]
 fn a_cancelled_job_ends_its_stream(rt: HostRuntime) -> Result<(), Fail> {
-    let net = network(rt.alloc())?;
-    let mut owners = one_job(rt.alloc())?;
-    released(rt.alloc(), &mut owners, 2)?;
-    obeyed(&mut owners, 3, 1, Cmd::Cancel(Obj::Job(JobNo(1))))?;
-    let seen = seen(rt.alloc(), 3)?;
-    event(&mut owners, 4, Body::StreamEnded(StreamNo(1), seen))?;
-    let shown = listing(rt.alloc(), &net, &owners)?;
-    assert!(rt;
-        is_text(
-            &shown,
-            "plan 1\ncpu M fence 0 limit 10 clock 0 running\nstream 1 M#S SUCC\njob 1 M#S.A CANCEL 0\n"
-        )
-    );
+    let owners = one_cancelled(rt.alloc())?;
+    let text =
+        "plan 1\ncpu M fence 0 limit 10 clock 0 running\nstream 1 M#S SUCC\njob 1 M#S.A CANCEL 0\n";
+    assert!(rt; shows(rt.alloc(), &owners, text)?);
     Ok(())
 }

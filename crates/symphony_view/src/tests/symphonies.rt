@@ -1,9 +1,10 @@
 //! The Symphony of a worked history, byte by byte.
-ghost use Rattle.std.specs.Prelude.{OnOk};
-ghost use Rattle.model.specs.Fit.{AreFitEntries};
+ghost use Rattle.std.specs.Prelude.{IfOk, OnOk};
+ghost use Rattle.model.specs.Fit.{AreFitEntries, IsFit};
 
 use super::network;
 use crate::symphony;
+use base_types::Entry;
 use entry_codec::read_entry;
 use owner_fold::Owners;
 use std::alloc::Global;
@@ -54,27 +55,56 @@ const SHOWN: [u8; 95] = [
     0, 0, 0, 0, // no prompt
 ];
 
+/// Takes an entry, where it is the next of its feed.
+#[tactic(auto, using(crate::proofs::FitStreams::one_more_fit))]
+fn keep(owners: &mut Owners, entry: &Entry) -> Result<(), Fail>
+    requires held { AreFitEntries owners.old }
+    requires next { IsFit entry.now }
+    ensures { OnOk result (AreFitEntries owners.new) }
+{
+    if entry.place > 0 && owners.count(entry.feed) == entry.place - 1 {
+        owners.take(entry)?;
+    }
+    Ok(())
+}
+
 /// Takes the entry that these bytes spell, where it is the next of its feed.
 fn take(alloc: Global, owners: &mut Owners, bytes: &[u8]) -> Result<(), Fail>
     requires { AreFitEntries owners.old }
     ensures { OnOk result (AreFitEntries owners.new) }
 {
-    let entry = read_entry(alloc, bytes)?;
-    if entry.place > 0 && owners.count(entry.feed) == entry.place - 1 {
-        owners.take(&entry)?;
+    if bytes.len() > 255 {
+        return Ok(());
     }
-    Ok(())
+    let entry = read_entry(alloc, bytes)?;
+    keep(owners, &entry)
+}
+
+/// The plan, and what comes of it up to the launch.
+fn launched(alloc: Global) -> Result<Owners, Fail>
+    ensures { IfOk result AreFitEntries }
+{
+    let mut owners = Owners::new(alloc);
+    take(alloc, &mut owners, &PLAN)?;
+    take(alloc, &mut owners, &RELEASED)?;
+    take(alloc, &mut owners, &LAUNCHED)?;
+    Ok(owners)
+}
+
+/// The whole night.
+fn smallest_night(alloc: Global) -> Result<Owners, Fail>
+    ensures { IfOk result AreFitEntries }
+{
+    let mut owners = launched(alloc)?;
+    take(alloc, &mut owners, &ENDED)?;
+    take(alloc, &mut owners, &STREAM_ENDED)?;
+    Ok(owners)
 }
 
 #[test]
 fn the_symphony_of_the_smallest_night(rt: HostRuntime) -> Result<(), Fail> {
     let net = network(rt.alloc())?;
-    let mut owners = Owners::new(rt.alloc());
-    take(rt.alloc(), &mut owners, &PLAN)?;
-    take(rt.alloc(), &mut owners, &RELEASED)?;
-    take(rt.alloc(), &mut owners, &LAUNCHED)?;
-    take(rt.alloc(), &mut owners, &ENDED)?;
-    take(rt.alloc(), &mut owners, &STREAM_ENDED)?;
+    let owners = smallest_night(rt.alloc())?;
     let shown = symphony(rt.alloc(), &net, &owners)?;
     assert!(rt; shown.as_slice() == SHOWN.as_slice());
     Ok(())

@@ -28,10 +28,11 @@ use std::{env, io};
 const FRAME: [u8; 12] = [0, 0, 0, 8, 2, 0, 0, 0, 0, 0, 0, 1];
 
 fn main(rt: HostRuntime) -> io::Result<()> {
-    let size = match env::args(&rt) {
-        Ok(words) if words.count() > 1 => 4096,
-        _ => 1,
+    let words = match env::args(&rt) {
+        Ok(words) => words.count(),
+        Err(_) => 0,
     };
+    let size = if words > 1 { 4096 } else { 1 };
     let mut block = [0; 12288];
     for (i, byte) in block.iter_mut().enumerate() {
         *byte = FRAME[i % 12];

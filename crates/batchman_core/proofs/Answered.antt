@@ -14,7 +14,8 @@ by_reason : (f : Why → Body) (other : Body) (v : Option Why) (why : Why) → D
 by_reason f other None why h = cc
 by_reason f other (Some w) why h = cc
 
-without_reason : (f : Why → Body) (other : Body) (v : Option Why) → Obey ≡ verdict_for v → option_map_or f v other ≡ other
+without_reason : (f : Why → Body) (other : Body) (v : Option Why) → Obey ≡ verdict_for v
+    → option_map_or f v other ≡ other
 without_reason f other None h = refl
 without_reason f other (Some w) h = cc
 

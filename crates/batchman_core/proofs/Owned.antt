@@ -1,5 +1,6 @@
 -- Whose job is lost, and whose is the best.
-use Rattle.std.proofs.Common.{◌≡◌, ◌∙◌, ◌∷◌, [], ℕ, Bool, List, None, Option, Some, ap, cond, false, fold, map, refl, sym, true}
+use Rattle.std.proofs.Common.{◌≡◌, ◌∙◌, ◌∷◌, [], ℕ, Bool, List, None, Option, Some, ap, cond, false, fold, map}
+use Rattle.std.proofs.Common.{refl, sym, true}
 use Rattle.std.proofs.lemmas.Bool.{eqb-true}
 use Rattle.std.specs.List.{AllByRecursion}
 use Rattle.std.specs.Option.{option_map_or}
@@ -13,7 +14,7 @@ use Rattle.model.specs.Readiness.{best, better_of, is_better, is_ready}
 use Rattle.model.specs.Turn.{is_alive, lost_jobs}
 use Rattle.dependencies.specs.Planned.{IsPlannedJob}
 use Rattle.dependencies.proofs.Found.{jobs_planned}
-use Rattle.dependencies.proofs.Lists.{there_if}
+use Rattle.dependencies.proofs.Lists.{all_filter, there_if}
 
 -- w owns the job of this number
 abbrev Owns : View → ℕ → ℕ → Type 0
@@ -36,15 +37,8 @@ owned_jobs : (V : View) (w : ℕ) → AllByRecursion (λ (p : StreamJob). Owns V
 unfolding jobs_of
 owned_jobs V w = owned_among V w (jobs V) (jobs_planned V)
 
-all_filter : {A : Type 0} (P : A → Type 0) (p : A → Bool) (xs : List A) → AllByRecursion P xs → AllByRecursion P (filter p xs)
-all_filter P p [] h = tt
-all_filter {A} P p (x ∷ xs) h = go (p x) (all_filter P p xs h.1)
-  where
-    go : (b : Bool) → AllByRecursion P (filter p xs) → AllByRecursion P (cond b (x ∷ filter p xs) (filter p xs))
-    go true k = (h.0, k)
-    go false k = k
-
-all_map : {A B : Type 0} (P : B → Type 0) (f : A → B) (xs : List A) → AllByRecursion (λ a. P (f a)) xs → AllByRecursion P (map f xs)
+all_map : {A B : Type 0} (P : B → Type 0) (f : A → B) (xs : List A)
+    → AllByRecursion (λ a. P (f a)) xs → AllByRecursion P (map f xs)
 all_map P f [] h = tt
 all_map P f (x ∷ xs) h = (h.0, all_map P f xs h.1)
 

@@ -16,13 +16,15 @@ use Rattle.batchman_core.specs.Comings.{any_comes, any_comes_of, comes}
 
 any_append : {X : Type 0} (p : X → Bool) (xs ys : List X) → list_any p (xs ++ ys) ≡ (list_any p xs || list_any p ys)
 any_append p [] ys = refl
-any_append p (x ∷ xs) ys = ap (λ (b : Bool). p x || b) (any_append p xs ys) ∙ regroup (p x) (list_any p xs) (list_any p ys)
+any_append p (x ∷ xs) ys =
+    ap (λ (b : Bool). p x || b) (any_append p xs ys) ∙ regroup (p x) (list_any p xs) (list_any p ys)
   where
     regroup : (a b c : Bool) → (a || (b || c)) ≡ ((a || b) || c)
     regroup true b c = refl
     regroup false b c = refl
 
-comes_append : (clock t : ℕ) (ps qs : List NumberedDep) → any_comes clock t (ps ++ qs) ≡ (any_comes clock t ps || any_comes clock t qs)
+comes_append : (clock t : ℕ) (ps qs : List NumberedDep)
+    → any_comes clock t (ps ++ qs) ≡ (any_comes clock t ps || any_comes clock t qs)
 comes_append clock t ps qs =
     ap (list_any (comes clock t)) (filter_map-append (λ (p : NumberedDep). dep_time p.dep) ps qs)
     ∙ any_append (comes clock t) (filter_map (λ (p : NumberedDep). dep_time p.dep) ps)
@@ -30,7 +32,8 @@ comes_append clock t ps qs =
 
 flat_append : {A B : Type 0} (f : A → List B) (xs ys : List A) → flat_map f (xs ++ ys) ≡ flat_map f xs ++ flat_map f ys
 flat_append f [] ys = refl
-flat_append {A} {B} f (x ∷ xs) ys = ap (λ (l : List B). f x ++ l) (flat_append f xs ys) ∙ sym (regroup (f x) (flat_map f xs) (flat_map f ys))
+flat_append {A} {B} f (x ∷ xs) ys =
+    ap (λ (l : List B). f x ++ l) (flat_append f xs ys) ∙ sym (regroup (f x) (flat_map f xs) (flat_map f ys))
   where
     regroup : (a b c : List B) → (a ++ b) ++ c ≡ a ++ (b ++ c)
     regroup [] b c = refl
@@ -117,7 +120,8 @@ pub due_by_streams : (V : View) (w t n : ℕ) (here : Bool) → n ≡ now (V (Ev
     → here ≡ any_comes_of V n t (map (λ (d : StreamDoc). Stream d.no) (own_streams V w)) → here ≡ true
     → here ≡ is_clock_due V w t
 due_by_streams V w t n here e f h =
-    let comes_here : any_comes_of V (now (V (Events w))) t (map (λ (d : StreamDoc). Stream d.no) (own_streams V w)) ≡ true =
+    let comes_here : any_comes_of V (now (V (Events w))) t (map (λ (d : StreamDoc). Stream d.no) (own_streams V w))
+    ≡ true =
     subst (λ (m : ℕ). any_comes_of V m t (map (λ (d : StreamDoc). Stream d.no) (own_streams V w)) ≡ true) e
     (sym f ∙ h)
     in
@@ -134,7 +138,8 @@ pub due_by_jobs : (V : View) (w t n : ℕ) (above here : Bool) → n ≡ now (V 
     → above ≡ any_comes_of V n t (map (λ (d : StreamDoc). Stream d.no) (own_streams V w)) → above ≡ false
     → here ≡ any_comes_of V n t (map (λ (p : StreamJob). Job p.doc.no) (own_jobs V w)) → here ≡ is_clock_due V w t
 due_by_jobs V w t n above here e f h g =
-    let not_above : any_comes_of V (now (V (Events w))) t (map (λ (d : StreamDoc). Stream d.no) (own_streams V w)) ≡ false =
+    let not_above : any_comes_of V (now (V (Events w))) t (map (λ (d : StreamDoc). Stream d.no) (own_streams V w))
+    ≡ false =
     subst (λ (m : ℕ). any_comes_of V m t (map (λ (d : StreamDoc). Stream d.no) (own_streams V w)) ≡ false) e
     (sym f ∙ h)
     in

@@ -15,9 +15,14 @@ returns-then-time_of_job_comes c =
     sym
     (c.loop-parent.invariant
     ∙ ap
-    (λ (l : List StreamJob). any_comes_of V c.args.now c.args.t (objects_of (λ (p : StreamJob). p.doc.ws == c.args.w) (λ (p : StreamJob). is_member V p.parent.no) (λ (p : StreamJob). Job p.doc.no) l))
+    (λ (l : List StreamJob).
+    any_comes_of V c.args.now c.args.t
+    (objects_of (λ (p : StreamJob). p.doc.ws == c.args.w) (λ (p : StreamJob). is_member V p.parent.no)
+    (λ (p : StreamJob). Job p.doc.no) l))
     c.in-Some.ensures.steps
-    ∙ comes_here V c.args.now c.args.t (λ (p : StreamJob). p.doc.ws == c.args.w) (λ (p : StreamJob). is_member V p.parent.no) (λ (p : StreamJob). Job p.doc.no) (stream_job c.in-Some.parent.now c.in-Some.doc.now) (jobs_left c.next.new.self)
+    ∙ comes_here V c.args.now c.args.t (λ (p : StreamJob). p.doc.ws == c.args.w)
+    (λ (p : StreamJob). is_member V p.parent.no) (λ (p : StreamJob). Job p.doc.no)
+    (stream_job c.in-Some.parent.now c.in-Some.doc.now) (jobs_left c.next.new.self)
     (sym c.time_of_job_comes.ensures ∙ c.if-time_of_job_comes.true))
 
 pub loop-parent-preserved : goal.loop-parent-preserved
@@ -25,7 +30,12 @@ loop-parent-preserved c =
     let V = view_of c.args.o.now in
     c.loop-parent.invariant
     ∙ ap
-    (λ (l : List StreamJob). any_comes_of V c.args.now c.args.t (objects_of (λ (p : StreamJob). p.doc.ws == c.args.w) (λ (p : StreamJob). is_member V p.parent.no) (λ (p : StreamJob). Job p.doc.no) l))
+    (λ (l : List StreamJob).
+    any_comes_of V c.args.now c.args.t
+    (objects_of (λ (p : StreamJob). p.doc.ws == c.args.w) (λ (p : StreamJob). is_member V p.parent.no)
+    (λ (p : StreamJob). Job p.doc.no) l))
     c.in-Some.ensures.steps
-    ∙ comes_later V c.args.now c.args.t (λ (p : StreamJob). p.doc.ws == c.args.w) (λ (p : StreamJob). is_member V p.parent.no) (λ (p : StreamJob). Job p.doc.no) (stream_job c.in-Some.parent.now c.in-Some.doc.now) (jobs_left c.next.new.self)
+    ∙ comes_later V c.args.now c.args.t (λ (p : StreamJob). p.doc.ws == c.args.w)
+    (λ (p : StreamJob). is_member V p.parent.no) (λ (p : StreamJob). Job p.doc.no)
+    (stream_job c.in-Some.parent.now c.in-Some.doc.now) (jobs_left c.next.new.self)
     (sym c.time_of_job_comes.ensures ∙ c.if-time_of_job_comes.false)

@@ -14,9 +14,13 @@ returns-then-time_of_stream_comes c =
     sym
     (c.loop-doc.invariant
     ∙ ap
-    (λ (l : List StreamDoc). any_comes_of V c.args.now c.args.t (objects_of (λ (d : StreamDoc). d.ws == c.args.w) (λ (d : StreamDoc). is_member V d.no) (λ (d : StreamDoc). Stream d.no) l))
+    (λ (l : List StreamDoc).
+    any_comes_of V c.args.now c.args.t
+    (objects_of (λ (d : StreamDoc). d.ws == c.args.w) (λ (d : StreamDoc). is_member V d.no)
+    (λ (d : StreamDoc). Stream d.no) l))
     c.in-Some.ensures.steps
-    ∙ comes_here V c.args.now c.args.t (λ (d : StreamDoc). d.ws == c.args.w) (λ (d : StreamDoc). is_member V d.no) (λ (d : StreamDoc). Stream d.no) (c.in-Some.doc.now) (streams_left c.next.new.self)
+    ∙ comes_here V c.args.now c.args.t (λ (d : StreamDoc). d.ws == c.args.w)
+    (λ (d : StreamDoc). is_member V d.no) (λ (d : StreamDoc). Stream d.no) (c.in-Some.doc.now) (streams_left c.next.new.self)
     (sym c.time_of_stream_comes.ensures ∙ c.if-time_of_stream_comes.true))
 
 pub loop-doc-preserved : goal.loop-doc-preserved
@@ -24,7 +28,11 @@ loop-doc-preserved c =
     let V = view_of c.args.o.now in
     c.loop-doc.invariant
     ∙ ap
-    (λ (l : List StreamDoc). any_comes_of V c.args.now c.args.t (objects_of (λ (d : StreamDoc). d.ws == c.args.w) (λ (d : StreamDoc). is_member V d.no) (λ (d : StreamDoc). Stream d.no) l))
+    (λ (l : List StreamDoc).
+    any_comes_of V c.args.now c.args.t
+    (objects_of (λ (d : StreamDoc). d.ws == c.args.w) (λ (d : StreamDoc). is_member V d.no)
+    (λ (d : StreamDoc). Stream d.no) l))
     c.in-Some.ensures.steps
-    ∙ comes_later V c.args.now c.args.t (λ (d : StreamDoc). d.ws == c.args.w) (λ (d : StreamDoc). is_member V d.no) (λ (d : StreamDoc). Stream d.no) (c.in-Some.doc.now) (streams_left c.next.new.self)
+    ∙ comes_later V c.args.now c.args.t (λ (d : StreamDoc). d.ws == c.args.w)
+    (λ (d : StreamDoc). is_member V d.no) (λ (d : StreamDoc). Stream d.no) (c.in-Some.doc.now) (streams_left c.next.new.self)
     (sym c.time_of_stream_comes.ensures ∙ c.if-time_of_stream_comes.false)

@@ -24,7 +24,8 @@ loop-doc-preserved-then-may_end_in c =
     record {
       planned = planned.1;
       lowest =
-          lowest_with (λ (e : StreamDoc). e.ws == c.args.w) (λ (e : StreamDoc). is_member V e.no) (may_end V c.args.w)
+          lowest_with (λ (e : StreamDoc). e.ws == c.args.w) (λ (e : StreamDoc). is_member V e.no)
+          (may_end V c.args.w)
           (λ (e : StreamDoc). e.no) d (streams_left c.next.new.self)
           (least (filter (may_end V c.args.w) (own_numbers V c.args.w))) c.loop-doc.lowest
           (endable V c.args.w d planned.0 ∙ sym c.may_end_in.ensures ∙ c.if-may_end_in.true)
@@ -32,13 +33,15 @@ loop-doc-preserved-then-may_end_in c =
           (λ (l : List StreamDoc).
           least (filter (may_end V c.args.w) (own_numbers V c.args.w))
           ≡ lower_of c.loop-doc.lowest
-          (least (numbers_of (λ (e : StreamDoc). e.ws == c.args.w) (λ (e : StreamDoc). is_member V e.no) (may_end V c.args.w)
+          (least (numbers_of (λ (e : StreamDoc). e.ws == c.args.w) (λ (e : StreamDoc). is_member V e.no)
+          (may_end V c.args.w)
           (λ (e : StreamDoc). e.no) l)))
           c.in-Some.ensures.steps c.loop-doc.invariant.lowest)
           ∙ ap
           (λ (n : ℕ).
           lower_of (Some n)
-          (least (numbers_of (λ (e : StreamDoc). e.ws == c.args.w) (λ (e : StreamDoc). is_member V e.no) (may_end V c.args.w)
+          (least (numbers_of (λ (e : StreamDoc). e.ws == c.args.w) (λ (e : StreamDoc). is_member V e.no)
+          (may_end V c.args.w)
           (λ (e : StreamDoc). e.no) (streams_left c.next.new.self))))
           (sym lower);
     }
@@ -53,7 +56,8 @@ loop-doc-preserved c =
     record {
       planned = planned.1;
       lowest =
-          lowest_without (λ (e : StreamDoc). e.ws == c.args.w) (λ (e : StreamDoc). is_member V e.no) (may_end V c.args.w)
+          lowest_without (λ (e : StreamDoc). e.ws == c.args.w) (λ (e : StreamDoc). is_member V e.no)
+          (may_end V c.args.w)
           (λ (e : StreamDoc). e.no) d (streams_left c.next.new.self)
           (least (filter (may_end V c.args.w) (own_numbers V c.args.w))) c.loop-doc.lowest
           (endable V c.args.w d planned.0 ∙ sym c.may_end_in.ensures ∙ c.if-may_end_in.false)
@@ -61,7 +65,8 @@ loop-doc-preserved c =
           (λ (l : List StreamDoc).
           least (filter (may_end V c.args.w) (own_numbers V c.args.w))
           ≡ lower_of c.loop-doc.lowest
-          (least (numbers_of (λ (e : StreamDoc). e.ws == c.args.w) (λ (e : StreamDoc). is_member V e.no) (may_end V c.args.w)
+          (least (numbers_of (λ (e : StreamDoc). e.ws == c.args.w) (λ (e : StreamDoc). is_member V e.no)
+          (may_end V c.args.w)
           (λ (e : StreamDoc). e.no) l)))
           c.in-Some.ensures.steps c.loop-doc.invariant.lowest);
     }

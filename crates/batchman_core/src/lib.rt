@@ -22,6 +22,8 @@ mod issuers;
 mod losses;
 mod lowest;
 #[cfg(test)]
+mod plan_tests;
+#[cfg(test)]
 mod tests;
 mod witnesses;
 

@@ -40,214 +40,257 @@ fn gives(
     }
 }
 
+/// The first of these lines that, typed at w, does not give what is shown beside it.
+fn first_other<'a>(
+    alloc: Global,
+    network: &Network,
+    owners: &Owners,
+    w: u16,
+    table: &[(&'a str, &str)],
+) -> Result<Option<&'a str>, Fail> {
+    for (typed, shown) in table {
+        if !gives(alloc, network, owners, w, typed, shown)? {
+            return Ok(Some(*typed));
+        }
+    }
+    Ok(None)
+}
+
+const ON_OBJECTS: [(&str, &str); 12] = [
+    // The last member of the name, whatever its number.
+    ("rerun M#S.A", "0 Rerun(JobNo(4))"),
+    ("rerun m#s[1].a", "0 Rerun(JobNo(1))"),
+    ("rerun S.A", "0 Rerun(JobNo(4))"),
+    // A job goes to its own workstation, not to that of its stream.
+    ("kill S[1].B", "2 Kill(JobNo(2))"),
+    ("confirm M#S.A;succ", "0 Confirm(JobNo(4))"),
+    ("cancel job M#S.A", "0 Cancel(Job(JobNo(4)))"),
+    ("cancel sched M#S[1]", "0 Cancel(Stream(StreamNo(1)))"),
+    ("release sched S", "0 Release(Stream(StreamNo(3)))"),
+    // With its number, a stream that is no member.
+    ("release sched L#S[2]", "2 Release(Stream(StreamNo(2)))"),
+    ("altpri S.A;hi", "0 AltPri(Job(JobNo(4)), 100)"),
+    ("limit sched S;1025", "0 StreamLimit(StreamNo(3), 1025)"),
+    (
+        "reply job S[1].A;2;no",
+        "0 ReplyOwn(Job(JobNo(1)), 2, false)",
+    ),
+];
+
 #[test]
 fn commands_on_objects(rt: HostRuntime) -> Result<(), Fail> {
-    let alloc = rt.alloc();
-    let net = network(alloc)?;
-    let owners = second_plan(alloc)?;
-    for (typed, shown) in [
-        // The last member of the name, whatever its number.
-        ("rerun M#S.A", "0 Rerun(JobNo(4))"),
-        ("rerun m#s[1].a", "0 Rerun(JobNo(1))"),
-        ("rerun S.A", "0 Rerun(JobNo(4))"),
-        // A job goes to its own workstation, not to that of its stream.
-        ("kill S[1].B", "2 Kill(JobNo(2))"),
-        ("confirm M#S.A;succ", "0 Confirm(JobNo(4))"),
-        ("cancel job M#S.A", "0 Cancel(Job(JobNo(4)))"),
-        ("cancel sched M#S[1]", "0 Cancel(Stream(StreamNo(1)))"),
-        ("release sched S", "0 Release(Stream(StreamNo(3)))"),
-        // With its number, a stream that is no member.
-        ("release sched L#S[2]", "2 Release(Stream(StreamNo(2)))"),
-        ("altpri S.A;hi", "0 AltPri(Job(JobNo(4)), 100)"),
-        ("limit sched S;1025", "0 StreamLimit(StreamNo(3), 1025)"),
-        (
-            "reply job S[1].A;2;no",
-            "0 ReplyOwn(Job(JobNo(1)), 2, false)",
-        ),
-    ] {
-        assert!(rt; gives(alloc, &net, &owners, 0, typed, shown)?, "at {typed}");
-    }
+    let net = network(rt.alloc())?;
+    let owners = second_plan(rt.alloc())?;
+    let other = first_other(rt.alloc(), &net, &owners, 0, &ON_OBJECTS)?;
+    assert!(rt; other == None, "at {other:?}");
     Ok(())
 }
 
+const OTHERS: [(&str, &str); 10] = [
+    ("fence M;10", "0 Fence(10)"),
+    ("fence L;go", "2 Fence(101)"),
+    ("limit cpu M;0", "0 Limit(0)"),
+    ("resource M#R;1", "0 Total(1, 1)"),
+    ("resource L#TAPE;2", "2 Total(2, 2)"),
+    ("reply go;yes", "0 ReplyGlobal(1, true)"),
+    ("reply shown;no", "0 ReplyGlobal(2, false)"),
+    ("start D", "1 Start"),
+    ("stop L", "2 Stop"),
+    ("switchmgr ANY;D", "0 SwitchMgr(Ws(1))"),
+];
+
+/// Wherever they are typed.
 #[test]
 fn other_commands(rt: HostRuntime) -> Result<(), Fail> {
-    let alloc = rt.alloc();
-    let net = network(alloc)?;
-    let owners = second_plan(alloc)?;
-    for (typed, shown) in [
-        ("fence M;10", "0 Fence(10)"),
-        ("fence L;go", "2 Fence(101)"),
-        ("limit cpu M;0", "0 Limit(0)"),
-        ("resource M#R;1", "0 Total(1, 1)"),
-        ("resource L#TAPE;2", "2 Total(2, 2)"),
-        ("reply go;yes", "0 ReplyGlobal(1, true)"),
-        ("reply shown;no", "0 ReplyGlobal(2, false)"),
-        ("start D", "1 Start"),
-        ("stop L", "2 Stop"),
-        ("switchmgr ANY;D", "0 SwitchMgr(Ws(1))"),
-    ] {
-        // Wherever it is typed.
-        assert!(rt; gives(alloc, &net, &owners, 0, typed, shown)?, "at {typed}");
-        assert!(rt; gives(alloc, &net, &owners, 2, typed, shown)?, "at {typed}");
-    }
+    let net = network(rt.alloc())?;
+    let owners = second_plan(rt.alloc())?;
+    let other = first_other(rt.alloc(), &net, &owners, 0, &OTHERS)?;
+    assert!(rt; other == None, "at {other:?}");
+    let other = first_other(rt.alloc(), &net, &owners, 2, &OTHERS)?;
+    assert!(rt; other == None, "at {other:?}");
     Ok(())
 }
+
+const TYPED_AT_L: [(&str, &str); 5] = [
+    ("cancel job M#S.A", "0 Cancel(Job(JobNo(1)))"),
+    ("cancel job S.A", "2 Cancel(Job(JobNo(3)))"),
+    ("cancel job S[2].A", "2 Cancel(Job(JobNo(3)))"),
+    // Stream 1 is on M.
+    ("cancel job S[1].A", "UnknownName(1)"),
+    // The stream that a job follows is on the node's own workstation as well.
+    (
+        "adj M#S.A;follows=S",
+        "0 AddDep(Job(JobNo(1)), FollowsStream(StreamNo(2)))",
+    ),
+];
 
 #[test]
 fn names_at_another_workstation(rt: HostRuntime) -> Result<(), Fail> {
-    let alloc = rt.alloc();
-    let net = network(alloc)?;
-    let owners = first_plan(alloc)?;
-    for (typed, shown) in [
-        ("cancel job M#S.A", "0 Cancel(Job(JobNo(1)))"),
-        ("cancel job S.A", "2 Cancel(Job(JobNo(3)))"),
-        ("cancel job S[2].A", "2 Cancel(Job(JobNo(3)))"),
-        // Stream 1 is on M.
-        ("cancel job S[1].A", "UnknownName(1)"),
-        // The stream that a job follows is on the node's own workstation as well.
-        (
-            "adj M#S.A;follows=S",
-            "0 AddDep(Job(JobNo(1)), FollowsStream(StreamNo(2)))",
-        ),
-    ] {
-        assert!(rt; gives(alloc, &net, &owners, 2, typed, shown)?, "at {typed}");
-    }
+    let net = network(rt.alloc())?;
+    let owners = first_plan(rt.alloc())?;
+    let other = first_other(rt.alloc(), &net, &owners, 2, &TYPED_AT_L)?;
+    assert!(rt; other == None, "at {other:?}");
     Ok(())
 }
+
+const ADDED: [(&str, &str); 7] = [
+    (
+        "ads S;follows=M#S[1].B",
+        "0 AddDep(Stream(StreamNo(3)), FollowsJob(JobNo(2)))",
+    ),
+    (
+        "ads S;follows=S",
+        "0 AddDep(Stream(StreamNo(3)), FollowsStream(StreamNo(3)))",
+    ),
+    (
+        "ads S;needs=3 L#TAPE",
+        "0 AddDep(Stream(StreamNo(3)), Needs(2, 3))",
+    ),
+    (
+        "ads S;prompt=shown",
+        "0 AddDep(Stream(StreamNo(3)), Prompt(Global(2)))",
+    ),
+    (
+        "ads S;prompt=\"Go?\"",
+        "0 AddDep(Stream(StreamNo(3)), Prompt(Own(\"Go?\")))",
+    ),
+    ("ads S;at=5", "0 AddDep(Stream(StreamNo(3)), At(Moment(5)))"),
+    (
+        "ads S;until=6;onuntil=canc",
+        "0 AddDep(Stream(StreamNo(3)), Until(Moment(6), Canc))",
+    ),
+];
 
 #[test]
 fn added_dependencies(rt: HostRuntime) -> Result<(), Fail> {
-    let alloc = rt.alloc();
-    let net = network(alloc)?;
-    let owners = second_plan(alloc)?;
-    for (typed, dep) in [
-        ("follows=M#S[1].B", "FollowsJob(JobNo(2))"),
-        ("follows=S", "FollowsStream(StreamNo(3))"),
-        ("needs=3 L#TAPE", "Needs(2, 3)"),
-        ("prompt=shown", "Prompt(Global(2))"),
-        ("prompt=\"Go?\"", "Prompt(Own(\"Go?\"))"),
-        ("at=5", "At(Moment(5))"),
-        ("until=6;onuntil=canc", "Until(Moment(6), Canc)"),
-    ] {
-        let line = format!(in alloc; "ads S;{typed}")?;
-        let shown = format!(in alloc; "0 AddDep(Stream(StreamNo(3)), {dep})")?;
-        assert!(rt;
-            gives(alloc, &net, &owners, 0, &line, &shown)?,
-            "at {typed}"
-        );
-    }
+    let net = network(rt.alloc())?;
+    let owners = second_plan(rt.alloc())?;
+    let other = first_other(rt.alloc(), &net, &owners, 0, &ADDED)?;
+    assert!(rt; other == None, "at {other:?}");
     Ok(())
 }
 
+const DELETED: [(&str, &str); 6] = [
+    ("ddj S.A;prompt=\"ready?\"", "0 DelDep(Job(JobNo(1)), 1)"),
+    ("ddj S.A;prompt=\":ready\"", "0 DelDep(Job(JobNo(1)), 2)"),
+    ("ddj S.A;prompt=\"Ready?\"", "UnknownName(2)"),
+    ("ddj S.A;at=5", "UnknownName(2)"),
+    ("ddj S.A;follows=X", "UnknownName(2)"),
+    ("ddj S.X;at=5", "UnknownName(1)"),
+];
+
 #[test]
 fn deleted_dependencies(rt: HostRuntime) -> Result<(), Fail> {
-    let alloc = rt.alloc();
-    let net = network(alloc)?;
-    let mut owners = first_plan(alloc)?;
-    for (typed, shown) in [
-        ("ddj S.A;prompt=\"ready?\"", "0 DelDep(Job(JobNo(1)), 1)"),
-        ("ddj S.A;prompt=\":ready\"", "0 DelDep(Job(JobNo(1)), 2)"),
-        ("ddj S.A;prompt=\"Ready?\"", "UnknownName(2)"),
-        ("ddj S.A;at=5", "UnknownName(2)"),
-        ("ddj S.A;follows=X", "UnknownName(2)"),
-        ("ddj S.X;at=5", "UnknownName(1)"),
-    ] {
-        assert!(rt; gives(alloc, &net, &owners, 0, typed, shown)?, "at {typed}");
-    }
-    obeyed(&mut owners, 0, Cmd::DelDep(Obj::Job(JobNo(1)), 1))?;
-    let waived = "ddj S.A;prompt=\"ready?\"";
-    assert!(rt; gives(alloc, &net, &owners, 0, waived, "UnknownName(2)")?);
+    let net = network(rt.alloc())?;
+    let owners = first_plan(rt.alloc())?;
+    let other = first_other(rt.alloc(), &net, &owners, 0, &DELETED)?;
+    assert!(rt; other == None, "at {other:?}");
     Ok(())
+}
+
+/// The first plan, with the first dependency of the job waived.
+fn waived(alloc: Global) -> Result<Owners, Fail> {
+    let mut owners = first_plan(alloc)?;
+    obeyed(&mut owners, 0, Cmd::DelDep(Obj::Job(JobNo(1)), 1))?;
+    Ok(owners)
+}
+
+#[test]
+fn a_waived_dependency_is_not_there(rt: HostRuntime) -> Result<(), Fail> {
+    let net = network(rt.alloc())?;
+    let owners = waived(rt.alloc())?;
+    let typed = "ddj S.A;prompt=\"ready?\"";
+    assert!(rt; gives(rt.alloc(), &net, &owners, 0, typed, "UnknownName(2)")?);
+    Ok(())
+}
+
+/// How the command is shown that submits a stream and its job, both at w and of this name.
+fn submitted(alloc: Global, w: u16, name: &str, priority: u8, text: &str) -> Result<String, Fail> {
+    let named = format!(in alloc; "ws: Ws({w}), name: \"{name}\", priority")?;
+    let work = format!(in alloc; "work: Command(\"{text}\")")?;
+    let job = format!(in alloc; "JobDraft {{ {named}: {priority}, {work}, {JOB_REST} }}")?;
+    let jobs = format!(in alloc; "jobs: Items {{ items: [{job}] }}")?;
+    let draft = format!(in alloc; "StreamDraft {{ {named}: 10, {STREAM_REST}, {jobs} }}")?;
+    Ok(format!(in alloc; "0 Submit({draft})")?)
 }
 
 #[test]
 fn submitted_streams(rt: HostRuntime) -> Result<(), Fail> {
-    let alloc = rt.alloc();
-    let net = network(alloc)?;
-    let owners = first_plan(alloc)?;
-    for (typed, w, name, priority, text) in [
-        ("submit docommand M#\"true\"", 0, "ADHOC", 10, "true"),
-        ("sbd L#\"a b\";alias=ONE;priority=255", 2, "ONE", 255, "a b"),
-    ] {
-        let named = format!(in alloc; "ws: Ws({w}), name: \"{name}\", priority")?;
-        let work = format!(in alloc; "work: Command(\"{text}\")")?;
-        let job = format!(in alloc; "JobDraft {{ {named}: {priority}, {work}, {JOB_REST} }}")?;
-        let jobs = format!(in alloc; "jobs: Items {{ items: [{job}] }}")?;
-        let draft = format!(in alloc; "StreamDraft {{ {named}: 10, {STREAM_REST}, {jobs} }}")?;
-        let shown = format!(in alloc; "0 Submit({draft})")?;
-        assert!(rt;
-            gives(alloc, &net, &owners, 2, typed, &shown)?,
-            "at {typed}"
-        );
-    }
+    let net = network(rt.alloc())?;
+    let owners = first_plan(rt.alloc())?;
+    let shown = submitted(rt.alloc(), 0, "ADHOC", 10, "true")?;
+    let typed = "submit docommand M#\"true\"";
+    assert!(rt; gives(rt.alloc(), &net, &owners, 2, typed, &shown)?);
     Ok(())
 }
+
+#[test]
+fn submitted_streams_with_all_parts(rt: HostRuntime) -> Result<(), Fail> {
+    let net = network(rt.alloc())?;
+    let owners = first_plan(rt.alloc())?;
+    let shown = submitted(rt.alloc(), 2, "ONE", 255, "a b")?;
+    let typed = "sbd L#\"a b\";alias=ONE;priority=255";
+    assert!(rt; gives(rt.alloc(), &net, &owners, 2, typed, &shown)?);
+    Ok(())
+}
+
+const UNKNOWN: [(&str, &str); 24] = [
+    ("rerun X#S.A", "UnknownName(1)"),
+    ("rerun M#X.A", "UnknownName(1)"),
+    ("rerun M#S.X", "UnknownName(1)"),
+    // No member any more.
+    ("cancel sched L#S", "UnknownName(1)"),
+    ("cancel sched M#S[0]", "UnknownName(1)"),
+    ("cancel sched M#S[2]", "UnknownName(1)"),
+    ("cancel sched M#S[9]", "UnknownName(1)"),
+    ("fence X;9", "UnknownName(1)"),
+    ("limit cpu X;9", "UnknownName(1)"),
+    ("limit sched X;9", "UnknownName(1)"),
+    ("resource M#TAPE;1", "UnknownName(1)"),
+    ("resource X#R;1", "UnknownName(1)"),
+    ("reply X;yes", "UnknownName(1)"),
+    ("reply sched X;1;yes", "UnknownName(1)"),
+    ("start X", "UnknownName(1)"),
+    ("stop X", "UnknownName(1)"),
+    ("submit docommand X#\"true\"", "UnknownName(1)"),
+    ("switchmgr M;X", "UnknownName(2)"),
+    ("adj S.A;follows=X", "UnknownName(2)"),
+    ("adj S.A;follows=S.X", "UnknownName(2)"),
+    ("adj S.A;needs=1 M#TAPE", "UnknownName(2)"),
+    ("adj S.A;needs=1 X#R", "UnknownName(2)"),
+    ("adj S.A;prompt=X", "UnknownName(2)"),
+    // The first of two.
+    ("adj S.X;prompt=X", "UnknownName(1)"),
+];
 
 #[test]
 fn unknown_names(rt: HostRuntime) -> Result<(), Fail> {
-    let alloc = rt.alloc();
-    let net = network(alloc)?;
-    let owners = second_plan(alloc)?;
-    for (typed, n) in [
-        ("rerun X#S.A", 1),
-        ("rerun M#X.A", 1),
-        ("rerun M#S.X", 1),
-        // No member any more.
-        ("cancel sched L#S", 1),
-        ("cancel sched M#S[0]", 1),
-        ("cancel sched M#S[2]", 1),
-        ("cancel sched M#S[9]", 1),
-        ("fence X;9", 1),
-        ("limit cpu X;9", 1),
-        ("limit sched X;9", 1),
-        ("resource M#TAPE;1", 1),
-        ("resource X#R;1", 1),
-        ("reply X;yes", 1),
-        ("reply sched X;1;yes", 1),
-        ("start X", 1),
-        ("stop X", 1),
-        ("submit docommand X#\"true\"", 1),
-        ("switchmgr M;X", 2),
-        ("adj S.A;follows=X", 2),
-        ("adj S.A;follows=S.X", 2),
-        ("adj S.A;needs=1 M#TAPE", 2),
-        ("adj S.A;needs=1 X#R", 2),
-        ("adj S.A;prompt=X", 2),
-        // The first of two.
-        ("adj S.X;prompt=X", 1),
-    ] {
-        let shown = format!(in alloc; "UnknownName({n})")?;
-        assert!(rt;
-            gives(alloc, &net, &owners, 0, typed, &shown)?,
-            "at {typed}"
-        );
-    }
+    let net = network(rt.alloc())?;
+    let owners = second_plan(rt.alloc())?;
+    let other = first_other(rt.alloc(), &net, &owners, 0, &UNKNOWN)?;
+    assert!(rt; other == None, "at {other:?}");
     Ok(())
 }
 
+const WITHOUT_A_COMMAND: [(&str, &str); 10] = [
+    ("showjobs", "NotACommand"),
+    ("showschedules X", "NotACommand"),
+    ("showcpus", "NotACommand"),
+    ("showprompts", "NotACommand"),
+    ("showresources", "NotACommand"),
+    ("link M", "NotACommand"),
+    ("link X", "NotACommand"),
+    ("unlink X", "NotACommand"),
+    ("shutdown", "NotACommand"),
+    ("jnextplan 12/26/2003", "NotACommand"),
+];
+
 #[test]
 fn lines_without_a_command(rt: HostRuntime) -> Result<(), Fail> {
-    let alloc = rt.alloc();
-    let net = network(alloc)?;
-    let owners = first_plan(alloc)?;
-    for typed in [
-        "showjobs",
-        "showschedules X",
-        "showcpus",
-        "showprompts",
-        "showresources",
-        "link M",
-        "link X",
-        "unlink X",
-        "shutdown",
-        "jnextplan 12/26/2003",
-    ] {
-        assert!(rt;
-            gives(alloc, &net, &owners, 0, typed, "NotACommand")?,
-            "at {typed}"
-        );
-    }
+    let net = network(rt.alloc())?;
+    let owners = first_plan(rt.alloc())?;
+    let other = first_other(rt.alloc(), &net, &owners, 0, &WITHOUT_A_COMMAND)?;
+    assert!(rt; other == None, "at {other:?}");
     Ok(())
 }
 

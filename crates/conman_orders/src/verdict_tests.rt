@@ -28,40 +28,53 @@ fn says(network: &Network, owners: &Owners, w: u16, cmd: Cmd, why: Option<Why>) 
     }
 }
 
+/// Whether the master declines to cancel the object for this reason.
+fn is_not_cancelled(network: &Network, owners: &Owners, object: Obj, why: Why) -> bool {
+    says(network, owners, 0, Cmd::Cancel(object), Some(why))
+}
+
 #[test]
 fn objects_that_are_not_there(rt: HostRuntime) -> Result<(), Fail> {
     let net = network(rt.alloc())?;
     let owners = second_plan(rt.alloc())?;
-    for (object, why) in [
-        (Obj::Job(JobNo(9)), Why::NotThere),
-        (Obj::Stream(StreamNo(9)), Why::NotThere),
-        // In the catalogue, and no member.
-        (Obj::Stream(StreamNo(2)), Why::NotThere),
-        (Obj::Job(JobNo(3)), Why::NotThere),
-        // Another workstation's job in a stream of M.
-        (Obj::Job(JobNo(2)), Why::NotMine),
-    ] {
-        assert!(rt; says(&net, &owners, 0, Cmd::Cancel(object), Some(why)));
-    }
+    let unknown = Why::NotThere;
+    assert!(rt; is_not_cancelled(&net, &owners, Obj::Job(JobNo(9)), unknown));
+    assert!(rt; is_not_cancelled(&net, &owners, Obj::Stream(StreamNo(9)), unknown));
+    // In the catalogue, and no member.
+    assert!(rt; is_not_cancelled(&net, &owners, Obj::Stream(StreamNo(2)), unknown));
+    assert!(rt; is_not_cancelled(&net, &owners, Obj::Job(JobNo(3)), unknown));
+    // Another workstation's job in a stream of M.
+    assert!(rt; is_not_cancelled(&net, &owners, Obj::Job(JobNo(2)), Why::NotMine));
     Ok(())
+}
+
+/// The job of the first plan runs.
+fn running(alloc: Global) -> Result<Owners, Fail> {
+    let mut owners = first_plan(alloc)?;
+    launch(&mut owners, alloc, 1)?;
+    Ok(owners)
 }
 
 #[test]
 fn a_job_that_runs(rt: HostRuntime) -> Result<(), Fail> {
     let net = network(rt.alloc())?;
-    let mut owners = first_plan(rt.alloc())?;
-    launch(&mut owners, rt.alloc(), 1)?;
-    for (cmd, why) in [
-        (Cmd::Rerun(JobNo(1)), Some(Why::Running)),
-        (Cmd::Confirm(JobNo(1)), Some(Why::Running)),
-        (Cmd::Release(job()), Some(Why::Running)),
-        (Cmd::DelDep(job(), 1), Some(Why::Running)),
-        (Cmd::AddDep(job(), Dep::Needs(9, 1)), Some(Why::Running)),
-        (Cmd::Kill(JobNo(1)), None),
-        (Cmd::Cancel(job()), None),
-    ] {
-        assert!(rt; says(&net, &owners, 0, cmd, why));
-    }
+    let owners = running(rt.alloc())?;
+    let why = Some(Why::Running);
+    assert!(rt; says(&net, &owners, 0, Cmd::Rerun(JobNo(1)), why));
+    assert!(rt; says(&net, &owners, 0, Cmd::Confirm(JobNo(1)), why));
+    assert!(rt; says(&net, &owners, 0, Cmd::Release(job()), why));
+    assert!(rt; says(&net, &owners, 0, Cmd::Kill(JobNo(1)), None));
+    assert!(rt; says(&net, &owners, 0, Cmd::Cancel(job()), None));
+    Ok(())
+}
+
+#[test]
+fn dependencies_of_a_job_that_runs(rt: HostRuntime) -> Result<(), Fail> {
+    let net = network(rt.alloc())?;
+    let owners = running(rt.alloc())?;
+    let why = Some(Why::Running);
+    assert!(rt; says(&net, &owners, 0, Cmd::DelDep(job(), 1), why));
+    assert!(rt; says(&net, &owners, 0, Cmd::AddDep(job(), Dep::Needs(9, 1)), why));
     Ok(())
 }
 
@@ -69,40 +82,54 @@ fn a_job_that_runs(rt: HostRuntime) -> Result<(), Fail> {
 fn a_job_that_is_due(rt: HostRuntime) -> Result<(), Fail> {
     let net = network(rt.alloc())?;
     let owners = first_plan(rt.alloc())?;
-    for (cmd, why) in [
-        (Cmd::Rerun(JobNo(1)), Some(Why::NotEnded)),
-        (Cmd::Confirm(JobNo(1)), Some(Why::NotEnded)),
-        (Cmd::Kill(JobNo(1)), Some(Why::NotRunning)),
-        (Cmd::Release(job()), None),
-        (Cmd::AltPri(job(), 101), None),
-        (Cmd::AltPri(job(), 102), Some(Why::OutOfRange)),
-    ] {
-        assert!(rt; says(&net, &owners, 0, cmd, why));
-    }
+    assert!(rt; says(&net, &owners, 0, Cmd::Rerun(JobNo(1)), Some(Why::NotEnded)));
+    assert!(rt;
+        says(
+            &net,
+            &owners,
+            0,
+            Cmd::Confirm(JobNo(1)),
+            Some(Why::NotEnded)
+        )
+    );
+    assert!(rt; says(&net, &owners, 0, Cmd::Kill(JobNo(1)), Some(Why::NotRunning)));
+    assert!(rt; says(&net, &owners, 0, Cmd::Release(job()), None));
+    assert!(rt; says(&net, &owners, 0, Cmd::AltPri(job(), 101), None));
+    assert!(rt;
+        says(
+            &net,
+            &owners,
+            0,
+            Cmd::AltPri(job(), 102),
+            Some(Why::OutOfRange)
+        )
+    );
     Ok(())
 }
 
 #[test]
 fn a_job_that_ended(rt: HostRuntime) -> Result<(), Fail> {
     let net = network(rt.alloc())?;
-    let mut owners = first_plan(rt.alloc())?;
-    launch(&mut owners, rt.alloc(), 1)?;
+    let mut owners = running(rt.alloc())?;
     end(&mut owners, 1, 0)?;
-    for (cmd, why) in [
-        (Cmd::Confirm(JobNo(1)), Some(Why::AlreadyThere)),
-        (Cmd::Cancel(job()), Some(Why::Ended)),
-        (Cmd::Release(job()), Some(Why::Ended)),
-        (Cmd::Rerun(JobNo(1)), None),
-    ] {
-        assert!(rt; says(&net, &owners, 0, cmd, why));
-    }
+    assert!(rt;
+        says(
+            &net,
+            &owners,
+            0,
+            Cmd::Confirm(JobNo(1)),
+            Some(Why::AlreadyThere)
+        )
+    );
+    assert!(rt; says(&net, &owners, 0, Cmd::Cancel(job()), Some(Why::Ended)));
+    assert!(rt; says(&net, &owners, 0, Cmd::Release(job()), Some(Why::Ended)));
+    assert!(rt; says(&net, &owners, 0, Cmd::Rerun(JobNo(1)), None));
     Ok(())
 }
 
 /// The job of the first plan failed.
 fn failed(alloc: Global) -> Result<Owners, Fail> {
-    let mut owners = first_plan(alloc)?;
-    launch(&mut owners, alloc, 1)?;
+    let mut owners = running(alloc)?;
     end(&mut owners, 1, 8)?;
     Ok(owners)
 }
@@ -150,22 +177,48 @@ fn a_released_stream(rt: HostRuntime) -> Result<(), Fail> {
     Ok(())
 }
 
+/// Whether the master declines to add the dependency to its job for this reason, or adds it without one.
+fn adds(network: &Network, owners: &Owners, dep: Dep, why: Option<Why>) -> bool {
+    says(network, owners, 0, Cmd::AddDep(job(), dep), why)
+}
+
 #[test]
 fn dependencies_that_are_added(rt: HostRuntime) -> Result<(), Fail> {
     let net = network(rt.alloc())?;
     let owners = first_plan(rt.alloc())?;
-    for (dep, why) in [
-        (Dep::FollowsJob(JobNo(2)), None),
-        (Dep::FollowsJob(JobNo(9)), Some(Why::NotThere)),
-        (Dep::FollowsStream(StreamNo(9)), Some(Why::NotThere)),
-        (Dep::Needs(0, 1), Some(Why::NotThere)),
-        (Dep::Needs(3, 1), Some(Why::NotThere)),
-        (Dep::Needs(2, 1025), Some(Why::NotMine)),
-        (Dep::Needs(1, 1024), None),
-        (Dep::Needs(1, 1025), Some(Why::OutOfRange)),
-        (Dep::At(Moment(5)), None),
+    assert!(rt; adds(&net, &owners, Dep::FollowsJob(JobNo(2)), None));
+    assert!(rt;
+        adds(
+            &net,
+            &owners,
+            Dep::FollowsJob(JobNo(9)),
+            Some(Why::NotThere)
+        )
+    );
+    assert!(rt;
+        adds(
+            &net,
+            &owners,
+            Dep::FollowsStream(StreamNo(9)),
+            Some(Why::NotThere)
+        )
+    );
+    assert!(rt; adds(&net, &owners, Dep::At(Moment(5)), None));
+    Ok(())
+}
+
+#[test]
+fn needs_that_are_added(rt: HostRuntime) -> Result<(), Fail> {
+    let net = network(rt.alloc())?;
+    let owners = first_plan(rt.alloc())?;
+    for (number, units, why) in [
+        (0, 1, Some(Why::NotThere)),
+        (3, 1, Some(Why::NotThere)),
+        (2, 1025, Some(Why::NotMine)),
+        (1, 1024, None),
+        (1, 1025, Some(Why::OutOfRange)),
     ] {
-        assert!(rt; says(&net, &owners, 0, Cmd::AddDep(job(), dep), why));
+        assert!(rt; adds(&net, &owners, Dep::Needs(number, units), why));
     }
     Ok(())
 }
@@ -251,27 +304,61 @@ fn prompts_that_are_answered(rt: HostRuntime) -> Result<(), Fail> {
 }
 
 #[test]
-fn commands_to_workstations(rt: HostRuntime) -> Result<(), Fail> {
+fn fences_and_limits(rt: HostRuntime) -> Result<(), Fail> {
     let net = network(rt.alloc())?;
     let owners = first_plan(rt.alloc())?;
-    for (cmd, why) in [
-        (Cmd::Fence(101), None),
-        (Cmd::Fence(102), Some(Why::OutOfRange)),
-        (Cmd::Limit(1024), None),
-        (Cmd::Limit(1025), Some(Why::OutOfRange)),
-        (Cmd::StreamLimit(StreamNo(1), 1024), None),
-        (Cmd::StreamLimit(StreamNo(1), 1025), Some(Why::OutOfRange)),
-        (Cmd::StreamLimit(StreamNo(2), 1025), Some(Why::NotMine)),
-        (Cmd::Total(1, 1024), None),
-        (Cmd::Total(1, 1025), Some(Why::OutOfRange)),
-        (Cmd::Total(2, 1025), Some(Why::NotMine)),
-        (Cmd::Total(3, 1), Some(Why::NotThere)),
-        (Cmd::Start, Some(Why::AlreadyThere)),
-        (Cmd::Stop, None),
-        (Cmd::SwitchMgr(Ws(1)), Some(Why::NotBuilt)),
+    let above = Some(Why::OutOfRange);
+    assert!(rt; says(&net, &owners, 0, Cmd::Fence(101), None));
+    assert!(rt; says(&net, &owners, 0, Cmd::Fence(102), above));
+    assert!(rt; says(&net, &owners, 0, Cmd::Limit(1024), None));
+    assert!(rt; says(&net, &owners, 0, Cmd::Limit(1025), above));
+    Ok(())
+}
+
+#[test]
+fn limits_of_streams(rt: HostRuntime) -> Result<(), Fail> {
+    let net = network(rt.alloc())?;
+    let owners = first_plan(rt.alloc())?;
+    for (number, limit, why) in [
+        (1, 1024, None),
+        (1, 1025, Some(Why::OutOfRange)),
+        (2, 1025, Some(Why::NotMine)),
     ] {
-        assert!(rt; says(&net, &owners, 0, cmd, why));
+        assert!(rt;
+            says(
+                &net,
+                &owners,
+                0,
+                Cmd::StreamLimit(StreamNo(number), limit),
+                why
+            )
+        );
     }
+    Ok(())
+}
+
+#[test]
+fn totals(rt: HostRuntime) -> Result<(), Fail> {
+    let net = network(rt.alloc())?;
+    let owners = first_plan(rt.alloc())?;
+    for (number, units, why) in [
+        (1, 1024, None),
+        (1, 1025, Some(Why::OutOfRange)),
+        (2, 1025, Some(Why::NotMine)),
+        (3, 1, Some(Why::NotThere)),
+    ] {
+        assert!(rt; says(&net, &owners, 0, Cmd::Total(number, units), why));
+    }
+    Ok(())
+}
+
+#[test]
+fn a_running_workstation(rt: HostRuntime) -> Result<(), Fail> {
+    let net = network(rt.alloc())?;
+    let owners = first_plan(rt.alloc())?;
+    assert!(rt; says(&net, &owners, 0, Cmd::Start, Some(Why::AlreadyThere)));
+    assert!(rt; says(&net, &owners, 0, Cmd::Stop, None));
+    assert!(rt; says(&net, &owners, 0, Cmd::SwitchMgr(Ws(1)), Some(Why::NotBuilt)));
     Ok(())
 }
 

@@ -1,28 +1,36 @@
 //! Entries of every kind, written and read, and the faults of bytes that are none, at bytes worked out by hand.
 mod commands;
+mod drafts;
 mod faults;
 mod kinds;
 
-use crate::{EntryFault, read_entry, write_entry};
-use base_types::{Body, Bytes, Cmd, Entry, Feed, Items, Text};
+use crate::{read_entry, write_entry};
+use base_types::{Bytes, Entry, Items};
 use std::alloc::Global;
+use std::test::Fail;
 
-/// What is read of a front and what stands behind it. Bytes that are too many are answered with `NoMemory`.
-fn read_parts(alloc: Global, front: &[u8], rest: &[u8]) -> Result<Entry, EntryFault> {
-    let bytes = joined(alloc, front, rest)?;
-    let bytes = bytes.as_slice();
-    if bytes.len() > 10_000 {
-        return Err(EntryFault::NoMemory);
-    }
-    let entry = read_entry(alloc, bytes)?;
-    let again = write_entry(alloc, &entry)?;
-    if again.as_slice() != bytes {
-        return Err(EntryFault::NoMemory);
-    }
-    Ok(entry)
+/// What stands around each row of a table: in the bytes, and in how `Debug` shows their entry.
+struct Frame<'a> {
+    front: &'a [u8],
+    before: &'a str,
+    behind: &'a str,
 }
 
-fn joined(alloc: Global, front: &[u8], rest: &[u8]) -> Result<Bytes, EntryFault> {
+/// An event of the master at place 2.
+const EVENT: Frame = Frame {
+    front: &[1, 0, 0, 0, 0, 0, 0, 2],
+    before: "Entry { feed: Events(Ws(0)), place: 2, body: ",
+    behind: " }",
+};
+
+/// The first order from workstation 3 to workstation 258.
+const ORDER: Frame = Frame {
+    front: &[1, 1, 0, 3, 1, 2, 0, 0, 0, 1, 15],
+    before: "Entry { feed: Orders(Ws(3), Ws(258)), place: 1, body: Order(",
+    behind: ") }",
+};
+
+fn joined(alloc: Global, front: &[u8], rest: &[u8]) -> Result<Bytes, Fail> {
     let mut bytes = Items::new(alloc);
     for byte in front {
         bytes.push(*byte)?;
@@ -33,24 +41,41 @@ fn joined(alloc: Global, front: &[u8], rest: &[u8]) -> Result<Bytes, EntryFault>
     Ok(bytes)
 }
 
-/// What an event of the master at place 2 says: its kind and what stands behind it.
-fn event(alloc: Global, rest: &[u8]) -> Result<Body, EntryFault> {
-    Ok(read_parts(alloc, &[1, 0, 0, 0, 0, 0, 0, 2], rest)?.body)
-}
-
-/// The command of the first order from workstation 3 to workstation 258: its choice and what stands behind it.
-fn command(alloc: Global, rest: &[u8]) -> Result<Cmd, EntryFault> {
-    match read_parts(alloc, &[1, 1, 0, 3, 1, 2, 0, 0, 0, 1, 15], rest)? {
-        Entry {
-            feed: Feed::Orders(..),
-            place: 1,
-            body: Body::Order(cmd),
-        } => Ok(cmd),
-        _ => Err(EntryFault::NoMemory),
+/// How the entry is shown, if these bytes are its spelling.
+fn shown_if_spelt(alloc: Global, entry: &Entry, bytes: &[u8]) -> Result<String, Fail> {
+    let spelling = write_entry(alloc, entry)?;
+    if spelling.as_slice() != bytes {
+        return Err("another spelling".into());
     }
+    Ok(format!(in alloc; "{entry:?}")?)
 }
 
-/// A text.
-fn text(alloc: Global, chars: &str) -> Result<Text, EntryFault> {
-    Ok(Text::of(alloc, chars)?)
+/// How the entry of the bytes is shown, which are its spelling.
+fn shown(alloc: Global, bytes: &[u8]) -> Result<String, Fail> {
+    if bytes.len() > 10_000 {
+        return Err("too many bytes".into());
+    }
+    let entry = read_entry(alloc, bytes)?;
+    shown_if_spelt(alloc, &entry, bytes)
+}
+
+/// What stands in the frame.
+fn within<'a>(frame: &Frame, text: &'a str) -> Option<&'a str> {
+    text.strip_prefix(frame.before)?.strip_suffix(frame.behind)
+}
+
+/// The first of the rows whose bytes are not the spelling of what stands beside them.
+fn first_other<'a>(
+    alloc: Global,
+    frame: &Frame,
+    table: &[(&'a [u8], &str)],
+) -> Result<Option<&'a [u8]>, Fail> {
+    for (rest, want) in table {
+        let bytes = joined(alloc, frame.front, rest)?;
+        let text = shown(alloc, bytes.as_slice())?;
+        if within(frame, text.as_str()) != Some(*want) {
+            return Ok(Some(*rest));
+        }
+    }
+    Ok(None)
 }

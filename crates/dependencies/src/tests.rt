@@ -20,6 +20,45 @@ const S: StreamNo = StreamNo(1);
 
 const AT: Moment = Moment(200);
 
+/// What M does or is told in a step of a night.
+#[derive(Clone, Copy, Debug)]
+enum Step {
+    Released,
+    Launched(u32),
+    Ended(u32),
+    Rerun(u32),
+    Fence(u8),
+    Limit(u16),
+    Total(u16),
+    Clock,
+    Passed(u32, OnUntil),
+}
+
+/// The command of M's own that is obeyed in this step.
+fn command(step: &Step) -> Option<Cmd> {
+    match step {
+        Step::Rerun(no) => Some(Cmd::Rerun(JobNo(*no))),
+        Step::Fence(priority) => Some(Cmd::Fence(*priority)),
+        Step::Limit(launches) => Some(Cmd::Limit(*launches)),
+        Step::Total(units) => Some(Cmd::Total(1, *units)),
+        _ => None,
+    }
+}
+
+/// The event of M in this step.
+fn body(alloc: Global, step: &Step) -> Body {
+    if let Some(cmd) = command(step) {
+        return Body::Obeyed(M, 1, cmd);
+    }
+    match step {
+        Step::Launched(no) => Body::Launched(JobNo(*no), 1, Seen::new(alloc)),
+        Step::Ended(no) => Body::Ended(JobNo(*no), 1, 0, true),
+        Step::Passed(no, mark) => Body::UntilPassed(Obj::Job(JobNo(*no)), 1, *mark),
+        Step::Clock => Body::Clock(AT),
+        _ => Body::Released(S, Seen::new(alloc)),
+    }
+}
+
 /// The network of M alone, and the entries that M took.
 #[derive(Drop)]
 struct Night {
@@ -28,30 +67,8 @@ struct Night {
 }
 
 impl Night {
-    /// Takes a body as the next event of M.
-    fn event(&mut self, body: Body) -> Result<(), Fail> {
-        take_next(&mut self.owners, body)
-    }
-
-    /// M obeys a command of its own.
-    fn obeyed(&mut self, command: Cmd) -> Result<(), Fail> {
-        self.event(Body::Obeyed(M, 1, command))
-    }
-
-    fn released(&mut self, alloc: Global) -> Result<(), Fail> {
-        self.event(Body::Released(S, Seen::new(alloc)))
-    }
-
-    fn launched(&mut self, alloc: Global, no: u32) -> Result<(), Fail> {
-        self.event(Body::Launched(JobNo(no), 1, Seen::new(alloc)))
-    }
-
-    fn ended(&mut self, no: u32) -> Result<(), Fail> {
-        self.event(Body::Ended(JobNo(no), 1, 0, true))
-    }
-
-    fn passed(&mut self, no: u32, mark: OnUntil) -> Result<(), Fail> {
-        self.event(Body::UntilPassed(Obj::Job(JobNo(no)), 1, mark))
+    fn take(&mut self, alloc: Global, step: &Step) -> Result<(), Fail> {
+        take_next(&mut self.owners, body(alloc, step))
     }
 
     fn is_ready(&self, no: u32) -> bool {
@@ -60,14 +77,6 @@ impl Night {
 
     fn is_satisfied(&self, no: u32, i: u16) -> bool {
         sat(&self.net, &self.owners, Obj::Job(JobNo(no)), i)
-    }
-
-    fn may_release(&self) -> bool {
-        may_release(&self.net, &self.owners, M, S)
-    }
-
-    fn may_end(&self) -> bool {
-        may_end(&self.net, &self.owners, M, S)
     }
 
     /// The job whose dependency is the UNTIL that is due.
@@ -85,6 +94,29 @@ impl Night {
             None => None,
         }
     }
+
+    /// What M may do, with the job whose UNTIL is due, and the best job.
+    fn choices(&self, alloc: Global) -> Result<String, Fail> {
+        let release = may_release(&self.net, &self.owners, M, S);
+        let end = may_end(&self.net, &self.owners, M, S);
+        let (until, best) = (self.until_due(), self.best());
+        Ok(format!(in alloc; "release {release}, end {end}, until {until:?}, best {best:?}")?)
+    }
+}
+
+/// The first of these steps after which M has other choices than those beside it.
+fn first_other(
+    night: &mut Night,
+    alloc: Global,
+    table: &[(Step, &str)],
+) -> Result<Option<Step>, Fail> {
+    for (step, want) in table {
+        night.take(alloc, step)?;
+        if night.choices(alloc)?.as_str() != *want {
+            return Ok(Some(*step));
+        }
+    }
+    Ok(None)
 }
 
 fn take_next(owners: &mut Owners, body: Body) -> Result<(), Fail> {
@@ -168,47 +200,155 @@ fn plan(alloc: Global, jobs: Items<JobDoc>) -> Result<Body, Fail> {
 
 /// A night with the plan of these jobs.
 fn planned_night(alloc: Global, jobs: Items<JobDoc>) -> Result<Night, Fail> {
+    let mut owners = Owners::new(alloc);
+    take_next(&mut owners, plan(alloc, jobs)?)?;
     let net = network(alloc)?;
-    let owners = Owners::new(alloc);
-    let mut night = Night { net, owners };
-    night.event(plan(alloc, jobs)?)?;
-    Ok(night)
+    Ok(Night { net, owners })
 }
 
-/// A job of middling priority, and two high ones, at a workstation that may have no open launch.
-fn limited(alloc: Global) -> Result<Night, Fail> {
+/// A job of middling priority, and two high ones.
+fn high_jobs(alloc: Global) -> Result<Items<JobDoc>, Fail> {
     let mut jobs = Items::new(alloc);
     add(&mut jobs, alloc, 1, 10, None)?;
     add(&mut jobs, alloc, 2, 100, None)?;
     add(&mut jobs, alloc, 3, 101, None)?;
-    let mut night = planned_night(alloc, jobs)?;
-    night.obeyed(Cmd::Limit(0))?;
-    Ok(night)
+    Ok(jobs)
 }
 
-/// The high jobs were launched, the higher one ended and is to run again.
-fn limited_with_a_rerun(alloc: Global) -> Result<Night, Fail> {
-    let mut night = limited(alloc)?;
-    night.released(alloc)?;
-    night.launched(alloc, 3)?;
-    night.launched(alloc, 2)?;
-    night.ended(3)?;
-    night.obeyed(Cmd::Rerun(JobNo(3)))?;
-    Ok(night)
+/// At a workstation that may have no open launch, up to a fence that holds the highest.
+const LIMITED: [(Step, &str); 7] = [
+    (
+        Step::Limit(0),
+        "release true, end false, until None, best None",
+    ),
+    (
+        Step::Released,
+        "release false, end false, until None, best Some(3)",
+    ),
+    (
+        Step::Launched(3),
+        "release false, end false, until None, best Some(2)",
+    ),
+    (
+        Step::Launched(2),
+        "release false, end false, until None, best None",
+    ),
+    (
+        Step::Ended(3),
+        "release false, end false, until None, best None",
+    ),
+    (
+        Step::Rerun(3),
+        "release false, end false, until None, best Some(3)",
+    ),
+    (
+        Step::Fence(101),
+        "release false, end false, until None, best None",
+    ),
+];
+
+#[test]
+fn high_jobs_pass_a_limit_of_none(rt: HostRuntime) -> Result<(), Fail> {
+    let alloc = rt.alloc();
+    let mut night = planned_night(alloc, high_jobs(alloc)?)?;
+    let other = first_other(&mut night, alloc, &LIMITED)?;
+    assert!(rt; other.is_none(), "at {other:?}");
+    Ok(())
+}
+
+/// Of the jobs that follow nothing, those that are high.
+fn are_high_ready(night: &mut Night, alloc: Global) -> Result<bool, Fail> {
+    night.take(alloc, &Step::Limit(0))?;
+    let early = night.is_ready(3);
+    night.take(alloc, &Step::Released)?;
+    Ok(!early && !night.is_ready(1) && night.is_ready(2) && night.is_ready(3))
+}
+
+#[test]
+fn high_jobs_are_ready_at_a_limit_of_none(rt: HostRuntime) -> Result<(), Fail> {
+    let alloc = rt.alloc();
+    let mut night = planned_night(alloc, high_jobs(alloc)?)?;
+    assert!(rt; are_high_ready(&mut night, alloc)?);
+    Ok(())
 }
 
 /// Two jobs that need all units of the resource.
-fn needy(alloc: Global) -> Result<Night, Fail> {
+fn needy_jobs(alloc: Global) -> Result<Items<JobDoc>, Fail> {
     let mut jobs = Items::new(alloc);
     add(&mut jobs, alloc, 1, 10, Some(Dep::Needs(1, 2)))?;
     add(&mut jobs, alloc, 2, 10, Some(Dep::Needs(1, 2)))?;
-    let mut night = planned_night(alloc, jobs)?;
-    night.released(alloc)?;
-    Ok(night)
+    Ok(jobs)
+}
+
+/// With fewer units in between, up to the end of the stream.
+const NEEDY: [(Step, &str); 7] = [
+    (
+        Step::Released,
+        "release false, end false, until None, best Some(1)",
+    ),
+    (
+        Step::Launched(1),
+        "release false, end false, until None, best None",
+    ),
+    (
+        Step::Total(1),
+        "release false, end false, until None, best None",
+    ),
+    (
+        Step::Ended(1),
+        "release false, end false, until None, best None",
+    ),
+    (
+        Step::Total(2),
+        "release false, end false, until None, best Some(2)",
+    ),
+    (
+        Step::Launched(2),
+        "release false, end false, until None, best None",
+    ),
+    (
+        Step::Ended(2),
+        "release false, end true, until None, best None",
+    ),
+];
+
+#[test]
+fn a_stream_ends_once_all_jobs_did(rt: HostRuntime) -> Result<(), Fail> {
+    let alloc = rt.alloc();
+    let mut night = planned_night(alloc, needy_jobs(alloc)?)?;
+    let other = first_other(&mut night, alloc, &NEEDY)?;
+    assert!(rt; other.is_none(), "at {other:?}");
+    Ok(())
+}
+
+/// The need of the second job is satisfied until the first is launched, and what is not there never is.
+fn waits_for_units(night: &mut Night, alloc: Global) -> Result<bool, Fail> {
+    night.take(alloc, &Step::Released)?;
+    let before = night.is_satisfied(2, 1);
+    night.take(alloc, &Step::Launched(1))?;
+    Ok(before && !night.is_satisfied(2, 1))
+}
+
+/// A dependency or a job that is not there.
+fn is_none_satisfied(night: &Night) -> bool {
+    let satisfied = night.is_satisfied(2, 0)
+        || night.is_satisfied(2, 2)
+        || night.is_satisfied(3, 1);
+    !satisfied && !night.is_ready(3)
+}
+
+#[test]
+fn units_in_use_are_waited_for(rt: HostRuntime) -> Result<(), Fail> {
+    let alloc = rt.alloc();
+    let mut night = planned_night(alloc, needy_jobs(alloc)?)?;
+    assert!(rt; is_none_satisfied(&night));
+    assert!(rt; waits_for_units(&mut night, alloc)?);
+    assert!(rt; is_none_satisfied(&night));
+    Ok(())
 }
 
 /// Jobs with an UNTIL of each kind, and one that follows the third of them.
-fn timed(alloc: Global) -> Result<Night, Fail> {
+fn timed_jobs(alloc: Global) -> Result<Items<JobDoc>, Fail> {
     let mut jobs = Items::new(alloc);
     add(
         &mut jobs,
@@ -220,135 +360,53 @@ fn timed(alloc: Global) -> Result<Night, Fail> {
     add(&mut jobs, alloc, 2, 10, Some(Dep::Until(AT, OnUntil::Cont)))?;
     add(&mut jobs, alloc, 3, 10, Some(Dep::Until(AT, OnUntil::Canc)))?;
     add(&mut jobs, alloc, 4, 10, Some(Dep::FollowsJob(JobNo(3))))?;
-    let mut night = planned_night(alloc, jobs)?;
-    night.released(alloc)?;
-    Ok(night)
+    Ok(jobs)
 }
 
-/// Each UNTIL has passed, and this was recorded.
-fn timed_out(alloc: Global) -> Result<Night, Fail> {
-    let mut night = timed(alloc)?;
-    night.event(Body::Clock(AT))?;
-    night.passed(1, OnUntil::Suppr)?;
-    night.passed(2, OnUntil::Cont)?;
-    night.passed(3, OnUntil::Canc)?;
-    Ok(night)
-}
+/// At the reading each UNTIL is due in turn; what goes on behind its UNTIL and what follows the cancelled job is launched.
+const TIMED: [(Step, &str); 7] = [
+    (
+        Step::Released,
+        "release false, end false, until None, best Some(1)",
+    ),
+    (
+        Step::Clock,
+        "release false, end false, until Some(1), best Some(2)",
+    ),
+    (
+        Step::Passed(1, OnUntil::Suppr),
+        "release false, end false, until Some(2), best Some(2)",
+    ),
+    (
+        Step::Passed(2, OnUntil::Cont),
+        "release false, end false, until Some(3), best Some(2)",
+    ),
+    (
+        Step::Passed(3, OnUntil::Canc),
+        "release false, end false, until None, best Some(2)",
+    ),
+    (
+        Step::Launched(2),
+        "release false, end false, until None, best Some(4)",
+    ),
+    (
+        Step::Launched(4),
+        "release false, end false, until None, best None",
+    ),
+];
 
-#[test]
-fn a_stream_is_released_first(rt: HostRuntime) -> Result<(), Fail> {
-    let mut night = limited(rt.alloc())?;
-    assert!(rt; night.best() == None);
-    assert!(rt; night.may_release());
-    night.released(rt.alloc())?;
-    assert!(rt; !night.may_release());
-    Ok(())
-}
-
-#[test]
-fn only_high_jobs_pass_a_limit_of_none(rt: HostRuntime) -> Result<(), Fail> {
-    let mut night = limited(rt.alloc())?;
-    night.released(rt.alloc())?;
-    assert!(rt; !night.is_ready(1));
-    assert!(rt; night.is_ready(2));
-    assert!(rt; night.best() == Some(3));
-    Ok(())
-}
-
-#[test]
-fn the_next_best_is_lower(rt: HostRuntime) -> Result<(), Fail> {
-    let mut night = limited(rt.alloc())?;
-    night.released(rt.alloc())?;
-    night.launched(rt.alloc(), 3)?;
-    assert!(rt; night.best() == Some(2));
-    night.launched(rt.alloc(), 2)?;
-    assert!(rt; night.best() == None);
-    Ok(())
-}
-
-#[test]
-fn a_fence_holds_what_is_not_above_it(rt: HostRuntime) -> Result<(), Fail> {
-    let mut night = limited_with_a_rerun(rt.alloc())?;
-    assert!(rt; night.is_ready(3));
-    night.obeyed(Cmd::Fence(101))?;
-    assert!(rt; !night.is_ready(3));
-    assert!(rt; night.best() == None);
-    Ok(())
-}
-
-#[test]
-fn units_in_use_are_waited_for(rt: HostRuntime) -> Result<(), Fail> {
-    let mut night = needy(rt.alloc())?;
-    assert!(rt; night.best() == Some(1));
-    assert!(rt; night.is_satisfied(2, 1));
-    night.launched(rt.alloc(), 1)?;
-    assert!(rt; !night.is_satisfied(2, 1));
-    Ok(())
-}
-
-#[test]
-fn what_is_not_there_is_not_satisfied(rt: HostRuntime) -> Result<(), Fail> {
-    let night = needy(rt.alloc())?;
-    assert!(rt; !night.is_satisfied(2, 0));
-    assert!(rt; !night.is_satisfied(2, 2));
-    assert!(rt; !night.is_satisfied(3, 1));
-    assert!(rt; !night.is_ready(3));
-    Ok(())
-}
-
-#[test]
-fn a_total_is_what_was_set_last(rt: HostRuntime) -> Result<(), Fail> {
-    let mut night = needy(rt.alloc())?;
-    night.launched(rt.alloc(), 1)?;
-    night.obeyed(Cmd::Total(1, 1))?;
-    night.ended(1)?;
-    assert!(rt; night.best() == None);
-    night.obeyed(Cmd::Total(1, 2))?;
-    assert!(rt; night.best() == Some(2));
-    Ok(())
-}
-
-#[test]
-fn a_stream_ends_once_all_jobs_did(rt: HostRuntime) -> Result<(), Fail> {
-    let mut night = needy(rt.alloc())?;
-    night.launched(rt.alloc(), 1)?;
-    night.ended(1)?;
-    night.launched(rt.alloc(), 2)?;
-    assert!(rt; !night.may_end());
-    night.ended(2)?;
-    assert!(rt; night.may_end());
-    Ok(())
+/// Once each UNTIL passed: that of the first job holds it for good, and the other jobs go on.
+fn is_the_first_held(night: &Night) -> bool {
+    !night.is_satisfied(1, 1) && night.is_satisfied(2, 1) && night.is_satisfied(4, 1)
 }
 
 #[test]
 fn untils_are_due_at_the_reading(rt: HostRuntime) -> Result<(), Fail> {
-    let mut night = timed(rt.alloc())?;
-    assert!(rt; night.until_due() == None);
-    night.event(Body::Clock(AT))?;
-    assert!(rt; night.until_due() == Some(1));
-    night.passed(1, OnUntil::Suppr)?;
-    assert!(rt; night.until_due() == Some(2));
-    Ok(())
-}
-
-#[test]
-fn what_follows_a_cancelled_job_goes_on(rt: HostRuntime) -> Result<(), Fail> {
-    let night = timed_out(rt.alloc())?;
-    assert!(rt; night.until_due() == None);
-    assert!(rt; !night.is_satisfied(1, 1));
-    assert!(rt; night.is_satisfied(2, 1));
-    assert!(rt; night.is_satisfied(4, 1));
-    Ok(())
-}
-
-#[test]
-fn a_job_goes_on_behind_its_until(rt: HostRuntime) -> Result<(), Fail> {
-    let mut night = timed_out(rt.alloc())?;
-    assert!(rt; night.best() == Some(2));
-    night.launched(rt.alloc(), 2)?;
-    assert!(rt; night.best() == Some(4));
-    night.launched(rt.alloc(), 4)?;
-    assert!(rt; night.best() == None);
+    let alloc = rt.alloc();
+    let mut night = planned_night(alloc, timed_jobs(alloc)?)?;
+    let other = first_other(&mut night, alloc, &TIMED)?;
+    assert!(rt; other.is_none(), "at {other:?}");
+    assert!(rt; is_the_first_held(&night));
     Ok(())
 }
 
@@ -371,20 +429,28 @@ fn best_after<R: Readiness>(
     Ok(tracker.best(net, o, w))
 }
 
-#[test]
-fn a_tracker_follows_the_entries(rt: HostRuntime) -> Result<(), Fail> {
-    let mut night = needy(rt.alloc())?;
+/// Whether no job is the best after the third event of M, over the plain tracker.
+fn has_no_best_after(night: &mut Night, alloc: Global, step: &Step) -> Result<bool, Fail> {
     let mut tracker = Scan;
     let entry = Entry {
         feed: Feed::Events(M),
         place: 3,
-        body: Body::Launched(JobNo(1), 1, Seen::new(rt.alloc())),
+        body: body(alloc, step),
     };
     let _count = night.net.count();
-    let held = night.owners.count(entry.feed);
-    assert!(rt; held == 2);
+    if night.owners.count(entry.feed) != 2 {
+        return Ok(false);
+    }
     let best = best_after(&night.net, &mut night.owners, &mut tracker, M, &entry)?;
-    assert!(rt; best == None);
+    Ok(best == None)
+}
+
+#[test]
+fn a_tracker_follows_the_entries(rt: HostRuntime) -> Result<(), Fail> {
+    let alloc = rt.alloc();
+    let mut night = planned_night(alloc, needy_jobs(alloc)?)?;
+    night.take(alloc, &Step::Released)?;
+    assert!(rt; has_no_best_after(&mut night, alloc, &Step::Launched(1))?);
     Ok(())
 }
 

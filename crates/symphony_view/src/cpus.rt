@@ -14,7 +14,7 @@ pub(crate) struct Cpu {
     pub(crate) held: u32,
     pub(crate) fence: u8,
     pub(crate) limit: u16,
-    /// In minutes since 1970.
+    /// In seconds since 1970, UTC.
     pub(crate) clock: u64,
     pub(crate) stopped: bool,
 }

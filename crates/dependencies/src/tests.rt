@@ -79,29 +79,34 @@ impl Night {
         sat(&self.net, &self.owners, Obj::Job(JobNo(no)), i)
     }
 
-    /// The job whose dependency is the UNTIL that is due.
-    fn until_due(&self) -> Option<u32> {
+    /// The number of the job whose dependency is the UNTIL that is due, or 0.
+    fn until_due(&self) -> u32 {
         match until_due(&self.net, &self.owners, M) {
             Some(until) => job_number(&until.0),
-            None => None,
+            None => 0,
         }
     }
 
-    fn best(&self) -> Option<u32> {
+    /// The number of the best job, or 0.
+    fn best(&self) -> u32 {
         let _count = self.net.count();
         match Scan.best(&self.net, &self.owners, M) {
-            Some(j) => Some(j.0),
-            None => None,
+            Some(j) => j.0,
+            None => 0,
         }
     }
 
-    /// What M may do, with the job whose UNTIL is due, and the best job.
+    /// What M may do, with the numbers of the job whose UNTIL is due and of the best job, 0 for none.
     fn choices(&self, alloc: Global) -> Result<String, Fail> {
-        let release = may_release(&self.net, &self.owners, M, S);
-        let end = may_end(&self.net, &self.owners, M, S);
+        let release = word("release ", may_release(&self.net, &self.owners, M, S));
+        let end = word("end ", may_end(&self.net, &self.owners, M, S));
         let (until, best) = (self.until_due(), self.best());
-        Ok(format!(in alloc; "release {release}, end {end}, until {until:?}, best {best:?}")?)
+        Ok(format!(in alloc; "{release}{end}until {until} best {best}")?)
     }
+}
+
+fn word(text: &str, applies: bool) -> &str {
+    if applies { text } else { "" }
 }
 
 /// The first of these steps after which M has other choices than those beside it.
@@ -217,34 +222,13 @@ fn high_jobs(alloc: Global) -> Result<Items<JobDoc>, Fail> {
 
 /// At a workstation that may have no open launch, up to a fence that holds the highest.
 const LIMITED: [(Step, &str); 7] = [
-    (
-        Step::Limit(0),
-        "release true, end false, until None, best None",
-    ),
-    (
-        Step::Released,
-        "release false, end false, until None, best Some(3)",
-    ),
-    (
-        Step::Launched(3),
-        "release false, end false, until None, best Some(2)",
-    ),
-    (
-        Step::Launched(2),
-        "release false, end false, until None, best None",
-    ),
-    (
-        Step::Ended(3),
-        "release false, end false, until None, best None",
-    ),
-    (
-        Step::Rerun(3),
-        "release false, end false, until None, best Some(3)",
-    ),
-    (
-        Step::Fence(101),
-        "release false, end false, until None, best None",
-    ),
+    (Step::Limit(0), "release until 0 best 0"),
+    (Step::Released, "until 0 best 3"),
+    (Step::Launched(3), "until 0 best 2"),
+    (Step::Launched(2), "until 0 best 0"),
+    (Step::Ended(3), "until 0 best 0"),
+    (Step::Rerun(3), "until 0 best 3"),
+    (Step::Fence(101), "until 0 best 0"),
 ];
 
 #[test]
@@ -282,34 +266,13 @@ fn needy_jobs(alloc: Global) -> Result<Items<JobDoc>, Fail> {
 
 /// With fewer units in between, up to the end of the stream.
 const NEEDY: [(Step, &str); 7] = [
-    (
-        Step::Released,
-        "release false, end false, until None, best Some(1)",
-    ),
-    (
-        Step::Launched(1),
-        "release false, end false, until None, best None",
-    ),
-    (
-        Step::Total(1),
-        "release false, end false, until None, best None",
-    ),
-    (
-        Step::Ended(1),
-        "release false, end false, until None, best None",
-    ),
-    (
-        Step::Total(2),
-        "release false, end false, until None, best Some(2)",
-    ),
-    (
-        Step::Launched(2),
-        "release false, end false, until None, best None",
-    ),
-    (
-        Step::Ended(2),
-        "release false, end true, until None, best None",
-    ),
+    (Step::Released, "until 0 best 1"),
+    (Step::Launched(1), "until 0 best 0"),
+    (Step::Total(1), "until 0 best 0"),
+    (Step::Ended(1), "until 0 best 0"),
+    (Step::Total(2), "until 0 best 2"),
+    (Step::Launched(2), "until 0 best 0"),
+    (Step::Ended(2), "end until 0 best 0"),
 ];
 
 #[test]
@@ -363,36 +326,16 @@ fn timed_jobs(alloc: Global) -> Result<Items<JobDoc>, Fail> {
     Ok(jobs)
 }
 
-/// At the reading each UNTIL is due in turn; what goes on behind its UNTIL and what follows the cancelled job is launched.
+/// At the reading each UNTIL is due in turn. What goes on behind its UNTIL is launched, then what follows the
+/// cancelled job.
 const TIMED: [(Step, &str); 7] = [
-    (
-        Step::Released,
-        "release false, end false, until None, best Some(1)",
-    ),
-    (
-        Step::Clock,
-        "release false, end false, until Some(1), best Some(2)",
-    ),
-    (
-        Step::Passed(1, OnUntil::Suppr),
-        "release false, end false, until Some(2), best Some(2)",
-    ),
-    (
-        Step::Passed(2, OnUntil::Cont),
-        "release false, end false, until Some(3), best Some(2)",
-    ),
-    (
-        Step::Passed(3, OnUntil::Canc),
-        "release false, end false, until None, best Some(2)",
-    ),
-    (
-        Step::Launched(2),
-        "release false, end false, until None, best Some(4)",
-    ),
-    (
-        Step::Launched(4),
-        "release false, end false, until None, best None",
-    ),
+    (Step::Released, "until 0 best 1"),
+    (Step::Clock, "until 1 best 2"),
+    (Step::Passed(1, OnUntil::Suppr), "until 2 best 2"),
+    (Step::Passed(2, OnUntil::Cont), "until 3 best 2"),
+    (Step::Passed(3, OnUntil::Canc), "until 0 best 2"),
+    (Step::Launched(2), "until 0 best 4"),
+    (Step::Launched(4), "until 0 best 0"),
 ];
 
 /// Once each UNTIL passed: that of the first job holds it for good, and the other jobs go on.
@@ -454,9 +397,9 @@ fn a_tracker_follows_the_entries(rt: HostRuntime) -> Result<(), Fail> {
     Ok(())
 }
 
-fn job_number(obj: &Obj) -> Option<u32> {
+fn job_number(obj: &Obj) -> u32 {
     match obj {
-        Obj::Job(j) => Some(j.0),
-        Obj::Stream(_) => None,
+        Obj::Job(j) => j.0,
+        Obj::Stream(_) => 0,
     }
 }

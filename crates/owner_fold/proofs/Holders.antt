@@ -289,15 +289,6 @@ used_by_both V w r =
           (λ (d : StreamDoc). d.ws == w) (catalogue V),
     ) refl)
 
--- one more job, and one more stream
-pub job_units_more : (V : View) (r : ℕ) (p : StreamJob) (ps : List StreamJob)
-    → job_units V r (p ∷ ps) ≡ units V r (Job p.doc.no) + job_units V r ps
-job_units_more V r p ps = sum_by-cons (λ (p : StreamJob). units V r (Job p.doc.no)) p ps
-
-pub stream_units_more : (V : View) (r : ℕ) (d : StreamDoc) (ds : List StreamDoc)
-    → stream_units V r (d ∷ ds) ≡ units V r (Stream d.no) + stream_units V r ds
-stream_units_more V r d ds = sum_by-cons (λ (d : StreamDoc). units V r (Stream d.no)) d ds
-
 -- the jobs of w with an open launch, of all jobs of the catalogue
 pub open_among : (V : View) (w : ℕ) (all : List StreamJob) → all ≡ jobs V
     → filter (λ (p : StreamJob). is_open_here w (V (Events w)) p.doc) all ≡ open_jobs V w

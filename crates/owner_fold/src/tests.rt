@@ -1,391 +1,345 @@
 //! The entries of worked histories, and what they say of each object.
+mod histories;
+
 use crate::{Outcome, Owners};
-use base_types::{
-    Body, Cmd, Dep, Entry, Feed, Items, JobDoc, JobNo, Moment, Obj, OnUntil, Recovery, Seen,
-    StreamDoc, StreamNo, Text, Why, Work, Ws,
+use base_types::{Body, Cmd, Feed, JobNo, Obj, StreamNo, Why, Ws};
+use histories::{
+    add_again, ended, event, launch_once, launched, obeyed, pass_untils, plan_one_job,
+    release_between, released, rerun, rerun_well, total, use_units,
 };
 use std::alloc::Global;
 use std::test::Fail;
 
-fn job(alloc: Global, no: u32, deps: Items<Dep>) -> JobDoc {
-    JobDoc {
-        no: JobNo(no),
-        ws: Ws(0),
-        name: Text::new(alloc),
-        priority: 10,
-        work: Work::Command(Text::new(alloc)),
-        logon: Text::new(alloc),
-        cond: Items::new(alloc),
-        recovery: Recovery::Stop,
-        deps,
-    }
+/// The first plan is held, with its one stream, which is released.
+fn is_under_way(owners: &Owners) -> bool {
+    owners.has_plan()
+        && owners.run() == 1
+        && owners.members().len() == 1
+        && owners.is_released(StreamNo(1))
+        && !owners.is_ended(StreamNo(1))
 }
 
-fn stream(alloc: Global, jobs: Items<JobDoc>) -> StreamDoc {
-    StreamDoc {
-        no: StreamNo(1),
-        ws: Ws(0),
-        name: Text::new(alloc),
-        priority: 10,
-        limit: None,
-        carry: false,
-        deps: Items::new(alloc),
-        jobs,
-    }
-}
-
-/// Adds a job with this dependency.
-fn add_job(jobs: &mut Items<JobDoc>, alloc: Global, no: u32, dep: Dep) -> Result<(), Fail> {
-    let mut deps = Items::new(alloc);
-    deps.push(dep)?;
-    jobs.push(job(alloc, no, deps))?;
-    Ok(())
-}
-
-/// Takes a body as the next entry of its feed.
-fn take(owners: &mut Owners, feed: Feed, place: u32, body: Body) -> Result<(), Fail> {
-    let entry = Entry { feed, place, body };
-    if entry.place > 0 && owners.count(entry.feed) == entry.place - 1 {
-        owners.take(&entry)?;
-    }
-    Ok(())
-}
-
-/// An event of the workstation M.
-fn event(owners: &mut Owners, place: u32, body: Body) -> Result<(), Fail> {
-    take(owners, Feed::Events(Ws(0)), place, body)
-}
-
-/// M obeys the order of this number.
-fn obeyed(owners: &mut Owners, place: u32, order: u32, command: Cmd) -> Result<(), Fail> {
-    event(owners, place, Body::Obeyed(Ws(0), order, command))
-}
-
-fn seen(alloc: Global, count: u32) -> Result<Seen, Fail> {
-    let mut seen = Seen::new(alloc);
-    seen.push((Ws(0), count))?;
-    Ok(seen)
-}
-
-/// The stream is released, with the entries before this one seen.
-fn released(owners: &mut Owners, alloc: Global, place: u32) -> Result<(), Fail> {
-    let seen = seen(alloc, place.saturating_sub(1))?;
-    event(owners, place, Body::Released(StreamNo(1), seen))
-}
-
-/// A job is launched, with the entries before this one seen.
-fn launched(
-    owners: &mut Owners,
-    alloc: Global,
-    place: u32,
-    no: u32,
-    number: u32,
-) -> Result<(), Fail> {
-    let seen = seen(alloc, place.saturating_sub(1))?;
-    event(owners, place, Body::Launched(JobNo(no), number, seen))
-}
-
-/// The first plan of a workstation M with a stream of these jobs.
-fn planned(alloc: Global, jobs: Items<JobDoc>) -> Result<Owners, Fail> {
-    let mut docs = Items::new(alloc);
-    docs.push(stream(alloc, jobs))?;
-    let mut owners = Owners::new(alloc);
-    let plan = Body::NewPlan(1, Seen::new(alloc), Items::new(alloc), docs);
-    event(&mut owners, 1, plan)?;
-    Ok(owners)
-}
-
-/// A plan with one job, which depends on nothing.
-fn one_job(alloc: Global) -> Result<Owners, Fail> {
-    let mut jobs = Items::new(alloc);
-    jobs.push(job(alloc, 1, Items::new(alloc)))?;
-    planned(alloc, jobs)
-}
-
-/// The job is released and launched.
-fn launched_once(alloc: Global) -> Result<Owners, Fail> {
-    let mut owners = one_job(alloc)?;
-    released(&mut owners, alloc, 2)?;
-    launched(&mut owners, alloc, 3, 1, 1)?;
-    Ok(owners)
+/// The first launch of the job is open, and nothing is told of it.
+fn is_open(owners: &Owners) -> bool {
+    owners.open_launch(JobNo(1)) == Some(1)
+        && !owners.is_started(JobNo(1), 1)
+        && !owners.is_last_started(JobNo(1))
+        && owners.last_outcome(JobNo(1)) == None
 }
 
 #[test]
 fn a_launch_is_open(rt: HostRuntime) -> Result<(), Fail> {
-    let owners = launched_once(rt.alloc())?;
-    assert!(rt; owners.has_plan());
-    assert_eq!(rt; owners.run(), 1);
-    assert_eq!(rt; owners.members().len(), 1);
-    assert!(rt; owners.open_launch(JobNo(1)) == Some(1));
-    assert!(rt; !owners.is_started(JobNo(1), 1));
-    assert!(rt; !owners.is_last_started(JobNo(1)));
-    assert!(rt; owners.last_outcome(JobNo(1)) == None);
-    assert!(rt; owners.is_released(StreamNo(1)));
-    assert!(rt; !owners.is_ended(StreamNo(1)));
+    let mut owners = Owners::new(rt.alloc());
+    launch_once(&mut owners, rt.alloc())?;
+    assert!(rt; is_under_way(&owners));
+    assert!(rt; is_open(&owners));
     Ok(())
 }
 
-/// The launch is lost, and an order to rerun the job is obeyed.
-fn rerun(alloc: Global) -> Result<Owners, Fail> {
-    let mut owners = launched_once(alloc)?;
-    event(&mut owners, 4, Body::Lost(JobNo(1), 1))?;
-    let order = Body::Order(Cmd::Rerun(JobNo(1)));
-    take(&mut owners, Feed::Orders(Ws(0), Ws(0)), 1, order)?;
-    obeyed(&mut owners, 5, 1, Cmd::Rerun(JobNo(1)))?;
-    Ok(owners)
+fn is_lost_and_due(owners: &Owners) -> bool {
+    owners.last_outcome(JobNo(1)) == Some(Outcome::Lost)
+        && owners.is_due(JobNo(1))
+        && !owners.is_good(JobNo(1))
+}
+
+/// The order of the rerun is held, and five events.
+fn has_the_rerun(owners: &Owners) -> bool {
+    owners.order(Ws(0), Ws(0), 1).is_some()
+        && owners.entry(Feed::Events(Ws(0)), 5).is_some()
+        && owners.entry(Feed::Events(Ws(0)), 6).is_none()
 }
 
 #[test]
 fn a_lost_launch_is_due_again(rt: HostRuntime) -> Result<(), Fail> {
-    let owners = rerun(rt.alloc())?;
-    assert!(rt; owners.last_outcome(JobNo(1)) == Some(Outcome::Lost));
-    assert!(rt; owners.is_due(JobNo(1)));
-    assert!(rt; !owners.is_good(JobNo(1)));
-    assert!(rt; owners.order(Ws(0), Ws(0), 1).is_some());
-    assert!(rt; owners.entry(Feed::Events(Ws(0)), 5).is_some());
-    assert!(rt; owners.entry(Feed::Events(Ws(0)), 6).is_none());
+    let mut owners = Owners::new(rt.alloc());
+    rerun(&mut owners, rt.alloc())?;
+    assert!(rt; is_lost_and_due(&owners));
+    assert!(rt; has_the_rerun(&owners));
     Ok(())
+}
+
+/// How many events there are, and how many orders, of which all are answered.
+fn are_counted(owners: &Owners) -> bool {
+    owners.count(Feed::Events(Ws(0))) == 7
+        && owners.count(Feed::Orders(Ws(0), Ws(0))) == 1
+        && owners.answered(Ws(0), Ws(0)) == 1
+}
+
+fn is_rerun_well(owners: &Owners) -> bool {
+    owners.launches(JobNo(1)) == 2
+        && owners.reruns(JobNo(1)) == 1
+        && owners.open_launch(JobNo(1)) == None
+        && owners.last_outcome(JobNo(1)) == Some(Outcome::EndedGood)
+        && owners.is_good(JobNo(1))
 }
 
 #[test]
 fn a_rerun_ends_well(rt: HostRuntime) -> Result<(), Fail> {
-    let mut owners = rerun(rt.alloc())?;
-    launched(&mut owners, rt.alloc(), 6, 1, 2)?;
-    event(&mut owners, 7, Body::Ended(JobNo(1), 2, 0, true))?;
-    assert_eq!(rt; owners.count(Feed::Events(Ws(0))), 7);
-    assert_eq!(rt; owners.count(Feed::Orders(Ws(0), Ws(0))), 1);
-    assert_eq!(rt; owners.answered(Ws(0), Ws(0)), 1);
-    assert_eq!(rt; owners.launches(JobNo(1)), 2);
-    assert_eq!(rt; owners.reruns(JobNo(1)), 1);
-    assert!(rt; owners.open_launch(JobNo(1)) == None);
-    assert!(rt; owners.last_outcome(JobNo(1)) == Some(Outcome::EndedGood));
-    assert!(rt; owners.is_good(JobNo(1)));
+    let mut owners = Owners::new(rt.alloc());
+    rerun_well(&mut owners, rt.alloc())?;
+    assert!(rt; are_counted(&owners));
+    assert!(rt; is_rerun_well(&owners));
     Ok(())
+}
+
+/// The first fence counts, and then the second.
+fn fences_count(owners: &mut Owners, alloc: Global) -> Result<bool, Fail> {
+    plan_one_job(owners, alloc)?;
+    obeyed(owners, 1, Cmd::Fence(10))?;
+    released(owners, alloc)?;
+    let first = owners.fence(Ws(0));
+    obeyed(owners, 2, Cmd::Fence(9))?;
+    Ok(first == 10 && owners.fence(Ws(0)) == 9)
+}
+
+/// Nothing was said of the limit and of the clock, and M goes on.
+fn is_as_it_began(owners: &Owners) -> bool {
+    owners.limit(Ws(0)) == 10 && owners.now(Ws(0)).0 == 0 && !owners.is_stopped(Ws(0))
 }
 
 #[test]
 fn the_last_fence_counts(rt: HostRuntime) -> Result<(), Fail> {
-    let mut owners = one_job(rt.alloc())?;
-    obeyed(&mut owners, 2, 1, Cmd::Fence(10))?;
-    released(&mut owners, rt.alloc(), 3)?;
-    assert_eq!(rt; owners.fence(Ws(0)), 10);
-    obeyed(&mut owners, 4, 2, Cmd::Fence(9))?;
-    assert_eq!(rt; owners.fence(Ws(0)), 9);
-    assert_eq!(rt; owners.limit(Ws(0)), 10);
-    assert_eq!(rt; owners.now(Ws(0)).0, 0);
-    assert!(rt; !owners.is_stopped(Ws(0)));
+    let mut owners = Owners::new(rt.alloc());
+    assert!(rt; fences_count(&mut owners, rt.alloc())?);
+    assert!(rt; is_as_it_began(&owners));
     Ok(())
 }
 
-/// Two jobs that need 2 units each, of which the first is launched.
-fn in_use(alloc: Global) -> Result<Owners, Fail> {
-    let mut jobs = Items::new(alloc);
-    add_job(&mut jobs, alloc, 1, Dep::Needs(1, 2))?;
-    add_job(&mut jobs, alloc, 2, Dep::Needs(1, 2))?;
-    let mut owners = planned(alloc, jobs)?;
-    released(&mut owners, alloc, 2)?;
-    launched(&mut owners, alloc, 3, 1, 1)?;
-    Ok(owners)
+/// The total that was set, and the units in use.
+fn units(owners: &Owners) -> (Option<u16>, u64) {
+    (owners.total_set(Ws(0), 1), owners.used(Ws(0), 1))
+}
+
+/// After the job has ended the total is set and nothing is in use.
+fn gives_back(owners: &mut Owners) -> Result<bool, Fail> {
+    total(owners, 1, 1)?;
+    ended(owners, 1)?;
+    Ok(units(owners) == (Some(1), 0))
+}
+
+/// The second job takes as many.
+fn takes_again(owners: &mut Owners, alloc: Global) -> Result<bool, Fail> {
+    total(owners, 2, 2)?;
+    launched(owners, alloc, 2, 1)?;
+    Ok(units(owners) == (Some(2), 2))
 }
 
 #[test]
 fn open_launches_use_units(rt: HostRuntime) -> Result<(), Fail> {
-    let mut owners = in_use(rt.alloc())?;
-    assert!(rt; owners.total_set(Ws(0), 1) == None);
-    assert_eq!(rt; owners.used(Ws(0), 1), 2);
-    obeyed(&mut owners, 4, 1, Cmd::Total(1, 1))?;
-    event(&mut owners, 5, Body::Ended(JobNo(1), 1, 0, true))?;
-    assert_eq!(rt; owners.used(Ws(0), 1), 0);
-    obeyed(&mut owners, 6, 2, Cmd::Total(1, 2))?;
-    launched(&mut owners, rt.alloc(), 7, 2, 1)?;
-    assert!(rt; owners.total_set(Ws(0), 1) == Some(2));
-    assert_eq!(rt; owners.used(Ws(0), 1), 2);
+    let mut owners = Owners::new(rt.alloc());
+    use_units(&mut owners, rt.alloc())?;
+    assert!(rt; units(&owners) == (None, 2));
+    assert!(rt; gives_back(&mut owners)?);
+    assert!(rt; takes_again(&mut owners, rt.alloc())?);
     Ok(())
 }
 
-/// Jobs with an UNTIL of each mark at 200, and one that follows the third.
-fn with_untils(alloc: Global) -> Result<Owners, Fail> {
-    let mut jobs = Items::new(alloc);
-    add_job(&mut jobs, alloc, 1, Dep::Until(Moment(200), OnUntil::Suppr))?;
-    add_job(&mut jobs, alloc, 2, Dep::Until(Moment(200), OnUntil::Cont))?;
-    add_job(&mut jobs, alloc, 3, Dep::Until(Moment(200), OnUntil::Canc))?;
-    add_job(&mut jobs, alloc, 4, Dep::FollowsJob(JobNo(3)))?;
-    planned(alloc, jobs)
+fn is_recorded(owners: &Owners, no: u32) -> bool {
+    owners.is_until_recorded(Obj::Job(JobNo(no)), 1)
 }
 
-fn passed(owners: &mut Owners, place: u32, no: u32, then: OnUntil) -> Result<(), Fail> {
-    event(
-        owners,
-        place,
-        Body::UntilPassed(Obj::Job(JobNo(no)), 1, then),
-    )
+fn is_cancelled(owners: &Owners, no: u32) -> bool {
+    owners.is_cancelled(Obj::Job(JobNo(no)))
+}
+
+/// What passed is recorded at its own job, and cancels where it is to.
+fn untils_passed(owners: &Owners) -> bool {
+    owners.now(Ws(0)).0 == 200
+        && is_recorded(owners, 1)
+        && !is_recorded(owners, 4)
+        && !is_cancelled(owners, 1)
+        && !is_cancelled(owners, 2)
+        && is_cancelled(owners, 3)
 }
 
 #[test]
 fn untils_pass_at_the_reading(rt: HostRuntime) -> Result<(), Fail> {
-    let mut owners = with_untils(rt.alloc())?;
-    released(&mut owners, rt.alloc(), 2)?;
-    event(&mut owners, 3, Body::Clock(Moment(200)))?;
-    passed(&mut owners, 4, 1, OnUntil::Suppr)?;
-    passed(&mut owners, 5, 2, OnUntil::Cont)?;
-    passed(&mut owners, 6, 3, OnUntil::Canc)?;
-    assert_eq!(rt; owners.now(Ws(0)).0, 200);
-    assert!(rt; owners.is_until_recorded(Obj::Job(JobNo(1)), 1));
-    assert!(rt; !owners.is_until_recorded(Obj::Job(JobNo(4)), 1));
-    assert!(rt; !owners.is_cancelled(Obj::Job(JobNo(1))));
-    assert!(rt; !owners.is_cancelled(Obj::Job(JobNo(2))));
-    assert!(rt; owners.is_cancelled(Obj::Job(JobNo(3))));
+    let mut owners = Owners::new(rt.alloc());
+    pass_untils(&mut owners, rt.alloc())?;
+    assert!(rt; untils_passed(&owners));
     Ok(())
+}
+
+fn has_dep(owners: &Owners, i: u16) -> bool {
+    owners.dep(Obj::Job(JobNo(1)), i).is_some()
+}
+
+fn is_waived(owners: &Owners, i: u16) -> bool {
+    owners.is_waived(Obj::Job(JobNo(1)), i)
+}
+
+/// Of the two dependencies the first is waived.
+fn the_first_is_waived(owners: &Owners) -> bool {
+    owners.dep_count(Obj::Job(JobNo(1))) == 2
+        && !has_dep(owners, 0)
+        && has_dep(owners, 2)
+        && is_waived(owners, 1)
+        && !is_waived(owners, 2)
 }
 
 #[test]
 fn a_release_waives_what_stands_before_it(rt: HostRuntime) -> Result<(), Fail> {
-    let mut owners = one_job(rt.alloc())?;
-    obeyed(
-        &mut owners,
-        2,
-        1,
-        Cmd::AddDep(Obj::Job(JobNo(1)), Dep::At(Moment(5))),
-    )?;
-    obeyed(&mut owners, 3, 2, Cmd::Release(Obj::Job(JobNo(1))))?;
-    obeyed(
-        &mut owners,
-        4,
-        3,
-        Cmd::AddDep(Obj::Job(JobNo(1)), Dep::At(Moment(6))),
-    )?;
-    assert_eq!(rt; owners.dep_count(Obj::Job(JobNo(1))), 2);
-    assert!(rt; owners.dep(Obj::Job(JobNo(1)), 0).is_none());
-    assert!(rt; owners.dep(Obj::Job(JobNo(1)), 2).is_some());
-    assert!(rt; owners.is_waived(Obj::Job(JobNo(1)), 1));
-    assert!(rt; !owners.is_waived(Obj::Job(JobNo(1)), 2));
+    let mut owners = Owners::new(rt.alloc());
+    release_between(&mut owners, rt.alloc())?;
+    assert!(rt; the_first_is_waived(&owners));
     Ok(())
+}
+
+fn set_each(owners: &mut Owners, alloc: Global) -> Result<(), Fail> {
+    plan_one_job(owners, alloc)?;
+    obeyed(owners, 1, Cmd::AltPri(Obj::Job(JobNo(1)), 50))?;
+    obeyed(owners, 2, Cmd::StreamLimit(StreamNo(1), 3))?;
+    obeyed(owners, 3, Cmd::Stop)
+}
+
+fn each_is_set(owners: &Owners) -> bool {
+    owners.priority_set(Obj::Job(JobNo(1))) == Some(50)
+        && owners.priority_set(Obj::Stream(StreamNo(1))) == None
+        && owners.stream_limit_set(StreamNo(1)) == Some(3)
+        && owners.is_stopped(Ws(0))
 }
 
 #[test]
 fn what_commands_set(rt: HostRuntime) -> Result<(), Fail> {
-    let mut owners = one_job(rt.alloc())?;
-    obeyed(&mut owners, 2, 1, Cmd::AltPri(Obj::Job(JobNo(1)), 50))?;
-    obeyed(&mut owners, 3, 2, Cmd::StreamLimit(StreamNo(1), 3))?;
-    obeyed(&mut owners, 4, 3, Cmd::Stop)?;
-    assert!(rt; owners.priority_set(Obj::Job(JobNo(1))) == Some(50));
-    assert!(rt; owners.priority_set(Obj::Stream(StreamNo(1))) == None);
-    assert!(rt; owners.stream_limit_set(StreamNo(1)) == Some(3));
-    assert!(rt; owners.is_stopped(Ws(0)));
+    let mut owners = Owners::new(rt.alloc());
+    set_each(&mut owners, rt.alloc())?;
+    assert!(rt; each_is_set(&owners));
     Ok(())
+}
+
+fn reply(owners: &mut Owners) -> Result<(), Fail> {
+    obeyed(owners, 1, Cmd::ReplyOwn(Obj::Job(JobNo(1)), 1, true))?;
+    obeyed(owners, 2, Cmd::ReplyGlobal(1, true))
+}
+
+fn tell_each(owners: &mut Owners, alloc: Global) -> Result<(), Fail> {
+    plan_one_job(owners, alloc)?;
+    reply(owners)?;
+    event(owners, Body::Fulfilled(Obj::Job(JobNo(1)), 2))?;
+    event(owners, Body::Declined(Ws(0), 3, Why::NotMine))
+}
+
+fn each_is_told(owners: &Owners) -> bool {
+    owners.own_reply(Obj::Job(JobNo(1)), 1) == Some(true)
+        && owners.global_reply(1) == Some(true)
+        && owners.is_fulfilled(Obj::Job(JobNo(1)), 2)
+        && owners.answered(Ws(0), Ws(0)) == 3
 }
 
 #[test]
 fn what_is_told(rt: HostRuntime) -> Result<(), Fail> {
-    let mut owners = one_job(rt.alloc())?;
-    obeyed(
-        &mut owners,
-        2,
-        1,
-        Cmd::ReplyOwn(Obj::Job(JobNo(1)), 1, true),
-    )?;
-    obeyed(&mut owners, 3, 2, Cmd::ReplyGlobal(1, true))?;
-    event(&mut owners, 4, Body::Fulfilled(Obj::Job(JobNo(1)), 2))?;
-    event(&mut owners, 5, Body::Declined(Ws(0), 3, Why::NotMine))?;
-    assert!(rt; owners.own_reply(Obj::Job(JobNo(1)), 1) == Some(true));
-    assert!(rt; owners.global_reply(1) == Some(true));
-    assert!(rt; owners.is_fulfilled(Obj::Job(JobNo(1)), 2));
-    assert_eq!(rt; owners.answered(Ws(0), Ws(0)), 3);
+    let mut owners = Owners::new(rt.alloc());
+    tell_each(&mut owners, rt.alloc())?;
+    assert!(rt; each_is_told(&owners));
     Ok(())
 }
 
-/// A second document of the stream's number, with another job.
-fn added_again(alloc: Global) -> Result<Owners, Fail> {
-    let mut owners = one_job(alloc)?;
-    let mut jobs = Items::new(alloc);
-    jobs.push(job(alloc, 2, Items::new(alloc)))?;
-    event(&mut owners, 2, Body::Added(Ws(0), 1, stream(alloc, jobs)))?;
-    Ok(owners)
+/// The catalogue has the first document with its job, and not the other job.
+fn has_the_first(owners: &Owners) -> bool {
+    owners.stream(StreamNo(1)).is_some()
+        && owners.job(JobNo(1)).is_some()
+        && owners.job(JobNo(2)).is_none()
+        && owners.planned_job(JobNo(1)).is_some()
+}
+
+/// The job is one of the stream's, and of M.
+fn is_placed(owners: &Owners) -> bool {
+    owners.stream_of(JobNo(1)) == Some(StreamNo(1))
+        && owners.owner(Obj::Job(JobNo(1))) == Some(Ws(0))
 }
 
 #[test]
 fn the_first_document_of_a_number_counts(rt: HostRuntime) -> Result<(), Fail> {
-    let owners = added_again(rt.alloc())?;
-    assert!(rt; owners.stream(StreamNo(1)).is_some());
-    assert!(rt; owners.job(JobNo(1)).is_some());
-    assert!(rt; owners.job(JobNo(2)).is_none());
-    assert!(rt; owners.planned_job(JobNo(1)).is_some());
-    assert!(rt; owners.stream_of(JobNo(1)) == Some(StreamNo(1)));
-    assert!(rt; owners.owner(Obj::Job(JobNo(1))) == Some(Ws(0)));
+    let mut owners = Owners::new(rt.alloc());
+    add_again(&mut owners, rt.alloc())?;
+    assert!(rt; has_the_first(&owners));
+    assert!(rt; is_placed(&owners));
     Ok(())
 }
 
-/// The numbers of the streams of the catalogue.
-fn stream_numbers(alloc: Global, owners: &Owners) -> Result<Items<u32>, Fail> {
-    let mut numbers = Items::new(alloc);
+/// What is left of these numbers behind the first, if that is this one.
+fn behind(numbers: &[u32], first: u32) -> Option<&[u32]> {
+    match numbers {
+        [no, rest @ ..] if *no == first => Some(rest),
+        _ => None,
+    }
+}
+
+/// The streams of the catalogue have these numbers.
+fn are_streams(owners: &Owners, numbers: &[u32]) -> bool {
+    let mut left = numbers;
     for doc in owners.streams() {
-        numbers.push(doc.no.0)?;
+        let Some(rest) = behind(left, doc.no.0) else {
+            return false;
+        };
+        left = rest;
     }
-    Ok(numbers)
+    left.is_empty()
 }
 
-/// The numbers of the jobs of the catalogue.
-fn job_numbers(alloc: Global, owners: &Owners) -> Result<Items<u32>, Fail> {
-    let mut numbers = Items::new(alloc);
+/// The jobs of the catalogue have these numbers.
+fn are_jobs(owners: &Owners, numbers: &[u32]) -> bool {
+    let mut left = numbers;
     for (_, doc) in owners.jobs() {
-        numbers.push(doc.no.0)?;
+        let Some(rest) = behind(left, doc.no.0) else {
+            return false;
+        };
+        left = rest;
     }
-    Ok(numbers)
+    left.is_empty()
 }
 
-/// The numbers of the jobs of the stream of this number.
-fn numbers_of_stream(alloc: Global, owners: &Owners, no: u32) -> Result<Items<u32>, Fail> {
-    let mut numbers = Items::new(alloc);
-    for (_, doc) in owners.jobs_of_stream(StreamNo(no)) {
-        numbers.push(doc.no.0)?;
+/// The jobs of the stream of this number have these numbers.
+fn are_jobs_of(owners: &Owners, stream: u32, numbers: &[u32]) -> bool {
+    let mut left = numbers;
+    for (_, doc) in owners.jobs_of_stream(StreamNo(stream)) {
+        let Some(rest) = behind(left, doc.no.0) else {
+            return false;
+        };
+        left = rest;
     }
-    Ok(numbers)
+    left.is_empty()
 }
 
-/// The numbers of the jobs of M with an open launch.
-fn open_numbers(alloc: Global, owners: &Owners) -> Result<Items<u32>, Fail> {
-    let mut numbers = Items::new(alloc);
+/// The jobs of M with an open launch have these numbers.
+fn are_open(owners: &Owners, numbers: &[u32]) -> bool {
+    let mut left = numbers;
     for (_, doc) in owners.open_launches(Ws(0)) {
-        numbers.push(doc.no.0)?;
+        let Some(rest) = behind(left, doc.no.0) else {
+            return false;
+        };
+        left = rest;
     }
-    Ok(numbers)
+    left.is_empty()
 }
 
 #[test]
-fn streams_and_jobs_are_walked_in_order(rt: HostRuntime) -> Result<(), Fail> {
-    let owners = in_use(rt.alloc())?;
-    let streams = stream_numbers(rt.alloc(), &owners)?;
-    assert!(rt; streams.as_slice() == [1].as_slice());
-    let jobs = job_numbers(rt.alloc(), &owners)?;
-    assert!(rt; jobs.as_slice() == [1, 2].as_slice());
+fn each_walk_goes_in_order(rt: HostRuntime) -> Result<(), Fail> {
+    let mut owners = Owners::new(rt.alloc());
+    use_units(&mut owners, rt.alloc())?;
+    assert!(rt; are_streams(&owners, &[1]) && are_jobs(&owners, &[1, 2]));
+    assert!(rt; are_jobs_of(&owners, 1, &[1, 2]) && are_jobs_of(&owners, 2, &[]));
+    assert!(rt; are_open(&owners, &[1]));
     Ok(())
 }
 
-#[test]
-fn open_launches_are_walked(rt: HostRuntime) -> Result<(), Fail> {
-    let owners = in_use(rt.alloc())?;
-    let open = open_numbers(rt.alloc(), &owners)?;
-    assert!(rt; open.as_slice() == [1].as_slice());
-    Ok(())
+/// The launch is told as started.
+fn starts(owners: &mut Owners) -> Result<bool, Fail> {
+    event(owners, Body::Started(JobNo(1), 1))?;
+    Ok(owners.is_last_started(JobNo(1)))
+}
+
+/// After another launch that start is not of the last one.
+fn goes_by(owners: &mut Owners, alloc: Global) -> Result<bool, Fail> {
+    launched(owners, alloc, 1, 2)?;
+    Ok(!owners.is_last_started(JobNo(1)) && owners.is_started(JobNo(1), 1))
 }
 
 #[test]
 fn a_start_is_that_of_the_last_launch(rt: HostRuntime) -> Result<(), Fail> {
-    let mut owners = launched_once(rt.alloc())?;
-    event(&mut owners, 4, Body::Started(JobNo(1), 1))?;
-    assert!(rt; owners.is_last_started(JobNo(1)));
-    launched(&mut owners, rt.alloc(), 5, 1, 2)?;
-    assert!(rt; !owners.is_last_started(JobNo(1)));
-    assert!(rt; owners.is_started(JobNo(1), 1));
-    Ok(())
-}
-
-#[test]
-fn jobs_of_a_stream_are_walked(rt: HostRuntime) -> Result<(), Fail> {
-    let owners = in_use(rt.alloc())?;
-    let jobs = numbers_of_stream(rt.alloc(), &owners, 1)?;
-    assert!(rt; jobs.as_slice() == [1, 2].as_slice());
-    let others = numbers_of_stream(rt.alloc(), &owners, 2)?;
-    assert!(rt; others.is_empty());
+    let mut owners = Owners::new(rt.alloc());
+    launch_once(&mut owners, rt.alloc())?;
+    assert!(rt; starts(&mut owners)?);
+    assert!(rt; goes_by(&mut owners, rt.alloc())?);
     Ok(())
 }

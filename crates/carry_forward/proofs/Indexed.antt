@@ -156,10 +156,6 @@ drafts_at es new drafts first i n job j next low at is more h =
     (sym (drop_more drafts i job low ∙ (λ p. sym at p ∷ drop (next p) drafts))))
     (more rest (subst (λ (m : ℕ). AreJobsOf es (numbered_jobs (enumerate_from m (drop n drafts)))) on h))
 
--- what the index keeps of a stream tells the same
-pub told_so : (t : Target) (s : Named) → t.number ≡ s.number → AreJobsOf t.jobs.entries s.jobs → IsTarget t s
-told_so t s number jobs = λ j. (number j, λ name. jobs name j)
-
 abbrev are_one : ℕ × Bor (List ℕ) → ℕ × Bor (List ℕ) → Bool
 are_one p q = are_one_key (key_of p) (key_of q)
 
@@ -233,15 +229,7 @@ fresh_at es new xs i n x next low at more earlier h =
     (ap (map named_fresh) (sym (drop_more xs i x low ∙ (λ p. sym at p ∷ drop (next p) xs))))
     (more (map named_fresh (drop n xs)) earlier h)
 
--- what a target tells, of its number and of a job
-pub told_number : (r : Option (Bor Target)) (o : Option Named)
-    → option_map (λ (t : Bor Target). told_target t.now) r ≡ option_map told_named o
-    → option_map (λ (t : Bor Target). t.now.number) r ≡ option_map (λ (s : Named). s.number) o
-told_number None None h = refl
-told_number None (Some s) h = cc
-told_number (Some t) None h = cc
-told_number (Some t) (Some s) h = ap (option_map (λ (p : Told). p.0)) h
-
+-- what a target tells of a job
 pub told_job : (r : Option (Bor Target)) (o : Option Named) (name : List ℕ)
     → option_map (λ (t : Bor Target). told_target t.now) r ≡ option_map told_named o
     → option_and_then (λ (t : Bor Target). job_at t.now.jobs.entries name) r ≡ option_and_then (resolve_job name) o

@@ -1,24 +1,30 @@
 //! Worked days: the report from its parts.
-use crate::print_report;
-use crate::tests::samples::{
-    empty_parts, ended_well, event, events, launched, net_of, new_plan, node, order, orders,
-    packets, released, start, stream_ended,
-};
-use base_types::{Body, Cmd, JobNo, Obj, ReportParts, Ws};
-use std::alloc::Global;
+use crate::tests::samples::{Day, FeedOf, Says, report_of};
 use std::test::Fail;
+
+/// The events of workstation 0, 1 and 2.
+const FIRST: FeedOf = FeedOf::Events(0);
+
+const SECOND: FeedOf = FeedOf::Events(1);
+
+const THIRD: FeedOf = FeedOf::Events(2);
+
+/// The orders from workstation 2 to workstation 0.
+const ORDERS: FeedOf = FeedOf::Orders(2, 0);
+
+const NO_ENTRY: Day = Day {
+    names: &["M"],
+    entries: &[],
+    starts: &[],
+    packets: &[],
+    nodes: &[(0, &[], "no plan\n")],
+};
 
 #[test]
 fn without_any_entry(rt: HostRuntime) -> Result<(), Fail> {
-    let alloc = rt.alloc();
-    let net = net_of(alloc, &["M"])?;
-    let mut parts = empty_parts(alloc);
-    node(alloc, &mut parts, 0, &[], "no plan\n")?;
+    let report = report_of(rt.alloc(), &NO_ENTRY)?;
     let expected = "events 0\nstarts 0\nnode M\nno plan\n";
-    assert_eq!(rt;
-        print_report(alloc, &net, &parts)?.as_slice(),
-        expected.as_bytes()
-    );
+    assert_eq!(rt; report.as_slice(), expected.as_bytes());
     Ok(())
 }
 
@@ -44,26 +50,28 @@ stream 1 M#S SUCC
 job 1 M#S.A SUCC 1
 ";
 
+const ONE_JOB_DAY: Day = Day {
+    names: &["M"],
+    entries: &[
+        (FIRST, 1, Says::NewPlan(1, &[], &[], &[1])),
+        (FIRST, 2, Says::Released(1, &[(0, 1)])),
+        (FIRST, 3, Says::Launched(1, 1, &[(0, 2)])),
+        (FIRST, 4, Says::EndedWell(1)),
+        (FIRST, 5, Says::StreamEnded(1, &[(0, 4)])),
+    ],
+    starts: &[(0, 1, 1)],
+    packets: &[],
+    nodes: &[(0, &[(FIRST, 5)], ONE_JOB_LISTING)],
+};
+
 #[test]
 fn one_job(rt: HostRuntime) -> Result<(), Fail> {
-    let alloc = rt.alloc();
-    let net = net_of(alloc, &["M"])?;
-    let mut parts = empty_parts(alloc);
-    event(&mut parts, 0, 1, new_plan(alloc, 1, &[], &[], &[1])?)?;
-    event(&mut parts, 0, 2, released(alloc, 1, &[(0, 1)])?)?;
-    event(&mut parts, 0, 3, launched(alloc, 1, 1, &[(0, 2)])?)?;
-    event(&mut parts, 0, 4, ended_well(1))?;
-    event(&mut parts, 0, 5, stream_ended(alloc, 1, &[(0, 4)])?)?;
-    start(&mut parts, 0, 1, 1)?;
-    node(alloc, &mut parts, 0, &[(events(0), 5)], ONE_JOB_LISTING)?;
-    assert_eq!(rt;
-        print_report(alloc, &net, &parts)?.as_slice(),
-        ONE_JOB.as_bytes()
-    );
+    let report = report_of(rt.alloc(), &ONE_JOB_DAY)?;
+    assert_eq!(rt; report.as_slice(), ONE_JOB.as_bytes());
     Ok(())
 }
 
-// What the master and agent Q list, and what agent P lists.
+/// What the master and agent Q list, and what agent P lists.
 const WITH_Q: &str = "plan 1
 cpu M fence 0 limit 10 clock 0 running
 cpu Q fence 0 limit 10 clock 0 running
@@ -127,41 +135,30 @@ stream 2 P#SA READY
 job 2 P#SA.A HOLD 0
 ";
 
-// M is 0, P is 1 and Q is 2. A count of 0 has no line.
-fn two_agents_parts(alloc: Global) -> Result<ReportParts, Fail> {
-    let mut parts = empty_parts(alloc);
-    event(&mut parts, 0, 1, new_plan(alloc, 1, &[], &[], &[1, 2])?)?;
-    event(&mut parts, 2, 1, released(alloc, 1, &[(0, 1)])?)?;
-    event(&mut parts, 2, 2, launched(alloc, 1, 1, &[(0, 1), (2, 1)])?)?;
-    event(&mut parts, 2, 3, ended_well(1))?;
-    event(&mut parts, 2, 4, stream_ended(alloc, 1, &[(0, 1), (2, 3)])?)?;
-    event(&mut parts, 1, 1, released(alloc, 2, &[(0, 1)])?)?;
-    start(&mut parts, 2, 1, 1)?;
-    Ok(parts)
-}
-
-fn add_two_agents(alloc: Global, parts: &mut ReportParts) -> Result<(), Fail> {
-    packets(parts, 0, 1, 1)?;
-    packets(parts, 0, 2, 8)?;
-    packets(parts, 1, 0, 3)?;
-    packets(parts, 1, 2, 0)?;
-    packets(parts, 2, 0, 8)?;
-    let with_q = [(events(0), 1), (events(1), 0), (events(2), 4)];
-    node(alloc, parts, 0, &with_q, WITH_Q)?;
-    node(alloc, parts, 1, &[(events(0), 1), (events(1), 1)], WITH_P)?;
-    node(alloc, parts, 2, &[(events(0), 1), (events(2), 4)], WITH_Q)
-}
+/// M is 0, P is 1 and Q is 2. A count of 0 has no line.
+const TWO_AGENTS_DAY: Day = Day {
+    names: &["M", "P", "Q"],
+    entries: &[
+        (FIRST, 1, Says::NewPlan(1, &[], &[], &[1, 2])),
+        (THIRD, 1, Says::Released(1, &[(0, 1)])),
+        (THIRD, 2, Says::Launched(1, 1, &[(0, 1), (2, 1)])),
+        (THIRD, 3, Says::EndedWell(1)),
+        (THIRD, 4, Says::StreamEnded(1, &[(0, 1), (2, 3)])),
+        (SECOND, 1, Says::Released(2, &[(0, 1)])),
+    ],
+    starts: &[(2, 1, 1)],
+    packets: &[(0, 1, 1), (0, 2, 8), (1, 0, 3), (1, 2, 0), (2, 0, 8)],
+    nodes: &[
+        (0, &[(FIRST, 1), (SECOND, 0), (THIRD, 4)], WITH_Q),
+        (1, &[(FIRST, 1), (SECOND, 1)], WITH_P),
+        (2, &[(FIRST, 1), (THIRD, 4)], WITH_Q),
+    ],
+};
 
 #[test]
 fn two_agents(rt: HostRuntime) -> Result<(), Fail> {
-    let alloc = rt.alloc();
-    let net = net_of(alloc, &["M", "P", "Q"])?;
-    let mut parts = two_agents_parts(alloc)?;
-    add_two_agents(alloc, &mut parts)?;
-    assert_eq!(rt;
-        print_report(alloc, &net, &parts)?.as_slice(),
-        TWO_AGENTS.as_bytes()
-    );
+    let report = report_of(rt.alloc(), &TWO_AGENTS_DAY)?;
+    assert_eq!(rt; report.as_slice(), TWO_AGENTS.as_bytes());
     Ok(())
 }
 
@@ -211,44 +208,29 @@ stream 1 M#S EXEC
 job 1 M#S.A READY 0
 ";
 
-fn cancel_job_1() -> Cmd {
-    Cmd::Cancel(Obj::Job(JobNo(1)))
-}
-
-// M is 0, D is 1 and L is 2.
-fn two_hops_parts(alloc: Global) -> Result<ReportParts, Fail> {
-    let mut parts = empty_parts(alloc);
-    event(&mut parts, 0, 1, new_plan(alloc, 1, &[], &[], &[1])?)?;
-    event(&mut parts, 0, 2, released(alloc, 1, &[(0, 1)])?)?;
-    order(&mut parts, 2, 0, 1, Body::Order(cancel_job_1()))?;
-    event(&mut parts, 0, 3, Body::Obeyed(Ws(2), 1, cancel_job_1()))?;
-    event(&mut parts, 0, 4, stream_ended(alloc, 1, &[(0, 3)])?)?;
-    packets(&mut parts, 0, 1, 11)?;
-    packets(&mut parts, 1, 0, 3)?;
-    packets(&mut parts, 1, 2, 3)?;
-    packets(&mut parts, 2, 1, 3)?;
-    Ok(parts)
-}
+/// M is 0, D is 1 and L is 2.
+const TWO_HOPS_DAY: Day = Day {
+    names: &["M", "D", "L"],
+    entries: &[
+        (FIRST, 1, Says::NewPlan(1, &[], &[], &[1])),
+        (FIRST, 2, Says::Released(1, &[(0, 1)])),
+        (ORDERS, 1, Says::CancelJob(1)),
+        (FIRST, 3, Says::JobCancelled(2, 1, 1)),
+        (FIRST, 4, Says::StreamEnded(1, &[(0, 3)])),
+    ],
+    starts: &[],
+    packets: &[(0, 1, 11), (1, 0, 3), (1, 2, 3), (2, 1, 3)],
+    nodes: &[
+        (0, &[(FIRST, 4), (ORDERS, 1)], AT_MASTER),
+        (1, &[(FIRST, 2), (ORDERS, 1)], BELOW_MASTER),
+        (2, &[(FIRST, 2), (ORDERS, 1)], BELOW_MASTER),
+    ],
+};
 
 #[test]
 fn command_over_two_hops(rt: HostRuntime) -> Result<(), Fail> {
-    let alloc = rt.alloc();
-    let net = net_of(alloc, &["M", "D", "L"])?;
-    let mut parts = two_hops_parts(alloc)?;
-    let below = [(events(0), 2), (orders(2, 0), 1)];
-    node(
-        alloc,
-        &mut parts,
-        0,
-        &[(events(0), 4), (orders(2, 0), 1)],
-        AT_MASTER,
-    )?;
-    node(alloc, &mut parts, 1, &below, BELOW_MASTER)?;
-    node(alloc, &mut parts, 2, &below, BELOW_MASTER)?;
-    assert_eq!(rt;
-        print_report(alloc, &net, &parts)?.as_slice(),
-        OVER_TWO_HOPS.as_bytes()
-    );
+    let report = report_of(rt.alloc(), &TWO_HOPS_DAY)?;
+    assert_eq!(rt; report.as_slice(), OVER_TWO_HOPS.as_bytes());
     Ok(())
 }
 
@@ -313,47 +295,33 @@ stream 3 M#Z READY
 job 3 M#Z.Z1 HOLD 0
 ";
 
-// M is 0 and P is 1.
-fn first_day_parts(alloc: Global) -> Result<ReportParts, Fail> {
-    let mut parts = empty_parts(alloc);
-    event(&mut parts, 0, 1, new_plan(alloc, 1, &[], &[], &[1, 2, 3])?)?;
-    event(&mut parts, 0, 2, released(alloc, 2, &[(0, 1)])?)?;
-    event(&mut parts, 1, 1, released(alloc, 1, &[(0, 2)])?)?;
-    event(&mut parts, 1, 2, launched(alloc, 1, 1, &[(0, 2), (1, 1)])?)?;
-    event(&mut parts, 0, 3, released(alloc, 3, &[(0, 2)])?)?;
-    event(&mut parts, 0, 4, launched(alloc, 2, 1, &[(0, 3)])?)?;
-    event(&mut parts, 0, 5, ended_well(2))?;
-    event(&mut parts, 0, 6, stream_ended(alloc, 2, &[(0, 5)])?)?;
-    Ok(parts)
-}
-
-fn add_next_day(alloc: Global, parts: &mut ReportParts) -> Result<(), Fail> {
-    event(parts, 0, 7, new_plan(alloc, 2, &[(0, 6)], &[1], &[4])?)?;
-    event(parts, 1, 3, ended_well(1))?;
-    event(parts, 1, 4, stream_ended(alloc, 1, &[(0, 2), (1, 3)])?)?;
-    start(parts, 1, 1, 1)?;
-    start(parts, 0, 2, 1)?;
-    packets(parts, 0, 1, 9)?;
-    packets(parts, 1, 0, 9)?;
-    node(alloc, parts, 0, &[(events(0), 7), (events(1), 4)], NEXT_DAY)?;
-    node(
-        alloc,
-        parts,
-        1,
-        &[(events(0), 2), (events(1), 4)],
-        DAY_BEFORE,
-    )
-}
+/// M is 0 and P is 1.
+const TWO_DAYS: Day = Day {
+    names: &["M", "P"],
+    entries: &[
+        (FIRST, 1, Says::NewPlan(1, &[], &[], &[1, 2, 3])),
+        (FIRST, 2, Says::Released(2, &[(0, 1)])),
+        (SECOND, 1, Says::Released(1, &[(0, 2)])),
+        (SECOND, 2, Says::Launched(1, 1, &[(0, 2), (1, 1)])),
+        (FIRST, 3, Says::Released(3, &[(0, 2)])),
+        (FIRST, 4, Says::Launched(2, 1, &[(0, 3)])),
+        (FIRST, 5, Says::EndedWell(2)),
+        (FIRST, 6, Says::StreamEnded(2, &[(0, 5)])),
+        (FIRST, 7, Says::NewPlan(2, &[(0, 6)], &[1], &[4])),
+        (SECOND, 3, Says::EndedWell(1)),
+        (SECOND, 4, Says::StreamEnded(1, &[(0, 2), (1, 3)])),
+    ],
+    starts: &[(1, 1, 1), (0, 2, 1)],
+    packets: &[(0, 1, 9), (1, 0, 9)],
+    nodes: &[
+        (0, &[(FIRST, 7), (SECOND, 4)], NEXT_DAY),
+        (1, &[(FIRST, 2), (SECOND, 4)], DAY_BEFORE),
+    ],
+};
 
 #[test]
 fn days_end(rt: HostRuntime) -> Result<(), Fail> {
-    let alloc = rt.alloc();
-    let net = net_of(alloc, &["M", "P"])?;
-    let mut parts = first_day_parts(alloc)?;
-    add_next_day(alloc, &mut parts)?;
-    assert_eq!(rt;
-        print_report(alloc, &net, &parts)?.as_slice(),
-        DAYS_END.as_bytes()
-    );
+    let report = report_of(rt.alloc(), &TWO_DAYS)?;
+    assert_eq!(rt; report.as_slice(), DAYS_END.as_bytes());
     Ok(())
 }

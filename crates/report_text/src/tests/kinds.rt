@@ -1,10 +1,10 @@
 //! Each kind of entry, command, dependency and reason once.
-use crate::print_report;
 use crate::tests::samples::{
-    empty_parts, event, launched, net_of, new_plan, order, released, seen, stream_doc, stream_draft,
+    launched, new_plan, released, report_of_entries, stream_doc, stream_ended,
 };
 use base_types::{
-    Body, Cmd, Dep, JobNo, Moment, Obj, OnUntil, PromptRef, ReportParts, StreamNo, Text, Why, Ws,
+    Body, Cmd, Dep, Entries, Entry, Feed, Items, JobNo, Moment, NoMemory, Obj, OnUntil, PromptRef,
+    StreamDraft, StreamNo, Text, Why, Ws,
 };
 use std::alloc::Global;
 use std::test::Fail;
@@ -17,38 +17,78 @@ fn stream(no: u32) -> Obj {
     Obj::Stream(StreamNo(no))
 }
 
-// In order, what entries say of plans and times, and what they say of launches and orders.
-fn plan_bodies(alloc: Global, parts: &mut ReportParts) -> Result<(), Fail> {
-    let cut = [(0, 7), (1, 4)];
-    event(parts, 0, 1, new_plan(alloc, 2, &cut, &[1, 3], &[4, 5])?)?;
-    event(parts, 0, 2, new_plan(alloc, 3, &[], &[], &[])?)?;
-    event(parts, 0, 3, Body::Added(Ws(1), 9, stream_doc(alloc, 6)))?;
-    event(parts, 0, 4, Body::Clock(Moment(18446744073709551615)))?;
-    event(parts, 0, 5, released(alloc, 4, &[(0, 2)])?)?;
-    event(
-        parts,
-        0,
-        6,
-        Body::StreamEnded(StreamNo(4), seen(alloc, &[])?),
-    )?;
-    event(parts, 0, 7, Body::UntilPassed(job(8), 2, OnUntil::Suppr))?;
-    event(parts, 0, 8, Body::UntilPassed(stream(4), 1, OnUntil::Cont))?;
-    event(parts, 0, 9, Body::UntilPassed(job(9), 65535, OnUntil::Canc))
+/// One more entry, in the events of a workstation.
+fn event(entries: &mut Entries, ws: u16, place: u32, body: Body) -> Result<(), NoMemory> {
+    entries.push(Entry {
+        feed: Feed::Events(Ws(ws)),
+        place,
+        body,
+    })
 }
 
-fn launch_bodies(alloc: Global, parts: &mut ReportParts) -> Result<(), Fail> {
-    event(parts, 1, 1, launched(alloc, 8, 3, &[(0, 2), (1, 5)])?)?;
-    event(parts, 1, 2, Body::Started(JobNo(8), 3))?;
-    event(parts, 1, 3, Body::Failed(JobNo(8), 4))?;
-    event(parts, 1, 4, Body::Ended(JobNo(8), 5, -2147483648, false))?;
-    event(parts, 1, 5, Body::Ended(JobNo(8), 6, 2147483647, true))?;
-    event(parts, 1, 6, Body::Ended(JobNo(4294967295), 7, -1, true))?;
-    event(parts, 1, 7, Body::Lost(JobNo(8), 8))?;
-    event(parts, 1, 8, Body::Fulfilled(stream(4), 3))?;
-    order(parts, 0, 1, 1, Body::Order(Cmd::Start))?;
-    event(parts, 1, 9, Body::Obeyed(Ws(0), 1, Cmd::Start))?;
-    order(parts, 0, 1, 2, Body::Order(Cmd::Fence(102)))?;
-    event(parts, 1, 10, Body::Declined(Ws(0), 2, Why::OutOfRange))
+/// One more entry, in the orders from one workstation to another.
+fn order(entries: &mut Entries, from: u16, to: u16, place: u32, cmd: Cmd) -> Result<(), NoMemory> {
+    entries.push(Entry {
+        feed: Feed::Orders(Ws(from), Ws(to)),
+        place,
+        body: Body::Order(cmd),
+    })
+}
+
+/// What the entry of M at a place says of plans.
+fn plan_body(alloc: Global, place: u32) -> Result<Body, Fail> {
+    match place {
+        1 => new_plan(alloc, 2, &[(0, 7), (1, 4)], &[1, 3], &[4, 5]),
+        2 => new_plan(alloc, 3, &[], &[], &[]),
+        5 => released(alloc, 4, &[(0, 2)]),
+        6 => stream_ended(alloc, 4, &[]),
+        _ => Ok(other_plan_body(alloc, place)),
+    }
+}
+
+fn other_plan_body(alloc: Global, place: u32) -> Body {
+    match place {
+        3 => Body::Added(Ws(1), 9, stream_doc(alloc, 6)),
+        4 => Body::Clock(Moment(18446744073709551615)),
+        7 => Body::UntilPassed(job(8), 2, OnUntil::Suppr),
+        8 => Body::UntilPassed(stream(4), 1, OnUntil::Cont),
+        _ => Body::UntilPassed(job(9), 65535, OnUntil::Canc),
+    }
+}
+
+fn plan_entries(alloc: Global, entries: &mut Entries) -> Result<(), Fail> {
+    for place in 1..10 {
+        event(entries, 0, place, plan_body(alloc, place)?)?;
+    }
+    Ok(())
+}
+
+/// What the entry of A1 at a place says of launches, behind the first.
+fn launch_body(place: u32) -> Body {
+    match place {
+        2 => Body::Started(JobNo(8), 3),
+        3 => Body::Failed(JobNo(8), 4),
+        4 => Body::Ended(JobNo(8), 5, -2147483648, false),
+        5 => Body::Ended(JobNo(8), 6, 2147483647, true),
+        6 => Body::Ended(JobNo(4294967295), 7, -1, true),
+        7 => Body::Lost(JobNo(8), 8),
+        _ => Body::Fulfilled(stream(4), 3),
+    }
+}
+
+fn launch_entries(alloc: Global, entries: &mut Entries) -> Result<(), Fail> {
+    event(entries, 1, 1, launched(alloc, 8, 3, &[(0, 2), (1, 5)])?)?;
+    for place in 2..9 {
+        event(entries, 1, place, launch_body(place))?;
+    }
+    Ok(())
+}
+
+fn order_entries(entries: &mut Entries) -> Result<(), NoMemory> {
+    order(entries, 0, 1, 1, Cmd::Start)?;
+    event(entries, 1, 9, Body::Obeyed(Ws(0), 1, Cmd::Start))?;
+    order(entries, 0, 1, 2, Cmd::Fence(102))?;
+    event(entries, 1, 10, Body::Declined(Ws(0), 2, Why::OutOfRange))
 }
 
 const BODIES: &str = "events 21
@@ -76,53 +116,60 @@ A1 10 declined M 2 OutOfRange
 starts 0
 ";
 
+fn all_bodies(alloc: Global) -> Result<Entries, Fail> {
+    let mut entries = Items::new(alloc);
+    plan_entries(alloc, &mut entries)?;
+    launch_entries(alloc, &mut entries)?;
+    order_entries(&mut entries)?;
+    Ok(entries)
+}
+
 #[test]
 fn bodies(rt: HostRuntime) -> Result<(), Fail> {
-    let alloc = rt.alloc();
-    let net = net_of(alloc, &["M", "A1"])?;
-    let mut parts = empty_parts(alloc);
-    plan_bodies(alloc, &mut parts)?;
-    launch_bodies(alloc, &mut parts)?;
-    assert_eq!(rt;
-        print_report(alloc, &net, &parts)?.as_slice(),
-        BODIES.as_bytes()
-    );
+    let entries = all_bodies(rt.alloc())?;
+    let report = report_of_entries(rt.alloc(), entries)?;
+    assert_eq!(rt; report.as_slice(), BODIES.as_bytes());
     Ok(())
 }
 
-// One more order from A1 to M.
-fn ask(parts: &mut ReportParts, place: u32, cmd: Cmd) -> Result<(), Fail> {
-    order(parts, 1, 0, place, Body::Order(cmd))
+fn object_command(place: u32) -> Cmd {
+    match place {
+        1 => Cmd::AddDep(job(2), Dep::FollowsStream(StreamNo(3))),
+        2 => Cmd::DelDep(stream(3), 64),
+        3 => Cmd::Release(job(2)),
+        4 => Cmd::AltPri(stream(3), 101),
+        5 => Cmd::Cancel(stream(3)),
+        6 => Cmd::Confirm(JobNo(2)),
+        7 => Cmd::Kill(JobNo(2)),
+        _ => Cmd::Rerun(JobNo(2)),
+    }
 }
 
-fn object_commands(parts: &mut ReportParts) -> Result<(), Fail> {
-    ask(
-        parts,
-        1,
-        Cmd::AddDep(job(2), Dep::FollowsStream(StreamNo(3))),
-    )?;
-    ask(parts, 2, Cmd::DelDep(stream(3), 64))?;
-    ask(parts, 3, Cmd::Release(job(2)))?;
-    ask(parts, 4, Cmd::AltPri(stream(3), 101))?;
-    ask(parts, 5, Cmd::Cancel(stream(3)))?;
-    ask(parts, 6, Cmd::Confirm(JobNo(2)))?;
-    ask(parts, 7, Cmd::Kill(JobNo(2)))?;
-    ask(parts, 8, Cmd::Rerun(JobNo(2)))
+fn other_command(place: u32) -> Cmd {
+    match place {
+        9 => Cmd::Fence(10),
+        10 => Cmd::Limit(0),
+        11 => Cmd::StreamLimit(StreamNo(3), 1024),
+        12 => Cmd::Total(2, 65535),
+        13 => Cmd::ReplyGlobal(1, true),
+        14 => Cmd::ReplyGlobal(2, false),
+        15 => Cmd::ReplyOwn(job(2), 4, true),
+        16 => Cmd::ReplyOwn(stream(3), 5, false),
+        17 => Cmd::Start,
+        _ => Cmd::Stop,
+    }
 }
 
-fn other_commands(alloc: Global, parts: &mut ReportParts) -> Result<(), Fail> {
-    ask(parts, 9, Cmd::Fence(10))?;
-    ask(parts, 10, Cmd::Limit(0))?;
-    ask(parts, 11, Cmd::StreamLimit(StreamNo(3), 1024))?;
-    ask(parts, 12, Cmd::Total(2, 65535))?;
-    ask(parts, 13, Cmd::ReplyGlobal(1, true))?;
-    ask(parts, 14, Cmd::ReplyGlobal(2, false))?;
-    ask(parts, 15, Cmd::ReplyOwn(job(2), 4, true))?;
-    ask(parts, 16, Cmd::ReplyOwn(stream(3), 5, false))?;
-    ask(parts, 17, Cmd::Start)?;
-    ask(parts, 18, Cmd::Stop)?;
-    ask(parts, 19, Cmd::Submit(stream_draft(alloc, "ADHOC")?))?;
-    ask(parts, 20, Cmd::SwitchMgr(Ws(1)))
+fn draft(alloc: Global, name: &str) -> Result<StreamDraft, Fail> {
+    Ok(StreamDraft {
+        ws: Ws(1),
+        name: Text::of(alloc, name)?,
+        priority: 10,
+        limit: None,
+        carry: false,
+        deps: Items::new(alloc),
+        jobs: Items::new(alloc),
+    })
 }
 
 const COMMANDS: &str = "events 20
@@ -149,50 +196,58 @@ A1>M 20 order switchmgr A1
 starts 0
 ";
 
+/// Each command in order, from A1 to M.
+fn all_commands(alloc: Global) -> Result<Entries, Fail> {
+    let mut entries = Items::new(alloc);
+    for place in 1..9 {
+        order(&mut entries, 1, 0, place, object_command(place))?;
+    }
+    for place in 9..19 {
+        order(&mut entries, 1, 0, place, other_command(place))?;
+    }
+    order(&mut entries, 1, 0, 19, Cmd::Submit(draft(alloc, "ADHOC")?))?;
+    order(&mut entries, 1, 0, 20, Cmd::SwitchMgr(Ws(1)))?;
+    Ok(entries)
+}
+
 #[test]
 fn commands(rt: HostRuntime) -> Result<(), Fail> {
-    let alloc = rt.alloc();
-    let net = net_of(alloc, &["M", "A1"])?;
-    let mut parts = empty_parts(alloc);
-    object_commands(&mut parts)?;
-    other_commands(alloc, &mut parts)?;
-    assert_eq!(rt;
-        print_report(alloc, &net, &parts)?.as_slice(),
-        COMMANDS.as_bytes()
-    );
+    let entries = all_commands(rt.alloc())?;
+    let report = report_of_entries(rt.alloc(), entries)?;
+    assert_eq!(rt; report.as_slice(), COMMANDS.as_bytes());
     Ok(())
 }
 
-// One more entry of M, that the order of this place to depend on more was obeyed.
-fn depend(parts: &mut ReportParts, place: u32, dep: Dep) -> Result<(), Fail> {
-    event(
-        parts,
-        0,
-        place,
-        Body::Obeyed(Ws(1), place, Cmd::AddDep(job(2), dep)),
-    )
+fn plain_dependency(place: u32) -> Dep {
+    match place {
+        1 => Dep::FollowsJob(JobNo(1)),
+        2 => Dep::FollowsStream(StreamNo(3)),
+        3 => Dep::Needs(2, 1024),
+        4 => Dep::Prompt(PromptRef::Global(7)),
+        5 => Dep::At(Moment(1072468800)),
+        6 => Dep::Until(Moment(200), OnUntil::Suppr),
+        7 => Dep::Until(Moment(201), OnUntil::Cont),
+        _ => Dep::Until(Moment(202), OnUntil::Canc),
+    }
 }
 
 fn own_prompt(alloc: Global, text: &str) -> Result<Dep, Fail> {
     Ok(Dep::Prompt(PromptRef::Own(Text::of(alloc, text)?)))
 }
 
-fn plain_dependencies(parts: &mut ReportParts) -> Result<(), Fail> {
-    depend(parts, 1, Dep::FollowsJob(JobNo(1)))?;
-    depend(parts, 2, Dep::FollowsStream(StreamNo(3)))?;
-    depend(parts, 3, Dep::Needs(2, 1024))?;
-    depend(parts, 4, Dep::Prompt(PromptRef::Global(7)))?;
-    depend(parts, 5, Dep::At(Moment(1072468800)))?;
-    depend(parts, 6, Dep::Until(Moment(200), OnUntil::Suppr))?;
-    depend(parts, 7, Dep::Until(Moment(201), OnUntil::Cont))?;
-    depend(parts, 8, Dep::Until(Moment(202), OnUntil::Canc))
+fn quoted_dependency(alloc: Global, place: u32) -> Result<Dep, Fail> {
+    match place {
+        9 => own_prompt(alloc, ":go on, Zoë"),
+        10 => own_prompt(alloc, r#"say "a\b""#),
+        11 => own_prompt(alloc, ""),
+        _ => Ok(Dep::Outside(Text::of(alloc, r"C:\in\x.dat")?)),
+    }
 }
 
-fn quoted_dependencies(alloc: Global, parts: &mut ReportParts) -> Result<(), Fail> {
-    depend(parts, 9, own_prompt(alloc, ":go on, Zoë")?)?;
-    depend(parts, 10, own_prompt(alloc, r#"say "a\b""#)?)?;
-    depend(parts, 11, own_prompt(alloc, "")?)?;
-    depend(parts, 12, Dep::Outside(Text::of(alloc, r"C:\in\x.dat")?))
+/// One more entry of M, that the order of this place to depend on more was obeyed.
+fn depend(entries: &mut Entries, place: u32, dep: Dep) -> Result<(), NoMemory> {
+    let cmd = Cmd::AddDep(job(2), dep);
+    event(entries, 0, place, Body::Obeyed(Ws(1), place, cmd))
 }
 
 const DEPENDENCIES: &str = r#"events 12
@@ -211,17 +266,22 @@ M 12 obeyed A1 12 adddep job 2 outside "C:\\in\\x.dat"
 starts 0
 "#;
 
+fn all_dependencies(alloc: Global) -> Result<Entries, Fail> {
+    let mut entries = Items::new(alloc);
+    for place in 1..9 {
+        depend(&mut entries, place, plain_dependency(place))?;
+    }
+    for place in 9..13 {
+        depend(&mut entries, place, quoted_dependency(alloc, place)?)?;
+    }
+    Ok(entries)
+}
+
 #[test]
 fn dependencies(rt: HostRuntime) -> Result<(), Fail> {
-    let alloc = rt.alloc();
-    let net = net_of(alloc, &["M", "A1"])?;
-    let mut parts = empty_parts(alloc);
-    plain_dependencies(&mut parts)?;
-    quoted_dependencies(alloc, &mut parts)?;
-    assert_eq!(rt;
-        print_report(alloc, &net, &parts)?.as_slice(),
-        DEPENDENCIES.as_bytes()
-    );
+    let entries = all_dependencies(rt.alloc())?;
+    let report = report_of_entries(rt.alloc(), entries)?;
+    assert_eq!(rt; report.as_slice(), DEPENDENCIES.as_bytes());
     Ok(())
 }
 
@@ -252,17 +312,18 @@ M 1 declined A1 3 NotBuilt
 starts 0
 ";
 
+fn all_reasons(alloc: Global) -> Result<Entries, Fail> {
+    let mut entries = Items::new(alloc);
+    for why in &REASONS {
+        event(&mut entries, 0, 1, Body::Declined(Ws(1), 3, *why))?;
+    }
+    Ok(entries)
+}
+
 #[test]
 fn reasons(rt: HostRuntime) -> Result<(), Fail> {
-    let alloc = rt.alloc();
-    let net = net_of(alloc, &["M", "A1"])?;
-    let mut parts = empty_parts(alloc);
-    for why in REASONS {
-        event(&mut parts, 0, 1, Body::Declined(Ws(1), 3, why))?;
-    }
-    assert_eq!(rt;
-        print_report(alloc, &net, &parts)?.as_slice(),
-        DECLINED.as_bytes()
-    );
+    let entries = all_reasons(rt.alloc())?;
+    let report = report_of_entries(rt.alloc(), entries)?;
+    assert_eq!(rt; report.as_slice(), DECLINED.as_bytes());
     Ok(())
 }

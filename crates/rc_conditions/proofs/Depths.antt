@@ -1,5 +1,5 @@
 -- Postfix expressions by the number of results that are there.
-use Rattle.std.proofs.Common.{◌≡◌, ◌≤◌, ◌<◌, ◌+◌, ◌-◌, ℕ, zero, suc, List, [], ◌∷◌, ◌++◌, length, Option, Some}
+use Rattle.std.proofs.Common.{◌≡◌, ◌≤◌, ◌<◌, ◌+◌, ℕ, zero, suc, List, [], ◌∷◌, ◌++◌, length, Option, Some}
 use Rattle.std.proofs.Common.{None, append_assoc, append-nil, refl, ap, sym, subst, ◌∙◌, arith, drop, get_or}
 use Rattle.std.proofs.Common.{IsTrue, eqb, eq-eqb}
 use Rattle.std.proofs.lemmas.List.{at_drop_more, at_drop_all}
@@ -26,18 +26,6 @@ depth_lacks (suc (suc d)) And ops h = absurd (omega arith)
 depth_lacks zero Or ops h = refl
 depth_lacks (suc zero) Or ops h = refl
 depth_lacks (suc (suc d)) Or ops h = absurd (omega arith)
-
-pub depth_more : (d e : ℕ) (op : CondOp) (ops : List CondOp) → arity op ≤ d → e ≡ d - arity op + 1
-    → depth d (op ∷ ops) ≡ depth e ops
-depth_more d e (Cmp r n) ops h is = let same : suc d ≡ e = omega arith in ap (λ k. depth k ops) same
-depth_more zero e Not ops h is = absurd (omega arith)
-depth_more (suc d) e Not ops h is = let same : suc d ≡ e = omega arith in ap (λ k. depth k ops) same
-depth_more zero e And ops h is = absurd (omega arith)
-depth_more (suc zero) e And ops h is = absurd (omega arith)
-depth_more (suc (suc d)) e And ops h is = let same : suc d ≡ e = omega arith in ap (λ k. depth k ops) same
-depth_more zero e Or ops h is = absurd (omega arith)
-depth_more (suc zero) e Or ops h is = absurd (omega arith)
-depth_more (suc (suc d)) e Or ops h is = let same : suc d ≡ e = omega arith in ap (λ k. depth k ops) same
 
 -- an expression adds one result
 depth_of : (e : Expression) (d : ℕ) (ops : List CondOp) → depth d (postfix e ++ ops) ≡ depth (suc d) ops

@@ -1,5 +1,5 @@
 -- Several postfix expressions at the end of a list, taken from the end.
-use Rattle.std.proofs.Common.{◌≡◌, ◌≤◌, ◌<◌, ◌-◌, ◌+◌, ℕ, List, [], ◌∷◌, ◌++◌, length, append_assoc, append-nil}
+use Rattle.std.proofs.Common.{◌≡◌, ◌≤◌, ◌<◌, ◌-◌, ◌+◌, ℕ, List, [], ◌∷◌, ◌++◌, length, append_assoc}
 use Rattle.std.proofs.Common.{refl, ap, sym, subst, ◌∙◌, arith, take, get_or, length-append}
 use Rattle.std.proofs.lemmas.List.{same_from_push}
 use Rattle.model.specs.Types.{CondOp, Cmp, And, Or, Not}
@@ -86,15 +86,6 @@ none_by_parts front rest count (e ∷ es) number is none =
 -- where no operation is left no expression is
 pub none_left : (front rest : List CondOp) (count : ℕ) → Lacks front count rest → length rest ≡ 0 → count ≡ 0
 none_left front rest count l none = none_by_parts front rest count l.parts l.number l.is none
-
-front_by_parts : (front rest : List CondOp) (parts : List Expression) → length parts ≡ 0
-    → rest ≡ front ++ joined parts → length rest ≡ length front
-front_by_parts front rest [] number is = ap length (is ∙ append-nil front)
-front_by_parts front rest (e ∷ es) number is = absurd (omega arith)
-
--- without an expression the front is left
-pub front_left : (front rest : List CondOp) → Lacks front 0 rest → length rest ≡ length front
-front_left front rest l = front_by_parts front rest l.parts l.number l.is
 
 -- the same in the words of the walk
 pub walk_more : (front rest : List CondOp) (count k : ℕ) (d : CondOp) → 1 ≤ length rest → 0 < count

@@ -4,6 +4,8 @@ mod drafts;
 mod faults;
 mod kinds;
 
+ghost use Rattle.model.specs.Fit.{IsFit};
+
 use crate::{read_entry, write_entry};
 use base_types::{Bytes, Entry, Items};
 use std::alloc::Global;
@@ -42,7 +44,9 @@ fn joined(alloc: Global, front: &[u8], rest: &[u8]) -> Result<Bytes, Fail> {
 }
 
 /// How the entry is shown, if these bytes are its spelling.
-fn shown_if_spelt(alloc: Global, entry: &Entry, bytes: &[u8]) -> Result<String, Fail> {
+fn shown_if_spelt(alloc: Global, entry: &Entry, bytes: &[u8]) -> Result<String, Fail>
+    requires { IsFit entry.now }
+{
     let spelling = write_entry(alloc, entry)?;
     if spelling.as_slice() != bytes {
         return Err("another spelling".into());

@@ -8,11 +8,6 @@ use owner_fold::Owners;
 use std::alloc::Global;
 use std::test::Fail;
 
-const JOB_REST: &str =
-    r#"logon: "", cond: Items { items: [] }, recovery: Stop, deps: Items { items: [] }"#;
-
-const STREAM_REST: &str = "limit: None, carry: false, deps: Items { items: [] }";
-
 type Answer = Result<(Ws, Cmd), ResolveFault>;
 
 fn is_shown(alloc: Global, answer: &Answer, shown: &str) -> Result<bool, Fail> {
@@ -41,7 +36,7 @@ fn gives(
 }
 
 /// The first of these lines that, typed at w, does not give what is shown beside it.
-fn first_other<'a>(
+fn first_of_others<'a>(
     alloc: Global,
     network: &Network,
     owners: &Owners,
@@ -54,6 +49,17 @@ fn first_other<'a>(
         }
     }
     Ok(None)
+}
+
+/// The same in the network of three workstations.
+fn first_other<'a>(
+    alloc: Global,
+    owners: Owners,
+    w: u16,
+    table: &[(&'a str, &str)],
+) -> Result<Option<&'a str>, Fail> {
+    let net = network(alloc)?;
+    first_of_others(alloc, &net, &owners, w, table)
 }
 
 const ON_OBJECTS: [(&str, &str); 12] = [
@@ -79,9 +85,8 @@ const ON_OBJECTS: [(&str, &str); 12] = [
 
 #[test]
 fn commands_on_objects(rt: HostRuntime) -> Result<(), Fail> {
-    let net = network(rt.alloc())?;
     let owners = second_plan(rt.alloc())?;
-    let other = first_other(rt.alloc(), &net, &owners, 0, &ON_OBJECTS)?;
+    let other = first_other(rt.alloc(), owners, 0, &ON_OBJECTS)?;
     assert!(rt; other == None, "at {other:?}");
     Ok(())
 }
@@ -102,12 +107,12 @@ const OTHERS: [(&str, &str); 10] = [
 /// Wherever they are typed.
 #[test]
 fn other_commands(rt: HostRuntime) -> Result<(), Fail> {
-    let net = network(rt.alloc())?;
     let owners = second_plan(rt.alloc())?;
-    let other = first_other(rt.alloc(), &net, &owners, 0, &OTHERS)?;
+    let other = first_other(rt.alloc(), owners, 0, &OTHERS)?;
     assert!(rt; other == None, "at {other:?}");
-    let other = first_other(rt.alloc(), &net, &owners, 2, &OTHERS)?;
-    assert!(rt; other == None, "at {other:?}");
+    let owners = second_plan(rt.alloc())?;
+    let other = first_other(rt.alloc(), owners, 2, &OTHERS)?;
+    assert!(rt; other == None, "at {other:?} from L");
     Ok(())
 }
 
@@ -126,9 +131,8 @@ const TYPED_AT_L: [(&str, &str); 5] = [
 
 #[test]
 fn names_at_another_workstation(rt: HostRuntime) -> Result<(), Fail> {
-    let net = network(rt.alloc())?;
     let owners = first_plan(rt.alloc())?;
-    let other = first_other(rt.alloc(), &net, &owners, 2, &TYPED_AT_L)?;
+    let other = first_other(rt.alloc(), owners, 2, &TYPED_AT_L)?;
     assert!(rt; other == None, "at {other:?}");
     Ok(())
 }
@@ -163,9 +167,8 @@ const ADDED: [(&str, &str); 7] = [
 
 #[test]
 fn added_dependencies(rt: HostRuntime) -> Result<(), Fail> {
-    let net = network(rt.alloc())?;
     let owners = second_plan(rt.alloc())?;
-    let other = first_other(rt.alloc(), &net, &owners, 0, &ADDED)?;
+    let other = first_other(rt.alloc(), owners, 0, &ADDED)?;
     assert!(rt; other == None, "at {other:?}");
     Ok(())
 }
@@ -181,9 +184,8 @@ const DELETED: [(&str, &str); 6] = [
 
 #[test]
 fn deleted_dependencies(rt: HostRuntime) -> Result<(), Fail> {
-    let net = network(rt.alloc())?;
     let owners = first_plan(rt.alloc())?;
-    let other = first_other(rt.alloc(), &net, &owners, 0, &DELETED)?;
+    let other = first_other(rt.alloc(), owners, 0, &DELETED)?;
     assert!(rt; other == None, "at {other:?}");
     Ok(())
 }
@@ -195,42 +197,43 @@ fn waived(alloc: Global) -> Result<Owners, Fail> {
     Ok(owners)
 }
 
+const WAIVED: [(&str, &str); 1] = [("ddj S.A;prompt=\"ready?\"", "UnknownName(2)")];
+
 #[test]
 fn a_waived_dependency_is_not_there(rt: HostRuntime) -> Result<(), Fail> {
-    let net = network(rt.alloc())?;
     let owners = waived(rt.alloc())?;
-    let typed = "ddj S.A;prompt=\"ready?\"";
-    assert!(rt; gives(rt.alloc(), &net, &owners, 0, typed, "UnknownName(2)")?);
+    let other = first_other(rt.alloc(), owners, 0, &WAIVED)?;
+    assert!(rt; other == None, "at {other:?}");
     Ok(())
 }
 
-/// How the command is shown that submits a stream and its job, both at w and of this name.
-fn submitted(alloc: Global, w: u16, name: &str, priority: u8, text: &str) -> Result<String, Fail> {
-    let named = format!(in alloc; "ws: Ws({w}), name: \"{name}\", priority")?;
-    let work = format!(in alloc; "work: Command(\"{text}\")")?;
-    let job = format!(in alloc; "JobDraft {{ {named}: {priority}, {work}, {JOB_REST} }}")?;
-    let jobs = format!(in alloc; "jobs: Items {{ items: [{job}] }}")?;
-    let draft = format!(in alloc; "StreamDraft {{ {named}: 10, {STREAM_REST}, {jobs} }}")?;
-    Ok(format!(in alloc; "0 Submit({draft})")?)
-}
+/// A submitted stream and its job are both at the workstation, and of one name.
+const SUBMITTED: [(&str, &str); 2] = [
+    (
+        r#"submit docommand M#"true""#,
+        concat!(
+            r#"0 Submit(StreamDraft { ws: Ws(0), name: "ADHOC", priority: 10, limit: None, carry: false, "#,
+            r#"deps: Items { items: [] }, jobs: Items { items: [JobDraft { ws: Ws(0), name: "ADHOC", "#,
+            r#"priority: 10, work: Command("true"), logon: "", cond: Items { items: [] }, "#,
+            "recovery: Stop, deps: Items { items: [] } }] } })",
+        ),
+    ),
+    (
+        r#"sbd L#"a b";alias=ONE;priority=255"#,
+        concat!(
+            r#"0 Submit(StreamDraft { ws: Ws(2), name: "ONE", priority: 10, limit: None, carry: false, "#,
+            r#"deps: Items { items: [] }, jobs: Items { items: [JobDraft { ws: Ws(2), name: "ONE", "#,
+            r#"priority: 255, work: Command("a b"), logon: "", cond: Items { items: [] }, "#,
+            "recovery: Stop, deps: Items { items: [] } }] } })",
+        ),
+    ),
+];
 
 #[test]
 fn submitted_streams(rt: HostRuntime) -> Result<(), Fail> {
-    let net = network(rt.alloc())?;
     let owners = first_plan(rt.alloc())?;
-    let shown = submitted(rt.alloc(), 0, "ADHOC", 10, "true")?;
-    let typed = "submit docommand M#\"true\"";
-    assert!(rt; gives(rt.alloc(), &net, &owners, 2, typed, &shown)?);
-    Ok(())
-}
-
-#[test]
-fn submitted_streams_with_all_parts(rt: HostRuntime) -> Result<(), Fail> {
-    let net = network(rt.alloc())?;
-    let owners = first_plan(rt.alloc())?;
-    let shown = submitted(rt.alloc(), 2, "ONE", 255, "a b")?;
-    let typed = "sbd L#\"a b\";alias=ONE;priority=255";
-    assert!(rt; gives(rt.alloc(), &net, &owners, 2, typed, &shown)?);
+    let other = first_other(rt.alloc(), owners, 2, &SUBMITTED)?;
+    assert!(rt; other == None, "at {other:?}");
     Ok(())
 }
 
@@ -265,9 +268,8 @@ const UNKNOWN: [(&str, &str); 24] = [
 
 #[test]
 fn unknown_names(rt: HostRuntime) -> Result<(), Fail> {
-    let net = network(rt.alloc())?;
     let owners = second_plan(rt.alloc())?;
-    let other = first_other(rt.alloc(), &net, &owners, 0, &UNKNOWN)?;
+    let other = first_other(rt.alloc(), owners, 0, &UNKNOWN)?;
     assert!(rt; other == None, "at {other:?}");
     Ok(())
 }
@@ -287,9 +289,8 @@ const WITHOUT_A_COMMAND: [(&str, &str); 10] = [
 
 #[test]
 fn lines_without_a_command(rt: HostRuntime) -> Result<(), Fail> {
-    let net = network(rt.alloc())?;
     let owners = first_plan(rt.alloc())?;
-    let other = first_other(rt.alloc(), &net, &owners, 0, &WITHOUT_A_COMMAND)?;
+    let other = first_other(rt.alloc(), owners, 0, &WITHOUT_A_COMMAND)?;
     assert!(rt; other == None, "at {other:?}");
     Ok(())
 }
@@ -316,12 +317,15 @@ fn is_obeyed_from(alloc: Global, network: &Network, owners: &Owners, w: u16, typ
     }
 }
 
+fn is_obeyed_in_network(alloc: Global, owners: Owners, w: u16, typed: &str) -> Result<bool, Fail> {
+    let net = network(alloc)?;
+    Ok(is_obeyed_from(alloc, &net, &owners, w, typed))
+}
+
 #[test]
 fn a_command_over_two_hops(rt: HostRuntime) -> Result<(), Fail> {
-    let alloc = rt.alloc();
-    let net = network(alloc)?;
-    let owners = first_plan(alloc)?;
+    let owners = first_plan(rt.alloc())?;
     // Typed at L for a job of M, and obeyed there.
-    assert!(rt; is_obeyed_from(alloc, &net, &owners, 2, "cancel job M#S.A"));
+    assert!(rt; is_obeyed_in_network(rt.alloc(), owners, 2, "cancel job M#S.A")?);
     Ok(())
 }

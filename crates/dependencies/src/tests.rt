@@ -20,42 +20,40 @@ const S: StreamNo = StreamNo(1);
 
 const AT: Moment = Moment(200);
 
-/// What M does or is told in a step of a night.
+/// An event of M, in numbers alone. A command is one of its own that it obeys.
 #[derive(Clone, Copy, Debug)]
 enum Step {
     Released,
+    /// The first launch of a job.
     Launched(u32),
+    /// That launch ended well.
     Ended(u32),
     Rerun(u32),
     Fence(u8),
     Limit(u16),
+    /// The units of the one resource.
     Total(u16),
+    /// The reading of the clock at which each UNTIL is due.
     Clock,
+    /// The UNTIL of a job, with what it does.
     Passed(u32, OnUntil),
 }
 
-/// The command of M's own that is obeyed in this step.
-fn command(step: &Step) -> Option<Cmd> {
-    match step {
-        Step::Rerun(no) => Some(Cmd::Rerun(JobNo(*no))),
-        Step::Fence(priority) => Some(Cmd::Fence(*priority)),
-        Step::Limit(launches) => Some(Cmd::Limit(*launches)),
-        Step::Total(units) => Some(Cmd::Total(1, *units)),
-        _ => None,
-    }
+fn obeyed(cmd: Cmd) -> Body {
+    Body::Obeyed(M, 1, cmd)
 }
 
-/// The event of M in this step.
 fn body(alloc: Global, step: &Step) -> Body {
-    if let Some(cmd) = command(step) {
-        return Body::Obeyed(M, 1, cmd);
-    }
     match step {
+        Step::Released => Body::Released(S, Seen::new(alloc)),
         Step::Launched(no) => Body::Launched(JobNo(*no), 1, Seen::new(alloc)),
         Step::Ended(no) => Body::Ended(JobNo(*no), 1, 0, true),
-        Step::Passed(no, mark) => Body::UntilPassed(Obj::Job(JobNo(*no)), 1, *mark),
+        Step::Rerun(no) => obeyed(Cmd::Rerun(JobNo(*no))),
+        Step::Fence(priority) => obeyed(Cmd::Fence(*priority)),
+        Step::Limit(launches) => obeyed(Cmd::Limit(*launches)),
+        Step::Total(units) => obeyed(Cmd::Total(1, *units)),
         Step::Clock => Body::Clock(AT),
-        _ => Body::Released(S, Seen::new(alloc)),
+        Step::Passed(no, mark) => Body::UntilPassed(Obj::Job(JobNo(*no)), 1, *mark),
     }
 }
 
@@ -105,6 +103,7 @@ impl Night {
     }
 }
 
+/// The word where it applies, and else nothing.
 fn word(text: &str, applies: bool) -> &str {
     if applies { text } else { "" }
 }
@@ -240,7 +239,7 @@ fn high_jobs_pass_a_limit_of_none(rt: HostRuntime) -> Result<(), Fail> {
     Ok(())
 }
 
-/// Of the jobs that follow nothing, those that are high.
+/// At a limit of none no job is ready before the release, and then only the high ones are.
 fn are_high_ready(night: &mut Night, alloc: Global) -> Result<bool, Fail> {
     night.take(alloc, &Step::Limit(0))?;
     let early = night.is_ready(3);
@@ -284,7 +283,7 @@ fn a_stream_ends_once_all_jobs_did(rt: HostRuntime) -> Result<(), Fail> {
     Ok(())
 }
 
-/// The need of the second job is satisfied until the first is launched, and what is not there never is.
+/// The need of the second job is satisfied until the first is launched.
 fn waits_for_units(night: &mut Night, alloc: Global) -> Result<bool, Fail> {
     night.take(alloc, &Step::Released)?;
     let before = night.is_satisfied(2, 1);
@@ -292,21 +291,21 @@ fn waits_for_units(night: &mut Night, alloc: Global) -> Result<bool, Fail> {
     Ok(before && !night.is_satisfied(2, 1))
 }
 
-/// A dependency or a job that is not there.
-fn is_none_satisfied(night: &Night) -> bool {
-    let satisfied = night.is_satisfied(2, 0)
-        || night.is_satisfied(2, 2)
-        || night.is_satisfied(3, 1);
-    !satisfied && !night.is_ready(3)
+/// Dependencies 0 and 2 are not there, nor is job 3: none is satisfied, and that job is not ready.
+fn what_is_not_there_is_not_satisfied(night: &Night) -> bool {
+    !night.is_satisfied(2, 0)
+        && !night.is_satisfied(2, 2)
+        && !night.is_satisfied(3, 1)
+        && !night.is_ready(3)
 }
 
 #[test]
 fn units_in_use_are_waited_for(rt: HostRuntime) -> Result<(), Fail> {
     let alloc = rt.alloc();
     let mut night = planned_night(alloc, needy_jobs(alloc)?)?;
-    assert!(rt; is_none_satisfied(&night));
+    assert!(rt; what_is_not_there_is_not_satisfied(&night));
     assert!(rt; waits_for_units(&mut night, alloc)?);
-    assert!(rt; is_none_satisfied(&night));
+    assert!(rt; what_is_not_there_is_not_satisfied(&night));
     Ok(())
 }
 

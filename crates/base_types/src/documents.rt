@@ -24,7 +24,7 @@ pub type StreamDocs = Items<StreamDoc>;
 pub type StreamDrafts = Items<StreamDraft>;
 
 /// A job or a job stream.
-#[derive(Clone, Copy, Debug, PartialEq, Eq, PartialOrd, Ord, Hash)]
+#[derive(Clone, Copy, Debug, PartialEq, Eq)]
 pub enum Obj {
     Job(JobNo),
     Stream(StreamNo),
@@ -42,7 +42,7 @@ pub enum OnUntil {
 }
 
 /// The prompt that a dependency asks.
-#[derive(Debug, PartialEq, Eq, Drop)]
+#[derive(Debug, Drop)]
 pub enum PromptRef {
     /// A prompt of the network, by its number from 1.
     Global(u16),
@@ -51,7 +51,7 @@ pub enum PromptRef {
 }
 
 /// What a job or a stream depends on.
-#[derive(Debug, PartialEq, Eq, Drop)]
+#[derive(Debug, Drop)]
 pub enum Dep {
     FollowsJob(JobNo),
     FollowsStream(StreamNo),
@@ -62,10 +62,12 @@ pub enum Dep {
     Until(Moment, OnUntil),
     /// A file that has to be there, by its path.
     Outside(Text),
+    /// From this moment on the object is late where it is not done.
+    Deadline(Moment),
 }
 
 /// What a draft depends on.
-#[derive(Debug, PartialEq, Eq, Drop)]
+#[derive(Debug, Drop)]
 pub enum DraftDep {
     /// A stream by its workstation and name, or a job of it by its name.
     Follows(Ws, Text, Option<Text>),
@@ -74,7 +76,7 @@ pub enum DraftDep {
 }
 
 /// What a job runs.
-#[derive(Debug, PartialEq, Eq, Drop)]
+#[derive(Debug, Drop)]
 pub enum Work {
     Command(Text),
     Script(Text),
@@ -110,7 +112,7 @@ pub enum CondOp {
 }
 
 /// A job of a plan.
-#[derive(Debug, PartialEq, Eq, Drop)]
+#[derive(Debug, Drop)]
 pub struct JobDoc {
     /// From 1, over the life of the network.
     pub no: JobNo,
@@ -128,7 +130,7 @@ pub struct JobDoc {
 }
 
 /// A job stream of a plan.
-#[derive(Debug, PartialEq, Eq, Drop)]
+#[derive(Debug, Drop)]
 pub struct StreamDoc {
     /// From 1, over the life of the network.
     pub no: StreamNo,
@@ -145,7 +147,7 @@ pub struct StreamDoc {
 }
 
 /// A job before it is planned.
-#[derive(Debug, PartialEq, Eq, Drop)]
+#[derive(Debug, Drop)]
 pub struct JobDraft {
     pub ws: Ws,
     pub name: Text,
@@ -161,7 +163,7 @@ pub struct JobDraft {
 }
 
 /// A job stream before it is planned.
-#[derive(Debug, PartialEq, Eq, Drop)]
+#[derive(Debug, Drop)]
 pub struct StreamDraft {
     pub ws: Ws,
     pub name: Text,

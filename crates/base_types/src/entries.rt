@@ -17,7 +17,7 @@ pub enum Feed {
 }
 
 /// What an entry says. The number of a launch counts from 1 for each job.
-#[derive(Debug, PartialEq, Eq, Drop)]
+#[derive(Debug, Drop)]
 pub enum Body {
     /// The run, what the master knew, the carried streams and the fresh ones.
     NewPlan(u32, Seen, StreamNos, StreamDocs),
@@ -44,10 +44,12 @@ pub enum Body {
     /// The issuer and the place of the order, and why not.
     Declined(Ws, u32, Why),
     Order(Cmd),
+    /// The DEADLINE of this number, from 1, has passed before its object was done.
+    Late(Obj, u16),
 }
 
 /// An entry of a feed.
-#[derive(Debug, PartialEq, Eq, Drop)]
+#[derive(Debug, Drop)]
 pub struct Entry {
     pub feed: Feed,
     /// From 1, in its feed.
@@ -56,7 +58,7 @@ pub struct Entry {
 }
 
 /// What one workstation sends to its neighbour.
-#[derive(Clone, Copy, Debug, PartialEq, Eq, PartialOrd, Ord, Hash)]
+#[derive(Clone, Copy, Debug, PartialEq, Eq)]
 pub enum Packet {
     /// The entry of this feed and place.
     Mail(Feed, u32),

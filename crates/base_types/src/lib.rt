@@ -8,7 +8,6 @@ mod commands;
 mod copied;
 mod documents;
 mod entries;
-mod exact;
 mod growing;
 mod inputs;
 mod lists;
@@ -18,8 +17,6 @@ mod outputs;
 mod reports;
 mod sightings;
 mod steps;
-#[cfg(test)]
-mod tests;
 mod texts;
 
 pub use commands::{Cmd, Why};
@@ -29,11 +26,12 @@ pub use documents::{
     PromptRef, Recovery, Rel, StreamDoc, StreamDocs, StreamDraft, StreamDrafts, StreamNos, Work,
 };
 pub use entries::{Body, Entries, Entry, Feed, Packet};
-pub use exact::{Exact, same};
 pub use growing::Growing;
 pub use inputs::{Input, Local};
 pub use lists::{Items, NoMemory};
-pub use network::{Net, Node, Nodes, Peer, Peers, PromptDef, PromptDefs, Resource, Resources};
+pub use network::{
+    Carry, Net, Node, Nodes, Peer, Peers, PromptDef, PromptDefs, Resource, Resources,
+};
 pub use numbers::{JobNo, Moment, StreamNo, Ws};
 pub use outputs::{Live, LiveJob, Out, Outs};
 pub use reports::{

@@ -15,7 +15,7 @@ pub type Resources = Items<Resource>;
 pub type PromptDefs = Items<PromptDef>;
 
 /// A workstation of the network.
-#[derive(Debug, PartialEq, Eq, Drop)]
+#[derive(Drop)]
 pub struct Node {
     pub name: Text,
     /// The neighbour on its way to the master, which alone has none.
@@ -27,7 +27,7 @@ pub struct Node {
 }
 
 /// Where a workstation is reached.
-#[derive(Debug, PartialEq, Eq, Drop)]
+#[derive(Drop)]
 pub struct Peer {
     pub ws: Ws,
     pub host: Text,
@@ -35,7 +35,7 @@ pub struct Peer {
 }
 
 /// A resource of one workstation.
-#[derive(Debug, PartialEq, Eq, Drop)]
+#[derive(Drop)]
 pub struct Resource {
     pub ws: Ws,
     pub name: Text,
@@ -44,16 +44,28 @@ pub struct Resource {
 }
 
 /// A global prompt. A text that begins with `:` asks nothing.
-#[derive(Debug, PartialEq, Eq, Drop)]
+#[derive(Drop)]
 pub struct PromptDef {
     pub name: Text,
     pub text: Text,
 }
 
+/// Which unfinished streams a new plan carries.
+#[derive(Clone, Copy, Debug, PartialEq, Eq)]
+pub enum Carry {
+    /// Those that are marked to be carried.
+    Yes,
+    /// None.
+    No,
+    /// All.
+    All,
+}
+
 /// A network as it is defined.
-#[derive(Debug, PartialEq, Eq, Drop)]
+#[derive(Drop)]
 pub struct Net {
     pub nodes: Nodes,
     pub resources: Resources,
     pub prompts: PromptDefs,
+    pub carry: Carry,
 }

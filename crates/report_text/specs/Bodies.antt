@@ -6,7 +6,7 @@ use Rattle.base_types.specs.declared.StreamDoc.{StreamDoc}
 use Rattle.base_types.specs.declared.Body.{Body}
 use Rattle.base_types.specs.declared.Body.TheVariants.{NewPlan, Added, Clock, Released, StreamEnded, UntilPassed}
 use Rattle.base_types.specs.declared.Body.TheVariants.{Launched, Started, Failed, Ended, Lost, Fulfilled}
-use Rattle.base_types.specs.declared.Body.TheVariants.{Obeyed, Declined, Order}
+use Rattle.base_types.specs.declared.Body.TheVariants.{Obeyed, Declined, Order, Late}
 use Rattle.base_types.specs.declared.Why.{Why}
 use Rattle.base_types.specs.declared.Why.TheVariants.{NotMine, NotThere, Running, NotRunning, NotEnded}
 use Rattle.base_types.specs.declared.Why.TheVariants.{AlreadyThere, OutOfRange, NotMaster, NotBuilt}
@@ -63,3 +63,4 @@ body_text net (Obeyed a place cmd) =
 body_text net (Declined a place why_) =
     codes "declined " ++ name_of net a ++ codes " " ++ decimal place ++ codes " " ++ why_word why_
 body_text net (Order cmd) = codes "order " ++ cmd_text net cmd
+body_text net (Late o i) = codes "late " ++ obj_text o ++ codes " dep " ++ decimal i

@@ -8,6 +8,7 @@ use Rattle.base_types.specs.declared.OnUntil.TheVariants.{Suppr, Cont, Canc}
 use Rattle.base_types.specs.declared.PromptRef.TheVariants.{Global, Own}
 use Rattle.base_types.specs.declared.Dep.{Dep}
 use Rattle.base_types.specs.declared.Dep.TheVariants.{FollowsJob, FollowsStream, Needs, Prompt, At, Until, Outside}
+use Rattle.base_types.specs.declared.Dep.TheVariants.{Deadline}
 use Rattle.report_text.specs.Quotes.{quoted_text}
 
 -- `job N` or `stream N`
@@ -31,3 +32,4 @@ dep_text (Prompt (Own text)) = codes "prompt " ++ quoted_text text
 dep_text (At t) = codes "at " ++ decimal t
 dep_text (Until t then_) = codes "until " ++ decimal t ++ codes " " ++ until_word then_
 dep_text (Outside path) = codes "outside " ++ quoted_text path
+dep_text (Deadline t) = codes "deadline " ++ decimal t

@@ -7,4 +7,5 @@ pub mod Dependencies
 pub mod Commands
 pub mod Bodies
 pub mod Reports
+pub mod States
 pub mod Summaries

@@ -48,6 +48,7 @@ pub(crate) fn write_body(out: &mut Vec<u8>, net: &Net, body: &Body) -> io::Resul
             write!(out, "declined {} {place} {why}", name(net, from))
         }
         Body::Order(cmd) => write_order(out, net, cmd),
+        Body::Late(obj, number) => write_with_dep(out, "late ", obj, *number),
     }
 }
 

@@ -43,6 +43,7 @@ pub(crate) fn write_dep(out: &mut Vec<u8>, dep: &Dep) -> io::Result<()>
         Dep::At(time) => write!(out, "at {}", time.0),
         Dep::Until(time, then) => write!(out, "until {} {}", time.0, until_word(*then)),
         Dep::Outside(path) => write_outside(out, path),
+        Dep::Deadline(time) => write!(out, "deadline {}", time.0),
     }
 }
 

@@ -3,7 +3,8 @@
 //! The parts of a report are the entries, the launches that were started, the counts of packets, and what each
 //! workstation holds with the listing of its plan. `print_report` gives exactly the bytes that `specs/Reports.antt`
 //! defines, over the files that stand before it: a line for each part, with each kind of entry, command and dependency.
-//! `print_summary` gives those of `specs/Summaries.antt`. `name` is how a workstation is called in all texts.
+//! `print_summary` gives those of `specs/Summaries.antt`. `name` is how a workstation is called in all texts, and
+//! `stream_word` and `job_word` are how the states are.
 #![tactic(auto)]
 
 mod bodies;
@@ -13,10 +14,10 @@ mod lists;
 mod names;
 mod quotes;
 mod reports;
+mod states;
 mod summaries;
-#[cfg(test)]
-mod tests;
 
 pub use names::name;
 pub use reports::print_report;
+pub use states::{job_word, stream_word};
 pub use summaries::print_summary;

@@ -1,7 +1,8 @@
 //! The summary of a run.
-ghost use Rattle.std.specs.Prelude.{◌≡◌, ◌++◌, IfOk, OnOk, slice_index};
+ghost use Rattle.std.specs.Prelude.{◌≡◌, ◌++◌, IfOk, OnOk, map, slice_index};
 ghost use Rattle.report_text.specs.Summaries as spec;
 
+use crate::states::{JOB_WORDS, STREAM_WORDS};
 use base_types::{Bytes, Counts, Items, Net, NoMemory};
 use std::alloc::Global;
 use std::io::{self, Write};
@@ -40,66 +41,23 @@ fn write_summary(
     ensures { OnOk result (out.new.items ≡ out.old.items ++ spec.summary_of streams.now jobs.now events starts) }
 {
     write!(out, "events {events}\nstarts {starts}\n")?;
-    write_first_streams(out, streams)?;
-    write_last_streams(out, streams)?;
-    write_first_jobs(out, jobs)?;
-    write_last_jobs(out, jobs)
+    write_states(out, "streams", &STREAM_WORDS, streams)?;
+    write_states(out, "jobs", &JOB_WORDS, jobs)
 }
 
-#[tactic(auto, unfolding(crate::specs::Summaries::first_streams))]
-fn write_first_streams(out: &mut Vec<u8>, counts: &Counts) -> io::Result<()>
-    ensures { OnOk result (out.new.items ≡ out.old.items ++ spec.first_streams counts.now) }
+fn write_states(out: &mut Vec<u8>, what: &str, states: &[&str], counts: &Counts) -> io::Result<()>
+    ensures { OnOk result (out.new.items ≡ out.old.items
+        ++ spec.state_lines what.now (map (λ s. s.now) states.now) counts.now) }
 {
-    write_streams(out, "HOLD", counts, 0)?;
-    write_streams(out, "READY", counts, 1)?;
-    write_streams(out, "EXEC", counts, 2)?;
-    write_streams(out, "STUCK", counts, 3)
+    let mut place = 0;
+    for state in states {
+        write_state(out, what, state, count_at(counts, place))?;
+        place += 1;
+    }
+    Ok(())
 }
 
-#[tactic(auto, unfolding(crate::specs::Summaries::last_streams))]
-fn write_last_streams(out: &mut Vec<u8>, counts: &Counts) -> io::Result<()>
-    ensures { OnOk result (out.new.items ≡ out.old.items ++ spec.last_streams counts.now) }
-{
-    write_streams(out, "SUCC", counts, 4)?;
-    write_streams(out, "ABEND", counts, 5)?;
-    write_streams(out, "CANCEL", counts, 6)
-}
-
-#[tactic(auto, unfolding(crate::specs::Summaries::first_jobs))]
-fn write_first_jobs(out: &mut Vec<u8>, counts: &Counts) -> io::Result<()>
-    ensures { OnOk result (out.new.items ≡ out.old.items ++ spec.first_jobs counts.now) }
-{
-    write_jobs(out, "HOLD", counts, 0)?;
-    write_jobs(out, "FENCE", counts, 1)?;
-    write_jobs(out, "READY", counts, 2)?;
-    write_jobs(out, "INTRO", counts, 3)?;
-    write_jobs(out, "EXEC", counts, 4)
-}
-
-#[tactic(auto, unfolding(crate::specs::Summaries::last_jobs))]
-fn write_last_jobs(out: &mut Vec<u8>, counts: &Counts) -> io::Result<()>
-    ensures { OnOk result (out.new.items ≡ out.old.items ++ spec.last_jobs counts.now) }
-{
-    write_jobs(out, "SUCC", counts, 5)?;
-    write_jobs(out, "ABEND", counts, 6)?;
-    write_jobs(out, "FAIL", counts, 7)?;
-    write_jobs(out, "CANCEL", counts, 8)
-}
-
-#[tactic(auto, unfolding(crate::specs::Summaries::streams_line))]
-fn write_streams(out: &mut Vec<u8>, state: &str, counts: &Counts, place: usize) -> io::Result<()>
-    ensures { OnOk result (out.new.items ≡ out.old.items ++ spec.streams_line state.now counts.now place) }
-{
-    write_state(out, "streams", state, count_at(counts, place))
-}
-
-#[tactic(auto, unfolding(crate::specs::Summaries::jobs_line))]
-fn write_jobs(out: &mut Vec<u8>, state: &str, counts: &Counts, place: usize) -> io::Result<()>
-    ensures { OnOk result (out.new.items ≡ out.old.items ++ spec.jobs_line state.now counts.now place) }
-{
-    write_state(out, "jobs", state, count_at(counts, place))
-}
-
+#[tactic(auto, unfolding(crate::specs::Summaries::state_line))]
 fn write_state(out: &mut Vec<u8>, what: &str, state: &str, count: u32) -> io::Result<()>
     ensures { OnOk result (out.new.items ≡ out.old.items ++ spec.state_line what.now state.now count) }
 {
@@ -109,6 +67,7 @@ fn write_state(out: &mut Vec<u8>, what: &str, state: &str, count: u32) -> io::Re
     write!(out, "{what} {state} {count}\n")
 }
 
+/// The count that stands at this place, and 0 where it is missing.
 fn count_at(counts: &Counts, place: usize) -> u32
     ensures { result ≡ slice_index counts.now place }
 {

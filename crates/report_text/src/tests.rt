@@ -1,5 +1,0 @@
-//! Whole reports, byte for byte.
-mod counts;
-mod days;
-mod kinds;
-mod samples;

@@ -1,6 +1,6 @@
 //! Texts that are no line, with their faults.
-use crate::CommandFault::{BadArgument, TooMany, UnknownCommand};
-use crate::{CommandFault, parse_command};
+use conman_syntax::CommandFault::{BadArgument, TooMany, UnknownCommand};
+use conman_syntax::{CommandFault, parse_command};
 use std::alloc::Global;
 use std::test::Fail;
 

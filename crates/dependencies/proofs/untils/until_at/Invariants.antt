@@ -5,7 +5,7 @@ use Rattle.model.specs.History.{view_of}
 use Rattle.model.specs.Dependencies.{NumberedDep}
 use Rattle.model.specs.OwnMembers.{is_until_due, until_at}
 use Rattle.dependencies.specs.Left.{deps_left}
-use Rattle.dependencies.proofs.untils.placed_until.Given as goal
+use Rattle.dependencies.proofs.untils.until_at.Given as goal
 
 abbrev pub invariant-loop-number : goal.invariant-loop-number
 invariant-loop-number l =

@@ -19,7 +19,7 @@ use Rattle.entry_codec.specs.Entries.{event_at, order_at, body_at, event_rows, o
 use Rattle.entry_codec.proofs.Readers.{◌&◌, Stands, IsReader}
 use Rattle.entry_codec.proofs.Numbers.{u16_reader, u32_reader, u64_reader}
 use Rattle.entry_codec.proofs.Texts.{i32_reader}
-use Rattle.entry_codec.proofs.Choices.{row_1, row_2, row_3, row_4, choice_found, again_1, again_2, again_3, again_4}
+use Rattle.entry_codec.proofs.Choices.{row_1, row_2, row_3, row_4, choice_reader, again_1, again_2, again_3, again_4}
 use Rattle.entry_codec.proofs.Choices.{flag_reader, IsRow}
 use Rattle.entry_codec.proofs.Allowed.{Allows, allows_none}
 use Rattle.entry_codec.proofs.Lists.{AreListed, list_reader}
@@ -120,33 +120,30 @@ event_reader : (second : Bool) → IsReader (EventFits second) body_bytes (event
 unfolding event_at body_bytes
 event_reader second =
     let none : Allows second false = allows_none second in
-    record {
-      found = choice_found (EventFits second) body_bytes (event_rows second) (
-          row_4 u32_reader seen_reader (list_reader u32_reader) (list_reader (stream_reader second)) 1 NewPlan (plan_fits second)
-          (λ w x y z. refl)
-          & row_3 u16_reader u32_reader (stream_reader second) 2 Added (λ x y z f g h. (((h.0.0, (f, g, h.0.1)), h.1), refl))
-          (λ x y z. refl)
-          & row_1 u64_reader 3 Clock (λ x f. (((tt, f), none), refl)) (λ x. refl)
-          & row_2 u32_reader seen_reader 4 Released (λ x y f g. (((fit_seen y g, (f, seen_in_range y g)), none), refl))
-          (λ x y. refl)
-          & row_2 u32_reader seen_reader 5 StreamEnded (λ x y f g. (((fit_seen y g, (f, seen_in_range y g)), none), refl))
-          (λ x y. refl)
-          & row_3 obj_reader u16_reader until_reader 6 UntilPassed (λ x y z f g h. (((tt, (f, g)), none), refl))
-          (λ x y z. refl)
-          & row_3 u32_reader u32_reader seen_reader 7 Launched (λ x y z f g h.
-          (((fit_seen z h, (f, g, seen_in_range z h)), none), refl)) (λ x y z. refl)
-          & row_2 u32_reader u32_reader 8 Started (λ x y f g. (((tt, (f, g)), none), refl)) (λ x y. refl)
-          & row_2 u32_reader u32_reader 9 Failed (λ x y f g. (((tt, (f, g)), none), refl)) (λ x y. refl)
-          & row_4 u32_reader u32_reader i32_reader flag_reader 10 Ended (λ w x y z f g h k. (((tt, (f, g, h)), none), refl))
-          (λ w x y z. refl)
-          & row_2 u32_reader u32_reader 11 Lost (λ x y f g. (((tt, (f, g)), none), refl)) (λ x y. refl)
-          & row_2 obj_reader u16_reader 12 Fulfilled (λ x y f g. (((tt, (f, g)), none), refl)) (λ x y. refl)
-          & row_3 u16_reader u32_reader (cmd_reader second) 13 Obeyed (λ x y z f g h. (((h.0.0, (f, g, h.0.1)), h.1), refl))
-          (λ x y z. refl)
-          & row_3 u16_reader u32_reader why_reader 14 Declined (λ x y z f g h. (((tt, (f, g)), none), refl)) (λ x y z. refl)
-          & late_row second);
-      again = event_again second;
-    }
+    choice_reader (EventFits second) body_bytes (event_rows second) (
+    row_4 u32_reader seen_reader (list_reader u32_reader) (list_reader (stream_reader second)) 1 NewPlan (plan_fits second)
+    (λ w x y z. refl)
+    & row_3 u16_reader u32_reader (stream_reader second) 2 Added (λ x y z f g h. (((h.0.0, (f, g, h.0.1)), h.1), refl))
+    (λ x y z. refl)
+    & row_1 u64_reader 3 Clock (λ x f. (((tt, f), none), refl)) (λ x. refl)
+    & row_2 u32_reader seen_reader 4 Released (λ x y f g. (((fit_seen y g, (f, seen_in_range y g)), none), refl))
+    (λ x y. refl)
+    & row_2 u32_reader seen_reader 5 StreamEnded (λ x y f g. (((fit_seen y g, (f, seen_in_range y g)), none), refl))
+    (λ x y. refl)
+    & row_3 obj_reader u16_reader until_reader 6 UntilPassed (λ x y z f g h. (((tt, (f, g)), none), refl))
+    (λ x y z. refl)
+    & row_3 u32_reader u32_reader seen_reader 7 Launched (λ x y z f g h.
+    (((fit_seen z h, (f, g, seen_in_range z h)), none), refl)) (λ x y z. refl)
+    & row_2 u32_reader u32_reader 8 Started (λ x y f g. (((tt, (f, g)), none), refl)) (λ x y. refl)
+    & row_2 u32_reader u32_reader 9 Failed (λ x y f g. (((tt, (f, g)), none), refl)) (λ x y. refl)
+    & row_4 u32_reader u32_reader i32_reader flag_reader 10 Ended (λ w x y z f g h k. (((tt, (f, g, h)), none), refl))
+    (λ w x y z. refl)
+    & row_2 u32_reader u32_reader 11 Lost (λ x y f g. (((tt, (f, g)), none), refl)) (λ x y. refl)
+    & row_2 obj_reader u16_reader 12 Fulfilled (λ x y f g. (((tt, (f, g)), none), refl)) (λ x y. refl)
+    & row_3 u16_reader u32_reader (cmd_reader second) 13 Obeyed (λ x y z f g h. (((h.0.0, (f, g, h.0.1)), h.1), refl))
+    (λ x y z. refl)
+    & row_3 u16_reader u32_reader why_reader 14 Declined (λ x y z f g h. (((tt, (f, g)), none), refl)) (λ x y z. refl)
+    & late_row second) (event_again second)
 
 order_again : (second : Bool) (bytes : List ℕ) (p : ℕ) (b : Body) (q : ℕ) → OrderFits second b → Stands (body_bytes b) bytes p q
     → order_at second bytes p ≡ Ok (b, q)
@@ -157,12 +154,9 @@ order_again second bytes p _ q fits s = absurd cc
 order_reader : (second : Bool) → IsReader (OrderFits second) body_bytes (order_at second)
 unfolding order_at body_bytes
 order_reader second =
-    record {
-      found = choice_found (OrderFits second) body_bytes (order_rows second) (
-          row_1 (cmd_reader second) 15 Order (λ c f. (f, refl)) (λ c. refl)
-          & tt);
-      again = order_again second;
-    }
+    choice_reader (OrderFits second) body_bytes (order_rows second) (
+    row_1 (cmd_reader second) 15 Order (λ c f. (f, refl)) (λ c. refl)
+    & tt) (order_again second)
 
 -- a body of the feed's kinds
 abbrev pub FeedBodyFits : Bool → Feed → Body → Type 0
@@ -183,6 +177,11 @@ body_reader second (Events w) =
           let f = (event_reader second).found bytes p b q is lt e in
           ((f.0.0, not_true (is_order b) f.0.1), f.1);
       again = λ bytes p b q fits s. (event_reader second).again bytes p b q (fits.0, was_false (is_order b) fits.1) s;
+      steady = (event_reader second).steady;
     }
 body_reader second (Orders a w) =
-    record { found = (order_reader second).found; again = (order_reader second).again }
+    record {
+      found = (order_reader second).found;
+      again = (order_reader second).again;
+      steady = (order_reader second).steady;
+    }

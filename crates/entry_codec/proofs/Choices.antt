@@ -11,7 +11,9 @@ use Rattle.entry_codec.specs.Read.{Reader, and_then, gives, one, two, three, fou
 use Rattle.entry_codec.specs.Fields.{u8_at, row_of, behind, choice_at, flag_at, option_at, flag_rows}
 use Rattle.entry_codec.specs.Fields.{option_rows}
 use Rattle.entry_codec.proofs.Readers.{◌&◌, IsBytes, Stands, IsReader, within, starts, nothing, joined, split}
-use Rattle.entry_codec.proofs.Readers.{came, step, on, same_value}
+use Rattle.entry_codec.proofs.Readers.{IsSteady, came, step, on, same_value}
+use Rattle.entry_codec.proofs.Steady.{RowsSteady, gives_steady, one_steady, two_steady, three_steady, four_steady}
+use Rattle.entry_codec.proofs.Steady.{choice_steady}
 use Rattle.entry_codec.proofs.Numbers.{u8_reader}
 
 -- the spelling of a value begins with a number, and the rest of it stands there
@@ -26,6 +28,7 @@ pub record Behind {X : Type 0} (P : X → Type 0) (spell : X → List ℕ) (tag 
 pub record IsRow {X : Type 0} (P : X → Type 0) (spell : X → List ℕ) (row : ℕ × Reader X) : Type 0 where
   pub found : (bytes : List ℕ) (p : ℕ) (x : X) (q : ℕ) → IsBytes bytes → p ≤ length bytes → row.1 bytes p ≡ Ok (x, q)
       → Behind P spell row.0 x bytes p q
+  pub steady : IsSteady row.1
 
 -- rows of values that take no bytes
 pub row_0 : {X : Type 0} {P : X → Type 0} {spell : X → List ℕ} (tag : ℕ) (x : X) → P x → spell x ≡ tag ∷ []
@@ -34,13 +37,15 @@ row_0 {X} {P} {spell} tag x fits e =
     record {
       found = λ bytes p y q is lt r. subst (λ (z : X × ℕ). Behind P spell tag z.0 bytes p z.1) (same_value r)
           (record { tail = []; fits = fits; spelled = e; stands = starts bytes p lt });
+      steady = gives_steady x;
     }
 
 -- and of one part, two, three and four
 pub row_1 : {X A : Type 0} {P : X → Type 0} {spell : X → List ℕ} {Q : A → Type 0} {s : A → List ℕ} {a : Reader A}
     → IsReader Q s a → (tag : ℕ) (make : A → X) → ((x : A) → Q x → P (make x))
     → ((x : A) → spell (make x) ≡ tag ∷ s x) → IsRow P spell (tag, one a make)
-row_1 {X} {A} {P} {spell} {Q} {s} {a} ra tag make fits spelled = record { found = go }
+row_1 {X} {A} {P} {spell} {Q} {s} {a} ra tag make fits spelled =
+    record { found = go; steady = one_steady make ra.steady }
   where
     go : (bytes : List ℕ) (p : ℕ) (y : X) (q : ℕ) → IsBytes bytes → p ≤ length bytes → one a make bytes p ≡ Ok (y, q)
         → Behind P spell tag y bytes p q
@@ -53,7 +58,8 @@ pub row_2 : {X A B : Type 0} {P : X → Type 0} {spell : X → List ℕ} {Q : A 
     {R : B → Type 0} {t : B → List ℕ} {b : Reader B} → IsReader Q s a → IsReader R t b → (tag : ℕ) (make : A → B → X)
     → ((x : A) (y : B) → Q x → R y → P (make x y)) → ((x : A) (y : B) → spell (make x y) ≡ tag ∷ (s x ++ t y))
     → IsRow P spell (tag, two a b make)
-row_2 {X} {A} {B} {P} {spell} {Q} {s} {a} {R} {t} {b} ra rb tag make fits spelled = record { found = go }
+row_2 {X} {A} {B} {P} {spell} {Q} {s} {a} {R} {t} {b} ra rb tag make fits spelled =
+    record { found = go; steady = two_steady make ra.steady rb.steady }
   where
     go : (bytes : List ℕ) (p : ℕ) (y : X) (q : ℕ) → IsBytes bytes → p ≤ length bytes
         → two a b make bytes p ≡ Ok (y, q) → Behind P spell tag y bytes p q
@@ -75,7 +81,7 @@ pub row_3 : {X A B C : Type 0} {P : X → Type 0} {spell : X → List ℕ} {Q : 
     → ((x : A) (y : B) (z : C) → spell (make x y z) ≡ tag ∷ (s x ++ t y ++ u z))
     → IsRow P spell (tag, three a b c make)
 row_3 {X} {A} {B} {C} {P} {spell} {Q} {s} {a} {R} {t} {b} {S} {u} {c} ra rb rc tag make fits spelled =
-    record { found = go }
+    record { found = go; steady = three_steady make ra.steady rb.steady rc.steady }
   where
     go : (bytes : List ℕ) (p : ℕ) (y : X) (q : ℕ) → IsBytes bytes → p ≤ length bytes
         → three a b c make bytes p ≡ Ok (y, q) → Behind P spell tag y bytes p q
@@ -100,7 +106,7 @@ pub row_4 : {X A B C D : Type 0} {P : X → Type 0} {spell : X → List ℕ} {Q 
     → IsRow P spell (tag, four a b c d make)
 row_4 {X} {A} {B} {C} {D} {P} {spell} {Q} {s} {a} {R} {t} {b} {S} {u} {c} {T} {v} {d} ra rb rc rd tag make fits
     spelled =
-    record { found = go }
+    record { found = go; steady = four_steady make ra.steady rb.steady rc.steady rd.steady }
   where
     go : (bytes : List ℕ) (p : ℕ) (y : X) (q : ℕ) → IsBytes bytes → p ≤ length bytes
         → four a b c d make bytes p ≡ Ok (y, q) → Behind P spell tag y bytes p q
@@ -135,7 +141,7 @@ walk {X} P spell (row ∷ rows) n here bytes p x q h is lt e =
         subst (λ (m : ℕ). Behind P spell m x bytes p q) same (h.0.found bytes p x q is lt read)
     go false is_it later = later (rw is_it at e)
 
-pub choice_found : {X : Type 0} (P : X → Type 0) (spell : X → List ℕ) (rows : List (ℕ × Reader X))
+choice_found : {X : Type 0} (P : X → Type 0) (spell : X → List ℕ) (rows : List (ℕ × Reader X))
     → AllByRecursion (IsRow P spell) rows → (bytes : List ℕ) (p : ℕ) (x : X) (q : ℕ) → IsBytes bytes
     → p ≤ length bytes → choice_at rows bytes p ≡ Ok (x, q) → P x × Stands (spell x) bytes p q
 unfolding choice_at
@@ -144,6 +150,23 @@ choice_found {X} P spell rows all bytes p x q is lt e =
     let tag = u8_reader.found bytes p c.value.0 c.value.1 is lt c.first in
     let b = walk P spell rows c.value.0 p bytes c.value.1 x q all is (within tag.1) c.then_ in
     (b.fits, subst (λ (l : List ℕ). Stands l bytes p q) (sym b.spelled) (joined tag.1 b.stands))
+
+rows_steady : {X : Type 0} (P : X → Type 0) (spell : X → List ℕ) (rows : List (ℕ × Reader X))
+    → AllByRecursion (IsRow P spell) rows → RowsSteady rows
+rows_steady P spell [] all = tt
+rows_steady P spell (row ∷ rows) all = (all.0.steady, rows_steady P spell rows all.1)
+
+-- a choice whose rows are right, and by which each value is read again
+pub choice_reader : {X : Type 0} (P : X → Type 0) (spell : X → List ℕ) (rows : List (ℕ × Reader X))
+    → AllByRecursion (IsRow P spell) rows
+    → ((bytes : List ℕ) (p : ℕ) (x : X) (q : ℕ) → P x → Stands (spell x) bytes p q → choice_at rows bytes p ≡ Ok (x, q))
+    → IsReader P spell (choice_at rows)
+choice_reader P spell rows all again =
+    record {
+      found = choice_found P spell rows all;
+      again = again;
+      steady = choice_steady rows (rows_steady P spell rows all);
+    }
 
 -- the row of a number is read where the number stands
 pub chosen : {X : Type 0} (rows : List (ℕ × Reader X)) (tag : ℕ) (row : Reader X) (tail bytes : List ℕ) (p q : ℕ)
@@ -216,22 +239,14 @@ flag_again bytes p true q s = again_0 flag_rows 1 true refl (omega arith) s
 
 pub flag_reader : IsReader Any flag_bytes flag_at
 flag_reader =
-    record {
-      found = choice_found Any flag_bytes flag_rows (row_0 0 false tt refl & row_0 1 true tt refl & tt);
-      again = λ bytes p b q fits s. flag_again bytes p b q s;
-    }
+    choice_reader Any flag_bytes flag_rows (row_0 0 false tt refl & row_0 1 true tt refl & tt)
+    (λ bytes p b q fits s. flag_again bytes p b q s)
 
 pub option_reader : {X : Type 0} {P : X → Type 0} {spell : X → List ℕ} {value : Reader X} → IsReader P spell value
     → IsReader (λ (o : Option X). IfSome o P) (option_bytes spell) (option_at value)
 option_reader {X} {P} {spell} {value} reader =
-    record {
-      found = choice_found (λ (o : Option X). IfSome o P) (option_bytes spell)
-          (option_rows value) (
-          row_0 0 None tt refl
-          & row_1 reader 1 Some (λ x fits. fits) (λ x. refl)
-          & tt);
-      again = go;
-    }
+    choice_reader (λ (o : Option X). IfSome o P) (option_bytes spell) (option_rows value)
+    (row_0 0 None tt refl & row_1 reader 1 Some (λ x fits. fits) (λ x. refl) & tt) go
   where
     go : (bytes : List ℕ) (p : ℕ) (o : Option X) (q : ℕ) → IfSome o P → Stands (option_bytes spell o) bytes p q
         → option_at value bytes p ≡ Ok (o, q)

@@ -9,7 +9,7 @@ use Rattle.model.specs.Versions.{cmd_has_deadline}
 use Rattle.entry_codec.specs.Commands.{cmd_at, cmd_rows}
 use Rattle.entry_codec.proofs.Readers.{◌&◌, Stands, IsReader}
 use Rattle.entry_codec.proofs.Numbers.{u8_reader, u16_reader, u32_reader}
-use Rattle.entry_codec.proofs.Choices.{row_0, row_1, row_2, row_3, choice_found, again_0, again_1, again_2, again_3}
+use Rattle.entry_codec.proofs.Choices.{row_0, row_1, row_2, row_3, choice_reader, again_0, again_1, again_2, again_3}
 use Rattle.entry_codec.proofs.Choices.{flag_reader}
 use Rattle.entry_codec.proofs.Parts.{obj_reader, dep_reader}
 use Rattle.entry_codec.proofs.Documents.{draft_reader}
@@ -61,26 +61,23 @@ pub cmd_reader : (second : Bool) → IsReader (CmdFits second) cmd_bytes (cmd_at
 unfolding cmd_at cmd_bytes
 cmd_reader second =
     let none : Allows second false = allows_none second in
-    record {
-      found = choice_found (CmdFits second) cmd_bytes (cmd_rows second) (
-          row_2 obj_reader (dep_reader second) 1 AddDep (λ x y f g. ((g.0.0, (f, g.0.1)), g.1)) (λ x y. refl)
-          & row_2 obj_reader u16_reader 2 DelDep (λ x y f g. ((tt, (f, g)), none)) (λ x y. refl)
-          & row_1 obj_reader 3 Release (λ x f. ((tt, f), none)) (λ x. refl)
-          & row_2 obj_reader u8_reader 4 AltPri (λ x y f g. ((tt, (f, g)), none)) (λ x y. refl)
-          & row_1 obj_reader 5 Cancel (λ x f. ((tt, f), none)) (λ x. refl)
-          & row_1 u32_reader 6 Confirm (λ x f. ((tt, f), none)) (λ x. refl)
-          & row_1 u32_reader 7 Kill (λ x f. ((tt, f), none)) (λ x. refl)
-          & row_1 u32_reader 8 Rerun (λ x f. ((tt, f), none)) (λ x. refl)
-          & row_1 u8_reader 9 Fence (λ x f. ((tt, f), none)) (λ x. refl)
-          & row_1 u16_reader 10 Limit (λ x f. ((tt, f), none)) (λ x. refl)
-          & row_2 u32_reader u16_reader 11 StreamLimit (λ x y f g. ((tt, (f, g)), none)) (λ x y. refl)
-          & row_2 u16_reader u16_reader 12 Total (λ x y f g. ((tt, (f, g)), none)) (λ x y. refl)
-          & row_2 u16_reader flag_reader 13 ReplyGlobal (λ x y f g. ((tt, f), none)) (λ x y. refl)
-          & row_3 obj_reader u16_reader flag_reader 14 ReplyOwn (λ x y z f g h. ((tt, (f, g)), none)) (λ x y z. refl)
-          & row_0 15 Cmd.Start ((tt, tt), none) refl
-          & row_0 16 Stop ((tt, tt), none) refl
-          & row_1 (draft_reader second) 17 Submit (λ x f. f) (λ x. refl)
-          & row_1 u16_reader 18 SwitchMgr (λ x f. ((tt, f), none)) (λ x. refl)
-          & tt);
-      again = cmd_again second;
-    }
+    choice_reader (CmdFits second) cmd_bytes (cmd_rows second) (
+    row_2 obj_reader (dep_reader second) 1 AddDep (λ x y f g. ((g.0.0, (f, g.0.1)), g.1)) (λ x y. refl)
+    & row_2 obj_reader u16_reader 2 DelDep (λ x y f g. ((tt, (f, g)), none)) (λ x y. refl)
+    & row_1 obj_reader 3 Release (λ x f. ((tt, f), none)) (λ x. refl)
+    & row_2 obj_reader u8_reader 4 AltPri (λ x y f g. ((tt, (f, g)), none)) (λ x y. refl)
+    & row_1 obj_reader 5 Cancel (λ x f. ((tt, f), none)) (λ x. refl)
+    & row_1 u32_reader 6 Confirm (λ x f. ((tt, f), none)) (λ x. refl)
+    & row_1 u32_reader 7 Kill (λ x f. ((tt, f), none)) (λ x. refl)
+    & row_1 u32_reader 8 Rerun (λ x f. ((tt, f), none)) (λ x. refl)
+    & row_1 u8_reader 9 Fence (λ x f. ((tt, f), none)) (λ x. refl)
+    & row_1 u16_reader 10 Limit (λ x f. ((tt, f), none)) (λ x. refl)
+    & row_2 u32_reader u16_reader 11 StreamLimit (λ x y f g. ((tt, (f, g)), none)) (λ x y. refl)
+    & row_2 u16_reader u16_reader 12 Total (λ x y f g. ((tt, (f, g)), none)) (λ x y. refl)
+    & row_2 u16_reader flag_reader 13 ReplyGlobal (λ x y f g. ((tt, f), none)) (λ x y. refl)
+    & row_3 obj_reader u16_reader flag_reader 14 ReplyOwn (λ x y z f g h. ((tt, (f, g)), none)) (λ x y z. refl)
+    & row_0 15 Cmd.Start ((tt, tt), none) refl
+    & row_0 16 Stop ((tt, tt), none) refl
+    & row_1 (draft_reader second) 17 Submit (λ x f. f) (λ x. refl)
+    & row_1 u16_reader 18 SwitchMgr (λ x f. ((tt, f), none)) (λ x. refl)
+    & tt) (cmd_again second)

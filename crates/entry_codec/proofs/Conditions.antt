@@ -1,10 +1,10 @@
 -- Conditions and the dependencies of drafts that are read are those that stand there.
 use Rattle.std.proofs.Common.{◌≡◌, ℕ, ◌+◌, ◌<◌, ◌≤◌, Bool, true, false, cond, eqb, List, [], ◌∷◌, ◌++◌, length}
-use Rattle.std.proofs.Common.{Option}
+use Rattle.std.proofs.Common.{Option, Result, Err}
 use Rattle.std.proofs.Common.{Some, None, Ok, refl, sym, subst, arith}
 use Rattle.std.proofs.lemmas.Bool.{eqb-true, ne_eqb, leb-true, le-leb}
 use Rattle.std.specs.List.{AllByRecursion}
-use Rattle.std.specs.Prelude.{IfSome, flat_map, nat_le}
+use Rattle.std.specs.Prelude.{IfSome, flat_map, nat_le, nat_eq}
 use Rattle.std.specs.Int.{w8}
 use Rattle.model.specs.Types.{Dep, FollowsJob, FollowsStream, Needs, Prompt, At, Until, Outside, Global, Own, Deadline}
 use Rattle.model.specs.Types.{DraftDep, Follows, Plain, CondOp}
@@ -23,6 +23,9 @@ use Rattle.entry_codec.proofs.Texts.{text_reader, TextFits}
 use Rattle.entry_codec.proofs.Choices.{IsRow, row_3, option_reader}
 use Rattle.entry_codec.proofs.Lists.{items_reader}
 use Rattle.entry_codec.proofs.Allowed.{Allows, allows_none}
+use Rattle.entry_codec.specs.declared.EntryFault.{EntryFault}
+use Rattle.entry_codec.proofs.Readers.{Fails, IsSteady}
+use Rattle.entry_codec.proofs.Steady.{text_steady, then_steady, one_steady, three_steady, then_goes_on, then_fails}
 use Rattle.entry_codec.proofs.Parts.{DepFits, dep_reader, op_reader}
 
 -- the choice of a dependency is not 0
@@ -127,8 +130,53 @@ unfolding draft_dep_bytes
 draft_dep_again second bytes p (Plain d) q fits s = plain_again second bytes p d q fits s
 draft_dep_again second bytes p (Follows w name job) q fits s = follows_again second bytes p w name job q fits s
 
+-- a draft's dependency, by its first byte
+abbrev drafted : Bool → Bool → List ℕ → ℕ → ℕ → Result (DraftDep × ℕ) EntryFault
+drafted second named bytes p m =
+    cond named (three u16_at text_at (option_at text_at) Follows bytes m) (one (dep_at second) Plain bytes p)
+
+named_steady : IsSteady (three u16_at text_at (option_at text_at) Follows)
+named_steady = three_steady Follows u16_reader.steady text_steady (option_reader text_reader).steady
+
+plain_steady : (second : Bool) → IsSteady (one (dep_at second) Plain)
+plain_steady second = one_steady Plain (dep_reader second).steady
+
+drafted_on : (second named : Bool) (bytes more : List ℕ) (p m : ℕ) (x : DraftDep × ℕ) → drafted second named bytes p m ≡ Ok x
+    → drafted second named (bytes ++ more) p m ≡ Ok x
+drafted_on second true bytes more p m x e = named_steady.goes_on bytes more m x e
+drafted_on second false bytes more p m x e = (plain_steady second).goes_on bytes more p x e
+
+drafted_out : (second named : Bool) (bytes more : List ℕ) (p m : ℕ) (f : EntryFault) → drafted second named bytes p m ≡ Err f
+    → Fails f (drafted second named (bytes ++ more) p m)
+drafted_out second true bytes more p m f e = named_steady.fails bytes more m f e
+drafted_out second false bytes more p m f e = (plain_steady second).fails bytes more p f e
+
+draft_dep_on : (second : Bool) (bytes more : List ℕ) (p : ℕ) (x : DraftDep × ℕ) → draft_dep_at second bytes p ≡ Ok x
+    → draft_dep_at second (bytes ++ more) p ≡ Ok x
+unfolding draft_dep_at
+draft_dep_on second bytes more p x e =
+    then_goes_on (u8_at bytes p) (u8_at (bytes ++ more) p) (λ (n : ℕ × ℕ). drafted second (nat_eq n.0 0) bytes p n.1)
+    (λ (n : ℕ × ℕ). drafted second (nat_eq n.0 0) (bytes ++ more) p n.1) x (u8_reader.steady.goes_on bytes more p)
+    (λ n h. drafted_on second (nat_eq n.0 0) bytes more p n.1 x h) e
+
+draft_dep_out : (second : Bool) (bytes more : List ℕ) (p : ℕ) (f : EntryFault) → draft_dep_at second bytes p ≡ Err f
+    → Fails f (draft_dep_at second (bytes ++ more) p)
+unfolding draft_dep_at
+draft_dep_out second bytes more p f e =
+    then_fails (u8_at bytes p) (u8_at (bytes ++ more) p) (λ (n : ℕ × ℕ). drafted second (nat_eq n.0 0) bytes p n.1)
+    (λ (n : ℕ × ℕ). drafted second (nat_eq n.0 0) (bytes ++ more) p n.1) f (u8_reader.steady.goes_on bytes more p) (u8_reader.steady.fails bytes more p)
+    (λ n c h. drafted_out second (nat_eq n.0 0) bytes more p n.1 c h) e
+
+draft_dep_steady : (second : Bool) → IsSteady (draft_dep_at second)
+draft_dep_steady second = record { goes_on = draft_dep_on second; fails = draft_dep_out second }
+
 pub draft_dep_reader : (second : Bool) → IsReader (DraftDepFits second) draft_dep_bytes (draft_dep_at second)
-draft_dep_reader second = record { found = draft_dep_found second; again = draft_dep_again second }
+draft_dep_reader second =
+    record {
+      found = draft_dep_found second;
+      again = draft_dep_again second;
+      steady = draft_dep_steady second;
+    }
 
 -- a condition that is fit and in range
 abbrev pub CondFits : List CondOp → Type 0
@@ -160,5 +208,9 @@ cond_again bytes p ops q fits s =
     ((items_reader op_reader (length ops)).again bytes (p + length (u8_bytes (length ops))) ops q (refl, fits.1)
     parts.1)
 
+cond_steady : IsSteady cond_at
+unfolding cond_at
+cond_steady = then_steady _ op_count_reader.steady (λ n. (items_reader op_reader n).steady)
+
 pub cond_reader : IsReader CondFits cond_bytes cond_at
-cond_reader = record { found = cond_found; again = cond_again }
+cond_reader = record { found = cond_found; again = cond_again; steady = cond_steady }

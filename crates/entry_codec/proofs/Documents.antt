@@ -13,7 +13,8 @@ use Rattle.model.specs.Versions.{is_deadline, is_draft_deadline, doc_has_deadlin
 use Rattle.model.specs.Spelling.{stream_doc_bytes, job_draft_bytes, stream_draft_bytes}
 use Rattle.entry_codec.specs.Parts.{job_at, stream_at, job_draft_at, stream_draft_at}
 use Rattle.entry_codec.proofs.Readers.{IsBytes, Stands, IsReader, starts, step, on, same_value, in_order, peeled}
-use Rattle.entry_codec.proofs.Readers.{at_end}
+use Rattle.entry_codec.proofs.Readers.{IsSteady, at_end}
+use Rattle.entry_codec.proofs.Steady.{gives_steady, then_steady}
 use Rattle.entry_codec.proofs.Numbers.{u8_reader, u16_reader, u32_reader}
 use Rattle.entry_codec.proofs.Texts.{text_reader}
 use Rattle.entry_codec.proofs.Choices.{flag_reader, option_reader}
@@ -139,8 +140,18 @@ job_again second bytes p d q fits s =
     (on (list_reader (dep_reader second)) _ d.deps (together second IsFitDep DepInRange is_deadline d.deps fits.0.0.deps_ fits.0.1.deps_ fits.1) deps.first
     (ap (λ (m : ℕ). Ok (d, m)) (sym (at_end deps.rest)))))))))))
 
+job_steady : (second : Bool) → IsSteady (job_at second)
+unfolding job_at
+job_steady second =
+    then_steady _ u32_reader.steady (λ no. then_steady _ u16_reader.steady (λ ws.
+    then_steady _ text_reader.steady (λ name. then_steady _ u8_reader.steady (λ priority.
+    then_steady _ work_reader.steady (λ work. then_steady _ text_reader.steady (λ logon.
+    then_steady _ cond_reader.steady (λ ops. then_steady _ recovery_reader.steady (λ recovery.
+    then_steady _ (list_reader (dep_reader second)).steady (λ deps. gives_steady _)))))))))
+
 pub job_reader : (second : Bool) → IsReader (JobFits second) job_doc_bytes (job_at second)
-job_reader second = record { found = job_found second; again = job_again second }
+job_reader second =
+    record { found = job_found second; again = job_again second; steady = job_steady second }
 
 -- a stream's document that is fit and in range
 abbrev pub StreamFits : Bool → StreamDoc → Type 0
@@ -210,8 +221,18 @@ stream_again second bytes p d q fits s =
     (on (list_reader (job_reader second)) _ d.jobs (together second IsFitJob JobInRange job_has_one d.jobs fits.0.0.jobs_ fits.0.1.jobs_ allowed.1) jobs.first
     (ap (λ (m : ℕ). Ok (d, m)) (sym (at_end jobs.rest))))))))))
 
+stream_steady : (second : Bool) → IsSteady (stream_at second)
+unfolding stream_at
+stream_steady second =
+    then_steady _ u32_reader.steady (λ no. then_steady _ u16_reader.steady (λ ws.
+    then_steady _ text_reader.steady (λ name. then_steady _ u8_reader.steady (λ priority.
+    then_steady _ (option_reader u16_reader).steady (λ limit. then_steady _ flag_reader.steady (λ carry.
+    then_steady _ (list_reader (dep_reader second)).steady (λ deps.
+    then_steady _ (list_reader (job_reader second)).steady (λ jobs. gives_steady _))))))))
+
 pub stream_reader : (second : Bool) → IsReader (StreamFits second) stream_doc_bytes (stream_at second)
-stream_reader second = record { found = stream_found second; again = stream_again second }
+stream_reader second =
+    record { found = stream_found second; again = stream_again second; steady = stream_steady second }
 
 -- a job's draft that is fit and in range
 abbrev pub JobDraftFits : Bool → JobDraft → Type 0
@@ -286,8 +307,18 @@ job_draft_again second bytes p d q fits s =
     (together second IsFitDraftDep DraftDepInRange is_draft_deadline d.deps fits.0.0.deps_ fits.0.1.deps_ fits.1) deps.first
     (ap (λ (m : ℕ). Ok (d, m)) (sym (at_end deps.rest))))))))))
 
+job_draft_steady : (second : Bool) → IsSteady (job_draft_at second)
+unfolding job_draft_at
+job_draft_steady second =
+    then_steady _ u16_reader.steady (λ ws. then_steady _ text_reader.steady (λ name.
+    then_steady _ u8_reader.steady (λ priority. then_steady _ work_reader.steady (λ work.
+    then_steady _ text_reader.steady (λ logon. then_steady _ cond_reader.steady (λ ops.
+    then_steady _ recovery_reader.steady (λ recovery.
+    then_steady _ (list_reader (draft_dep_reader second)).steady (λ deps. gives_steady _))))))))
+
 pub job_draft_reader : (second : Bool) → IsReader (JobDraftFits second) job_draft_bytes (job_draft_at second)
-job_draft_reader second = record { found = job_draft_found second; again = job_draft_again second }
+job_draft_reader second =
+    record { found = job_draft_found second; again = job_draft_again second; steady = job_draft_steady second }
 
 -- a stream's draft that is fit and in range
 abbrev pub DraftFits : Bool → StreamDraft → Type 0
@@ -355,5 +386,14 @@ draft_again second bytes p d q fits s =
     (together second IsFitJobDraft JobDraftInRange job_draft_has_one d.jobs fits.0.0.jobs_ fits.0.1.jobs_ allowed.1) jobs.first
     (ap (λ (m : ℕ). Ok (d, m)) (sym (at_end jobs.rest)))))))))
 
+draft_steady : (second : Bool) → IsSteady (stream_draft_at second)
+unfolding stream_draft_at
+draft_steady second =
+    then_steady _ u16_reader.steady (λ ws. then_steady _ text_reader.steady (λ name.
+    then_steady _ u8_reader.steady (λ priority. then_steady _ (option_reader u16_reader).steady (λ limit.
+    then_steady _ flag_reader.steady (λ carry. then_steady _ (list_reader (draft_dep_reader second)).steady (λ deps.
+    then_steady _ (list_reader (job_draft_reader second)).steady (λ jobs. gives_steady _)))))))
+
 pub draft_reader : (second : Bool) → IsReader (DraftFits second) stream_draft_bytes (stream_draft_at second)
-draft_reader second = record { found = draft_found second; again = draft_again second }
+draft_reader second =
+    record { found = draft_found second; again = draft_again second; steady = draft_steady second }

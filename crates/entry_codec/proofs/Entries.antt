@@ -1,18 +1,25 @@
 -- Entries that are read are those that the bytes spell.
 use Rattle.std.proofs.Common.{◌≡◌, ℕ, ◌<◌, ◌≤◌, ◌⊎◌, inl, inr, Bool, true, false, ◌||◌, cond, eqb, List, [], ◌∷◌, length}
-use Rattle.std.proofs.Common.{Ok, Err, refl, sym, ap, subst, arith}
-use Rattle.std.proofs.lemmas.Bool.{eqb-true, eq-eqb, ltb-true, lt-ltb}
+use Rattle.std.proofs.Common.{Result, Ok, Err, refl, sym, ap, subst, ◌∙◌, ◌+◌, arith}
+use Rattle.std.specs.Prelude.{nat_lt}
+use Rattle.std.specs.Int.{w32}
+use Rattle.std.proofs.lemmas.Bool.{eqb-true, ltb-true, lt-ltb}
 use Rattle.model.specs.Types.{Entry}
 use Rattle.model.specs.Fields.{u8_bytes, u32_bytes}
 use Rattle.model.specs.Fit.{IsFit}
 use Rattle.model.specs.Ranges.{InRange}
 use Rattle.model.specs.Spelling.{feed_bytes, body_bytes, entry_bytes}
 use Rattle.model.specs.Versions.{is_second}
+use Rattle.entry_codec.specs.declared.EntryFault.{EntryFault}
 use Rattle.entry_codec.specs.declared.EntryFault.TheVariants.{Version}
-use Rattle.entry_codec.specs.Fields.{u8_at}
-use Rattle.entry_codec.specs.Entries.{version_at, entry_at, bytes_with}
-use Rattle.entry_codec.proofs.Readers.{IsBytes, Stands, IsReader, starts, came, step, on, same_value, in_order}
+use Rattle.entry_codec.specs.Read.{Reader, and_then, chain, gives}
+use Rattle.entry_codec.specs.Fields.{u8_at, number_with}
+use Rattle.entry_codec.specs.Parts.{feed_at}
+use Rattle.entry_codec.specs.Entries.{body_at, version_at, entry_at, bytes_with}
+use Rattle.entry_codec.proofs.Readers.{IsBytes, Stands, IsSteady, came, step, on, same_value, in_order}
+use Rattle.entry_codec.proofs.Readers.{InOrder}
 use Rattle.entry_codec.proofs.Readers.{peeled, at_end}
+use Rattle.entry_codec.proofs.Steady.{gives_steady, then_steady}
 use Rattle.entry_codec.proofs.Numbers.{u8_reader}
 use Rattle.entry_codec.proofs.Allowed.{Allows}
 use Rattle.entry_codec.proofs.Seens.{count_reader}
@@ -62,8 +69,16 @@ version_again bytes p n q one s =
     let read : u8_at bytes p ≡ Ok (n, q) = u8_reader.again bytes p n q (small n one) s in
     rw (read, is_it) refl
 
-version_reader : IsReader IsVersion u8_bytes version_at
-version_reader = record { found = version_found; again = version_again }
+-- what stands behind the version
+abbrev pub behind_version : ℕ → Reader (ℕ × Entry)
+behind_version n =
+    chain feed_at (λ feed. chain (number_with w32 (nat_lt 0)) (λ place. chain (body_at (eqb n 2) feed) (λ body.
+    gives (n, record { feed = feed; place = place; body = body }))))
+
+pub behind_steady : (n : ℕ) → IsSteady (behind_version n)
+behind_steady n =
+    then_steady _ feed_reader.steady (λ feed. then_steady _ count_reader.steady (λ place.
+    then_steady _ (body_reader (eqb n 2) feed).steady (λ body. gives_steady _)))
 
 -- an entry that is fit, in range and of the version that is told
 pub record EntryFits (x : ℕ × Entry) : Type 0 where
@@ -72,18 +87,18 @@ pub record EntryFits (x : ℕ × Entry) : Type 0 where
   pub in_range : InRange x.1
   pub allowed : Allows (eqb x.0 2) (is_second x.1.body)
 
-entry_found : (bytes : List ℕ) (p : ℕ) (x : ℕ × Entry) (q : ℕ) → IsBytes bytes → p ≤ length bytes
-    → entry_at bytes p ≡ Ok (x, q) → EntryFits x × Stands (bytes_with x.0 x.1) bytes p q
-unfolding entry_at entry_bytes
-entry_found bytes p x q is lt h =
-    let number = step version_reader is (starts bytes p lt) h in
-    let feed = step feed_reader is number.stands number.rest in
+behind_found : (bytes : List ℕ) (p n m : ℕ) (x : ℕ × Entry) (q : ℕ) → IsBytes bytes → IsVersion n
+    → Stands (u8_bytes n) bytes p m → behind_version n bytes m ≡ Ok (x, q)
+    → EntryFits x × Stands (bytes_with x.0 x.1) bytes p q
+unfolding entry_bytes
+behind_found bytes p n m x q is told number h =
+    let feed = step feed_reader is number h in
     let place = step count_reader is feed.stands feed.rest in
-    let body = step (body_reader (eqb number.value 2) feed.value) is place.stands place.rest in
+    let body = step (body_reader (eqb n 2) feed.value) is place.stands place.rest in
     subst (λ (z : (ℕ × Entry) × ℕ). EntryFits z.0 × Stands (bytes_with z.0.0 z.0.1) bytes p z.1)
     (same_value body.rest) (
       record {
-        told = number.fits;
+        told = told;
         fit = record {
           in_its_feed = body.fits.1;
           has_place = ltb-true 0 place.value place.fits.1;
@@ -99,24 +114,36 @@ entry_found bytes p x q is lt h =
       body.stands,
     )
 
-entry_again : (bytes : List ℕ) (p : ℕ) (x : ℕ × Entry) (q : ℕ) → EntryFits x
+pub entry_found : (bytes : List ℕ) (p : ℕ) (x : ℕ × Entry) (q : ℕ) → IsBytes bytes → p ≤ length bytes
+    → entry_at bytes p ≡ Ok (x, q) → EntryFits x × Stands (bytes_with x.0 x.1) bytes p q
+unfolding entry_at chain
+entry_found bytes p x q is lt h =
+    let c = came (version_at bytes p) (λ (v : ℕ × ℕ). behind_version v.0 bytes v.1) (x, q) h in
+    let number = version_found bytes p c.value.0 c.value.1 is lt c.first in
+    behind_found bytes p c.value.0 c.value.1 x q is number.0 number.1 c.then_
+
+behind_again : (bytes : List ℕ) (m n : ℕ) (e : Entry) (q : ℕ) → EntryFits (n, e)
+    → InOrder (feed_bytes e.feed ∷ u32_bytes e.place ∷ body_bytes e.body ∷ []) bytes m q
+    → behind_version n bytes m ≡ Ok ((n, e), q)
+behind_again bytes m n e q fits s =
+    let feed = peeled s in
+    let place = peeled feed.rest in
+    let body = peeled place.rest in
+    on feed_reader _ e.feed fits.in_range.feed_ feed.first
+    (on count_reader _ e.place (fits.in_range.place_, lt-ltb 0 e.place fits.fit.has_place) place.first
+    (on (body_reader (eqb n 2) e.feed) _ e.body
+    (((fits.fit.bounded, fits.in_range.body_), fits.allowed), fits.fit.in_its_feed) body.first
+    (ap (λ (k : ℕ). Ok ((n, e), k)) (sym (at_end body.rest)))))
+
+pub entry_again : (bytes : List ℕ) (p : ℕ) (x : ℕ × Entry) (q : ℕ) → EntryFits x
     → Stands (bytes_with x.0 x.1) bytes p q → entry_at bytes p ≡ Ok (x, q)
-unfolding entry_at entry_bytes
+unfolding entry_at entry_bytes chain
 entry_again bytes p (n, e) q fits s =
     let number = peeled (in_order (u8_bytes n) (
     feed_bytes e.feed
     ∷ u32_bytes e.place
     ∷ body_bytes e.body
     ∷ []) s) in
-    let feed = peeled number.rest in
-    let place = peeled feed.rest in
-    let body = peeled place.rest in
-    on version_reader _ n fits.told number.first
-    (on feed_reader _ e.feed fits.in_range.feed_ feed.first
-    (on count_reader _ e.place (fits.in_range.place_, lt-ltb 0 e.place fits.fit.has_place) place.first
-    (on (body_reader (eqb n 2) e.feed) _ e.body
-    (((fits.fit.bounded, fits.in_range.body_), fits.allowed), fits.fit.in_its_feed) body.first
-    (ap (λ (m : ℕ). Ok ((n, e), m)) (sym (at_end body.rest))))))
-
-pub entry_reader : IsReader EntryFits (λ (x : ℕ × Entry). bytes_with x.0 x.1) entry_at
-entry_reader = record { found = entry_found; again = entry_again }
+    ap (λ (m : Result (ℕ × ℕ) EntryFault). and_then m (λ (v : ℕ × ℕ). behind_version v.0 bytes v.1))
+    (version_again bytes p n (p + 1) fits.told number.first)
+    ∙ behind_again bytes (p + 1) n e q fits number.rest

@@ -1,5 +1,6 @@
 pub mod Puts
 pub mod Readers
+pub mod Steady
 pub mod Numbers
 pub mod Texts
 pub mod ShortTexts
@@ -14,7 +15,5 @@ pub mod Commands
 pub mod Bodies
 pub mod Entries
 pub mod Loops
-pub mod Steady
-pub mod SteadyEntries
 pub mod Whole
 pub mod Told

@@ -9,6 +9,7 @@ use Rattle.entry_codec.specs.Fields.{items_at, list_at}
 use Rattle.entry_codec.proofs.Readers.{IsBytes, Stands, IsReader, within, starts, nothing, joined, split, step, on}
 use Rattle.entry_codec.proofs.Readers.{same_value}
 use Rattle.entry_codec.proofs.Numbers.{u32_reader}
+use Rattle.entry_codec.proofs.Steady.{items_steady, list_steady}
 
 -- so many items, each fit
 abbrev pub AreSoMany : {X : Type 0} → (X → Type 0) → ℕ → List X → Type 0
@@ -56,10 +57,11 @@ items_reader {X} {P} {spell} {item} reader zero =
     record {
       found = λ bytes p xs q is lt e. none_found P spell item bytes p xs q lt e;
       again = none_again P spell item;
+      steady = items_steady reader.steady 0;
     }
 items_reader reader (suc n) =
     let fewer = items_reader reader n in
-    record { found = more_found reader n fewer; again = more_again reader n fewer }
+    record { found = more_found reader n fewer; again = more_again reader n fewer; steady = items_steady reader.steady (suc n) }
 
 -- a list whose items are fit, and as many as four bytes can count
 abbrev pub AreListed : {X : Type 0} → (X → Type 0) → List X → Type 0
@@ -88,4 +90,5 @@ list_again {X} {P} {spell} {item} reader bytes p xs q fits s =
 
 pub list_reader : {X : Type 0} {P : X → Type 0} {spell : X → List ℕ} {item : Reader X} → IsReader P spell item
     → IsReader (AreListed P) (list_bytes spell) (list_at item)
-list_reader reader = record { found = list_found reader; again = list_again reader }
+list_reader reader =
+    record { found = list_found reader; again = list_again reader; steady = list_steady reader.steady }

@@ -15,6 +15,7 @@ use Rattle.entry_codec.specs.declared.EntryFault.{EntryFault}
 use Rattle.entry_codec.specs.declared.EntryFault.TheVariants.{Short, BadField}
 use Rattle.entry_codec.specs.Fields.{number_at, number_with}
 use Rattle.entry_codec.proofs.Readers.{IsBytes, Stands, IsReader, came}
+use Rattle.entry_codec.proofs.Steady.{number_steady, number_with_steady}
 
 IsBytes-drop : (n : ℕ) (bytes : List ℕ) → IsBytes bytes → IsBytes (drop n bytes)
 IsBytes-drop n bytes h i = rw get_or-drop (h (n + i))
@@ -117,6 +118,7 @@ number_reader w limit spell wide =
     record {
       found = λ bytes p n q is lt e. number_found w limit spell wide bytes p n q is e;
       again = λ bytes p n q lt s. number_again w limit spell wide bytes p n q lt s.it;
+      steady = number_steady w;
     }
 
 pub u8_reader : IsReader IsU8 u8_bytes (number_at w8)
@@ -177,4 +179,5 @@ tested w P spell test reader =
     record {
       found = number_with_found w P spell test reader;
       again = number_with_again w P spell test reader;
+      steady = number_with_steady w test;
     }

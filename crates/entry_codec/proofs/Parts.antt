@@ -13,7 +13,7 @@ use Rattle.model.specs.Ranges.{WorkInRange}
 use Rattle.model.specs.Spelling.{feed_bytes, obj_bytes, until_code, dep_bytes, op_bytes, work_bytes}
 use Rattle.model.specs.Spelling.{recovery_code, why_code}
 use Rattle.model.specs.Versions.{is_deadline}
-use Rattle.entry_codec.specs.Read.{Reader, one}
+use Rattle.entry_codec.specs.Read.{one}
 use Rattle.entry_codec.specs.Fields.{u64_at, since_second}
 use Rattle.entry_codec.specs.Parts.{feed_at, obj_at, until_at, dep_at, op_at, work_at, recovery_at, feed_rows}
 use Rattle.entry_codec.specs.Parts.{obj_rows, until_rows, dep_rows, op_rows, work_rows, recovery_rows}
@@ -21,7 +21,7 @@ use Rattle.entry_codec.specs.Entries.{why_at, why_rows}
 use Rattle.entry_codec.proofs.Readers.{◌&◌, Stands, IsReader}
 use Rattle.entry_codec.proofs.Numbers.{u16_reader, u32_reader, u64_reader}
 use Rattle.entry_codec.proofs.Texts.{text_reader, i32_reader}
-use Rattle.entry_codec.proofs.Choices.{row_0, row_1, row_2, choice_found, again_0, again_1, again_2}
+use Rattle.entry_codec.proofs.Choices.{row_0, row_1, row_2, choice_reader, again_0, again_1, again_2}
 use Rattle.entry_codec.proofs.Choices.{Any, IsRow}
 use Rattle.entry_codec.proofs.Allowed.{Allows, allows_none}
 
@@ -36,13 +36,10 @@ feed_again bytes p (Orders a w) q fits s =
 pub feed_reader : IsReader FeedInRange feed_bytes feed_at
 unfolding feed_at
 feed_reader =
-    record {
-      found = choice_found FeedInRange feed_bytes feed_rows (
-          row_1 u16_reader 0 Events (λ w fits. fits) (λ w. refl)
-          & row_2 u16_reader u16_reader 1 Orders (λ a w f g. (f, g)) (λ a w. refl)
-          & tt);
-      again = feed_again;
-    }
+    choice_reader FeedInRange feed_bytes feed_rows (
+    row_1 u16_reader 0 Events (λ w fits. fits) (λ w. refl)
+    & row_2 u16_reader u16_reader 1 Orders (λ a w f g. (f, g)) (λ a w. refl)
+    & tt) feed_again
 
 -- objects
 obj_again : (bytes : List ℕ) (p : ℕ) (o : Obj) (q : ℕ) → ObjInRange o → Stands (obj_bytes o) bytes p q
@@ -54,13 +51,10 @@ obj_again bytes p (Stream t) q fits s = again_1 u32_reader obj_rows 1 Stream t r
 pub obj_reader : IsReader ObjInRange obj_bytes obj_at
 unfolding obj_at
 obj_reader =
-    record {
-      found = choice_found ObjInRange obj_bytes obj_rows (
-          row_1 u32_reader 0 Job (λ j fits. fits) (λ j. refl)
-          & row_1 u32_reader 1 Stream (λ t fits. fits) (λ t. refl)
-          & tt);
-      again = obj_again;
-    }
+    choice_reader ObjInRange obj_bytes obj_rows (
+    row_1 u32_reader 0 Job (λ j fits. fits) (λ j. refl)
+    & row_1 u32_reader 1 Stream (λ t fits. fits) (λ t. refl)
+    & tt) obj_again
 
 -- what a passed UNTIL does
 abbrev until_bytes : OnUntil → List ℕ
@@ -76,14 +70,11 @@ until_again bytes p Canc q fits s = again_0 until_rows 2 Canc refl (omega arith)
 pub until_reader : IsReader Any (λ (mark : OnUntil). u8_bytes (until_code mark)) until_at
 unfolding until_at
 until_reader =
-    record {
-      found = choice_found Any until_bytes until_rows (
-          row_0 0 Suppr tt refl
-          & row_0 1 Cont tt refl
-          & row_0 2 Canc tt refl
-          & tt);
-      again = until_again;
-    }
+    choice_reader Any until_bytes until_rows (
+    row_0 0 Suppr tt refl
+    & row_0 1 Cont tt refl
+    & row_0 2 Canc tt refl
+    & tt) until_again
 
 -- what follows a bad end
 abbrev recovery_bytes : Recovery → List ℕ
@@ -99,14 +90,11 @@ recovery_again bytes p Recovery.Rerun q fits s = again_0 recovery_rows 2 Recover
 pub recovery_reader : IsReader Any (λ (r : Recovery). u8_bytes (recovery_code r)) recovery_at
 unfolding recovery_at
 recovery_reader =
-    record {
-      found = choice_found Any recovery_bytes recovery_rows (
-          row_0 0 Recovery.Stop tt refl
-          & row_0 1 Recovery.Continue tt refl
-          & row_0 2 Recovery.Rerun tt refl
-          & tt);
-      again = recovery_again;
-    }
+    choice_reader Any recovery_bytes recovery_rows (
+    row_0 0 Recovery.Stop tt refl
+    & row_0 1 Recovery.Continue tt refl
+    & row_0 2 Recovery.Rerun tt refl
+    & tt) recovery_again
 
 -- reasons
 abbrev why_bytes : Why → List ℕ
@@ -129,21 +117,18 @@ why_again bytes p NotBuilt q fits s = again_0 why_rows 10 NotBuilt refl (omega a
 pub why_reader : IsReader Any (λ (why : Why). u8_bytes (why_code why)) why_at
 unfolding why_at
 why_reader =
-    record {
-      found = choice_found Any why_bytes why_rows (
-          row_0 1 NotMine tt refl
-          & row_0 2 NotThere tt refl
-          & row_0 3 Running tt refl
-          & row_0 4 NotRunning tt refl
-          & row_0 5 NotEnded tt refl
-          & row_0 6 Why.Ended tt refl
-          & row_0 7 AlreadyThere tt refl
-          & row_0 8 OutOfRange tt refl
-          & row_0 9 NotMaster tt refl
-          & row_0 10 NotBuilt tt refl
-          & tt);
-      again = why_again;
-    }
+    choice_reader Any why_bytes why_rows (
+    row_0 1 NotMine tt refl
+    & row_0 2 NotThere tt refl
+    & row_0 3 Running tt refl
+    & row_0 4 NotRunning tt refl
+    & row_0 5 NotEnded tt refl
+    & row_0 6 Why.Ended tt refl
+    & row_0 7 AlreadyThere tt refl
+    & row_0 8 OutOfRange tt refl
+    & row_0 9 NotMaster tt refl
+    & row_0 10 NotBuilt tt refl
+    & tt) why_again
 
 -- dependencies that are fit, in range and of the entry's version
 abbrev pub DepFits : Bool → Dep → Type 0
@@ -182,19 +167,16 @@ pub dep_reader : (second : Bool) → IsReader (DepFits second) dep_bytes (dep_at
 unfolding dep_at dep_bytes
 dep_reader second =
     let none : Allows second false = allows_none second in
-    record {
-      found = choice_found (DepFits second) dep_bytes (dep_rows second) (
-          row_1 u32_reader 1 FollowsJob (λ j f. ((tt, f), none)) (λ j. refl)
-          & row_1 u32_reader 2 FollowsStream (λ t f. ((tt, f), none)) (λ t. refl)
-          & row_2 u16_reader u16_reader 3 Needs (λ r n f g. ((tt, (f, g)), none)) (λ r n. refl)
-          & row_1 u16_reader 4 (λ n. Prompt (Global n)) (λ n f. ((tt, f), none)) (λ n. refl)
-          & row_1 text_reader 5 (λ l. Prompt (Own l)) (λ l f. (f, none)) (λ l. refl)
-          & row_1 u64_reader 6 At (λ t f. ((tt, f), none)) (λ t. refl)
-          & row_2 u64_reader until_reader 7 Until (λ t mark f g. ((tt, f), none)) (λ t mark. refl)
-          & row_1 text_reader 8 Outside (λ l f. (f, none)) (λ l. refl)
-          & deadline_row second);
-      again = dep_again second;
-    }
+    choice_reader (DepFits second) dep_bytes (dep_rows second) (
+    row_1 u32_reader 1 FollowsJob (λ j f. ((tt, f), none)) (λ j. refl)
+    & row_1 u32_reader 2 FollowsStream (λ t f. ((tt, f), none)) (λ t. refl)
+    & row_2 u16_reader u16_reader 3 Needs (λ r n f g. ((tt, (f, g)), none)) (λ r n. refl)
+    & row_1 u16_reader 4 (λ n. Prompt (Global n)) (λ n f. ((tt, f), none)) (λ n. refl)
+    & row_1 text_reader 5 (λ l. Prompt (Own l)) (λ l f. (f, none)) (λ l. refl)
+    & row_1 u64_reader 6 At (λ t f. ((tt, f), none)) (λ t. refl)
+    & row_2 u64_reader until_reader 7 Until (λ t mark f g. ((tt, f), none)) (λ t mark. refl)
+    & row_1 text_reader 8 Outside (λ l f. (f, none)) (λ l. refl)
+    & deadline_row second) (dep_again second)
 
 -- what a job runs
 abbrev pub WorkFits : Work → Type 0
@@ -211,13 +193,10 @@ work_again bytes p (Script text) q fits s =
 pub work_reader : IsReader WorkFits work_bytes work_at
 unfolding work_at
 work_reader =
-    record {
-      found = choice_found WorkFits work_bytes work_rows (
-          row_1 text_reader 0 Command (λ l f. f) (λ l. refl)
-          & row_1 text_reader 1 Script (λ l f. f) (λ l. refl)
-          & tt);
-      again = work_again;
-    }
+    choice_reader WorkFits work_bytes work_rows (
+    row_1 text_reader 0 Command (λ l f. f) (λ l. refl)
+    & row_1 text_reader 1 Script (λ l f. f) (λ l. refl)
+    & tt) work_again
 
 -- operations
 op_again : (bytes : List ℕ) (p : ℕ) (op : CondOp) (q : ℕ) → OpInRange op → Stands (op_bytes op) bytes p q
@@ -236,17 +215,14 @@ op_again bytes p Not q fits s = again_0 op_rows 8 Not refl (omega arith) s
 pub op_reader : IsReader OpInRange op_bytes op_at
 unfolding op_at
 op_reader =
-    record {
-      found = choice_found OpInRange op_bytes op_rows (
-          row_1 i32_reader 0 (Cmp Eq) (λ n f. f) (λ n. refl)
-          & row_1 i32_reader 1 (Cmp Ne) (λ n f. f) (λ n. refl)
-          & row_1 i32_reader 2 (Cmp Lt) (λ n f. f) (λ n. refl)
-          & row_1 i32_reader 3 (Cmp Le) (λ n f. f) (λ n. refl)
-          & row_1 i32_reader 4 (Cmp Gt) (λ n f. f) (λ n. refl)
-          & row_1 i32_reader 5 (Cmp Ge) (λ n f. f) (λ n. refl)
-          & row_0 6 And tt refl
-          & row_0 7 Or tt refl
-          & row_0 8 Not tt refl
-          & tt);
-      again = op_again;
-    }
+    choice_reader OpInRange op_bytes op_rows (
+    row_1 i32_reader 0 (Cmp Eq) (λ n f. f) (λ n. refl)
+    & row_1 i32_reader 1 (Cmp Ne) (λ n f. f) (λ n. refl)
+    & row_1 i32_reader 2 (Cmp Lt) (λ n f. f) (λ n. refl)
+    & row_1 i32_reader 3 (Cmp Le) (λ n f. f) (λ n. refl)
+    & row_1 i32_reader 4 (Cmp Gt) (λ n f. f) (λ n. refl)
+    & row_1 i32_reader 5 (Cmp Ge) (λ n f. f) (λ n. refl)
+    & row_0 6 And tt refl
+    & row_0 7 Or tt refl
+    & row_0 8 Not tt refl
+    & tt) op_again

@@ -1,5 +1,5 @@
--- Readers that give exactly what stands at a place, and how such are put together.
-use Rattle.std.proofs.Common.{◌≡◌, ℕ, ◌+◌, ◌<◌, ◌≤◌, List, [], ◌∷◌, ◌++◌, length, get_or}
+-- Readers that give exactly what stands at a place, whatever follows it, and how such are put together.
+use Rattle.std.proofs.Common.{◌≡◌, ℕ, ◌+◌, ◌<◌, ◌≤◌, ◌⊎◌, List, [], ◌∷◌, ◌++◌, length, get_or}
 use Rattle.std.proofs.Common.{drop, Result, Ok, Err, refl, sym, ap, subst, ◌∙◌}
 use Rattle.std.proofs.Common.{append_assoc}
 use Rattle.std.proofs.Common.{arith, length-append}
@@ -7,6 +7,7 @@ use Rattle.std.proofs.lemmas.List.{append-nil, drop-drop, drop_at}
 use Rattle.std.specs.Prelude.{flat_map}
 use Rattle.byte_fields.specs.Places.{StandsAt}
 use Rattle.entry_codec.specs.declared.EntryFault.{EntryFault}
+use Rattle.entry_codec.specs.declared.EntryFault.TheVariants.{Short, Version, BadField, TooMuch, NoMemory}
 use Rattle.entry_codec.specs.Read.{Reader, and_then, chain}
 
 -- each item is a byte
@@ -17,11 +18,37 @@ IsBytes bytes = (i : ℕ) → get_or bytes i 0 < 256
 pub record Stands (part bytes : List ℕ) (p q : ℕ) : Type 0 where
   pub it : StandsAt part bytes p q
 
+-- what kind of fault it is
+abbrev pub IsShort : EntryFault → Type 0
+IsShort (Short q) = Unit {0}
+IsShort Version = ⊥
+IsShort (BadField q) = ⊥
+IsShort (TooMuch q) = ⊥
+IsShort NoMemory = ⊥
+
+abbrev pub IsBad : EntryFault → Type 0
+IsBad (Short q) = ⊥
+IsBad Version = ⊥
+IsBad (BadField q) = Unit {0}
+IsBad (TooMuch q) = ⊥
+IsBad NoMemory = ⊥
+
+-- more bytes may mend what is short, and nothing else
+abbrev pub Fails : {X : Type 0} → EntryFault → Result X EntryFault → Type 0
+Fails f later = IsShort f ⊎ (IsBad f × (later ≡ Err f))
+
+-- what is read, and what is bad, stays so whatever follows
+pub record IsSteady {X : Type 0} (read : Reader X) : Type 0 where
+  pub goes_on : (bytes more : List ℕ) (p : ℕ) (x : X × ℕ) → read bytes p ≡ Ok x → read (bytes ++ more) p ≡ Ok x
+  pub fails : (bytes more : List ℕ) (p : ℕ) (f : EntryFault) → read bytes p ≡ Err f
+      → Fails f (read (bytes ++ more) p)
+
 -- what is read stands there, and what stands there is read
 pub record IsReader {X : Type 0} (P : X → Type 0) (spell : X → List ℕ) (read : Reader X) : Type 0 where
   pub found : (bytes : List ℕ) (p : ℕ) (x : X) (q : ℕ) → IsBytes bytes → p ≤ length bytes → read bytes p ≡ Ok (x, q)
       → P x × Stands (spell x) bytes p q
   pub again : (bytes : List ℕ) (p : ℕ) (x : X) (q : ℕ) → P x → Stands (spell x) bytes p q → read bytes p ≡ Ok (x, q)
+  pub steady : IsSteady read
 
 pub within : {part bytes : List ℕ} {p q : ℕ} → Stands part bytes p q → q ≤ length bytes
 within s = s.it.2

@@ -14,6 +14,7 @@ use Rattle.entry_codec.specs.Fields.{count_at, counts_at, seen_at, number_with}
 use Rattle.entry_codec.proofs.Readers.{IsBytes, Stands, IsReader, within, starts, nothing, joined, split, step, on}
 use Rattle.entry_codec.proofs.Readers.{same_value}
 use Rattle.entry_codec.proofs.Numbers.{u16_reader, u32_reader, tested}
+use Rattle.entry_codec.proofs.Steady.{count_steady, counts_steady, seen_steady}
 
 -- so many counts in range, which ascend from a workstation on without _ zeros
 pub record Ascend (least n : ℕ) (seen : Seen) : Type 0 where
@@ -49,7 +50,7 @@ pair_again least bytes p c q fits s =
     on (ws_reader least) _ c.0 fits.0 parts.0 (on count_reader _ c.1 fits.1 parts.1 refl)
 
 pair_reader : (least : ℕ) → IsReader (CountFits least) count_bytes (count_at least)
-pair_reader least = record { found = pair_found least; again = pair_again least }
+pair_reader least = record { found = pair_found least; again = pair_again least; steady = count_steady least }
 
 none_found : (least : ℕ) (bytes : List ℕ) (p : ℕ) (seen : Seen) (q : ℕ) → p ≤ length bytes
     → counts_at least 0 bytes p ≡ Ok (seen, q) → Ascend least 0 seen × Stands (flat_map count_bytes seen) bytes p q
@@ -104,10 +105,11 @@ counts_reader zero least =
     record {
       found = λ bytes p seen q is lt e. none_found least bytes p seen q lt e;
       again = none_again least;
+      steady = counts_steady 0 least;
     }
 counts_reader (suc n) least =
     let fewer : (from : ℕ) → IsReader (Ascend from n) (flat_map count_bytes) (counts_at from n) = counts_reader n in
-    record { found = more_found least n fewer; again = more_again least n fewer }
+    record { found = more_found least n fewer; again = more_again least n fewer; steady = counts_steady (suc n) least }
 
 -- counts in range that can be written
 pub record SeenFits (seen : Seen) : Type 0 where
@@ -140,4 +142,4 @@ seen_again bytes p seen q fits s =
     (record { counted = refl; in_range = fits.in_range; ascends = fits.ascends }) parts.1)
 
 pub seen_reader : IsReader SeenFits seen_bytes seen_at
-seen_reader = record { found = seen_found; again = seen_again }
+seen_reader = record { found = seen_found; again = seen_again; steady = seen_steady }

@@ -11,36 +11,12 @@ use Rattle.model.specs.History.{Seen}
 use Rattle.std.specs.Str.{is_utf8}
 use Rattle.std.specs.Int.{Width, w8, w16, w32, byte_len, from_be_bytes}
 use Rattle.entry_codec.specs.declared.EntryFault.{EntryFault}
-use Rattle.entry_codec.specs.declared.EntryFault.TheVariants.{Short, Version, BadField, TooMuch, NoMemory}
+use Rattle.entry_codec.specs.declared.EntryFault.TheVariants.{Short, BadField}
 use Rattle.entry_codec.specs.Read.{Reader, and_then, chain, gives, one, two, three, four}
 use Rattle.entry_codec.specs.Fields.{u8_at, number_at, number_with, text_at, row_of, behind, choice_at}
 use Rattle.entry_codec.specs.Fields.{items_at}
 use Rattle.entry_codec.specs.Fields.{list_at, count_at, counts_at, seen_at}
-use Rattle.entry_codec.proofs.Readers.{came}
-
--- what kind of fault it is
-abbrev pub IsShort : EntryFault → Type 0
-IsShort (Short q) = Unit {0}
-IsShort Version = ⊥
-IsShort (BadField q) = ⊥
-IsShort (TooMuch q) = ⊥
-IsShort NoMemory = ⊥
-
-abbrev pub IsBad : EntryFault → Type 0
-IsBad (Short q) = ⊥
-IsBad Version = ⊥
-IsBad (BadField q) = Unit {0}
-IsBad (TooMuch q) = ⊥
-IsBad NoMemory = ⊥
-
--- more bytes may mend what is short, and nothing else
-abbrev pub Fails : {X : Type 0} → EntryFault → Result X EntryFault → Type 0
-Fails f later = IsShort f ⊎ (IsBad f × (later ≡ Err f))
-
-pub record IsSteady {X : Type 0} (read : Reader X) : Type 0 where
-  pub goes_on : (bytes more : List ℕ) (p : ℕ) (x : X × ℕ) → read bytes p ≡ Ok x → read (bytes ++ more) p ≡ Ok x
-  pub fails : (bytes more : List ℕ) (p : ℕ) (f : EntryFault) → read bytes p ≡ Err f
-      → Fails f (read (bytes ++ more) p)
+use Rattle.entry_codec.proofs.Readers.{IsShort, IsBad, Fails, IsSteady, came}
 
 -- where a fault came from
 pub record Failed {A B : Type 0} (m : Result A EntryFault) (f : A → Result B EntryFault) (d : EntryFault)
@@ -346,12 +322,12 @@ pub list_steady : {X : Type 0} {item : Reader X} → IsSteady item → IsSteady 
 unfolding list_at
 list_steady {X} {item} steady = then_steady (items_at item) (number_steady w32) (items_steady steady)
 
-count_steady : (least : ℕ) → IsSteady (count_at least)
+pub count_steady : (least : ℕ) → IsSteady (count_at least)
 unfolding count_at
 count_steady least =
     two_steady (λ (w k : ℕ). (w, k)) (number_with_steady w16 (nat_le least)) (number_with_steady w32 (nat_lt 0))
 
-counts_steady : (n least : ℕ) → IsSteady (counts_at least n)
+pub counts_steady : (n least : ℕ) → IsSteady (counts_at least n)
 unfolding counts_at
 counts_steady zero least = gives_steady []
 counts_steady (suc n) least =

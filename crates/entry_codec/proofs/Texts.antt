@@ -19,6 +19,7 @@ use Rattle.entry_codec.specs.Fields.{number_with, text_at, i32_at}
 use Rattle.entry_codec.proofs.Readers.{IsBytes, Stands, IsReader, starts, joined, split, came, step, on}
 use Rattle.entry_codec.proofs.Readers.{same_value}
 use Rattle.entry_codec.proofs.Numbers.{u16_reader, u32_reader, tested}
+use Rattle.entry_codec.proofs.Steady.{number_steady, text_steady, one_steady}
 
 -- a text that has a field
 abbrev pub TextFits : List ℕ → Type 0
@@ -83,7 +84,7 @@ text_again bytes p text q fits s =
     rw (first, long, body, right, next) refl
 
 pub text_reader : IsReader TextFits text_bytes text_at
-text_reader = record { found = text_found; again = text_again }
+text_reader = record { found = text_found; again = text_again; steady = text_steady }
 
 -- a signed number of four bytes
 i32_found : (bytes : List ℕ) (p : ℕ) (z : ℤ) (q : ℕ) → IsBytes bytes → p ≤ length bytes
@@ -102,7 +103,8 @@ i32_again bytes p z q fits s =
     (ap (λ (y : ℤ). Ok (y, q)) (to_z-of_z w32 z fits))
 
 pub i32_reader : IsReader IsI32 i32_bytes i32_at
-i32_reader = record { found = i32_found; again = i32_again }
+i32_reader =
+    record { found = i32_found; again = i32_again; steady = one_steady (cast_signed w32) (number_steady w32) }
 
 -- the same, as the code's values stand
 pub stands_text : (bytes : List ℕ) (p : ℕ) (text : List ℕ) (q : ℕ) → IsUtf8 text → length text ≤ 4096

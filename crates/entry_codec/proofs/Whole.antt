@@ -1,11 +1,10 @@
 -- What the whole of the bytes are: an entry's spelling, or where and how they fail to be one.
-use Rattle.std.proofs.Common.{◌≡◌, ℕ, ◌<◌, ◌≤◌, ◌⊎◌, inl, inr, Bool, true, false, ◌||◌, cond, eqb, List, [], ◌∷◌}
+use Rattle.std.proofs.Common.{◌≡◌, ℕ, ◌<◌, ◌≤◌, ◌⊎◌, inl, inr, Bool, true, false, cond, eqb, List, [], ◌∷◌}
 use Rattle.std.proofs.Common.{◌++◌, length, drop, Result, Ok, Err, refl, sym, ap, subst, ◌∙◌, arith}
 use Rattle.std.proofs.Common.{length-append}
 use Rattle.std.proofs.lemmas.Bool.{eqb-true, eqb-false, eq-eqb, ne_eqb}
 use Rattle.std.proofs.lemmas.List.{append-nil, drop_all}
-use Rattle.std.specs.Prelude.{nat_lt}
-use Rattle.std.specs.Int.{w8, w32}
+use Rattle.std.specs.Int.{w8}
 use Rattle.byte_fields.specs.Places.{StandsAt}
 use Rattle.model.specs.Types.{Entry}
 use Rattle.model.specs.Fit.{IsFit}
@@ -14,29 +13,17 @@ use Rattle.model.specs.Spelling.{entry_bytes}
 use Rattle.model.specs.Versions.{is_second, version}
 use Rattle.entry_codec.specs.declared.EntryFault.{EntryFault}
 use Rattle.entry_codec.specs.declared.EntryFault.TheVariants.{Short, Version, BadField, TooMuch, NoMemory}
-use Rattle.entry_codec.specs.Read.{Reader, and_then, chain, gives, all_of}
-use Rattle.entry_codec.specs.Fields.{u8_at, number_with}
-use Rattle.entry_codec.specs.Parts.{feed_at}
-use Rattle.entry_codec.specs.Entries.{body_at, version_at, entry_at, entry_in, with_its_version, bytes_with}
+use Rattle.entry_codec.specs.Read.{and_then, chain, all_of}
+use Rattle.entry_codec.specs.Fields.{u8_at}
+use Rattle.entry_codec.specs.Entries.{version_at, entry_at, entry_in, with_its_version, bytes_with}
 use Rattle.entry_codec.specs.Entries.{HasOtherVersion, IsLeftAt, IsLasting}
 use Rattle.entry_codec.proofs.Readers.{IsBytes, Stands, came}
 use Rattle.entry_codec.proofs.Numbers.{u8_reader}
 use Rattle.entry_codec.proofs.Allowed.{Allows}
-use Rattle.entry_codec.proofs.Entries.{IsVersion, is_version, EntryFits, entry_reader}
-use Rattle.entry_codec.proofs.Steady.{IsSteady, IsShort, IsBad, Fails, failed, gives_steady, number_steady}
-use Rattle.entry_codec.proofs.Steady.{number_with_steady, number_is_short, then_goes_on, then_steady, same_fault}
-use Rattle.entry_codec.proofs.SteadyEntries.{feed_steady, body_steady}
-
--- what stands behind the version
-abbrev behind_version : ℕ → Reader (ℕ × Entry)
-behind_version n =
-    chain feed_at (λ feed. chain (number_with w32 (nat_lt 0)) (λ place. chain (body_at (eqb n 2) feed) (λ body.
-    gives (n, record { feed = feed; place = place; body = body }))))
-
-behind_steady : (n : ℕ) → IsSteady (behind_version n)
-behind_steady n =
-    then_steady _ feed_steady (λ feed. then_steady _ (number_with_steady w32 (nat_lt 0)) (λ place.
-    then_steady _ (body_steady (eqb n 2) feed) (λ body. gives_steady _)))
+use Rattle.entry_codec.proofs.Entries.{IsVersion, is_version, EntryFits, entry_found, entry_again, behind_version}
+use Rattle.entry_codec.proofs.Entries.{behind_steady}
+use Rattle.entry_codec.proofs.Readers.{IsShort, IsBad, Fails}
+use Rattle.entry_codec.proofs.Steady.{failed, number_steady, number_is_short, then_goes_on, same_fault}
 
 -- the version stays whatever follows
 version_goes_on : (bytes more : List ℕ) (p : ℕ) (x : ℕ × ℕ) → version_at bytes p ≡ Ok x
@@ -139,7 +126,7 @@ whole bytes x is h =
     as_whole : (y : (ℕ × Entry) × ℕ) → entry_at bytes 0 ≡ Ok y → y.1 ≡ length bytes → y.0 ≡ x → Whole bytes x
     as_whole (y, q) read end it =
         let here : entry_at bytes 0 ≡ Ok (x, q) = subst (λ (z : ℕ × Entry). entry_at bytes 0 ≡ Ok (z, q)) it read in
-        let f = entry_reader.found bytes 0 x q is (omega arith) here in
+        let f = entry_found bytes 0 x q is (omega arith) here in
         let nothing : drop q bytes ≡ [] = drop_all q bytes (omega (arith, end)) in
         record {
           place = q;
@@ -205,7 +192,7 @@ own_read : (bytes : List ℕ) (e : Entry) → IsFit e → InRange e → bytes �
     → entry_at bytes 0 ≡ Ok ((version e.body, e), length bytes)
 unfolding entry_bytes
 own_read bytes e fit in_range same =
-    entry_reader.again bytes 0 (version e.body, e) (length bytes) (fits_own e fit in_range)
+    entry_again bytes 0 (version e.body, e) (length bytes) (fits_own e fit in_range)
     (stands_whole bytes (bytes_with (version e.body) e) same)
 
 pub whole_again : (bytes : List ℕ) (e : Entry) → IsFit e → InRange e → bytes ≡ entry_bytes e → entry_in bytes ≡ Ok e
@@ -221,7 +208,7 @@ unfolding entry_in
 left_again bytes p l in_range =
     let fits = fits_told l.entry l.number l.fit in_range l.told in
     let read : entry_at bytes 0 ≡ Ok ((l.number, l.entry), p) =
-    entry_reader.again bytes 0 (l.number, l.entry) p fits (record { it = l.stands }) in
+    entry_again bytes 0 (l.number, l.entry) p fits (record { it = l.stands }) in
     let more : eqb p (length bytes) ≡ false = ne_eqb _ _ (λ h. absurd (omega (arith, h, l.left))) in
     rw (read, more) refl
 
@@ -290,7 +277,7 @@ left_found bytes p is h =
     is_left : (x : (ℕ × Entry) × ℕ) → entry_at bytes 0 ≡ Ok x → eqb x.1 (length bytes) ≡ false → x.1 ≡ p
         → IsLeftAt bytes p
     is_left (x, q) read early here =
-        let f = entry_reader.found bytes 0 x q is (omega arith) read in
+        let f = entry_found bytes 0 x q is (omega arith) read in
         let not_end : q ≡ length bytes → ⊥ = eqb-false q (length bytes) early in
         let stands : StandsAt (bytes_with x.0 x.1) bytes 0 p =
         subst (λ (m : ℕ). StandsAt (bytes_with x.0 x.1) bytes 0 m) here f.1.it in
@@ -377,7 +364,7 @@ begins_none bytes f is h lasting e more fit in_range same =
     too_early : (x : (ℕ × Entry) × ℕ) → entry_at bytes 0 ≡ Ok x → eqb x.1 (length bytes) ≡ false → ⊥
     too_early x first early =
         let not_end : x.1 ≡ length bytes → ⊥ = eqb-false x.1 (length bytes) early in
-        let inside = (entry_reader.found bytes 0 x.0 x.1 is (omega arith) first).1.it.2 in
+        let inside = (entry_found bytes 0 x.0 x.1 is (omega arith) first).1.it.2 in
         let later = entry_goes_on bytes more x first in
         let place : x.1 ≡ length (bytes ++ more) =
         ap (λ (r : (ℕ × Entry) × ℕ). r.1) (same_answer later read) in

@@ -6,7 +6,7 @@ ghost use Rattle.model.specs.Fit.{IsFit};
 ghost use Rattle.model.specs.Ranges.{InRange};
 ghost use Rattle.model.specs.Spelling.{entry_bytes};
 ghost use Rattle.entry_codec.specs.declared.EntryFault.TheVariants.{TooMuch, Version};
-ghost use Rattle.entry_codec.specs.Read.{Gives, IsPlace, all_of};
+ghost use Rattle.entry_codec.specs.Read.{Gives, IsPlace};
 ghost use Rattle.entry_codec.specs.Entries.{entry_at, entry_in, version_at};
 ghost use Rattle.entry_codec.specs.Entries.{HasOtherVersion, IsLeftAt, IsLasting};
 
@@ -51,23 +51,14 @@ fn read_by_format(alloc: Global, bytes: &[u8]) -> Result<Entry, EntryFault>
     requires { length bytes.now ≤ 4294967295 }
     ensures { Gives result (entry_in bytes.now) }
 {
-    let (number, entry) = read_whole(alloc, bytes)?;
+    let ((number, entry), next) = read_front(alloc, bytes)?;
+    if next < bytes.len() {
+        return Err(EntryFault::TooMuch(next as u32));
+    }
     if version(&entry.body) != number {
         return Err(EntryFault::BadField(0));
     }
     Ok(entry)
-}
-
-/// The version and the entry that all of the bytes are.
-fn read_whole(alloc: Global, bytes: &[u8]) -> Result<(u8, Entry), EntryFault>
-    requires { length bytes.now ≤ 4294967295 }
-    ensures { Gives result (all_of entry_at bytes.now) }
-{
-    let (found, next) = read_front(alloc, bytes)?;
-    if next < bytes.len() {
-        return Err(EntryFault::TooMuch(next as u32));
-    }
-    Ok(found)
 }
 
 /// The version and the entry at the front of the bytes: its version, its feed, its place, its kind and its body.

@@ -1,3 +1,4 @@
 pub mod ArgumentBounds
 pub mod Digits
 pub mod Endings
+pub mod Fits

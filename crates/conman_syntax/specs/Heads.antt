@@ -73,6 +73,13 @@ network_head word =
     if is_word word (codes "switchmgr") then long command.SwitchMgr else None
 
 -- lines that show
+unfoldable pub other_show_head : List ℕ → Option Head
+other_show_head word =
+    if is_word word (codes "showprompts") then long command.ShowPrompts else
+    if is_word word (codes "sp") then long command.ShowPrompts else
+    if is_word word (codes "showresources") then long command.ShowResources else
+    if is_word word (codes "sr") then long command.ShowResources else None
+
 unfoldable pub show_head : List ℕ → Option Head
 show_head word =
     if is_word word (codes "showjobs") then long command.ShowJobs else
@@ -80,11 +87,7 @@ show_head word =
     if is_word word (codes "showschedules") then long command.ShowSchedules else
     if is_word word (codes "ss") then long command.ShowSchedules else
     if is_word word (codes "showcpus") then long command.ShowCpus else
-    if is_word word (codes "sc") then long command.ShowCpus else
-    if is_word word (codes "showprompts") then long command.ShowPrompts else
-    if is_word word (codes "sp") then long command.ShowPrompts else
-    if is_word word (codes "showresources") then long command.ShowResources else
-    if is_word word (codes "sr") then long command.ShowResources else None
+    if is_word word (codes "sc") then long command.ShowCpus else other_show_head word
 
 -- lines to the node itself
 unfoldable pub node_head : List ℕ → Option Head

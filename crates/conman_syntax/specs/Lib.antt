@@ -2,6 +2,7 @@ pub mod Answers
 pub mod Arguments
 pub mod Dates
 pub mod Dependencies
+pub mod Fit
 pub mod Heads
 pub mod References
 pub mod Rows

@@ -112,18 +112,19 @@ last_priority n left =
     if length left == 0 then Ok None else
     next n left priority_part_of (λ priority left. ended left (Some priority))
 
-abbrev pub submitted : List ℕ × List ℕ → Option (List ℕ) → Option ℕ → Line
-submitted work alias priority = line.Submit work.0 work.1 alias priority
+-- behind the work: argument 2 is `alias=NAME`, or the alias is left out
+abbrev pub behind_work : List ℕ → Option (List ℕ) → Result (Option (List ℕ) × Option ℕ) ArgumentFault
+behind_work left (Some alias) = within (λ priority. (Some alias, priority)) (last_priority 3 (left_behind 59 left))
+behind_work left None = within (λ priority. (None, priority)) (last_priority 2 left)
 
--- argument 2 is `alias=NAME`, or the alias is left out
-abbrev pub submit_with : List ℕ × List ℕ → List ℕ → Option (List ℕ) → Result Line ArgumentFault
-submit_with work left (Some alias) =
-    within (λ priority. submitted work (Some alias) priority) (last_priority 3 (left_behind 59 left))
-submit_with work left None = within (λ priority. submitted work None priority) (last_priority 2 left)
+abbrev pub submitted : List ℕ × List ℕ → Option (List ℕ) × Option ℕ → Line
+submitted work rest = line.Submit work.0 work.1 rest.0 rest.1
 
 -- submit docommand W#"TEXT"[;alias=NAME][;priority=P] (sbd)
 unfoldable pub submit : Option What → List ℕ → Result Line ArgumentFault
-submit what left = first left (work_of what) (λ work left. submit_with work left (alias_of (argument_behind 59 left)))
+submit what left =
+    first left (work_of what) (λ work left.
+    within (submitted work) (behind_work left (alias_of (argument_behind 59 left))))
 
 -- switchmgr DOMAIN;W
 unfoldable pub switch_mgr : List ℕ → Result Line ArgumentFault

@@ -7,7 +7,7 @@ ghost use Rattle.conman_syntax.specs.Arguments.{left_behind};
 ghost use Rattle.conman_syntax.specs.declared.arguments.Quoting.TheVariants.{Outside};
 
 /// Where a byte of a line stands.
-#[derive(Clone, Copy, Debug, PartialEq, Eq)]
+#[derive(Clone, Copy)]
 pub enum Quoting {
     Outside,
     /// Between quotes.

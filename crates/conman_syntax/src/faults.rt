@@ -19,7 +19,7 @@ pub enum CommandFault {
 }
 
 /// Why what follows a command word is not its arguments.
-#[derive(Clone, Copy, Debug, PartialEq, Eq)]
+#[derive(Clone, Copy)]
 pub enum ArgumentFault {
     BadArgument(u32),
     TooMany,

@@ -5,7 +5,7 @@ ghost use Rattle.conman_syntax.specs.Heads.{dependency_head, object_head, job_he
 ghost use Rattle.conman_syntax.specs.Heads.{show_head, node_head};
 
 /// What a line asks for, by its command word.
-#[derive(Clone, Copy, Debug, PartialEq, Eq)]
+#[derive(Clone, Copy)]
 pub enum Command {
     AddDep,
     DelDep,
@@ -35,7 +35,7 @@ pub enum Command {
 }
 
 /// The second word of a long form: what the first argument names.
-#[derive(Clone, Copy, Debug, PartialEq, Eq)]
+#[derive(Clone, Copy)]
 pub enum What {
     Job,
     Sched,
@@ -44,7 +44,7 @@ pub enum What {
 }
 
 /// What a command word stands for.
-#[derive(Clone, Copy, Debug, PartialEq, Eq)]
+#[derive(Clone, Copy)]
 pub struct Head {
     pub command: Command,
     /// The second word, where the command word is a short form that stands for both.
@@ -204,7 +204,16 @@ fn show_head(word: &str) -> Option<Head>
         long(Command::ShowCpus)
     } else if is_word(word, "sc") {
         long(Command::ShowCpus)
-    } else if is_word(word, "showprompts") {
+    } else {
+        other_show_head(word)
+    }
+}
+
+#[tactic(auto, unfolding(crate::specs::Heads::other_show_head))]
+fn other_show_head(word: &str) -> Option<Head>
+    ensures { result ≡ spec.other_show_head word.now }
+{
+    if is_word(word, "showprompts") {
         long(Command::ShowPrompts)
     } else if is_word(word, "sp") {
         long(Command::ShowPrompts)

@@ -12,14 +12,14 @@ use std::alloc::Global;
 use syntax::{name, number_u32, quoted};
 
 /// Whose limit a line sets.
-#[derive(Debug, PartialEq, Eq, Drop)]
+#[derive(Drop)]
 pub enum LimitTarget {
     Cpu(Text),
     Stream(StreamRef),
 }
 
 /// What a line answers.
-#[derive(Debug, PartialEq, Eq, Drop)]
+#[derive(Drop)]
 pub enum ReplyTarget {
     /// A prompt of the network.
     Prompt(Text),

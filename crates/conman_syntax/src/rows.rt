@@ -1,7 +1,8 @@
 //! The call that reads a line.
-ghost use Rattle.std.specs.Prelude.{◌≡◌, ◌↔◌, ℕ};
+ghost use Rattle.std.specs.Prelude.{◌≡◌, ◌↔◌, ℕ, IfOk, length};
 ghost use Rattle.std.specs.Result.{IsErrOf};
 ghost use Rattle.conman_syntax.specs.Answers.{Gives};
+ghost use Rattle.conman_syntax.specs.Fit.{IsFitLine};
 ghost use Rattle.conman_syntax.specs.Rows as spec;
 ghost use Rattle.conman_syntax.specs.Rows.{HadMemory, IsLine, IsUnknown, HasBadArgument, HasTooMany, due_line};
 ghost use Rattle.conman_syntax.specs.declared.faults.CommandFault.TheVariants as fault;
@@ -24,7 +25,9 @@ use std::alloc::Global;
 /// command's, BadArgument with the number of the first argument that is missing or not of its form, and TooMany where
 /// all arguments are good and a further one follows. What takes no memory comes first: UnknownCommand never yields to
 /// NoMemory.
-#[tactic(auto, unfolding(crate::specs::Rows::due_line))]
+///
+/// The parts are as short as their forms demand: a name has at most 40 bytes and a quoted text at most 4,096. A pattern
+/// has as many as the line has room for.
 pub fn parse_command(alloc: Global, text: &str) -> Result<Line, CommandFault>
     ensures answer { HadMemory result → result ≡ due_line text.now }
     ensures line { HadMemory result → (line : lines.Line) → (result ≡ Ok line) ↔ IsLine text.now line }
@@ -32,6 +35,16 @@ pub fn parse_command(alloc: Global, text: &str) -> Result<Line, CommandFault>
     ensures bad_argument { HadMemory result → (n : ℕ) →
         IsErrOf result (fault.BadArgument n) ↔ HasBadArgument text.now n }
     ensures too_many { HadMemory result → IsErrOf result fault.TooMany ↔ HasTooMany text.now }
+    ensures fit { IfOk result (IsFitLine (length text.now)) }
+{
+    read(alloc, text)
+}
+
+/// The row of the line's command word.
+#[tactic(auto, unfolding(crate::specs::Rows::due_line))]
+fn read(alloc: Global, text: &str) -> Result<Line, CommandFault>
+    ensures answer { HadMemory result → result ≡ due_line text.now }
+    ensures unknown { IsErrOf result fault.UnknownCommand ↔ IsUnknown text.now }
 {
     let (word, left) = command_word(without_noask(text));
     match head_of(word) {

@@ -2,13 +2,15 @@
 //! line behind its command word.
 ghost use Rattle.std.specs.Prelude.{◌≡◌, IfOk};
 ghost use Rattle.conman_syntax.specs.Answers.{Gives};
+ghost use Rattle.conman_syntax.specs.Arguments.{argument_behind};
 ghost use Rattle.conman_syntax.specs.Rows as spec;
+ghost use Rattle.conman_syntax.specs.declared.references.ReplyTarget.TheVariants as replied;
 
 use crate::arguments::take_argument;
 use crate::dates::date;
 use crate::faults::{ArgumentFault, ended};
 use crate::heads::What;
-use crate::lines::Line;
+use crate::lines::{Line, ObjRef};
 use crate::references::{
     LimitTarget, ReplyTarget, cut, limit_target, reply_target, resource_names, work,
 };
@@ -71,19 +73,28 @@ pub fn reply(alloc: Global, left: &str) -> Result<Line, ArgumentFault>
 fn reply_to(target: ReplyTarget, left: &str) -> Result<Line, ArgumentFault>
     ensures { Gives result (spec.reply_to target left.now) }
 {
-    let (argument, left) = take_argument(left, ';');
     match target {
-        ReplyTarget::Prompt(name) => {
-            let yes = yes(argument).ok_or(ArgumentFault::BadArgument(2))?;
-            ended(left, Line::ReplyGlobal(name, yes))
-        }
-        ReplyTarget::Own(object) => {
-            let i = number_u16(argument).ok_or(ArgumentFault::BadArgument(2))?;
-            let (argument, left) = take_argument(left, ';');
-            let yes = yes(argument).ok_or(ArgumentFault::BadArgument(3))?;
-            ended(left, Line::ReplyOwn(object, i, yes))
-        }
+        ReplyTarget::Prompt(name) => reply_global(name, left),
+        ReplyTarget::Own(object) => reply_own(object, left),
     }
+}
+
+fn reply_global(name: Text, left: &str) -> Result<Line, ArgumentFault>
+    ensures { Gives result (spec.reply_to (replied.Prompt name) left.now) }
+{
+    let (argument, left) = take_argument(left, ';');
+    let yes = yes(argument).ok_or(ArgumentFault::BadArgument(2))?;
+    ended(left, Line::ReplyGlobal(name, yes))
+}
+
+fn reply_own(object: ObjRef, left: &str) -> Result<Line, ArgumentFault>
+    ensures { Gives result (spec.reply_to (replied.Own object) left.now) }
+{
+    let (argument, left) = take_argument(left, ';');
+    let i = number_u16(argument).ok_or(ArgumentFault::BadArgument(2))?;
+    let (argument, left) = take_argument(left, ';');
+    let yes = yes(argument).ok_or(ArgumentFault::BadArgument(3))?;
+    ended(left, Line::ReplyOwn(object, i, yes))
 }
 
 /// The name that the line has and nothing else.
@@ -102,16 +113,18 @@ pub fn submit(alloc: Global, what: Option<What>, left: &str) -> Result<Line, Arg
 {
     let (argument, left) = take_argument(left, ' ');
     let (ws, text) = work(alloc, what, argument)?.ok_or(ArgumentFault::BadArgument(1))?;
+    let (alias, priority) = behind_work(alloc, left)?;
+    Ok(Line::Submit(ws, text, alias, priority))
+}
+
+/// The alias and the priority, each where it is there.
+fn behind_work(alloc: Global, left: &str) -> Result<(Option<Text>, Option<u8>), ArgumentFault>
+    ensures { Gives result (spec.behind_work left.now (spec.alias_of (argument_behind 59 left.now))) }
+{
     let (argument, behind) = take_argument(left, ';');
     match alias(alloc, argument)? {
-        Some(alias) => {
-            let priority = last_priority(3, behind)?;
-            Ok(Line::Submit(ws, text, Some(alias), priority))
-        }
-        None => {
-            let priority = last_priority(2, left)?;
-            Ok(Line::Submit(ws, text, None, priority))
-        }
+        None => Ok((None, last_priority(2, left)?)),
+        Some(alias) => Ok((Some(alias), last_priority(3, behind)?)),
     }
 }
 

@@ -15,22 +15,22 @@ use Rattle.carry_forward.specs.Faults.{fault_of, plan_fault, room_fault, submit_
 use Rattle.carry_forward.specs.declared.faults.CarryFault.{CarryFault}
 use Rattle.carry_forward.specs.declared.faults.CarryFault.TheVariants.{NumbersSpent, PlanFull, RunsSpent}
 
-pub runs_first : (V : View) (drafts : List StreamDraft) → nat_le 4294967295 (last_run (V (Events 0))) ≡ true
-    → plan_fault V drafts ≡ Some RunsSpent
+pub runs_first : (net : Net) (V : View) (drafts : List StreamDraft) → nat_le 4294967295 (last_run (V (Events 0))) ≡ true
+    → plan_fault net V drafts ≡ Some RunsSpent
 unfolding model.carry_fault
-runs_first V drafts h = rw h refl
+runs_first net V drafts h = rw h refl
 
-pub numbers_next : (V : View) (drafts : List StreamDraft) → nat_le 4294967295 (last_run (V (Events 0))) ≡ false
-    → are_numbers_spent V drafts ≡ true → plan_fault V drafts ≡ Some NumbersSpent
+pub numbers_next : (net : Net) (V : View) (drafts : List StreamDraft) → nat_le 4294967295 (last_run (V (Events 0))) ≡ false
+    → are_numbers_spent V drafts ≡ true → plan_fault net V drafts ≡ Some NumbersSpent
 unfolding model.carry_fault
-numbers_next V drafts h k = rw (h, k) refl
+numbers_next net V drafts h k = rw (h, k) refl
 
-pub room_last : (V : View) (drafts : List StreamDraft) → nat_le 4294967295 (last_run (V (Events 0))) ≡ false
-    → are_numbers_spent V drafts ≡ false → plan_fault V drafts ≡ room_fault V (carried_members V) drafts
+pub room_last : (net : Net) (V : View) (drafts : List StreamDraft) → nat_le 4294967295 (last_run (V (Events 0))) ≡ false
+    → are_numbers_spent V drafts ≡ false → plan_fault net V drafts ≡ room_fault V (carried_members net V) drafts
 unfolding model.carry_fault
-room_last V drafts h k =
+room_last net V drafts h k =
     rw (h, k)
-    (go (are_streams_too_many (carried_members V) drafts) (are_jobs_too_many V (carried_members V) drafts))
+    (go (are_streams_too_many (carried_members net V) drafts) (are_jobs_too_many V (carried_members net V) drafts))
   where
     go : (s j : Bool)
         → option_map fault_of
@@ -50,6 +50,11 @@ pub submit_room : (V : View) (draft : StreamDraft) → are_numbers_spent V (draf
 unfolding submit_fault
 submit_room V draft h = rw h refl
 
+-- the carried members, by another name of the network
+pub carried_in : (net same_net : Net) (V : View) (carried : List ℕ) → same_net ≡ net
+    → carried ≡ carried_members same_net V → carried ≡ carried_members net V
+carried_in net same_net V carried same is = is ∙ ap (λ n. carried_members n V) same
+
 -- a run below the last one
 pub run_left : (n : ℕ) → n < 4294967295 → nat_le 4294967295 n ≡ false
 run_left n h = grind (arith, nat_tests)
@@ -66,11 +71,11 @@ spent_so V drafts slice s j b same streams jobs is =
     ∙ (λ p. nat_lt 4294967295 (streams p + length (same p)) || nat_lt 4294967295 (jobs p + jobs_in_drafts (same p))))
 
 -- what a plan's room says, where neither runs nor numbers are spent
-pub plan_room : (V : View) (drafts slice : List StreamDraft) (carried : List ℕ) (full : Option CarryFault)
+pub plan_room : (net : Net) (V : View) (drafts slice : List StreamDraft) (carried : List ℕ) (full : Option CarryFault)
     → nat_le 4294967295 (last_run (V (Events 0))) ≡ false → are_numbers_spent V drafts ≡ false → slice ≡ drafts
-    → carried ≡ carried_members V → full ≡ room_fault V carried slice → plan_fault V drafts ≡ full
-plan_room V drafts slice carried full run numbers same members_of is =
-    room_last V drafts run numbers ∙ sym (is ∙ (λ p. room_fault V (members_of p) (same p)))
+    → carried ≡ carried_members net V → full ≡ room_fault V carried slice → plan_fault net V drafts ≡ full
+plan_room net V drafts slice carried full run numbers same members_of is =
+    room_last net V drafts run numbers ∙ sym (is ∙ (λ p. room_fault V (members_of p) (same p)))
 
 -- and where a stream is submitted
 pub stream_room : (V : View) (draft : StreamDraft) (slice : List StreamDraft) (earlier : List ℕ)
@@ -114,9 +119,9 @@ numbered_so V draft s j fresh known f e doc streams jobs new old fs es is =
 -- the plan, from its parts
 pub plan_so : (net : Net) (V : View) (drafts : List StreamDraft) (run : ℕ) (cut : Seen) (carried : List ℕ)
     (docs : List StreamDoc) → run ≡ last_run (V (Events 0)) → cut ≡ seen_of V (below (node_count net))
-    → carried ≡ carried_members V → docs ≡ documents V carried drafts
+    → carried ≡ carried_members net V → docs ≡ documents V carried drafts
     → NewPlan (1 + run) cut carried docs ≡ plan_of net V drafts
 unfolding plan_of
 plan_so net V drafts run cut carried docs runs cuts members_of is =
-    let all : docs ≡ documents V (carried_members V) drafts = is ∙ (λ p. documents V (members_of p) drafts) in
+    let all : docs ≡ documents V (carried_members net V) drafts = is ∙ (λ p. documents V (members_of p) drafts) in
     λ p. NewPlan (1 + runs p) (cuts p) (members_of p) (all p)

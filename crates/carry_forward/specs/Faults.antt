@@ -1,6 +1,6 @@
 -- Why there is no plan and no document, as the calls answer it.
 use Rattle.std.specs.Prelude.{[], ℕ, ◌∷◌, List, Option, option_map}
-use Rattle.model.specs.Types.{StreamDraft}
+use Rattle.model.specs.Types.{Net, StreamDraft}
 use Rattle.model.specs.Words.{first_of_these}
 use Rattle.model.specs.History.{View}
 use Rattle.model.specs.Catalogue.{members}
@@ -16,8 +16,8 @@ fault_of model.CarryFault.NumbersSpent = NumbersSpent
 fault_of (model.CarryFault.PlanFull n) = PlanFull n
 
 -- why there is no plan of these drafts: the first fault of the model's that applies
-abbrev pub plan_fault : View → List StreamDraft → Option CarryFault
-plan_fault V drafts = option_map fault_of (model.carry_fault V drafts)
+abbrev pub plan_fault : Net → View → List StreamDraft → Option CarryFault
+plan_fault net V drafts = option_map fault_of (model.carry_fault net V drafts)
 
 -- why these streams and the drafts are no plan: too many streams, or else too many jobs
 abbrev pub room_fault : View → List ℕ → List StreamDraft → Option CarryFault

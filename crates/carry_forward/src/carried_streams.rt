@@ -6,20 +6,31 @@ ghost use Rattle.model.specs.History.{view_of};
 ghost use Rattle.model.specs.NewPlan as spec;
 ghost use Rattle.model.specs.NewPlan.{carried_members, seen_of};
 
-use base_types::{Feed, NoMemory, Obj, Seen, StreamNo, StreamNos, Ws};
+use base_types::{Carry, Feed, Net, NoMemory, Obj, Seen, StreamDoc, StreamNo, StreamNos, Ws};
 use network_tree::Network;
 use owner_fold::Owners;
 use std::alloc::Global;
 
-/// Whether a stream is marked, and neither cancelled nor ended. False outside the catalogue.
+/// Whether the option takes an unfinished stream: a marked one, none, or any.
+fn takes(option: Carry, doc: &StreamDoc) -> bool
+    ensures { result ≡ spec.takes option doc.now }
+{
+    match option {
+        Carry::Yes => doc.carry,
+        Carry::No => false,
+        Carry::All => true,
+    }
+}
+
+/// Whether the network's option takes a stream that is neither cancelled nor ended. False outside the catalogue.
 #[tactic(auto, unfolding(model::specs::NewPlan::is_carried, model::specs::Catalogue::owner))]
-fn is_carried(o: &Owners, s: StreamNo) -> bool
-    ensures { result ≡ spec.is_carried (view_of o.now) s }
+fn is_carried(net: &Net, o: &Owners, s: StreamNo) -> bool
+    ensures { result ≡ spec.is_carried net.now (view_of o.now) s }
 {
     match o.stream(s) {
         None => false,
         Some(doc) => {
-            if !doc.carry {
+            if !takes(net.carry, doc) {
                 return false;
             }
             if o.is_cancelled(Obj::Stream(s)) {
@@ -32,13 +43,13 @@ fn is_carried(o: &Owners, s: StreamNo) -> bool
 
 /// The members that the next plan carries, in order.
 #[tactic(auto, unfolding(model::specs::NewPlan::carried_members))]
-pub(crate) fn carried_streams(o: &Owners) -> Result<StreamNos, NoMemory>
-    ensures { IfOk result (λ carried. carried ≡ carried_members (view_of o.now)) }
+pub(crate) fn carried_streams(net: &Net, o: &Owners) -> Result<StreamNos, NoMemory>
+    ensures { IfOk result (λ carried. carried ≡ carried_members net.now (view_of o.now)) }
 {
     let members = o.members();
     let mut carried = members.empty();
     for s in members.as_slice() {
-        if is_carried(o, *s) {
+        if is_carried(net, o, *s) {
             carried.push(*s)?;
         }
     }

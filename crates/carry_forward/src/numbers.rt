@@ -33,26 +33,14 @@ impl<'a> Model for Fresh<'a> {
 pub(crate) fn last_stream(o: &Owners) -> u32
     ensures { result ≡ spec.last_stream (view_of o.now) }
 {
-    let mut last = 0;
-    for doc in o.streams() {
-        if doc.no.0 > last {
-            last = doc.no.0;
-        }
-    }
-    last
+    o.last_stream().0
 }
 
 /// The greatest number of a job in the catalogue, 0 where it has none.
 pub(crate) fn last_job(o: &Owners) -> u32
     ensures { result ≡ spec.last_job (view_of o.now) }
 {
-    let mut last = 0;
-    for (_, doc) in o.jobs() {
-        if doc.no.0 > last {
-            last = doc.no.0;
-        }
-    }
-    last
+    o.last_job().0
 }
 
 /// How many of so many are left after the jobs of the drafts. None where these are more.

@@ -74,8 +74,8 @@ fn fresh_documents(
     Ok(docs)
 }
 
-/// The plan of a new day: its run, the counts of events at which it cuts, the streams that it carries, and the drafts
-/// as documents. The faults are tested in the order of `CarryFault`. Want of memory may come in place of a plan and of
+/// The plan of a new day: its run, the counts of events at which it cuts, the unfinished streams that the network's
+/// option takes, and the drafts as documents. The faults are tested in the order of `CarryFault`. Want of memory may come in place of a plan and of
 /// `PlanFull`, and of no other answer.
 #[tactic(auto, using(crate::proofs::Causes::runs_first))]
 pub fn next_plan(
@@ -85,9 +85,9 @@ pub fn next_plan(
     drafts: &StreamDrafts,
 ) -> Result<Body, CarryFault>
     ensures value { IfOk result (λ body. body ≡ plan_of net.now (view_of o.now) drafts.now) }
-    ensures accepted { IsOk result → plan_fault (view_of o.now) drafts.now ≡ None }
+    ensures accepted { IsOk result → plan_fault net.now (view_of o.now) drafts.now ≡ None }
     ensures causes { (f : CarryFault) → result ≡ Err f → f ≢ CarryFault.NoMemory →
-        plan_fault (view_of o.now) drafts.now ≡ Some f }
+        plan_fault net.now (view_of o.now) drafts.now ≡ Some f }
 {
     let run = o.run();
     if run == u32::MAX {
@@ -96,7 +96,7 @@ pub fn next_plan(
     if are_spent(last_stream(o), last_job(o), drafts.as_slice()) {
         return Err(CarryFault::NumbersSpent);
     }
-    let carried = carried_streams(o)?;
+    let carried = carried_streams(net.net(), o)?;
     let full = room_fault(alloc, o, carried.as_slice(), drafts.as_slice())?;
     match full {
         Some(fault) => return Err(fault),

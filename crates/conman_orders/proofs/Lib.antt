@@ -1,5 +1,6 @@
 mod Commands
 mod Equal
+mod Fits
 mod Latest
 mod Reasons
 mod Sizes

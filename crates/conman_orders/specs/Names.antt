@@ -3,7 +3,7 @@ use Rattle.std.specs.Bool.{then_some}
 use Rattle.std.specs.List.{position_from}
 use Rattle.std.specs.Option.{option_map_or, option_or}
 use Rattle.std.specs.Prelude.{[], ℕ, ◌&&◌, ◌==◌, ◌∷◌, Bool, List, None, Option, Some, false, find}
-use Rattle.std.specs.Prelude.{option_and_then, option_map}
+use Rattle.std.specs.Prelude.{option_and_then, option_map, slice_get}
 use Rattle.conman_syntax.specs.declared.lines.StreamRef.{StreamRef}
 use Rattle.conman_syntax.specs.declared.lines.JobRef.{JobRef}
 use Rattle.conman_syntax.specs.declared.lines.ObjRef.{ObjRef}
@@ -13,6 +13,7 @@ use Rattle.conman_syntax.specs.declared.lines.DepRef.TheVariants as typed
 use Rattle.model.specs.Types.{At, Dep, FollowsJob, FollowsStream, Global, Job, Needs, Net, Node, Obj, Own, Prompt}
 use Rattle.model.specs.Types.{PromptDef, Resource, Stream, StreamDoc, Until}
 use Rattle.model.specs.Equalities.{text_eq}
+use Rattle.model.specs.Network.{domain}
 use Rattle.model.specs.History.{View}
 use Rattle.model.specs.Catalogue.{StreamJob, jobs_of_stream, members, owner, stream}
 
@@ -24,6 +25,11 @@ last_that test (x ∷ xs) = option_or (last_that test xs) (then_some (test x) x)
 -- the workstation of this name; they are numbered from 0
 unfoldable pub workstation : Net → List ℕ → Option ℕ
 workstation net name = position_from (λ (n : Node). text_eq n.name name) 0 net.nodes
+
+-- the domain of a workstation has this name, which is that of its manager
+unfoldable pub is_domain_of : Net → ℕ → List ℕ → Bool
+is_domain_of net w name =
+    option_map_or (λ (n : Node). text_eq n.name name) (slice_get net.nodes (domain net w)) false
 
 -- the network's prompt of this name; they are numbered from 1
 unfoldable pub prompt_named : Net → List ℕ → Option ℕ

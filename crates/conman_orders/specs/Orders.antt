@@ -1,6 +1,6 @@
 -- The table of commands: which command a line gives, and which workstation it goes to. One row a line.
 use Rattle.std.specs.Prelude.{[], ℕ, ◌≡◌, ◌≢◌, ◌∷◌, Bool, Err, List, None, Ok, Option, Result, Some, codes}
-use Rattle.std.specs.Prelude.{false, option_and_then, unwrap_or}
+use Rattle.std.specs.Prelude.{false, if◌then◌else◌, option_and_then, unwrap_or}
 use Rattle.conman_syntax.specs.declared.lines.DepRef.{DepRef}
 use Rattle.conman_syntax.specs.declared.lines.JobRef.{JobRef}
 use Rattle.conman_syntax.specs.declared.lines.Line.{Line}
@@ -11,9 +11,10 @@ use Rattle.base_types.specs.declared.Recovery.TheVariants as recovery
 use Rattle.model.specs.Types.{AddDep, AltPri, Cancel, Cmd, Command, Confirm, DelDep, Fence, Job, Kill, Limit, Net}
 use Rattle.model.specs.Types.{Obj, Release, ReplyGlobal, ReplyOwn, Rerun, Stop, Stream, StreamDraft, StreamLimit}
 use Rattle.model.specs.Types.{Submit, SwitchMgr, Total}
+use Rattle.model.specs.Fit.{IsFitCmd}
 use Rattle.model.specs.History.{View}
 use Rattle.conman_orders.specs.Equals.{first_equal}
-use Rattle.conman_orders.specs.Names.{dep_named, job_named, object_named, prompt_named, resource_named}
+use Rattle.conman_orders.specs.Names.{dep_named, is_domain_of, job_named, object_named, prompt_named, resource_named}
 use Rattle.conman_orders.specs.Names.{stream_named, with_owner, workstation}
 use Rattle.conman_orders.specs.declared.orders.ResolveFault.{ResolveFault}
 use Rattle.conman_orders.specs.declared.orders.ResolveFault.TheVariants.{NoMemory, NotACommand, UnknownName}
@@ -100,9 +101,11 @@ unfoldable pub submit : Net → List ℕ → List ℕ → Option (List ℕ) → 
 submit net ws text alias priority =
     known 1 (workstation net ws) (λ w. Ok (0, Submit (submitted w text alias priority)))
 
--- the domain is not looked at; the workstation is argument 2, and the command goes to the master
-unfoldable pub switch_mgr : Net → List ℕ → Answer
-switch_mgr net ws = known 2 (workstation net ws) (λ w. Ok (0, SwitchMgr w))
+-- the workstation is argument 2 and is looked up first; argument 1 is the name of its domain, and the command goes to
+-- the master
+unfoldable pub switch_mgr : Net → List ℕ → List ℕ → Answer
+switch_mgr net domain ws =
+    known 2 (workstation net ws) (λ w. if is_domain_of net w domain then Ok (0, SwitchMgr w) else Err (UnknownName 1))
 
 -- Which answer is due for a line, at the workstation me, which holds this view.
 unfoldable pub due_order : Net → View → ℕ → Line → Answer
@@ -123,7 +126,7 @@ due_order net V me (line.ReplyOwn object i yes_) = on_object net V me object (λ
 due_order net V me (line.Start ws) = on_workstation net ws Cmd.Start
 due_order net V me (line.Stop ws) = on_workstation net ws Stop
 due_order net V me (line.Submit ws text alias priority) = submit net ws text alias priority
-due_order net V me (line.SwitchMgr domain ws) = switch_mgr net ws
+due_order net V me (line.SwitchMgr domain ws) = switch_mgr net domain ws
 due_order net V me (line.ShowJobs pattern) = Err NotACommand
 due_order net V me (line.ShowSchedules pattern) = Err NotACommand
 due_order net V me (line.ShowCpus pattern) = Err NotACommand
@@ -146,10 +149,15 @@ Gives result due = HadMemory result → result ≡ due
 abbrev pub IsOrder : Net → View → ℕ → Line → ℕ → Cmd → Type 0
 IsOrder net V me typed to c = due_order net V me typed ≡ Ok (to, c)
 
--- argument n names what is not there, and those before it name what is
+-- Argument n names what is not there. The arguments are looked up in their order, but of `switchmgr` the workstation,
+-- argument 2, before the domain, which is known by that workstation alone.
 abbrev pub HasUnknownName : Net → View → ℕ → Line → ℕ → Type 0
 HasUnknownName net V me typed n = due_order net V me typed ≡ Err (UnknownName n)
 
 -- the line gives no command: it shows, or is for the node itself
 abbrev pub GivesNoCommand : Net → View → ℕ → Line → Type 0
 GivesNoCommand net V me typed = due_order net V me typed ≡ Err NotACommand
+
+-- the command is one that an entry may have
+abbrev pub IsFitOrder : ℕ × Cmd → Type 0
+IsFitOrder order = IsFitCmd order.1

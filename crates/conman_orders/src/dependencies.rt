@@ -46,7 +46,11 @@ pub fn names_nothing(net: &Net, o: &Owners, dep: &Dep) -> bool
         Dep::FollowsStream(s) => o.stream(*s).is_none(),
         Dep::Needs(r, _) => resource(net, *r).is_none(),
         Dep::Prompt(PromptRef::Global(p)) => prompt(net, *p).is_none(),
-        Dep::Prompt(PromptRef::Own(_)) | Dep::At(_) | Dep::Until(_, _) | Dep::Outside(_) => false,
+        Dep::Prompt(PromptRef::Own(_))
+        | Dep::At(_)
+        | Dep::Until(_, _)
+        | Dep::Outside(_)
+        | Dep::Deadline(_) => false,
     }
 }
 
@@ -142,6 +146,10 @@ pub fn is_same(a: &Dep, b: &Dep) -> bool
         },
         Dep::Outside(path) => match b {
             Dep::Outside(other) => is_same_text(path.as_str(), other.as_str()),
+            _ => false,
+        },
+        Dep::Deadline(t) => match b {
+            Dep::Deadline(u) => t.0 == u.0,
             _ => false,
         },
     }

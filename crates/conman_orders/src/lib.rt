@@ -3,21 +3,16 @@
 //! `resolve` looks up the names of a line in the network and in what a node holds, and gives the command with the
 //! workstation that it goes to. Which answer is due for which line is the table `specs::Orders`, one row a line; what
 //! its names stand for is said in `specs::Names`. `judge` decides on a command at the workstation to which it came. It
-//! takes no memory, and its answer is that of `model::specs::Verdicts` in the view of the entries.
+//! takes no memory, and its answer is that of `model::specs::Verdicts` in the view of the entries. Both go by the network
+//! as it stands for the node: the defined one, after the switches of managers that the node knows of.
 #![tactic(auto)]
 
 mod dependencies;
-#[cfg(test)]
-mod fixtures;
 mod names;
 mod object_verdicts;
 mod objects;
-#[cfg(test)]
-mod order_tests;
 mod orders;
 mod rooms;
-#[cfg(test)]
-mod verdict_tests;
 mod verdicts;
 
 pub use orders::{ResolveFault, resolve};

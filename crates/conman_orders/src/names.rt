@@ -3,6 +3,7 @@ ghost use Rattle.std.specs.Prelude.{◌≡◌, ◌≤◌, ◌∷◌, ◌==◌, �
 ghost use Rattle.std.specs.Prelude.{slice_get};
 ghost use Rattle.std.specs.Option.{IfSome, option_map_or, option_or};
 ghost use Rattle.model.specs.Words.{has};
+ghost use Rattle.model.specs.Network.{domain};
 ghost use Rattle.model.specs.History.{view_of};
 ghost use Rattle.conman_orders.specs.Names as spec;
 ghost use Rattle.conman_orders.specs.Names.{last_that};
@@ -10,7 +11,8 @@ ghost use Rattle.conman_orders.specs.Latest.{told_behind};
 
 use crate::dependencies::is_same_text;
 use base_types::{
-    Copied, Dep, JobNo, Moment, NoMemory, Obj, PromptRef, Resource, StreamDoc, StreamNo, Text, Ws,
+    Copied, Dep, JobNo, Moment, Net, NoMemory, Obj, PromptRef, Resource, StreamDoc, StreamNo, Text,
+    Ws,
 };
 use conman_syntax::{DepRef, JobRef, ObjRef, StreamRef};
 use network_tree::Network;
@@ -28,6 +30,32 @@ pub fn workstation(network: &Network, name: &str) -> Option<Ws>
         }
     }
     None
+}
+
+/// The manager of a workstation's domain: the workstation itself where it is one, else its hop.
+fn manager(net: &Net, w: Ws) -> Ws
+    ensures { result ≡ domain net.now w }
+{
+    match net.nodes.get(usize::from(w.0)) {
+        None => Ws(0),
+        Some(node) if node.manager => w,
+        Some(node) => match node.hop {
+            None => Ws(0),
+            Some(hop) => hop,
+        },
+    }
+}
+
+/// Whether the workstation's domain has this name, which is its manager's.
+#[tactic(auto, unfolding(crate::specs::Names::is_domain_of))]
+pub fn is_domain_of(net: &Net, w: Ws, name: &str) -> bool
+    ensures { result ≡ spec.is_domain_of net.now w name.now }
+{
+    let manager = manager(net, w);
+    match net.nodes.get(usize::from(manager.0)) {
+        None => false,
+        Some(node) => is_same_text(node.name.as_str(), name),
+    }
 }
 
 /// The number, from 1, of the network's prompt of this name.

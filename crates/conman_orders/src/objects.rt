@@ -7,23 +7,11 @@ ghost use Rattle.model.specs.History.{view_of};
 ghost use Rattle.model.specs.Catalogue as spec;
 ghost use Rattle.model.specs.Catalogue.{owner, stream_of};
 ghost use Rattle.model.specs.Facts as facts;
-ghost use Rattle.model.specs.Verdicts.{begun, over, is_complete, object_reasons};
+ghost use Rattle.model.specs.Facts.{is_complete};
+ghost use Rattle.model.specs.Verdicts.{begun, over, object_reasons};
 
-use base_types::{JobNo, Obj, StreamNo, Why, Ws};
+use base_types::{JobNo, Obj, Why, Ws};
 use owner_fold::Owners;
-
-/// Whether the stream is a member of the plan.
-#[tactic(auto, unfolding(model::specs::Catalogue::is_member))]
-pub fn is_member(o: &Owners, s: StreamNo) -> bool
-    ensures { result ≡ spec.is_member (view_of o.now) s }
-{
-    for member in o.members().as_slice() {
-        if member.0 == s.0 {
-            return true;
-        }
-    }
-    false
-}
 
 /// Whether the stream that the object is, or belongs to, is a member of the plan.
 #[tactic(auto, unfolding(model::specs::Catalogue::stream_of))]
@@ -34,11 +22,11 @@ fn is_planned(o: &Owners, object: &Obj) -> bool
     match object {
         Obj::Job(j) => match o.stream_of(*j) {
             None => false,
-            Some(s) => is_member(o, s),
+            Some(s) => o.is_member(s),
         },
         Obj::Stream(s) => match o.stream(*s) {
             None => false,
-            Some(doc) => is_member(o, doc.no),
+            Some(doc) => o.is_member(doc.no),
         },
     }
 }

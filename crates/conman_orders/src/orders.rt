@@ -5,10 +5,12 @@ ghost use Rattle.model.specs.Types.{AltPri, Cancel, Cmd as Cmds, Confirm, Kill, 
 ghost use Rattle.model.specs.History.{view_of};
 ghost use Rattle.model.specs.Catalogue.{owner as spec_owner};
 ghost use Rattle.conman_orders.specs.Orders as spec;
-ghost use Rattle.conman_orders.specs.Orders.{Gives, GivesNoCommand, HadMemory, HasUnknownName, IsOrder, due_order};
+ghost use Rattle.conman_orders.specs.Orders.{Gives, GivesNoCommand, HadMemory, HasUnknownName, IsFitOrder, IsOrder};
+ghost use Rattle.conman_orders.specs.Orders.{due_order};
+ghost use Rattle.conman_syntax.specs.Fit.{IsFitLine};
 ghost use Rattle.conman_orders.specs.declared.orders.ResolveFault.TheVariants as fault;
 
-use crate::names::{dep, job, object, prompt, resource, stream, workstation};
+use crate::names::{dep, is_domain_of, job, object, prompt, resource, stream, workstation};
 use crate::object_verdicts::equal_dep;
 use base_types::{
     Cmd, Copied, Items, JobDraft, JobNo, NoMemory, Obj, Recovery, StreamDraft, StreamNo, Text,
@@ -22,7 +24,8 @@ use std::alloc::Global;
 /// Why a line gives no command.
 #[derive(Clone, Copy, Debug, PartialEq, Eq)]
 pub enum ResolveFault {
-    /// The argument of this number, from 1, names what is not there, and those before it name what is.
+    /// The argument of this number, from 1, names what is not there. The first such argument counts; of `switchmgr`
+    /// the workstation, argument 2, is looked up before the domain, which is named by that workstation's manager.
     UnknownName(u32),
     /// The line is none that gives a command: it shows, or is for the node itself.
     NotACommand,
@@ -275,11 +278,15 @@ fn submit(
     ))
 }
 
+/// The workstation is argument 2. It is looked up first, since the domain is known by it.
 #[tactic(auto, unfolding(crate::specs::Orders::switch_mgr))]
-fn switch_mgr(network: &Network, ws: &Text) -> Result<Order, ResolveFault>
-    ensures { result ≡ spec.switch_mgr network.now ws.now }
+fn switch_mgr(network: &Network, domain: &Text, ws: &Text) -> Result<Order, ResolveFault>
+    ensures { result ≡ spec.switch_mgr network.now domain.now ws.now }
 {
     let w = workstation(network, ws.as_str()).ok_or(ResolveFault::UnknownName(2))?;
+    if !is_domain_of(network.net(), w, domain.as_str()) {
+        return Err(ResolveFault::UnknownName(1));
+    }
     Ok((Ws(0), Cmd::SwitchMgr(w)))
 }
 
@@ -316,7 +323,7 @@ fn row(
         Line::Submit(ws, text, alias, priority) => {
             submit(alloc, network, ws, text, alias, *priority)
         }
-        Line::SwitchMgr(_, ws) => switch_mgr(network, ws),
+        Line::SwitchMgr(domain, ws) => switch_mgr(network, domain, ws),
         Line::ShowJobs(_)
         | Line::ShowSchedules(_)
         | Line::ShowCpus(_)
@@ -330,10 +337,11 @@ fn row(
 }
 
 /// The command that a line gives, and the workstation that it goes to, where it is typed at the workstation `me`, which
-/// took these entries.
+/// took these entries. Names are looked up in the network as it stands for it.
 ///
 /// Unless memory runs out, the answer is exactly the one that is due. Only the text of an own prompt and a submitted
-/// stream take memory; that a line gives no command is told without any.
+/// stream take memory; that a line gives no command is told without any. Of a line that was read, the command is one that
+/// an entry may have: its texts have at most 4,096 bytes each.
 pub fn resolve(
     alloc: Global,
     network: &Network,
@@ -348,6 +356,7 @@ pub fn resolve(
         IsErrOf result (fault.UnknownName n) ↔ HasUnknownName network.now (view_of o.now) me line.now n }
     ensures not_a_command { IsErrOf result fault.NotACommand
         ↔ GivesNoCommand network.now (view_of o.now) me line.now }
+    ensures fit { (most : ℕ) → IsFitLine most line.now → IfOk result IsFitOrder }
 {
     row(alloc, network, o, me, line)
 }

@@ -6,7 +6,6 @@ ghost use Rattle.model.specs.Catalogue.{members};
 ghost use Rattle.model.specs.NewPlan as plans;
 ghost use Rattle.model.specs.Verdicts as verdicts;
 
-use crate::objects::is_member;
 use base_types::{StreamDraft, StreamNo};
 use owner_fold::Owners;
 
@@ -16,38 +15,12 @@ const MOST_STREAMS: usize = 4096;
 /// The most jobs of a plan.
 const MOST_JOBS: usize = 16_384;
 
-/// The greatest number of a stream in the catalogue, 0 where it is empty.
-fn last_stream(o: &Owners) -> u32
-    ensures { result ≡ plans.last_stream (view_of o.now) }
-{
-    let mut last = 0;
-    for doc in o.streams() {
-        if doc.no.0 > last {
-            last = doc.no.0;
-        }
-    }
-    last
-}
-
-/// The greatest number of a job in the catalogue, 0 where it has none.
-fn last_job(o: &Owners) -> u32
-    ensures { result ≡ plans.last_job (view_of o.now) }
-{
-    let mut last = 0;
-    for (_, doc) in o.jobs() {
-        if doc.no.0 > last {
-            last = doc.no.0;
-        }
-    }
-    last
-}
-
 /// Whether a number of the submitted stream would pass the greatest one.
 #[tactic(auto, unfolding(model::specs::NewPlan::are_numbers_spent))]
 fn are_numbers_spent(o: &Owners, draft: &StreamDraft) -> bool
     ensures { result ≡ plans.are_numbers_spent (view_of o.now) (draft.now ∷ []) }
 {
-    last_stream(o) == u32::MAX || draft.jobs.len() > (u32::MAX - last_job(o)) as usize
+    o.last_stream().0 == u32::MAX || draft.jobs.len() > (u32::MAX - o.last_job().0) as usize
 }
 
 /// Whether the plan would have too many streams with one more.
@@ -79,7 +52,7 @@ fn ask(o: &Owners, last: &Asked, s: StreamNo) -> Asked
     } else {
         Asked {
             stream: s.0,
-            is_member: is_member(o, s),
+            is_member: o.is_member(s),
         }
     }
 }
@@ -96,7 +69,7 @@ fn are_jobs_too_many(o: &Owners, draft: &StreamDraft) -> bool
     let mut left = MOST_JOBS - jobs;
     let mut asked = Asked {
         stream: 0,
-        is_member: is_member(o, StreamNo(0)),
+        is_member: o.is_member(StreamNo(0)),
     };
     // The jobs of a stream stand together, so each stream is asked once.
     for (parent, _) in o.jobs() {

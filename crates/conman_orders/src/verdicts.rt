@@ -1,9 +1,9 @@
 //! Whether a workstation obeys a command.
 ghost use Rattle.std.specs.Prelude.{◌≡◌};
 ghost use Rattle.std.specs.Bool.{then_some};
-ghost use Rattle.model.specs.Types.{ReplyGlobal, Submit, Total};
+ghost use Rattle.model.specs.Types.{ReplyGlobal, Submit, SwitchMgr, Total};
 ghost use Rattle.model.specs.Words.{first_of_these};
-ghost use Rattle.model.specs.History.{view_of};
+ghost use Rattle.model.specs.History.{View, view_of};
 ghost use Rattle.model.specs.Verdicts.{reasons, verdict};
 ghost use Rattle.conman_orders.specs.Said.{verdict_for};
 
@@ -76,6 +76,26 @@ fn submit(net: &Net, o: &Owners, me: Ws, draft: &StreamDraft) -> Option<Why>
     None
 }
 
+/// Why a workstation does not take over as the manager of its domain: its manager must not be the master.
+#[tactic(auto, unfolding(model::specs::Verdicts::reasons))]
+fn switch_mgr(net: &Net, me: Ws, w: Ws) -> Option<Why>
+    ensures { (V : View) → result ≡ first_of_these (reasons net.now V me (SwitchMgr w)) }
+{
+    if me.0 != 0 {
+        return Some(Why::NotMaster);
+    }
+    let Some(node) = net.nodes.get(usize::from(w.0)) else {
+        return Some(Why::NotThere);
+    };
+    if node.manager {
+        return Some(Why::AlreadyThere);
+    }
+    if node.hop == Some(Ws(0)) {
+        return Some(Why::OutOfRange);
+    }
+    None
+}
+
 /// The reason, where it applies.
 fn reason(applies: bool, why: Why) -> Option<Why>
     ensures { result ≡ then_some applies why }
@@ -106,11 +126,12 @@ fn decline(net: &Net, o: &Owners, me: Ws, cmd: &Cmd) -> Option<Why>
         Cmd::Start => reason(!o.is_stopped(me), Why::AlreadyThere),
         Cmd::Stop => reason(o.is_stopped(me), Why::AlreadyThere),
         Cmd::Submit(draft) => submit(net, o, me, draft),
-        Cmd::SwitchMgr(_) => Some(Why::NotBuilt),
+        Cmd::SwitchMgr(w) => switch_mgr(net, me, *w),
     }
 }
 
-/// What comes of a command at the workstation `me`, which took these entries. It takes no memory.
+/// What comes of a command at the workstation `me`, which took these entries, in the network as it stands for it. It
+/// takes no memory.
 pub fn judge(net: &Network, o: &Owners, me: Ws, cmd: &Cmd) -> Verdict
     ensures { result ≡ verdict_for (verdict net.now (view_of o.now) me cmd.now) }
 {

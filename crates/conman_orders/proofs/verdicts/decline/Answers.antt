@@ -1,3 +1,4 @@
+use Rattle.model.specs.History.{view_of}
 use Rattle.model.specs.Verdicts.{verdict}
 use Rattle.conman_orders.proofs.verdicts.decline.Goals as goal
 
@@ -36,3 +37,7 @@ returns-in-StreamLimit c = rw c.in-StreamLimit.is (c.stream_limit.ensures c.args
 pub returns-in-ReplyOwn : goal.returns-in-ReplyOwn
 unfolding verdict
 returns-in-ReplyOwn c = rw c.in-ReplyOwn.is (c.reply_own.ensures c.args.net.now)
+
+pub returns-in-SwitchMgr : goal.returns-in-SwitchMgr
+unfolding verdict
+returns-in-SwitchMgr c = rw c.in-SwitchMgr.is (c.switch_mgr.ensures (view_of c.args.o.now))

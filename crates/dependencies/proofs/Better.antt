@@ -1,5 +1,5 @@
 -- The best of the ready jobs, one further.
-use Rattle.std.proofs.Common.{◌≡◌, ◌∙◌, ◌∷◌, [], ℕ, Bool, List, None, Option, Some, ap, cond, false, fold, refl, sym}
+use Rattle.std.proofs.Common.{◌≡◌, ◌∙◌, ◌∷◌, ℕ, Bool, List, None, Option, Some, ap, cond, false, fold, refl, sym}
 use Rattle.std.proofs.Common.{true}
 use Rattle.std.specs.Prelude.{◌==◌, filter, option_map}
 use Rattle.model.specs.Types.{Net}

@@ -1,3 +1,4 @@
+pub mod Dues
 pub mod Left
 pub mod Planned
 pub mod Ranks

@@ -10,7 +10,6 @@ ghost use Rattle.dependencies.specs.Planned.{IsPlannedJob, IsPlannedStream};
 ghost use Rattle.owner_fold.specs.Spots.{stream_job};
 
 use crate::limits::{is_open, is_within_limit, is_within_workstation_limit};
-use crate::members::is_member;
 use crate::priorities::job_priority;
 use crate::waits::all_satisfied;
 use base_types::{JobDoc, JobNo, Obj, StreamDoc, Ws};
@@ -57,7 +56,7 @@ fn is_under_way(o: &Owners, doc: &StreamDoc) -> bool
         ∷ not (facts.is_cancelled (Stream d.no) told)
         ∷ []) }
 {
-    is_member(o, doc.no) && o.is_released(doc.no) && !o.is_cancelled(Obj::Stream(doc.no))
+    o.is_member(doc.no) && o.is_released(doc.no) && !o.is_cancelled(Obj::Stream(doc.no))
 }
 
 /// Whether a job of w is not cancelled, is due and has no open launch, and w is not stopped.

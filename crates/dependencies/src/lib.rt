@@ -1,8 +1,9 @@
 //! What a workstation decides by the entries that a node holds: which dependencies are satisfied, which jobs are
-//! ready and which of them is the best, which streams may be released or may end, and which UNTIL is due.
+//! ready and which of them is the best, which streams may be released or may end, which UNTIL is due, and which DEADLINE
+//! makes an object late.
 //!
 //! Each call answers the definition of `model` that its clause names, in the view of the entries that the `Owners`
-//! took: `model::specs::Dependencies`, `Readiness` and `OwnMembers` have them. None of them takes memory. A number that
+//! took: `model::specs::Dependencies`, `Readiness`, `OwnMembers` and `Lateness` have them. None of them takes memory. A number that
 //! the catalogue lacks is not satisfied and not ready.
 //!
 //! `Readiness` is what keeps track of the best job while entries come in, with one law for all that do so. `Scan` is
@@ -11,7 +12,7 @@
 //! What that costs: each fact of an `Owners` is a walk over its entries or its catalogue. A dependency asks for a few
 //! facts, one on units for some facts of each holder and each of its dependencies. `sat` asks for one dependency;
 //! `ready` and `may_release` for those of one object, and `ready` for the open launches besides; `may_end` for the
-//! jobs of one stream; `until_due` and `best` for all objects of the workstation. So `best` grows with the jobs of the
+//! jobs of one stream; `until_due`, `late_due` and `best` for all objects of the workstation. So `best` grows with the jobs of the
 //! catalogue times these jobs and the entries held, and faster where many jobs are open, need units or have limits.
 //!
 //! The parts of these answers that the crates above ask for are public too: they take the document that counts for
@@ -19,22 +20,21 @@
 #![tactic(auto)]
 
 mod candidates;
+mod dues;
+mod lates;
 mod launches;
 mod limits;
-mod members;
 mod predecessors;
 mod priorities;
 mod releases;
 mod supplies;
-#[cfg(test)]
-mod tests;
 mod untils;
 mod waits;
 mod walks;
 
 pub use candidates::{Readiness, Scan};
+pub use lates::late_due;
 pub use launches::ready;
-pub use members::is_member;
 pub use priorities::{job_priority, stream_priority};
 pub use releases::{may_end, may_end_in, may_release, may_release_in};
 pub use untils::until_due;

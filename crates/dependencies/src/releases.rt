@@ -6,7 +6,6 @@ ghost use Rattle.model.specs.Catalogue.{jobs_of_stream};
 ghost use Rattle.model.specs.OwnMembers as spec;
 ghost use Rattle.dependencies.specs.Planned.{IsPlannedStream};
 
-use crate::members::is_member;
 use crate::predecessors::lets_stream_end;
 use crate::waits::all_satisfied;
 use base_types::{Obj, StreamDoc, StreamNo, Ws};
@@ -31,7 +30,7 @@ pub fn may_release_in(net: &Network, o: &Owners, w: Ws, doc: &StreamDoc) -> bool
     ensures { result ≡ spec.may_release_in net.now (view_of o.now) w doc.now }
 {
     doc.ws == w
-        && is_member(o, doc.no)
+        && o.is_member(doc.no)
         && !o.is_released(doc.no)
         && !o.is_cancelled(Obj::Stream(doc.no))
         && all_satisfied(net, o, w, &Obj::Stream(doc.no))
@@ -55,7 +54,7 @@ pub fn may_end_in(o: &Owners, w: Ws, doc: &StreamDoc) -> bool
     ensures { result ≡ spec.may_end_in (view_of o.now) w doc.now }
 {
     doc.ws == w
-        && is_member(o, doc.no)
+        && o.is_member(doc.no)
         && o.is_released(doc.no)
         && !o.is_ended(doc.no)
         && !o.is_cancelled(Obj::Stream(doc.no))

@@ -38,6 +38,8 @@ pub(crate) fn is_met(net: &Network, o: &Owners, w: Ws, obj: &Obj, i: u16, dep: &
         Dep::Until(t, OnUntil::Suppr) => o.now(w).0 < t.0,
         Dep::Until(t, OnUntil::Canc) => o.now(w).0 < t.0,
         Dep::Outside(_) => file_is_there(o, w, obj, i),
+        // It only makes late.
+        Dep::Deadline(_) => true,
     }
 }
 

@@ -8,7 +8,8 @@ use Rattle.std.specs.Prelude.{IfSome}
 use Rattle.model.specs.Fields.{flag_bytes, option_bytes}
 use Rattle.entry_codec.specs.declared.EntryFault.{EntryFault}
 use Rattle.entry_codec.specs.Read.{Reader, and_then, gives, one, two, three, four}
-use Rattle.entry_codec.specs.Fields.{u8_at, row_of, behind, choice_at, flag_at, option_at}
+use Rattle.entry_codec.specs.Fields.{u8_at, row_of, behind, choice_at, flag_at, option_at, flag_rows}
+use Rattle.entry_codec.specs.Fields.{option_rows}
 use Rattle.entry_codec.proofs.Readers.{◌&◌, IsBytes, Stands, IsReader, within, starts, nothing, joined, split}
 use Rattle.entry_codec.proofs.Readers.{came, step, on, same_value}
 use Rattle.entry_codec.proofs.Numbers.{u8_reader}
@@ -208,9 +209,6 @@ again_4 {X} {A} {B} {C} {D} {Q} {s} {a} {R} {t} {b} {S} {u} {c} {T} {v} {d} ra r
 abbrev pub Any : {X : Type 0} → X → Type 0
 Any x = Unit {0}
 
-abbrev flag_rows : List (ℕ × Reader Bool)
-flag_rows = (0, gives false) ∷ (1, gives true) ∷ []
-
 flag_again : (bytes : List ℕ) (p : ℕ) (b : Bool) (q : ℕ) → Stands (flag_bytes b) bytes p q
     → flag_at bytes p ≡ Ok (b, q)
 flag_again bytes p false q s = again_0 flag_rows 0 false refl (omega arith) s
@@ -228,7 +226,7 @@ pub option_reader : {X : Type 0} {P : X → Type 0} {spell : X → List ℕ} {va
 option_reader {X} {P} {spell} {value} reader =
     record {
       found = choice_found (λ (o : Option X). IfSome o P) (option_bytes spell)
-          ((0, gives None) ∷ (1, one value Some) ∷ []) (
+          (option_rows value) (
           row_0 0 None tt refl
           & row_1 reader 1 Some (λ x fits. fits) (λ x. refl)
           & tt);
@@ -238,6 +236,6 @@ option_reader {X} {P} {spell} {value} reader =
     go : (bytes : List ℕ) (p : ℕ) (o : Option X) (q : ℕ) → IfSome o P → Stands (option_bytes spell o) bytes p q
         → option_at value bytes p ≡ Ok (o, q)
     go bytes p None q fits s =
-        again_0 ((0, gives None) ∷ (1, one value Some) ∷ []) 0 None refl (omega arith) s
+        again_0 (option_rows value) 0 None refl (omega arith) s
     go bytes p (Some x) q fits s =
-        again_1 reader ((0, gives None) ∷ (1, one value Some) ∷ []) 1 Some x refl (omega arith) fits s
+        again_1 reader (option_rows value) 1 Some x refl (omega arith) fits s

@@ -6,11 +6,12 @@ use Rattle.std.proofs.lemmas.Bool.{eqb-true, ne_eqb, leb-true, le-leb}
 use Rattle.std.specs.List.{AllByRecursion}
 use Rattle.std.specs.Prelude.{IfSome, flat_map, nat_le}
 use Rattle.std.specs.Int.{w8}
-use Rattle.model.specs.Types.{Dep, FollowsJob, FollowsStream, Needs, Prompt, At, Until, Outside, Global, Own}
+use Rattle.model.specs.Types.{Dep, FollowsJob, FollowsStream, Needs, Prompt, At, Until, Outside, Global, Own, Deadline}
 use Rattle.model.specs.Types.{DraftDep, Follows, Plain, CondOp}
 use Rattle.model.specs.Fields.{u8_bytes, u16_bytes, text_bytes, option_bytes}
 use Rattle.model.specs.Fit.{IsFitCond, IsFitDraftDep}
 use Rattle.model.specs.Ranges.{IsU8, IsU16, DraftDepInRange, OpInRange}
+use Rattle.model.specs.Versions.{is_draft_deadline}
 use Rattle.model.specs.Spelling.{dep_bytes, draft_dep_bytes, op_bytes, cond_bytes}
 use Rattle.entry_codec.specs.Read.{Reader, one, three}
 use Rattle.entry_codec.specs.Fields.{u8_at, u16_at, text_at, option_at, number_with}
@@ -21,6 +22,7 @@ use Rattle.entry_codec.proofs.Numbers.{u8_reader, u16_reader, tested}
 use Rattle.entry_codec.proofs.Texts.{text_reader, TextFits}
 use Rattle.entry_codec.proofs.Choices.{IsRow, row_3, option_reader}
 use Rattle.entry_codec.proofs.Lists.{items_reader}
+use Rattle.entry_codec.proofs.Allowed.{Allows, allows_none}
 use Rattle.entry_codec.proofs.Parts.{DepFits, dep_reader, op_reader}
 
 -- the choice of a dependency is not 0
@@ -41,90 +43,92 @@ begins (Prompt (Own l)) = record { tag = 5; tail = _; spelled = refl; not_zero =
 begins (At t) = record { tag = 6; tail = _; spelled = refl; not_zero = omega arith; small = omega arith }
 begins (Until t mark) = record { tag = 7; tail = _; spelled = refl; not_zero = omega arith; small = omega arith }
 begins (Outside l) = record { tag = 8; tail = _; spelled = refl; not_zero = omega arith; small = omega arith }
+begins (Deadline t) = record { tag = 9; tail = _; spelled = refl; not_zero = omega arith; small = omega arith }
 
 -- a draft's dependency that is fit and in range
-abbrev pub DraftDepFits : DraftDep → Type 0
-DraftDepFits d = IsFitDraftDep d × DraftDepInRange d
+abbrev pub DraftDepFits : Bool → DraftDep → Type 0
+DraftDepFits second d = (IsFitDraftDep d × DraftDepInRange d) × Allows second (is_draft_deadline d)
 
 abbrev followed : Reader DraftDep
 followed = three u16_at text_at (option_at text_at) Follows
 
-follows_fit : (w : ℕ) (name : List ℕ) (job : Option (List ℕ)) → IsU16 w → TextFits name → IfSome job TextFits
-    → DraftDepFits (Follows w name job)
-follows_fit w name None f g h = ((g.0, tt), (f, g.1, tt))
-follows_fit w name (Some job) f g h = ((g.0, h.0), (f, g.1, h.1))
+follows_fit : (second : Bool) (w : ℕ) (name : List ℕ) (job : Option (List ℕ)) → IsU16 w → TextFits name
+    → IfSome job TextFits → DraftDepFits second (Follows w name job)
+follows_fit second w name None f g h = (((g.0, tt), (f, g.1, tt)), allows_none second)
+follows_fit second w name (Some job) f g h = (((g.0, h.0), (f, g.1, h.1)), allows_none second)
 
-job_fits : (w : ℕ) (name : List ℕ) (job : Option (List ℕ)) → DraftDepFits (Follows w name job) → IfSome job TextFits
-job_fits w name None f = tt
-job_fits w name (Some job) f = (f.0.1, f.1.2)
+job_fits : (second : Bool) (w : ℕ) (name : List ℕ) (job : Option (List ℕ)) → DraftDepFits second (Follows w name job)
+    → IfSome job TextFits
+job_fits second w name None f = tt
+job_fits second w name (Some job) f = (f.0.0.1, f.0.1.2)
 
 -- what stands behind a 0
-zero_row : IsRow DraftDepFits draft_dep_bytes (0, followed)
+zero_row : (second : Bool) → IsRow (DraftDepFits second) draft_dep_bytes (0, followed)
 unfolding draft_dep_bytes
-zero_row = row_3 u16_reader text_reader (option_reader text_reader) 0 Follows follows_fit (λ w name job. refl)
+zero_row second = row_3 u16_reader text_reader (option_reader text_reader) 0 Follows (follows_fit second) (λ w name job. refl)
 
-draft_dep_found : (bytes : List ℕ) (p : ℕ) (d : DraftDep) (q : ℕ) → IsBytes bytes → p ≤ length bytes
-    → draft_dep_at bytes p ≡ Ok (d, q) → DraftDepFits d × Stands (draft_dep_bytes d) bytes p q
+draft_dep_found : (second : Bool) (bytes : List ℕ) (p : ℕ) (d : DraftDep) (q : ℕ) → IsBytes bytes → p ≤ length bytes
+    → draft_dep_at second bytes p ≡ Ok (d, q) → DraftDepFits second d × Stands (draft_dep_bytes d) bytes p q
 unfolding draft_dep_at draft_dep_bytes
-draft_dep_found bytes p d q is lt e =
-    let c = came (u8_at bytes p) (λ (n : ℕ × ℕ). cond (eqb n.0 0) (followed bytes n.1) (one dep_at Plain bytes p))
+draft_dep_found second bytes p d q is lt e =
+    let c = came (u8_at bytes p) (λ (n : ℕ × ℕ). cond (eqb n.0 0) (followed bytes n.1) (one (dep_at second) Plain bytes p))
     (d, q) e in
     let tag = u8_reader.found bytes p c.value.0 c.value.1 is lt c.first in
     chose (eqb c.value.0 0) c.value.0 c.value.1 refl tag.1 c.then_
   where
     chose : (b : Bool) (n m : ℕ) → eqb n 0 ≡ b → Stands (u8_bytes n) bytes p m
-        → cond b (followed bytes m) (one dep_at Plain bytes p) ≡ Ok (d, q)
-        → DraftDepFits d × Stands (draft_dep_bytes d) bytes p q
+        → cond b (followed bytes m) (one (dep_at second) Plain bytes p) ≡ Ok (d, q)
+        → DraftDepFits second d × Stands (draft_dep_bytes d) bytes p q
     chose true n m is_it tag f = as_names n m (eqb-true n 0 is_it) tag f
       where
         as_names : (n m : ℕ) → n ≡ 0 → Stands (u8_bytes n) bytes p m → followed bytes m ≡ Ok (d, q)
-            → DraftDepFits d × Stands (draft_dep_bytes d) bytes p q
+            → DraftDepFits second d × Stands (draft_dep_bytes d) bytes p q
         as_names n m zero_it tag f =
-            let b = zero_row.found bytes m d q is (within tag) f in
+            let b = (zero_row second).found bytes m d q is (within tag) f in
             let head : Stands (0 ∷ []) bytes p m = subst (λ (k : ℕ). Stands (u8_bytes k) bytes p m) zero_it tag in
             (b.fits, subst (λ (l : List ℕ). Stands l bytes p q) (sym b.spelled) (joined head b.stands))
     chose false n m is_it tag f = as_dep f
       where
-        as_dep : one dep_at Plain bytes p ≡ Ok (d, q) → DraftDepFits d × Stands (draft_dep_bytes d) bytes p q
+        as_dep : one (dep_at second) Plain bytes p ≡ Ok (d, q) → DraftDepFits second d × Stands (draft_dep_bytes d) bytes p q
         as_dep f =
-            let u = step dep_reader is (starts bytes p lt) f in
-            subst (λ (z : DraftDep × ℕ). DraftDepFits z.0 × Stands (draft_dep_bytes z.0) bytes p z.1)
+            let u = step (dep_reader second) is (starts bytes p lt) f in
+            subst (λ (z : DraftDep × ℕ). DraftDepFits second z.0 × Stands (draft_dep_bytes z.0) bytes p z.1)
             (same_value u.rest) (u.fits, u.stands)
 
-plain_again : (bytes : List ℕ) (p : ℕ) (d : Dep) (q : ℕ) → DepFits d → Stands (dep_bytes d) bytes p q
-    → draft_dep_at bytes p ≡ Ok (Plain d, q)
+plain_again : (second : Bool) (bytes : List ℕ) (p : ℕ) (d : Dep) (q : ℕ) → DepFits second d → Stands (dep_bytes d) bytes p q
+    → draft_dep_at second bytes p ≡ Ok (Plain d, q)
 unfolding draft_dep_at
-plain_again bytes p d q fits s =
+plain_again second bytes p d q fits s =
     let b = begins d in
     let head = split (b.tag ∷ []) b.tail (subst (λ (l : List ℕ). Stands l bytes p q) b.spelled s) in
     let first : u8_at bytes p ≡ Ok (b.tag, p + 1) = u8_reader.again bytes p b.tag (p + 1) b.small head.0 in
     let other : eqb b.tag 0 ≡ false = ne_eqb b.tag 0 (λ e. absurd (omega (arith, b.not_zero, e))) in
-    let read : one dep_at Plain bytes p ≡ Ok (Plain d, q) = on dep_reader _ d fits s refl in
+    let read : one (dep_at second) Plain bytes p ≡ Ok (Plain d, q) = on (dep_reader second) _ d fits s refl in
     rw (first, other) read
 
-follows_again : (bytes : List ℕ) (p w : ℕ) (name : List ℕ) (job : Option (List ℕ)) (q : ℕ)
-    → DraftDepFits (Follows w name job) → Stands (draft_dep_bytes (Follows w name job)) bytes p q
-    → draft_dep_at bytes p ≡ Ok (Follows w name job, q)
+follows_again : (second : Bool) (bytes : List ℕ) (p w : ℕ) (name : List ℕ) (job : Option (List ℕ)) (q : ℕ)
+    → DraftDepFits second (Follows w name job) → Stands (draft_dep_bytes (Follows w name job)) bytes p q
+    → draft_dep_at second bytes p ≡ Ok (Follows w name job, q)
 unfolding draft_dep_at draft_dep_bytes
-follows_again bytes p w name job q fits s =
+follows_again second bytes p w name job q fits s =
     let tail = u16_bytes w ++ text_bytes name ++ option_bytes text_bytes job in
     let head = split (0 ∷ []) tail s in
     let first : u8_at bytes p ≡ Ok (0, p + 1) = u8_reader.again bytes p 0 (p + 1) (omega arith) head.0 in
     let parts = split (u16_bytes w ++ text_bytes name) (option_bytes text_bytes job) head.1 in
     let names = split (u16_bytes w) (text_bytes name) parts.0 in
-    let read : followed bytes (p + 1) ≡ Ok (Follows w name job, q) = on u16_reader _ w fits.1.0 names.0
-    (on text_reader _ name (fits.0.0, fits.1.1) names.1
-    (on (option_reader text_reader) _ job (job_fits w name job fits) parts.1 refl)) in
+    let read : followed bytes (p + 1) ≡ Ok (Follows w name job, q) = on u16_reader _ w fits.0.1.0 names.0
+    (on text_reader _ name (fits.0.0.0, fits.0.1.1) names.1
+    (on (option_reader text_reader) _ job (job_fits second w name job fits) parts.1 refl)) in
     rw first read
 
-draft_dep_again : (bytes : List ℕ) (p : ℕ) (d : DraftDep) (q : ℕ) → DraftDepFits d
-    → Stands (draft_dep_bytes d) bytes p q → draft_dep_at bytes p ≡ Ok (d, q)
+draft_dep_again : (second : Bool) (bytes : List ℕ) (p : ℕ) (d : DraftDep) (q : ℕ) → DraftDepFits second d
+    → Stands (draft_dep_bytes d) bytes p q → draft_dep_at second bytes p ≡ Ok (d, q)
 unfolding draft_dep_bytes
-draft_dep_again bytes p (Plain d) q fits s = plain_again bytes p d q fits s
-draft_dep_again bytes p (Follows w name job) q fits s = follows_again bytes p w name job q fits s
+draft_dep_again second bytes p (Plain d) q fits s = plain_again second bytes p d q fits s
+draft_dep_again second bytes p (Follows w name job) q fits s = follows_again second bytes p w name job q fits s
 
-pub draft_dep_reader : IsReader DraftDepFits draft_dep_bytes draft_dep_at
-draft_dep_reader = record { found = draft_dep_found; again = draft_dep_again }
+pub draft_dep_reader : (second : Bool) → IsReader (DraftDepFits second) draft_dep_bytes (draft_dep_at second)
+draft_dep_reader second = record { found = draft_dep_found second; again = draft_dep_again second }
 
 -- a condition that is fit and in range
 abbrev pub CondFits : List CondOp → Type 0

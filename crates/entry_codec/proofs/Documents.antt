@@ -1,14 +1,15 @@
 -- Documents and drafts that are read are those that stand there.
-use Rattle.std.proofs.Common.{◌≡◌, ℕ, ◌≤◌, List, [], ◌∷◌, length, Ok, sym, ap}
+use Rattle.std.proofs.Common.{◌≡◌, ℕ, ◌≤◌, Bool, List, [], ◌∷◌, length, Ok, sym, ap}
 use Rattle.std.proofs.Common.{subst}
 use Rattle.std.proofs.lemmas.List.Elements.{recursion_from_All, All-from_recursion}
-use Rattle.std.specs.List.{All, AllByRecursion}
+use Rattle.std.specs.List.{All, AllByRecursion, list_any}
 use Rattle.model.specs.Types.{JobDoc, StreamDoc, JobDraft, StreamDraft}
 use Rattle.model.specs.Fields.{u8_bytes, u16_bytes, u32_bytes, text_bytes, list_bytes, flag_bytes, option_bytes}
 use Rattle.model.specs.Fit.{AreFit, IsFitDep, IsFitDraftDep, IsFitJob, IsFitStream, IsFitJobDraft, IsFitDraft}
 use Rattle.model.specs.Ranges.{DepInRange, DraftDepInRange, OpInRange, JobInRange, StreamInRange}
 use Rattle.model.specs.Ranges.{JobDraftInRange, DraftInRange}
 use Rattle.model.specs.Spelling.{dep_bytes, draft_dep_bytes, work_bytes, cond_bytes, recovery_code, job_doc_bytes}
+use Rattle.model.specs.Versions.{is_deadline, is_draft_deadline, doc_has_deadline, draft_has_deadline}
 use Rattle.model.specs.Spelling.{stream_doc_bytes, job_draft_bytes, stream_draft_bytes}
 use Rattle.entry_codec.specs.Parts.{job_at, stream_at, job_draft_at, stream_draft_at}
 use Rattle.entry_codec.proofs.Readers.{IsBytes, Stands, IsReader, starts, step, on, same_value, in_order, peeled}
@@ -17,33 +18,58 @@ use Rattle.entry_codec.proofs.Numbers.{u8_reader, u16_reader, u32_reader}
 use Rattle.entry_codec.proofs.Texts.{text_reader}
 use Rattle.entry_codec.proofs.Choices.{flag_reader, option_reader}
 use Rattle.entry_codec.proofs.Lists.{AreListed, list_reader}
+use Rattle.entry_codec.proofs.Allowed.{Allows, allows_either, allows_both, allows_any, allows_each}
 use Rattle.entry_codec.proofs.Parts.{work_reader, recovery_reader, dep_reader}
 use Rattle.entry_codec.proofs.Conditions.{draft_dep_reader, cond_reader}
 
--- both of two facts of each item, apart and together
-first_of_both : {X : Type 0} (P Q : X → Type 0) (xs : List X) → AllByRecursion (λ x. P x × Q x) xs
-    → AllByRecursion P xs × AllByRecursion Q xs
-first_of_both P Q [] h = (tt, tt)
-first_of_both P Q (x ∷ xs) h =
-    let rest = first_of_both P Q xs h.1 in
-    ((h.0.0, rest.0), (h.0.1, rest.1))
+-- each of three facts of all items, apart and together
+each_of_three : {X : Type 0} (P Q R : X → Type 0) (xs : List X) → AllByRecursion (λ x. (P x × Q x) × R x) xs
+    → (AllByRecursion P xs × AllByRecursion Q xs) × AllByRecursion R xs
+each_of_three P Q R [] h = ((tt, tt), tt)
+each_of_three P Q R (x ∷ xs) h =
+    let rest = each_of_three P Q R xs h.1 in
+    (((h.0.0.0, rest.0.0), (h.0.0.1, rest.0.1)), (h.0.1, rest.1))
 
-pub apart : {X : Type 0} (P Q : X → Type 0) (xs : List X) → AreListed (λ x. P x × Q x) xs → AreFit P xs × All Q xs
-apart P Q xs h =
-    let both = first_of_both P Q xs h.1 in
-    ((h.0, All-from_recursion P xs both.0), All-from_recursion Q xs both.1)
+-- items that are fit, in range and of the entry's version
+abbrev AreAllowed : {X : Type 0} → Bool → (X → Type 0) → (X → Type 0) → (X → Bool) → List X → Type 0
+AreAllowed second P Q is xs = AreListed (λ x. (P x × Q x) × Allows second (is x)) xs
 
-pub together : {X : Type 0} (P Q : X → Type 0) (xs : List X) → AreFit P xs → All Q xs → AreListed (λ x. P x × Q x) xs
-together P Q xs h k = (h.0, recursion_from_All (λ x. P x × Q x) xs (λ i d lt. (h.1 i d lt, k i d lt)))
+pub apart : {X : Type 0} (second : Bool) (P Q : X → Type 0) (is : X → Bool) (xs : List X)
+    → AreAllowed second P Q is xs → (AreFit P xs × All Q xs) × Allows second (list_any is xs)
+apart {X} second P Q is xs h =
+    let each = each_of_three P Q (λ (x : X). Allows second (is x)) xs h.1 in (
+      ((h.0, All-from_recursion P xs each.0.0), All-from_recursion Q xs each.0.1),
+      allows_any second is xs each.1,
+    )
+
+all_three : {X : Type 0} (P Q R : X → Type 0) (xs : List X) → AllByRecursion P xs → AllByRecursion Q xs
+    → AllByRecursion R xs → AllByRecursion (λ x. (P x × Q x) × R x) xs
+all_three P Q R [] f g h = tt
+all_three P Q R (x ∷ xs) f g h = (((f.0, g.0), h.0), all_three P Q R xs f.1 g.1 h.1)
+
+pub together : {X : Type 0} (second : Bool) (P Q : X → Type 0) (is : X → Bool) (xs : List X) → AreFit P xs → All Q xs
+    → Allows second (list_any is xs) → AreAllowed second P Q is xs
+together {X} second P Q is xs f g h = (
+  f.0,
+  all_three P Q (λ (x : X). Allows second (is x)) xs (recursion_from_All P xs f.1) (recursion_from_All Q xs g)
+      (allows_each second is xs h),
+)
+
+-- a job with a DEADLINE
+abbrev job_has_one : JobDoc → Bool
+job_has_one j = list_any is_deadline j.deps
+
+abbrev job_draft_has_one : JobDraft → Bool
+job_draft_has_one j = list_any is_draft_deadline j.deps
 
 -- a job's document that is fit and in range
-abbrev pub JobFits : JobDoc → Type 0
-JobFits d = IsFitJob d × JobInRange d
+abbrev pub JobFits : Bool → JobDoc → Type 0
+JobFits second d = (IsFitJob d × JobInRange d) × Allows second (job_has_one d)
 
-job_found : (bytes : List ℕ) (p : ℕ) (d : JobDoc) (q : ℕ) → IsBytes bytes → p ≤ length bytes
-    → job_at bytes p ≡ Ok (d, q) → JobFits d × Stands (job_doc_bytes d) bytes p q
+job_found : (second : Bool) (bytes : List ℕ) (p : ℕ) (d : JobDoc) (q : ℕ) → IsBytes bytes → p ≤ length bytes
+    → job_at second bytes p ≡ Ok (d, q) → JobFits second d × Stands (job_doc_bytes d) bytes p q
 unfolding job_at job_doc_bytes
-job_found bytes p d q is lt e =
+job_found second bytes p d q is lt e =
     let no = step u32_reader is (starts bytes p lt) e in
     let ws = step u16_reader is no.stands no.rest in
     let name = step text_reader is ws.stands ws.rest in
@@ -52,35 +78,38 @@ job_found bytes p d q is lt e =
     let logon = step text_reader is work.stands work.rest in
     let ops = step cond_reader is logon.stands logon.rest in
     let recovery = step recovery_reader is ops.stands ops.rest in
-    let deps = step (list_reader dep_reader) is recovery.stands recovery.rest in
-    let both = apart IsFitDep DepInRange deps.value deps.fits in
-    subst (λ (z : JobDoc × ℕ). JobFits z.0 × Stands (job_doc_bytes z.0) bytes p z.1) (same_value deps.rest) (
+    let deps = step (list_reader (dep_reader second)) is recovery.stands recovery.rest in
+    let both = apart second IsFitDep DepInRange is_deadline deps.value deps.fits in
+    subst (λ (z : JobDoc × ℕ). JobFits second z.0 × Stands (job_doc_bytes z.0) bytes p z.1) (same_value deps.rest) (
       (
-        record {
-          name_ = name.fits.0;
-          work_ = work.fits.0;
-          logon_ = logon.fits.0;
-          cond_ = ops.fits.0;
-          deps_ = both.0;
-        },
-        record {
-          no_ = no.fits;
-          ws_ = ws.fits;
-          name_ = name.fits.1;
-          priority_ = priority.fits;
-          work_ = work.fits.1;
-          logon_ = logon.fits.1;
-          cond_ = All-from_recursion OpInRange ops.value ops.fits.1;
-          deps_ = both.1;
-        },
+        (
+          record {
+            name_ = name.fits.0;
+            work_ = work.fits.0;
+            logon_ = logon.fits.0;
+            cond_ = ops.fits.0;
+            deps_ = both.0.0;
+          },
+          record {
+            no_ = no.fits;
+            ws_ = ws.fits;
+            name_ = name.fits.1;
+            priority_ = priority.fits;
+            work_ = work.fits.1;
+            logon_ = logon.fits.1;
+            cond_ = All-from_recursion OpInRange ops.value ops.fits.1;
+            deps_ = both.0.1;
+          },
+        ),
+        both.1,
       ),
       deps.stands,
     )
 
-job_again : (bytes : List ℕ) (p : ℕ) (d : JobDoc) (q : ℕ) → JobFits d → Stands (job_doc_bytes d) bytes p q
-    → job_at bytes p ≡ Ok (d, q)
+job_again : (second : Bool) (bytes : List ℕ) (p : ℕ) (d : JobDoc) (q : ℕ) → JobFits second d → Stands (job_doc_bytes d) bytes p q
+    → job_at second bytes p ≡ Ok (d, q)
 unfolding job_at job_doc_bytes
-job_again bytes p d q fits s =
+job_again second bytes p d q fits s =
     let no = peeled (in_order (u32_bytes d.no) (
     u16_bytes d.ws
     ∷ text_bytes d.name
@@ -99,58 +128,62 @@ job_again bytes p d q fits s =
     let ops = peeled logon.rest in
     let recovery = peeled ops.rest in
     let deps = peeled recovery.rest in
-    on u32_reader _ d.no fits.1.no_ no.first
-    (on u16_reader _ d.ws fits.1.ws_ ws.first
-    (on text_reader _ d.name (fits.0.name_, fits.1.name_) name.first
-    (on u8_reader _ d.priority fits.1.priority_ priority.first
-    (on work_reader _ d.work (fits.0.work_, fits.1.work_) work.first
-    (on text_reader _ d.logon (fits.0.logon_, fits.1.logon_) logon.first
-    (on cond_reader _ d.cond (fits.0.cond_, recursion_from_All OpInRange d.cond fits.1.cond_) ops.first
+    on u32_reader _ d.no fits.0.1.no_ no.first
+    (on u16_reader _ d.ws fits.0.1.ws_ ws.first
+    (on text_reader _ d.name (fits.0.0.name_, fits.0.1.name_) name.first
+    (on u8_reader _ d.priority fits.0.1.priority_ priority.first
+    (on work_reader _ d.work (fits.0.0.work_, fits.0.1.work_) work.first
+    (on text_reader _ d.logon (fits.0.0.logon_, fits.0.1.logon_) logon.first
+    (on cond_reader _ d.cond (fits.0.0.cond_, recursion_from_All OpInRange d.cond fits.0.1.cond_) ops.first
     (on recovery_reader _ d.recovery tt recovery.first
-    (on (list_reader dep_reader) _ d.deps (together IsFitDep DepInRange d.deps fits.0.deps_ fits.1.deps_) deps.first
+    (on (list_reader (dep_reader second)) _ d.deps (together second IsFitDep DepInRange is_deadline d.deps fits.0.0.deps_ fits.0.1.deps_ fits.1) deps.first
     (ap (λ (m : ℕ). Ok (d, m)) (sym (at_end deps.rest)))))))))))
 
-pub job_reader : IsReader JobFits job_doc_bytes job_at
-job_reader = record { found = job_found; again = job_again }
+pub job_reader : (second : Bool) → IsReader (JobFits second) job_doc_bytes (job_at second)
+job_reader second = record { found = job_found second; again = job_again second }
 
 -- a stream's document that is fit and in range
-abbrev pub StreamFits : StreamDoc → Type 0
-StreamFits d = IsFitStream d × StreamInRange d
+abbrev pub StreamFits : Bool → StreamDoc → Type 0
+StreamFits second d = (IsFitStream d × StreamInRange d) × Allows second (doc_has_deadline d)
 
-stream_found : (bytes : List ℕ) (p : ℕ) (d : StreamDoc) (q : ℕ) → IsBytes bytes → p ≤ length bytes
-    → stream_at bytes p ≡ Ok (d, q) → StreamFits d × Stands (stream_doc_bytes d) bytes p q
+stream_found : (second : Bool) (bytes : List ℕ) (p : ℕ) (d : StreamDoc) (q : ℕ) → IsBytes bytes → p ≤ length bytes
+    → stream_at second bytes p ≡ Ok (d, q) → StreamFits second d × Stands (stream_doc_bytes d) bytes p q
 unfolding stream_at stream_doc_bytes
-stream_found bytes p d q is lt e =
+stream_found second bytes p d q is lt e =
     let no = step u32_reader is (starts bytes p lt) e in
     let ws = step u16_reader is no.stands no.rest in
     let name = step text_reader is ws.stands ws.rest in
     let priority = step u8_reader is name.stands name.rest in
     let limit = step (option_reader u16_reader) is priority.stands priority.rest in
     let carry = step flag_reader is limit.stands limit.rest in
-    let deps = step (list_reader dep_reader) is carry.stands carry.rest in
-    let jobs = step (list_reader job_reader) is deps.stands deps.rest in
-    let both = apart IsFitDep DepInRange deps.value deps.fits in
-    let all_jobs = apart IsFitJob JobInRange jobs.value jobs.fits in
-    subst (λ (z : StreamDoc × ℕ). StreamFits z.0 × Stands (stream_doc_bytes z.0) bytes p z.1) (same_value jobs.rest) (
+    let deps = step (list_reader (dep_reader second)) is carry.stands carry.rest in
+    let jobs = step (list_reader (job_reader second)) is deps.stands deps.rest in
+    let both = apart second IsFitDep DepInRange is_deadline deps.value deps.fits in
+    let all_jobs = apart second IsFitJob JobInRange job_has_one jobs.value jobs.fits in
+    subst (λ (z : StreamDoc × ℕ). StreamFits second z.0 × Stands (stream_doc_bytes z.0) bytes p z.1) (same_value jobs.rest) (
       (
-        record { name_ = name.fits.0; deps_ = both.0; jobs_ = all_jobs.0 },
-        record {
-          no_ = no.fits;
-          ws_ = ws.fits;
-          name_ = name.fits.1;
-          priority_ = priority.fits;
-          limit_ = limit.fits;
-          deps_ = both.1;
-          jobs_ = all_jobs.1;
-        },
+        (
+          record { name_ = name.fits.0; deps_ = both.0.0; jobs_ = all_jobs.0.0 },
+          record {
+            no_ = no.fits;
+            ws_ = ws.fits;
+            name_ = name.fits.1;
+            priority_ = priority.fits;
+            limit_ = limit.fits;
+            deps_ = both.0.1;
+            jobs_ = all_jobs.0.1;
+          },
+        ),
+        allows_either second _ _ both.1 all_jobs.1,
       ),
       jobs.stands,
     )
 
-stream_again : (bytes : List ℕ) (p : ℕ) (d : StreamDoc) (q : ℕ) → StreamFits d → Stands (stream_doc_bytes d) bytes p q
-    → stream_at bytes p ≡ Ok (d, q)
+stream_again : (second : Bool) (bytes : List ℕ) (p : ℕ) (d : StreamDoc) (q : ℕ) → StreamFits second d → Stands (stream_doc_bytes d) bytes p q
+    → stream_at second bytes p ≡ Ok (d, q)
 unfolding stream_at stream_doc_bytes
-stream_again bytes p d q fits s =
+stream_again second bytes p d q fits s =
+    let allowed = allows_both second (list_any is_deadline d.deps) (list_any job_has_one d.jobs) fits.1 in
     let no = peeled (in_order (u32_bytes d.no) (
     u16_bytes d.ws
     ∷ text_bytes d.name
@@ -167,27 +200,27 @@ stream_again bytes p d q fits s =
     let carry = peeled limit.rest in
     let deps = peeled carry.rest in
     let jobs = peeled deps.rest in
-    on u32_reader _ d.no fits.1.no_ no.first
-    (on u16_reader _ d.ws fits.1.ws_ ws.first
-    (on text_reader _ d.name (fits.0.name_, fits.1.name_) name.first
-    (on u8_reader _ d.priority fits.1.priority_ priority.first
-    (on (option_reader u16_reader) _ d.limit fits.1.limit_ limit.first
+    on u32_reader _ d.no fits.0.1.no_ no.first
+    (on u16_reader _ d.ws fits.0.1.ws_ ws.first
+    (on text_reader _ d.name (fits.0.0.name_, fits.0.1.name_) name.first
+    (on u8_reader _ d.priority fits.0.1.priority_ priority.first
+    (on (option_reader u16_reader) _ d.limit fits.0.1.limit_ limit.first
     (on flag_reader _ d.carry tt carry.first
-    (on (list_reader dep_reader) _ d.deps (together IsFitDep DepInRange d.deps fits.0.deps_ fits.1.deps_) deps.first
-    (on (list_reader job_reader) _ d.jobs (together IsFitJob JobInRange d.jobs fits.0.jobs_ fits.1.jobs_) jobs.first
+    (on (list_reader (dep_reader second)) _ d.deps (together second IsFitDep DepInRange is_deadline d.deps fits.0.0.deps_ fits.0.1.deps_ allowed.0) deps.first
+    (on (list_reader (job_reader second)) _ d.jobs (together second IsFitJob JobInRange job_has_one d.jobs fits.0.0.jobs_ fits.0.1.jobs_ allowed.1) jobs.first
     (ap (λ (m : ℕ). Ok (d, m)) (sym (at_end jobs.rest))))))))))
 
-pub stream_reader : IsReader StreamFits stream_doc_bytes stream_at
-stream_reader = record { found = stream_found; again = stream_again }
+pub stream_reader : (second : Bool) → IsReader (StreamFits second) stream_doc_bytes (stream_at second)
+stream_reader second = record { found = stream_found second; again = stream_again second }
 
 -- a job's draft that is fit and in range
-abbrev pub JobDraftFits : JobDraft → Type 0
-JobDraftFits d = IsFitJobDraft d × JobDraftInRange d
+abbrev pub JobDraftFits : Bool → JobDraft → Type 0
+JobDraftFits second d = (IsFitJobDraft d × JobDraftInRange d) × Allows second (job_draft_has_one d)
 
-job_draft_found : (bytes : List ℕ) (p : ℕ) (d : JobDraft) (q : ℕ) → IsBytes bytes → p ≤ length bytes
-    → job_draft_at bytes p ≡ Ok (d, q) → JobDraftFits d × Stands (job_draft_bytes d) bytes p q
+job_draft_found : (second : Bool) (bytes : List ℕ) (p : ℕ) (d : JobDraft) (q : ℕ) → IsBytes bytes → p ≤ length bytes
+    → job_draft_at second bytes p ≡ Ok (d, q) → JobDraftFits second d × Stands (job_draft_bytes d) bytes p q
 unfolding job_draft_at job_draft_bytes
-job_draft_found bytes p d q is lt e =
+job_draft_found second bytes p d q is lt e =
     let ws = step u16_reader is (starts bytes p lt) e in
     let name = step text_reader is ws.stands ws.rest in
     let priority = step u8_reader is name.stands name.rest in
@@ -195,34 +228,37 @@ job_draft_found bytes p d q is lt e =
     let logon = step text_reader is work.stands work.rest in
     let ops = step cond_reader is logon.stands logon.rest in
     let recovery = step recovery_reader is ops.stands ops.rest in
-    let deps = step (list_reader draft_dep_reader) is recovery.stands recovery.rest in
-    let both = apart IsFitDraftDep DraftDepInRange deps.value deps.fits in
-    subst (λ (z : JobDraft × ℕ). JobDraftFits z.0 × Stands (job_draft_bytes z.0) bytes p z.1) (same_value deps.rest) (
+    let deps = step (list_reader (draft_dep_reader second)) is recovery.stands recovery.rest in
+    let both = apart second IsFitDraftDep DraftDepInRange is_draft_deadline deps.value deps.fits in
+    subst (λ (z : JobDraft × ℕ). JobDraftFits second z.0 × Stands (job_draft_bytes z.0) bytes p z.1) (same_value deps.rest) (
       (
-        record {
-          name_ = name.fits.0;
-          work_ = work.fits.0;
-          logon_ = logon.fits.0;
-          cond_ = ops.fits.0;
-          deps_ = both.0;
-        },
-        record {
-          ws_ = ws.fits;
-          name_ = name.fits.1;
-          priority_ = priority.fits;
-          work_ = work.fits.1;
-          logon_ = logon.fits.1;
-          cond_ = All-from_recursion OpInRange ops.value ops.fits.1;
-          deps_ = both.1;
-        },
+        (
+          record {
+            name_ = name.fits.0;
+            work_ = work.fits.0;
+            logon_ = logon.fits.0;
+            cond_ = ops.fits.0;
+            deps_ = both.0.0;
+          },
+          record {
+            ws_ = ws.fits;
+            name_ = name.fits.1;
+            priority_ = priority.fits;
+            work_ = work.fits.1;
+            logon_ = logon.fits.1;
+            cond_ = All-from_recursion OpInRange ops.value ops.fits.1;
+            deps_ = both.0.1;
+          },
+        ),
+        both.1,
       ),
       deps.stands,
     )
 
-job_draft_again : (bytes : List ℕ) (p : ℕ) (d : JobDraft) (q : ℕ) → JobDraftFits d
-    → Stands (job_draft_bytes d) bytes p q → job_draft_at bytes p ≡ Ok (d, q)
+job_draft_again : (second : Bool) (bytes : List ℕ) (p : ℕ) (d : JobDraft) (q : ℕ) → JobDraftFits second d
+    → Stands (job_draft_bytes d) bytes p q → job_draft_at second bytes p ≡ Ok (d, q)
 unfolding job_draft_at job_draft_bytes
-job_draft_again bytes p d q fits s =
+job_draft_again second bytes p d q fits s =
     let ws = peeled (in_order (u16_bytes d.ws) (
     text_bytes d.name
     ∷ u8_bytes d.priority
@@ -239,57 +275,61 @@ job_draft_again bytes p d q fits s =
     let ops = peeled logon.rest in
     let recovery = peeled ops.rest in
     let deps = peeled recovery.rest in
-    on u16_reader _ d.ws fits.1.ws_ ws.first
-    (on text_reader _ d.name (fits.0.name_, fits.1.name_) name.first
-    (on u8_reader _ d.priority fits.1.priority_ priority.first
-    (on work_reader _ d.work (fits.0.work_, fits.1.work_) work.first
-    (on text_reader _ d.logon (fits.0.logon_, fits.1.logon_) logon.first
-    (on cond_reader _ d.cond (fits.0.cond_, recursion_from_All OpInRange d.cond fits.1.cond_) ops.first
+    on u16_reader _ d.ws fits.0.1.ws_ ws.first
+    (on text_reader _ d.name (fits.0.0.name_, fits.0.1.name_) name.first
+    (on u8_reader _ d.priority fits.0.1.priority_ priority.first
+    (on work_reader _ d.work (fits.0.0.work_, fits.0.1.work_) work.first
+    (on text_reader _ d.logon (fits.0.0.logon_, fits.0.1.logon_) logon.first
+    (on cond_reader _ d.cond (fits.0.0.cond_, recursion_from_All OpInRange d.cond fits.0.1.cond_) ops.first
     (on recovery_reader _ d.recovery tt recovery.first
-    (on (list_reader draft_dep_reader) _ d.deps
-    (together IsFitDraftDep DraftDepInRange d.deps fits.0.deps_ fits.1.deps_) deps.first
+    (on (list_reader (draft_dep_reader second)) _ d.deps
+    (together second IsFitDraftDep DraftDepInRange is_draft_deadline d.deps fits.0.0.deps_ fits.0.1.deps_ fits.1) deps.first
     (ap (λ (m : ℕ). Ok (d, m)) (sym (at_end deps.rest))))))))))
 
-pub job_draft_reader : IsReader JobDraftFits job_draft_bytes job_draft_at
-job_draft_reader = record { found = job_draft_found; again = job_draft_again }
+pub job_draft_reader : (second : Bool) → IsReader (JobDraftFits second) job_draft_bytes (job_draft_at second)
+job_draft_reader second = record { found = job_draft_found second; again = job_draft_again second }
 
 -- a stream's draft that is fit and in range
-abbrev pub DraftFits : StreamDraft → Type 0
-DraftFits d = IsFitDraft d × DraftInRange d
+abbrev pub DraftFits : Bool → StreamDraft → Type 0
+DraftFits second d = (IsFitDraft d × DraftInRange d) × Allows second (draft_has_deadline d)
 
-draft_found : (bytes : List ℕ) (p : ℕ) (d : StreamDraft) (q : ℕ) → IsBytes bytes → p ≤ length bytes
-    → stream_draft_at bytes p ≡ Ok (d, q) → DraftFits d × Stands (stream_draft_bytes d) bytes p q
+draft_found : (second : Bool) (bytes : List ℕ) (p : ℕ) (d : StreamDraft) (q : ℕ) → IsBytes bytes → p ≤ length bytes
+    → stream_draft_at second bytes p ≡ Ok (d, q) → DraftFits second d × Stands (stream_draft_bytes d) bytes p q
 unfolding stream_draft_at stream_draft_bytes
-draft_found bytes p d q is lt e =
+draft_found second bytes p d q is lt e =
     let ws = step u16_reader is (starts bytes p lt) e in
     let name = step text_reader is ws.stands ws.rest in
     let priority = step u8_reader is name.stands name.rest in
     let limit = step (option_reader u16_reader) is priority.stands priority.rest in
     let carry = step flag_reader is limit.stands limit.rest in
-    let deps = step (list_reader draft_dep_reader) is carry.stands carry.rest in
-    let jobs = step (list_reader job_draft_reader) is deps.stands deps.rest in
-    let both = apart IsFitDraftDep DraftDepInRange deps.value deps.fits in
-    let all_jobs = apart IsFitJobDraft JobDraftInRange jobs.value jobs.fits in
-    subst (λ (z : StreamDraft × ℕ). DraftFits z.0 × Stands (stream_draft_bytes z.0) bytes p z.1)
+    let deps = step (list_reader (draft_dep_reader second)) is carry.stands carry.rest in
+    let jobs = step (list_reader (job_draft_reader second)) is deps.stands deps.rest in
+    let both = apart second IsFitDraftDep DraftDepInRange is_draft_deadline deps.value deps.fits in
+    let all_jobs = apart second IsFitJobDraft JobDraftInRange job_draft_has_one jobs.value jobs.fits in
+    subst (λ (z : StreamDraft × ℕ). DraftFits second z.0 × Stands (stream_draft_bytes z.0) bytes p z.1)
     (same_value jobs.rest) (
       (
-        record { name_ = name.fits.0; deps_ = both.0; jobs_ = all_jobs.0 },
-        record {
-          ws_ = ws.fits;
-          name_ = name.fits.1;
-          priority_ = priority.fits;
-          limit_ = limit.fits;
-          deps_ = both.1;
-          jobs_ = all_jobs.1;
-        },
+        (
+          record { name_ = name.fits.0; deps_ = both.0.0; jobs_ = all_jobs.0.0 },
+          record {
+            ws_ = ws.fits;
+            name_ = name.fits.1;
+            priority_ = priority.fits;
+            limit_ = limit.fits;
+            deps_ = both.0.1;
+            jobs_ = all_jobs.0.1;
+          },
+        ),
+        allows_either second _ _ both.1 all_jobs.1,
       ),
       jobs.stands,
     )
 
-draft_again : (bytes : List ℕ) (p : ℕ) (d : StreamDraft) (q : ℕ) → DraftFits d
-    → Stands (stream_draft_bytes d) bytes p q → stream_draft_at bytes p ≡ Ok (d, q)
+draft_again : (second : Bool) (bytes : List ℕ) (p : ℕ) (d : StreamDraft) (q : ℕ) → DraftFits second d
+    → Stands (stream_draft_bytes d) bytes p q → stream_draft_at second bytes p ≡ Ok (d, q)
 unfolding stream_draft_at stream_draft_bytes
-draft_again bytes p d q fits s =
+draft_again second bytes p d q fits s =
+    let allowed = allows_both second (list_any is_draft_deadline d.deps) (list_any job_draft_has_one d.jobs) fits.1 in
     let ws = peeled (in_order (u16_bytes d.ws) (
     text_bytes d.name
     ∷ u8_bytes d.priority
@@ -304,16 +344,16 @@ draft_again bytes p d q fits s =
     let carry = peeled limit.rest in
     let deps = peeled carry.rest in
     let jobs = peeled deps.rest in
-    on u16_reader _ d.ws fits.1.ws_ ws.first
-    (on text_reader _ d.name (fits.0.name_, fits.1.name_) name.first
-    (on u8_reader _ d.priority fits.1.priority_ priority.first
-    (on (option_reader u16_reader) _ d.limit fits.1.limit_ limit.first
+    on u16_reader _ d.ws fits.0.1.ws_ ws.first
+    (on text_reader _ d.name (fits.0.0.name_, fits.0.1.name_) name.first
+    (on u8_reader _ d.priority fits.0.1.priority_ priority.first
+    (on (option_reader u16_reader) _ d.limit fits.0.1.limit_ limit.first
     (on flag_reader _ d.carry tt carry.first
-    (on (list_reader draft_dep_reader) _ d.deps
-    (together IsFitDraftDep DraftDepInRange d.deps fits.0.deps_ fits.1.deps_) deps.first
-    (on (list_reader job_draft_reader) _ d.jobs
-    (together IsFitJobDraft JobDraftInRange d.jobs fits.0.jobs_ fits.1.jobs_) jobs.first
+    (on (list_reader (draft_dep_reader second)) _ d.deps
+    (together second IsFitDraftDep DraftDepInRange is_draft_deadline d.deps fits.0.0.deps_ fits.0.1.deps_ allowed.0) deps.first
+    (on (list_reader (job_draft_reader second)) _ d.jobs
+    (together second IsFitJobDraft JobDraftInRange job_draft_has_one d.jobs fits.0.0.jobs_ fits.0.1.jobs_ allowed.1) jobs.first
     (ap (λ (m : ℕ). Ok (d, m)) (sym (at_end jobs.rest)))))))))
 
-pub draft_reader : IsReader DraftFits stream_draft_bytes stream_draft_at
-draft_reader = record { found = draft_found; again = draft_again }
+pub draft_reader : (second : Bool) → IsReader (DraftFits second) stream_draft_bytes (stream_draft_at second)
+draft_reader second = record { found = draft_found second; again = draft_again second }

@@ -1,5 +1,5 @@
 -- Entries that are read are those that the bytes spell.
-use Rattle.std.proofs.Common.{◌≡◌, ℕ, ◌≤◌, Bool, true, false, cond, eqb, List, [], ◌∷◌, length}
+use Rattle.std.proofs.Common.{◌≡◌, ℕ, ◌<◌, ◌≤◌, ◌⊎◌, inl, inr, Bool, true, false, ◌||◌, cond, eqb, List, [], ◌∷◌, length}
 use Rattle.std.proofs.Common.{Ok, Err, refl, sym, ap, subst, arith}
 use Rattle.std.proofs.lemmas.Bool.{eqb-true, eq-eqb, ltb-true, lt-ltb}
 use Rattle.model.specs.Types.{Entry}
@@ -7,83 +7,116 @@ use Rattle.model.specs.Fields.{u8_bytes, u32_bytes}
 use Rattle.model.specs.Fit.{IsFit}
 use Rattle.model.specs.Ranges.{InRange}
 use Rattle.model.specs.Spelling.{feed_bytes, body_bytes, entry_bytes}
+use Rattle.model.specs.Versions.{is_second}
 use Rattle.entry_codec.specs.declared.EntryFault.TheVariants.{Version}
 use Rattle.entry_codec.specs.Fields.{u8_at}
-use Rattle.entry_codec.specs.Entries.{version_at, entry_at}
+use Rattle.entry_codec.specs.Entries.{version_at, entry_at, bytes_with}
 use Rattle.entry_codec.proofs.Readers.{IsBytes, Stands, IsReader, starts, came, step, on, same_value, in_order}
 use Rattle.entry_codec.proofs.Readers.{peeled, at_end}
 use Rattle.entry_codec.proofs.Numbers.{u8_reader}
+use Rattle.entry_codec.proofs.Allowed.{Allows}
 use Rattle.entry_codec.proofs.Seens.{count_reader}
 use Rattle.entry_codec.proofs.Parts.{feed_reader}
 use Rattle.entry_codec.proofs.Bodies.{body_reader}
 
 -- the version
+abbrev pub IsVersion : ℕ → Type 0
+IsVersion n = (n ≡ 1) ⊎ (n ≡ 2)
+
+abbrev pub is_version : ℕ → Bool
+is_version n = eqb n 1 || eqb n 2
+
+one_of_both : (n : ℕ) → is_version n ≡ true → IsVersion n
+one_of_both n e = go (eqb n 1) refl
+  where
+    go : (b : Bool) → eqb n 1 ≡ b → IsVersion n
+    go true is_it = inl (eqb-true n 1 is_it)
+    go false is_it = inr (eqb-true n 2 (rw is_it at e))
+
+is_one_of_both : (n : ℕ) → IsVersion n → is_version n ≡ true
+is_one_of_both n (inl e) = rw e refl
+is_one_of_both n (inr e) = rw e refl
+
 version_found : (bytes : List ℕ) (p n q : ℕ) → IsBytes bytes → p ≤ length bytes → version_at bytes p ≡ Ok (n, q)
-    → (n ≡ 1) × Stands (u8_bytes n) bytes p q
+    → IsVersion n × Stands (u8_bytes n) bytes p q
 unfolding version_at
 version_found bytes p n q is lt e =
-    let c = came (u8_at bytes p) (λ (v : ℕ × ℕ). cond (eqb v.0 1) (Ok v) (Err Version)) (n, q) e in
-    let g = passed (eqb c.value.0 1) c.value (n, q) c.then_ in
+    let c = came (u8_at bytes p) (λ (v : ℕ × ℕ). cond (is_version v.0) (Ok v) (Err Version)) (n, q) e in
+    let g = passed (is_version c.value.0) c.value (n, q) c.then_ in
     let f = u8_reader.found bytes p c.value.0 c.value.1 is lt c.first in
-    subst (λ (v : ℕ × ℕ). (v.0 ≡ 1) × Stands (u8_bytes v.0) bytes p v.1) g.1 (eqb-true c.value.0 1 g.0, f.1)
+    subst (λ (v : ℕ × ℕ). IsVersion v.0 × Stands (u8_bytes v.0) bytes p v.1) g.1 (one_of_both c.value.0 g.0, f.1)
   where
     passed : (b : Bool) (x y : ℕ × ℕ) → cond b (Ok x) (Err Version) ≡ Ok y → (b ≡ true) × (x ≡ y)
     passed true x y e = (refl, cc)
     passed false x y e = absurd cc
 
-version_again : (bytes : List ℕ) (p n q : ℕ) → n ≡ 1 → Stands (u8_bytes n) bytes p q → version_at bytes p ≡ Ok (n, q)
+small : (n : ℕ) → IsVersion n → n < 256
+small n (inl e) = omega (arith, e)
+small n (inr e) = omega (arith, e)
+
+version_again : (bytes : List ℕ) (p n q : ℕ) → IsVersion n → Stands (u8_bytes n) bytes p q
+    → version_at bytes p ≡ Ok (n, q)
 unfolding version_at
 version_again bytes p n q one s =
-    let is_one : eqb n 1 ≡ true = eq-eqb n 1 one in
-    let read : u8_at bytes p ≡ Ok (n, q) = u8_reader.again bytes p n q (omega (arith, one)) s in
-    rw (read, is_one) refl
+    let is_it : is_version n ≡ true = is_one_of_both n one in
+    let read : u8_at bytes p ≡ Ok (n, q) = u8_reader.again bytes p n q (small n one) s in
+    rw (read, is_it) refl
 
-version_reader : IsReader (λ (n : ℕ). n ≡ 1) u8_bytes version_at
+version_reader : IsReader IsVersion u8_bytes version_at
 version_reader = record { found = version_found; again = version_again }
 
--- an entry that is fit and in range
-abbrev pub EntryFits : Entry → Type 0
-EntryFits e = IsFit e × InRange e
+-- an entry that is fit, in range and of the version that is told
+pub record EntryFits (x : ℕ × Entry) : Type 0 where
+  pub told : IsVersion x.0
+  pub fit : IsFit x.1
+  pub in_range : InRange x.1
+  pub allowed : Allows (eqb x.0 2) (is_second x.1.body)
 
-entry_found : (bytes : List ℕ) (p : ℕ) (e : Entry) (q : ℕ) → IsBytes bytes → p ≤ length bytes
-    → entry_at bytes p ≡ Ok (e, q) → EntryFits e × Stands (entry_bytes e) bytes p q
+entry_found : (bytes : List ℕ) (p : ℕ) (x : ℕ × Entry) (q : ℕ) → IsBytes bytes → p ≤ length bytes
+    → entry_at bytes p ≡ Ok (x, q) → EntryFits x × Stands (bytes_with x.0 x.1) bytes p q
 unfolding entry_at entry_bytes
-entry_found bytes p e q is lt h =
-    let version = step version_reader is (starts bytes p lt) h in
-    let head : Stands (1 ∷ []) bytes p version.place =
-    subst (λ (n : ℕ). Stands (u8_bytes n) bytes p version.place) version.fits version.stands in
-    let feed = step feed_reader is head version.rest in
+entry_found bytes p x q is lt h =
+    let number = step version_reader is (starts bytes p lt) h in
+    let feed = step feed_reader is number.stands number.rest in
     let place = step count_reader is feed.stands feed.rest in
-    let body = step (body_reader feed.value) is place.stands place.rest in
-    subst (λ (z : Entry × ℕ). EntryFits z.0 × Stands (entry_bytes z.0) bytes p z.1) (same_value body.rest) (
-      (
-        record {
+    let body = step (body_reader (eqb number.value 2) feed.value) is place.stands place.rest in
+    subst (λ (z : (ℕ × Entry) × ℕ). EntryFits z.0 × Stands (bytes_with z.0.0 z.0.1) bytes p z.1)
+    (same_value body.rest) (
+      record {
+        told = number.fits;
+        fit = record {
           in_its_feed = body.fits.1;
           has_place = ltb-true 0 place.value place.fits.1;
-          bounded = body.fits.0.0;
-        },
-        record {
+          bounded = body.fits.0.0.0;
+        };
+        in_range = record {
           feed_ = feed.fits;
           place_ = place.fits.0;
-          body_ = body.fits.0.1;
-        },
-      ),
+          body_ = body.fits.0.0.1;
+        };
+        allowed = body.fits.0.1;
+      },
       body.stands,
     )
 
-entry_again : (bytes : List ℕ) (p : ℕ) (e : Entry) (q : ℕ) → EntryFits e → Stands (entry_bytes e) bytes p q
-    → entry_at bytes p ≡ Ok (e, q)
+entry_again : (bytes : List ℕ) (p : ℕ) (x : ℕ × Entry) (q : ℕ) → EntryFits x
+    → Stands (bytes_with x.0 x.1) bytes p q → entry_at bytes p ≡ Ok (x, q)
 unfolding entry_at entry_bytes
-entry_again bytes p e q fits s =
-    let version = peeled (in_order (1 ∷ []) (feed_bytes e.feed ∷ u32_bytes e.place ∷ body_bytes e.body ∷ []) s) in
-    let feed = peeled version.rest in
+entry_again bytes p (n, e) q fits s =
+    let number = peeled (in_order (u8_bytes n) (
+    feed_bytes e.feed
+    ∷ u32_bytes e.place
+    ∷ body_bytes e.body
+    ∷ []) s) in
+    let feed = peeled number.rest in
     let place = peeled feed.rest in
     let body = peeled place.rest in
-    on version_reader _ 1 refl version.first
-    (on feed_reader _ e.feed fits.1.feed_ feed.first
-    (on count_reader _ e.place (fits.1.place_, lt-ltb 0 e.place fits.0.has_place) place.first
-    (on (body_reader e.feed) _ e.body ((fits.0.bounded, fits.1.body_), fits.0.in_its_feed) body.first
-    (ap (λ (m : ℕ). Ok (e, m)) (sym (at_end body.rest))))))
+    on version_reader _ n fits.told number.first
+    (on feed_reader _ e.feed fits.in_range.feed_ feed.first
+    (on count_reader _ e.place (fits.in_range.place_, lt-ltb 0 e.place fits.fit.has_place) place.first
+    (on (body_reader (eqb n 2) e.feed) _ e.body
+    (((fits.fit.bounded, fits.in_range.body_), fits.allowed), fits.fit.in_its_feed) body.first
+    (ap (λ (m : ℕ). Ok ((n, e), m)) (sym (at_end body.rest))))))
 
-pub entry_reader : IsReader EntryFits entry_bytes entry_at
+pub entry_reader : IsReader EntryFits (λ (x : ℕ × Entry). bytes_with x.0 x.1) entry_at
 entry_reader = record { found = entry_found; again = entry_again }

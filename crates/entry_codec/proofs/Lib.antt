@@ -5,6 +5,7 @@ pub mod Texts
 pub mod ShortTexts
 pub mod Choices
 pub mod Lists
+pub mod Allowed
 pub mod Seens
 pub mod Parts
 pub mod Conditions

@@ -1,8 +1,8 @@
 -- Feeds, objects, dependencies and choices that are read are those that stand there.
-use Rattle.std.proofs.Common.{◌≡◌, ℕ, List, [], ◌∷◌}
-use Rattle.std.proofs.Common.{Ok, refl, arith}
+use Rattle.std.proofs.Common.{◌≡◌, ℕ, Bool, true, false, List, [], ◌∷◌, Ok, refl, arith, true≢false}
+use Rattle.std.specs.List.{AllByRecursion}
 use Rattle.model.specs.Types.{Feed, Events, Orders, Obj, Job, Stream, OnUntil, Suppr, Cont, Canc, Dep, FollowsJob}
-use Rattle.model.specs.Types.{FollowsStream, Needs, Prompt, At, Until, Outside, Global, Own}
+use Rattle.model.specs.Types.{FollowsStream, Needs, Prompt, At, Until, Outside, Global, Own, Deadline}
 use Rattle.model.specs.Types.{Work, Command, Script, Recovery, Eq, Ne, Lt, Le, Gt, Ge, CondOp, Cmp, And}
 use Rattle.model.specs.Types.{Or, Not, Why, NotMine, NotThere, Running, NotRunning, NotEnded, AlreadyThere}
 use Rattle.model.specs.Types.{OutOfRange, NotMaster, NotBuilt}
@@ -12,20 +12,20 @@ use Rattle.model.specs.Ranges.{FeedInRange, ObjInRange, DepInRange, OpInRange}
 use Rattle.model.specs.Ranges.{WorkInRange}
 use Rattle.model.specs.Spelling.{feed_bytes, obj_bytes, until_code, dep_bytes, op_bytes, work_bytes}
 use Rattle.model.specs.Spelling.{recovery_code, why_code}
-use Rattle.entry_codec.specs.Read.{Reader, gives, one, two}
-use Rattle.entry_codec.specs.Fields.{u16_at, u32_at, u64_at, i32_at, text_at}
-use Rattle.entry_codec.specs.Parts.{feed_at, obj_at, until_at, dep_at, op_at, work_at, recovery_at}
-use Rattle.entry_codec.specs.Entries.{why_at}
+use Rattle.model.specs.Versions.{is_deadline}
+use Rattle.entry_codec.specs.Read.{Reader, one}
+use Rattle.entry_codec.specs.Fields.{u64_at, since_second}
+use Rattle.entry_codec.specs.Parts.{feed_at, obj_at, until_at, dep_at, op_at, work_at, recovery_at, feed_rows}
+use Rattle.entry_codec.specs.Parts.{obj_rows, until_rows, dep_rows, op_rows, work_rows, recovery_rows}
+use Rattle.entry_codec.specs.Entries.{why_at, why_rows}
 use Rattle.entry_codec.proofs.Readers.{◌&◌, Stands, IsReader}
 use Rattle.entry_codec.proofs.Numbers.{u16_reader, u32_reader, u64_reader}
 use Rattle.entry_codec.proofs.Texts.{text_reader, i32_reader}
 use Rattle.entry_codec.proofs.Choices.{row_0, row_1, row_2, choice_found, again_0, again_1, again_2}
-use Rattle.entry_codec.proofs.Choices.{Any}
+use Rattle.entry_codec.proofs.Choices.{Any, IsRow}
+use Rattle.entry_codec.proofs.Allowed.{Allows, allows_none}
 
 -- feeds
-abbrev feed_rows : List (ℕ × Reader Feed)
-feed_rows = (0, one u16_at Events) ∷ (1, two u16_at u16_at Orders) ∷ []
-
 feed_again : (bytes : List ℕ) (p : ℕ) (f : Feed) (q : ℕ) → FeedInRange f → Stands (feed_bytes f) bytes p q
     → feed_at bytes p ≡ Ok (f, q)
 unfolding feed_at
@@ -45,9 +45,6 @@ feed_reader =
     }
 
 -- objects
-abbrev obj_rows : List (ℕ × Reader Obj)
-obj_rows = (0, one u32_at Job) ∷ (1, one u32_at Stream) ∷ []
-
 obj_again : (bytes : List ℕ) (p : ℕ) (o : Obj) (q : ℕ) → ObjInRange o → Stands (obj_bytes o) bytes p q
     → obj_at bytes p ≡ Ok (o, q)
 unfolding obj_at
@@ -68,9 +65,6 @@ obj_reader =
 -- what a passed UNTIL does
 abbrev until_bytes : OnUntil → List ℕ
 until_bytes mark = u8_bytes (until_code mark)
-
-abbrev until_rows : List (ℕ × Reader OnUntil)
-until_rows = (0, gives Suppr) ∷ (1, gives Cont) ∷ (2, gives Canc) ∷ []
 
 until_again : (bytes : List ℕ) (p : ℕ) (mark : OnUntil) (q : ℕ) → Any mark → Stands (until_bytes mark) bytes p q
     → until_at bytes p ≡ Ok (mark, q)
@@ -95,9 +89,6 @@ until_reader =
 abbrev recovery_bytes : Recovery → List ℕ
 recovery_bytes recovery = u8_bytes (recovery_code recovery)
 
-abbrev recovery_rows : List (ℕ × Reader Recovery)
-recovery_rows = (0, gives Recovery.Stop) ∷ (1, gives Recovery.Continue) ∷ (2, gives Recovery.Rerun) ∷ []
-
 recovery_again : (bytes : List ℕ) (p : ℕ) (r : Recovery) (q : ℕ) → Any r → Stands (recovery_bytes r) bytes p q
     → recovery_at bytes p ≡ Ok (r, q)
 unfolding recovery_at
@@ -120,20 +111,6 @@ recovery_reader =
 -- reasons
 abbrev why_bytes : Why → List ℕ
 why_bytes why = u8_bytes (why_code why)
-
-abbrev why_rows : List (ℕ × Reader Why)
-why_rows =
-    (1, gives NotMine)
-    ∷ (2, gives NotThere)
-    ∷ (3, gives Running)
-    ∷ (4, gives NotRunning)
-    ∷ (5, gives NotEnded)
-    ∷ (6, gives Why.Ended)
-    ∷ (7, gives AlreadyThere)
-    ∷ (8, gives OutOfRange)
-    ∷ (9, gives NotMaster)
-    ∷ (10, gives NotBuilt)
-    ∷ []
 
 why_again : (bytes : List ℕ) (p : ℕ) (why : Why) (q : ℕ) → Any why → Stands (why_bytes why) bytes p q
     → why_at bytes p ≡ Ok (why, q)
@@ -168,62 +145,60 @@ why_reader =
       again = why_again;
     }
 
--- dependencies that are fit and in range
-abbrev pub DepFits : Dep → Type 0
-DepFits d = IsFitDep d × DepInRange d
+-- dependencies that are fit, in range and of the entry's version
+abbrev pub DepFits : Bool → Dep → Type 0
+DepFits second d = (IsFitDep d × DepInRange d) × Allows second (is_deadline d)
 
-abbrev dep_rows : List (ℕ × Reader Dep)
-dep_rows =
-    (1, one u32_at FollowsJob)
-    ∷ (2, one u32_at FollowsStream)
-    ∷ (3, two u16_at u16_at Needs)
-    ∷ (4, one u16_at (λ p. Prompt (Global p)))
-    ∷ (5, one text_at (λ text. Prompt (Own text)))
-    ∷ (6, one u64_at At)
-    ∷ (7, two u64_at until_at Until)
-    ∷ (8, one text_at Outside)
-    ∷ []
-
-dep_again : (bytes : List ℕ) (p : ℕ) (d : Dep) (q : ℕ) → DepFits d → Stands (dep_bytes d) bytes p q
-    → dep_at bytes p ≡ Ok (d, q)
+dep_again : (second : Bool) (bytes : List ℕ) (p : ℕ) (d : Dep) (q : ℕ) → DepFits second d
+    → Stands (dep_bytes d) bytes p q → dep_at second bytes p ≡ Ok (d, q)
 unfolding dep_at dep_bytes
-dep_again bytes p (FollowsJob j) q fits s = again_1 u32_reader dep_rows 1 FollowsJob j refl (omega arith) fits.1 s
-dep_again bytes p (FollowsStream t) q fits s =
-    again_1 u32_reader dep_rows 2 FollowsStream t refl (omega arith) fits.1 s
-dep_again bytes p (Needs r n) q fits s =
-    again_2 u16_reader u16_reader dep_rows 3 Needs r n refl (omega arith) fits.1.0 fits.1.1 s
-dep_again bytes p (Prompt (Global n)) q fits s =
-    again_1 u16_reader dep_rows 4 (λ m. Prompt (Global m)) n refl (omega arith) fits.1 s
-dep_again bytes p (Prompt (Own text)) q fits s =
-    again_1 text_reader dep_rows 5 (λ l. Prompt (Own l)) text refl (omega arith) fits s
-dep_again bytes p (At t) q fits s = again_1 u64_reader dep_rows 6 At t refl (omega arith) fits.1 s
-dep_again bytes p (Until t mark) q fits s =
-    again_2 u64_reader until_reader dep_rows 7 Until t mark refl (omega arith) fits.1 tt s
-dep_again bytes p (Outside path) q fits s = again_1 text_reader dep_rows 8 Outside path refl (omega arith) fits s
+dep_again second bytes p (FollowsJob j) q fits s =
+    again_1 u32_reader (dep_rows second) 1 FollowsJob j refl (omega arith) fits.0.1 s
+dep_again second bytes p (FollowsStream t) q fits s =
+    again_1 u32_reader (dep_rows second) 2 FollowsStream t refl (omega arith) fits.0.1 s
+dep_again second bytes p (Needs r n) q fits s =
+    again_2 u16_reader u16_reader (dep_rows second) 3 Needs r n refl (omega arith) fits.0.1.0 fits.0.1.1 s
+dep_again second bytes p (Prompt (Global n)) q fits s =
+    again_1 u16_reader (dep_rows second) 4 (λ m. Prompt (Global m)) n refl (omega arith) fits.0.1 s
+dep_again second bytes p (Prompt (Own text)) q fits s =
+    again_1 text_reader (dep_rows second) 5 (λ l. Prompt (Own l)) text refl (omega arith) fits.0 s
+dep_again second bytes p (At t) q fits s =
+    again_1 u64_reader (dep_rows second) 6 At t refl (omega arith) fits.0.1 s
+dep_again second bytes p (Until t mark) q fits s =
+    again_2 u64_reader until_reader (dep_rows second) 7 Until t mark refl (omega arith) fits.0.1 tt s
+dep_again second bytes p (Outside path) q fits s =
+    again_1 text_reader (dep_rows second) 8 Outside path refl (omega arith) fits.0 s
+dep_again true bytes p (Deadline t) q fits s =
+    again_1 u64_reader (dep_rows true) 9 Deadline t refl (omega arith) fits.0.1 s
+dep_again false bytes p (Deadline t) q fits s = absurd (true≢false fits.1)
 
-pub dep_reader : IsReader DepFits dep_bytes dep_at
+deadline_row : (second : Bool)
+    → AllByRecursion (IsRow (DepFits second) dep_bytes) (since_second second ((9, one u64_at Deadline) ∷ []))
+unfolding dep_bytes
+deadline_row true = row_1 u64_reader 9 Deadline (λ t f. ((tt, f), tt)) (λ t. refl) & tt
+deadline_row false = tt
+
+pub dep_reader : (second : Bool) → IsReader (DepFits second) dep_bytes (dep_at second)
 unfolding dep_at dep_bytes
-dep_reader =
+dep_reader second =
+    let none : Allows second false = allows_none second in
     record {
-      found = choice_found DepFits dep_bytes dep_rows (
-          row_1 u32_reader 1 FollowsJob (λ j f. (tt, f)) (λ j. refl)
-          & row_1 u32_reader 2 FollowsStream (λ t f. (tt, f)) (λ t. refl)
-          & row_2 u16_reader u16_reader 3 Needs (λ r n f g. (tt, (f, g))) (λ r n. refl)
-          & row_1 u16_reader 4 (λ n. Prompt (Global n)) (λ n f. (tt, f)) (λ n. refl)
-          & row_1 text_reader 5 (λ l. Prompt (Own l)) (λ l f. f) (λ l. refl)
-          & row_1 u64_reader 6 At (λ t f. (tt, f)) (λ t. refl)
-          & row_2 u64_reader until_reader 7 Until (λ t mark f g. (tt, f)) (λ t mark. refl)
-          & row_1 text_reader 8 Outside (λ l f. f) (λ l. refl)
-          & tt);
-      again = dep_again;
+      found = choice_found (DepFits second) dep_bytes (dep_rows second) (
+          row_1 u32_reader 1 FollowsJob (λ j f. ((tt, f), none)) (λ j. refl)
+          & row_1 u32_reader 2 FollowsStream (λ t f. ((tt, f), none)) (λ t. refl)
+          & row_2 u16_reader u16_reader 3 Needs (λ r n f g. ((tt, (f, g)), none)) (λ r n. refl)
+          & row_1 u16_reader 4 (λ n. Prompt (Global n)) (λ n f. ((tt, f), none)) (λ n. refl)
+          & row_1 text_reader 5 (λ l. Prompt (Own l)) (λ l f. (f, none)) (λ l. refl)
+          & row_1 u64_reader 6 At (λ t f. ((tt, f), none)) (λ t. refl)
+          & row_2 u64_reader until_reader 7 Until (λ t mark f g. ((tt, f), none)) (λ t mark. refl)
+          & row_1 text_reader 8 Outside (λ l f. (f, none)) (λ l. refl)
+          & deadline_row second);
+      again = dep_again second;
     }
 
 -- what a job runs
 abbrev pub WorkFits : Work → Type 0
 WorkFits work = IsFitWork work × WorkInRange work
-
-abbrev work_rows : List (ℕ × Reader Work)
-work_rows = (0, one text_at Command) ∷ (1, one text_at Script) ∷ []
 
 work_again : (bytes : List ℕ) (p : ℕ) (work : Work) (q : ℕ) → WorkFits work → Stands (work_bytes work) bytes p q
     → work_at bytes p ≡ Ok (work, q)
@@ -245,19 +220,6 @@ work_reader =
     }
 
 -- operations
-abbrev op_rows : List (ℕ × Reader CondOp)
-op_rows =
-    (0, one i32_at (Cmp Eq))
-    ∷ (1, one i32_at (Cmp Ne))
-    ∷ (2, one i32_at (Cmp Lt))
-    ∷ (3, one i32_at (Cmp Le))
-    ∷ (4, one i32_at (Cmp Gt))
-    ∷ (5, one i32_at (Cmp Ge))
-    ∷ (6, gives And)
-    ∷ (7, gives Or)
-    ∷ (8, gives Not)
-    ∷ []
-
 op_again : (bytes : List ℕ) (p : ℕ) (op : CondOp) (q : ℕ) → OpInRange op → Stands (op_bytes op) bytes p q
     → op_at bytes p ≡ Ok (op, q)
 unfolding op_at

@@ -1,5 +1,5 @@
 -- Every reader of an entry's parts goes by the bytes of its fields alone.
-use Rattle.std.proofs.Common.{◌≡◌, ℕ, Bool, true, false, cond, List, ◌++◌, Some}
+use Rattle.std.proofs.Common.{◌≡◌, ℕ, Bool, true, false, cond, List, [], ◌∷◌, ◌++◌, Some}
 use Rattle.std.proofs.Common.{None, Result, Ok, Err}
 use Rattle.std.specs.Prelude.{nat_eq, nat_le}
 use Rattle.std.specs.Int.{w8, w16, w32, w64, cast_signed}
@@ -11,16 +11,16 @@ use Rattle.model.specs.Types.{NotMine, NotThere, Running, NotRunning, NotEnded, 
 use Rattle.model.specs.Types.{NotBuilt, Job, Stream, Suppr, Cont, Canc, FollowsJob}
 use Rattle.model.specs.Types.{FollowsStream, Needs, Prompt, At, Until, Outside, Global, Own, DraftDep, Follows}
 use Rattle.model.specs.Types.{Plain, Command, Script, Recovery, Eq, Ne, Lt, Le, Gt, Ge, Cmp, And, Or}
-use Rattle.model.specs.Types.{Not}
+use Rattle.model.specs.Types.{Not, Deadline, Late}
 use Rattle.entry_codec.specs.declared.EntryFault.{EntryFault}
 use Rattle.entry_codec.specs.Read.{Reader, one, three}
-use Rattle.entry_codec.specs.Fields.{u8_at, u16_at, u32_at, u64_at, i32_at, text_at, option_at, flag_at}
+use Rattle.entry_codec.specs.Fields.{u8_at, u16_at, u32_at, u64_at, i32_at, text_at, option_at, flag_at, since_second}
 use Rattle.entry_codec.specs.Parts.{feed_at, obj_at, until_at, dep_at, draft_dep_at, op_at, cond_at, work_at}
 use Rattle.entry_codec.specs.Parts.{recovery_at, job_at, stream_at, job_draft_at, stream_draft_at}
 use Rattle.entry_codec.specs.Commands.{cmd_at}
 use Rattle.entry_codec.specs.Entries.{why_at, event_at, order_at, body_at}
 use Rattle.entry_codec.proofs.Readers.{◌&◌}
-use Rattle.entry_codec.proofs.Steady.{IsSteady, Fails, gives_steady, number_steady, number_with_steady, text_steady}
+use Rattle.entry_codec.proofs.Steady.{IsSteady, RowsSteady, Fails, gives_steady, number_steady, number_with_steady, text_steady}
 use Rattle.entry_codec.proofs.Steady.{then_steady, one_steady, two_steady, three_steady, four_steady, choice_steady}
 use Rattle.entry_codec.proofs.Steady.{items_steady, list_steady, seen_steady, then_goes_on, then_fails}
 
@@ -82,9 +82,14 @@ why_steady =
     & gives_steady NotBuilt
     & tt)
 
-dep_steady : IsSteady dep_at
+newer_steady : {X : Type 0} {row : Reader X} (second : Bool) (tag : ℕ) → IsSteady row
+    → RowsSteady (since_second second ((tag, row) ∷ []))
+newer_steady true tag steady = steady & tt
+newer_steady false tag steady = tt
+
+dep_steady : (second : Bool) → IsSteady (dep_at second)
 unfolding dep_at
-dep_steady =
+dep_steady second =
     choice_steady _ (
     one_steady FollowsJob s32
     & one_steady FollowsStream s32
@@ -94,47 +99,47 @@ dep_steady =
     & one_steady At s64
     & two_steady Until s64 until_steady
     & one_steady Outside text_steady
-    & tt)
+    & newer_steady second 9 (one_steady Deadline s64))
 
 -- a draft's dependency, by its first byte
-abbrev drafted : Bool → List ℕ → ℕ → ℕ → Result (DraftDep × ℕ) EntryFault
-drafted named bytes p m =
-    cond named (three u16_at text_at (option_at text_at) Follows bytes m) (one dep_at Plain bytes p)
+abbrev drafted : Bool → Bool → List ℕ → ℕ → ℕ → Result (DraftDep × ℕ) EntryFault
+drafted second named bytes p m =
+    cond named (three u16_at text_at (option_at text_at) Follows bytes m) (one (dep_at second) Plain bytes p)
 
 named_steady : IsSteady (three u16_at text_at (option_at text_at) Follows)
 named_steady = three_steady Follows s16 text_steady (option_steady text_steady)
 
-plain_steady : IsSteady (one dep_at Plain)
-plain_steady = one_steady Plain dep_steady
+plain_steady : (second : Bool) → IsSteady (one (dep_at second) Plain)
+plain_steady second = one_steady Plain (dep_steady second)
 
-drafted_on : (named : Bool) (bytes more : List ℕ) (p m : ℕ) (x : DraftDep × ℕ) → drafted named bytes p m ≡ Ok x
-    → drafted named (bytes ++ more) p m ≡ Ok x
-drafted_on true bytes more p m x e = named_steady.goes_on bytes more m x e
-drafted_on false bytes more p m x e = plain_steady.goes_on bytes more p x e
+drafted_on : (second named : Bool) (bytes more : List ℕ) (p m : ℕ) (x : DraftDep × ℕ) → drafted second named bytes p m ≡ Ok x
+    → drafted second named (bytes ++ more) p m ≡ Ok x
+drafted_on second true bytes more p m x e = named_steady.goes_on bytes more m x e
+drafted_on second false bytes more p m x e = (plain_steady second).goes_on bytes more p x e
 
-drafted_out : (named : Bool) (bytes more : List ℕ) (p m : ℕ) (f : EntryFault) → drafted named bytes p m ≡ Err f
-    → Fails f (drafted named (bytes ++ more) p m)
-drafted_out true bytes more p m f e = named_steady.fails bytes more m f e
-drafted_out false bytes more p m f e = plain_steady.fails bytes more p f e
+drafted_out : (second named : Bool) (bytes more : List ℕ) (p m : ℕ) (f : EntryFault) → drafted second named bytes p m ≡ Err f
+    → Fails f (drafted second named (bytes ++ more) p m)
+drafted_out second true bytes more p m f e = named_steady.fails bytes more m f e
+drafted_out second false bytes more p m f e = (plain_steady second).fails bytes more p f e
 
-draft_dep_on : (bytes more : List ℕ) (p : ℕ) (x : DraftDep × ℕ) → draft_dep_at bytes p ≡ Ok x
-    → draft_dep_at (bytes ++ more) p ≡ Ok x
+draft_dep_on : (second : Bool) (bytes more : List ℕ) (p : ℕ) (x : DraftDep × ℕ) → draft_dep_at second bytes p ≡ Ok x
+    → draft_dep_at second (bytes ++ more) p ≡ Ok x
 unfolding draft_dep_at
-draft_dep_on bytes more p x e =
-    then_goes_on (u8_at bytes p) (u8_at (bytes ++ more) p) (λ (n : ℕ × ℕ). drafted (nat_eq n.0 0) bytes p n.1)
-    (λ (n : ℕ × ℕ). drafted (nat_eq n.0 0) (bytes ++ more) p n.1) x (s8.goes_on bytes more p)
-    (λ n h. drafted_on (nat_eq n.0 0) bytes more p n.1 x h) e
+draft_dep_on second bytes more p x e =
+    then_goes_on (u8_at bytes p) (u8_at (bytes ++ more) p) (λ (n : ℕ × ℕ). drafted second (nat_eq n.0 0) bytes p n.1)
+    (λ (n : ℕ × ℕ). drafted second (nat_eq n.0 0) (bytes ++ more) p n.1) x (s8.goes_on bytes more p)
+    (λ n h. drafted_on second (nat_eq n.0 0) bytes more p n.1 x h) e
 
-draft_dep_out : (bytes more : List ℕ) (p : ℕ) (f : EntryFault) → draft_dep_at bytes p ≡ Err f
-    → Fails f (draft_dep_at (bytes ++ more) p)
+draft_dep_out : (second : Bool) (bytes more : List ℕ) (p : ℕ) (f : EntryFault) → draft_dep_at second bytes p ≡ Err f
+    → Fails f (draft_dep_at second (bytes ++ more) p)
 unfolding draft_dep_at
-draft_dep_out bytes more p f e =
-    then_fails (u8_at bytes p) (u8_at (bytes ++ more) p) (λ (n : ℕ × ℕ). drafted (nat_eq n.0 0) bytes p n.1)
-    (λ (n : ℕ × ℕ). drafted (nat_eq n.0 0) (bytes ++ more) p n.1) f (s8.goes_on bytes more p) (s8.fails bytes more p)
-    (λ n c h. drafted_out (nat_eq n.0 0) bytes more p n.1 c h) e
+draft_dep_out second bytes more p f e =
+    then_fails (u8_at bytes p) (u8_at (bytes ++ more) p) (λ (n : ℕ × ℕ). drafted second (nat_eq n.0 0) bytes p n.1)
+    (λ (n : ℕ × ℕ). drafted second (nat_eq n.0 0) (bytes ++ more) p n.1) f (s8.goes_on bytes more p) (s8.fails bytes more p)
+    (λ n c h. drafted_out second (nat_eq n.0 0) bytes more p n.1 c h) e
 
-draft_dep_steady : IsSteady draft_dep_at
-draft_dep_steady = record { goes_on = draft_dep_on; fails = draft_dep_out }
+draft_dep_steady : (second : Bool) → IsSteady (draft_dep_at second)
+draft_dep_steady second = record { goes_on = draft_dep_on second; fails = draft_dep_out second }
 
 work_steady : IsSteady work_at
 unfolding work_at
@@ -159,42 +164,42 @@ cond_steady : IsSteady cond_at
 unfolding cond_at
 cond_steady = then_steady _ (number_with_steady w8 (λ n. nat_le n 64)) (items_steady op_steady)
 
-job_steady : IsSteady job_at
+job_steady : (second : Bool) → IsSteady (job_at second)
 unfolding job_at
-job_steady =
+job_steady second =
     then_steady _ s32 (λ no. then_steady _ s16 (λ ws. then_steady _ text_steady (λ name. then_steady _ s8 (λ priority.
     then_steady _ work_steady (λ work. then_steady _ text_steady (λ logon. then_steady _ cond_steady (λ ops.
-    then_steady _ recovery_steady (λ recovery. then_steady _ (list_steady dep_steady) (λ deps. gives_steady _)))))))))
+    then_steady _ recovery_steady (λ recovery. then_steady _ (list_steady (dep_steady second)) (λ deps. gives_steady _)))))))))
 
-stream_steady : IsSteady stream_at
+stream_steady : (second : Bool) → IsSteady (stream_at second)
 unfolding stream_at
-stream_steady =
+stream_steady second =
     then_steady _ s32 (λ no. then_steady _ s16 (λ ws. then_steady _ text_steady (λ name. then_steady _ s8 (λ priority.
     then_steady _ (option_steady s16) (λ limit. then_steady _ flag_steady (λ carry.
-    then_steady _ (list_steady dep_steady) (λ deps. then_steady _ (list_steady job_steady) (λ jobs.
+    then_steady _ (list_steady (dep_steady second)) (λ deps. then_steady _ (list_steady (job_steady second)) (λ jobs.
     gives_steady _))))))))
 
-job_draft_steady : IsSteady job_draft_at
+job_draft_steady : (second : Bool) → IsSteady (job_draft_at second)
 unfolding job_draft_at
-job_draft_steady =
+job_draft_steady second =
     then_steady _ s16 (λ ws. then_steady _ text_steady (λ name. then_steady _ s8 (λ priority.
     then_steady _ work_steady (λ work. then_steady _ text_steady (λ logon. then_steady _ cond_steady (λ ops.
-    then_steady _ recovery_steady (λ recovery. then_steady _ (list_steady draft_dep_steady) (λ deps.
+    then_steady _ recovery_steady (λ recovery. then_steady _ (list_steady (draft_dep_steady second)) (λ deps.
     gives_steady _))))))))
 
-draft_steady : IsSteady stream_draft_at
+draft_steady : (second : Bool) → IsSteady (stream_draft_at second)
 unfolding stream_draft_at
-draft_steady =
+draft_steady second =
     then_steady _ s16 (λ ws. then_steady _ text_steady (λ name. then_steady _ s8 (λ priority.
     then_steady _ (option_steady s16) (λ limit. then_steady _ flag_steady (λ carry.
-    then_steady _ (list_steady draft_dep_steady) (λ deps. then_steady _ (list_steady job_draft_steady) (λ jobs.
+    then_steady _ (list_steady (draft_dep_steady second)) (λ deps. then_steady _ (list_steady (job_draft_steady second)) (λ jobs.
     gives_steady _)))))))
 
-cmd_steady : IsSteady cmd_at
+cmd_steady : (second : Bool) → IsSteady (cmd_at second)
 unfolding cmd_at
-cmd_steady =
+cmd_steady second =
     choice_steady _ (
-    two_steady AddDep obj_steady dep_steady
+    two_steady AddDep obj_steady (dep_steady second)
     & two_steady DelDep obj_steady s16
     & one_steady Release obj_steady
     & two_steady AltPri obj_steady s8
@@ -210,16 +215,16 @@ cmd_steady =
     & three_steady ReplyOwn obj_steady s16 flag_steady
     & gives_steady Cmd.Start
     & gives_steady Stop
-    & one_steady Submit draft_steady
+    & one_steady Submit (draft_steady second)
     & one_steady SwitchMgr s16
     & tt)
 
-event_steady : IsSteady event_at
+event_steady : (second : Bool) → IsSteady (event_at second)
 unfolding event_at
-event_steady =
+event_steady second =
     choice_steady _ (
-    four_steady NewPlan s32 seen_steady (list_steady s32) (list_steady stream_steady)
-    & three_steady Added s16 s32 stream_steady
+    four_steady NewPlan s32 seen_steady (list_steady s32) (list_steady (stream_steady second))
+    & three_steady Added s16 s32 (stream_steady second)
     & one_steady Clock s64
     & two_steady Released s32 seen_steady
     & two_steady StreamEnded s32 seen_steady
@@ -230,15 +235,15 @@ event_steady =
     & four_steady Ended s32 s32 signed flag_steady
     & two_steady Lost s32 s32
     & two_steady Fulfilled obj_steady s16
-    & three_steady Obeyed s16 s32 cmd_steady
+    & three_steady Obeyed s16 s32 (cmd_steady second)
     & three_steady Declined s16 s32 why_steady
-    & tt)
+    & newer_steady second 16 (two_steady Late obj_steady s16))
 
-order_steady : IsSteady order_at
+order_steady : (second : Bool) → IsSteady (order_at second)
 unfolding order_at
-order_steady = choice_steady _ (one_steady Order cmd_steady & tt)
+order_steady second = choice_steady _ (one_steady Order (cmd_steady second) & tt)
 
-pub body_steady : (feed : Feed) → IsSteady (body_at feed)
+pub body_steady : (second : Bool) (feed : Feed) → IsSteady (body_at second feed)
 unfolding body_at
-body_steady (Events w) = event_steady
-body_steady (Orders a w) = order_steady
+body_steady second (Events w) = event_steady second
+body_steady second (Orders a w) = order_steady second

@@ -15,7 +15,7 @@ use Rattle.entry_codec.proofs.Whole.{whole_found, version_found, left_found, beg
 
 pub is_found : (bytes : List ℕ) (r : Result Entry EntryFault) → IsBytes bytes → Gives r (entry_in bytes)
     → IfOk r (λ e. IsFit e × (bytes ≡ entry_bytes e))
-is_found bytes (Ok e) is h = let f = whole_found bytes e is h in (f.0.0, f.1)
+is_found bytes (Ok e) is h = whole_found bytes e is h
 is_found bytes (Err f) is h = tt
 
 pub tells_version : (bytes : List ℕ) (r : Result Entry EntryFault) → IsBytes bytes → Gives r (entry_in bytes)
@@ -43,4 +43,4 @@ pub stays : (bytes : List ℕ) (r : Result Entry EntryFault) → IsBytes bytes �
     → IfErr r (λ f. IsLasting f → (e : Entry) (more : List ℕ) → IsFit e → InRange e → bytes ++ more ≢ entry_bytes e)
 stays bytes (Ok e) is h = tt
 stays bytes (Err f) is h =
-    λ lasting e more fit in_range. begins_none bytes f is (h (is_told f lasting)) lasting e more (fit, in_range)
+    λ lasting e more fit in_range. begins_none bytes f is (h (is_told f lasting)) lasting e more fit in_range

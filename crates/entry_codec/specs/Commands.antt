@@ -1,5 +1,5 @@
 -- Commands as they are read. The number of a row is the choice that leads to it.
-use Rattle.std.specs.Prelude.{[], ◌∷◌}
+use Rattle.std.specs.Prelude.{ℕ, Bool, List, [], ◌∷◌}
 use Rattle.model.specs.Types.{Cmd, AddDep, DelDep, Release, AltPri, Cancel, Confirm, Kill, Rerun, Fence, Limit}
 use Rattle.model.specs.Types.{StreamLimit, Total, ReplyGlobal, ReplyOwn, Stop, Submit, SwitchMgr}
 use Rattle.entry_codec.specs.Read.{Reader, gives, one, two, three}
@@ -7,9 +7,9 @@ use Rattle.entry_codec.specs.Fields.{u8_at, u16_at, u32_at, choice_at, flag_at}
 use Rattle.entry_codec.specs.Parts.{obj_at, dep_at, stream_draft_at}
 
 -- a command
-unfoldable pub cmd_at : Reader Cmd
-cmd_at = choice_at (
-    (1, two obj_at dep_at AddDep)
+abbrev pub cmd_rows : Bool → List (ℕ × Reader Cmd)
+cmd_rows second =
+    (1, two obj_at (dep_at second) AddDep)
     ∷ (2, two obj_at u16_at DelDep)
     ∷ (3, one obj_at Release)
     ∷ (4, two obj_at u8_at AltPri)
@@ -25,6 +25,9 @@ cmd_at = choice_at (
     ∷ (14, three obj_at u16_at flag_at ReplyOwn)
     ∷ (15, gives Cmd.Start)
     ∷ (16, gives Stop)
-    ∷ (17, one stream_draft_at Submit)
+    ∷ (17, one (stream_draft_at second) Submit)
     ∷ (18, one u16_at SwitchMgr)
-    ∷ [])
+    ∷ []
+
+unfoldable pub cmd_at : Bool → Reader Cmd
+cmd_at second = choice_at (cmd_rows second)

@@ -50,6 +50,11 @@ abbrev pub row_of : {X : Type 0} → ℕ → List (ℕ × Reader X) → Option (
 row_of n [] = None
 row_of n (row ∷ rows) = cond (row.0 == n) (Some row.1) (row_of n rows)
 
+-- rows that version 2 alone has
+abbrev pub since_second : {X : Type 0} → Bool → List (ℕ × Reader X) → List (ℕ × Reader X)
+since_second true rows = rows
+since_second false rows = []
+
 -- what stands behind a choice that was made in the field at `here`
 abbrev pub behind : {X : Type 0} → Option (Reader X) → ℕ → Reader X
 behind None here bytes p = Err (BadField here)
@@ -60,12 +65,18 @@ unfoldable pub choice_at : {X : Type 0} → List (ℕ × Reader X) → Reader X
 choice_at rows bytes p = and_then (u8_at bytes p) (λ n. behind (row_of n.0 rows) p bytes n.1)
 
 -- a flag is 0 or 1
+abbrev pub flag_rows : List (ℕ × Reader Bool)
+flag_rows = (0, gives false) ∷ (1, gives true) ∷ []
+
 abbrev pub flag_at : Reader Bool
-flag_at = choice_at ((0, gives false) ∷ (1, gives true) ∷ [])
+flag_at = choice_at flag_rows
 
 -- a flag, and after 1 the value
+abbrev pub option_rows : {X : Type 0} → Reader X → List (ℕ × Reader (Option X))
+option_rows value = (0, gives None) ∷ (1, one value Some) ∷ []
+
 abbrev pub option_at : {X : Type 0} → Reader X → Reader (Option X)
-option_at value = choice_at ((0, gives None) ∷ (1, one value Some) ∷ [])
+option_at value = choice_at (option_rows value)
 
 -- so many items
 unfoldable pub items_at : {X : Type 0} → Reader X → ℕ → Reader (List X)

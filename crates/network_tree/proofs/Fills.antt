@@ -8,13 +8,13 @@ use Rattle.std.proofs.lemmas.List.FromFn.{fill_by_all, get_or-map-range_with_len
 use Rattle.std.proofs.lemmas.List.FromFn.{map-range_with_len_more}
 use Rattle.std.specs.List.{range_with_len}
 use Rattle.std.specs.Option.{option_or}
-use Rattle.model.specs.Network.{chain, climb, hop, node_count, one_before}
+use Rattle.model.specs.Network.{IsTree, chain, climb, hop, node_count, one_before}
 use Rattle.model.specs.Types.{Net}
 use Rattle.model.specs.Words.{below, has}
 use Rattle.network_tree.specs.Ways.{row, way}
 use Rattle.network_tree.proofs.Belows.{numbers-range}
 use Rattle.network_tree.proofs.Climbs.{above, before_has}
-use Rattle.network_tree.proofs.Trees.{IsTree, hop_inside, not_behind_itself, way_is}
+use Rattle.network_tree.proofs.Trees.{hop_inside, not_behind_itself, way_is}
 
 -- one more of a list over the numbers below
 pub map_below_more : {X : Type 0} (f : ℕ → X) (n : ℕ) → map f (below (n + 1)) ≡ map f (below n) ++ f n ∷ []

@@ -8,12 +8,12 @@ use Rattle.std.proofs.lemmas.List.FromFn.{get_or-map-range_with_len, length-map-
 use Rattle.std.proofs.lemmas.Option.{slice_get-get_or}
 use Rattle.std.specs.List.{range_with_len}
 use Rattle.std.specs.Option.{option_eq}
-use Rattle.model.specs.Network.{are_neighbours, hop, is_behind, is_manager, node_count, towards}
+use Rattle.model.specs.Network.{IsTree, are_neighbours, hop, is_behind, is_manager, node_count, towards}
 use Rattle.model.specs.Types.{Net}
 use Rattle.model.specs.Words.{below}
 use Rattle.network_tree.specs.Ways.{row, table, way}
 use Rattle.network_tree.proofs.Belows.{numbers-range}
-use Rattle.network_tree.proofs.Trees.{IsTree, are_so, hop_inside, hop_manager, hop_there, root, way_inside, way_there}
+use Rattle.network_tree.proofs.Trees.{are_so, hop_inside, hop_manager, hop_there, way_inside, way_there}
 use Rattle.network_tree.proofs.Trees.{behind_tells, way_to_neighbour}
 
 -- an item of a list over the numbers below
@@ -38,7 +38,7 @@ module _ (net : Net) (t : IsTree net) where
   pub no_hop : (w : ℕ) → w < node_count net → (IsNone (hop net w) → w ≡ 0) × (w ≡ 0 → IsNone (hop net w))
   no_hop w low =
       elim (eqb_tells w 0) [
-        | inl e ↦ (λ h. e.1, λ z. ap is_some (ap (hop net) z ∙ root net t))
+        | inl e ↦ (λ h. e.1, λ z. ap is_some (ap (hop net) z ∙ t.top))
         | inr e ↦
             let there : is_some (hop net w) ≡ true = ap is_some (hop_there net t w low e.1).1 in
             (λ h. (cc), λ z. absurd (e.1 z))

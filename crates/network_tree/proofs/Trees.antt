@@ -8,7 +8,7 @@ use Rattle.std.proofs.lemmas.Option.{slice_get_within}
 use Rattle.std.specs.Bool.{then_some}
 use Rattle.std.specs.List.{AllByRecursion}
 use Rattle.std.specs.Option.{option_map_or, option_or}
-use Rattle.model.specs.Network.{are_neighbours, chain, climb, hop, is_behind, is_manager, node_count, one_before}
+use Rattle.model.specs.Network.{IsTree, are_neighbours, chain, climb, hop, is_behind, is_manager, node_count, one_before}
 use Rattle.model.specs.Network.{towards}
 use Rattle.model.specs.Types.{Net, Node}
 use Rattle.model.specs.Words.{has, last_or, some_is}
@@ -16,12 +16,6 @@ use Rattle.network_tree.specs.Faults.{first_there, has_bad_hop, misses_the_maste
 use Rattle.network_tree.specs.declared.faults.NetFault.{NetFault}
 use Rattle.network_tree.proofs.Belows.{nothing_found}
 use Rattle.network_tree.proofs.Climbs.{above, above_up, before_has, before_hop, has_up, last_has, no_return, up}
-
-pub record IsTree (net : Net) : Type 0 where
-  pub some : 0 < node_count net
-  pub few : node_count net ≤ 256
-  pub hops : (w : ℕ) → w < node_count net → has_bad_hop net w ≡ false
-  pub ends : (w : ℕ) → w < node_count net → last_or w (chain net w) ≡ 0
 
 none_there : {X : Type 0} (os : List (Option X)) → first_there os ≡ None
     → AllByRecursion (λ (o : Option X). o ≡ None) os
@@ -41,30 +35,58 @@ not_missed : (b : Bool) → not b ≡ false → b ≡ true
 not_missed true h = refl
 not_missed false h = cc
 
-pub tree : (net : Net) → net_fault net ≡ None → IsTree net
+pub few : (net : Net) → net_fault net ≡ None → (0 < node_count net) × (node_count net ≤ 256)
 unfolding net_fault
-tree net none =
+few net none =
     let all : AllByRecursion (λ (o : Option NetFault). o ≡ None) (net_faults net) = none_there (net_faults net) none in
-    let n = node_count net in
-    record {
-      some = let e : eqb n 0 ≡ false = not_then (eqb n 0) _ all.0 in grind (arith, nat_tests);
-      few = grind (arith, nat_tests, not_then _ _ all.1.0);
-      hops = λ w low. nothing_found (has_bad_hop net) 0 n w (not_mapped _ _ all.1.1.1.0) (omega arith) (omega arith);
-      ends =
-          λ w low.
-          let missed : misses_the_master net w ≡ false =
-          nothing_found (misses_the_master net) 0 n w (not_mapped _ _ all.1.1.1.1.0) (omega arith) (omega arith) in
-          let at : eqb (last_or w (chain net w)) 0 ≡ true = not_missed _ missed in
-          grind (arith, nat_tests);
-    }
+    let some : eqb (node_count net) 0 ≡ false = not_then (eqb (node_count net) 0) _ all.0 in
+    (grind (arith, nat_tests), grind (arith, nat_tests, not_then _ _ all.1.0))
+
+no_bad_hop : (net : Net) → net_fault net ≡ None → (w : ℕ) → w < node_count net → has_bad_hop net w ≡ false
+unfolding net_fault
+no_bad_hop net none w low =
+    let all : AllByRecursion (λ (o : Option NetFault). o ≡ None) (net_faults net) = none_there (net_faults net) none in
+    nothing_found (has_bad_hop net) 0 (node_count net) w (not_mapped _ _ all.1.1.1.0) (omega arith) (omega arith)
+
+none_missed : (net : Net) → net_fault net ≡ None → (w : ℕ) → w < node_count net → last_or w (chain net w) ≡ 0
+unfolding net_fault
+none_missed net none w low =
+    let all : AllByRecursion (λ (o : Option NetFault). o ≡ None) (net_faults net) = none_there (net_faults net) none in
+    let missed : misses_the_master net w ≡ false =
+    nothing_found (misses_the_master net) 0 (node_count net) w (not_mapped _ _ all.1.1.1.1.0) (omega arith)
+    (omega arith) in
+    let at : eqb (last_or w (chain net w)) 0 ≡ true = not_missed _ missed in
+    grind (arith, nat_tests)
 
 left_false : (a b : Bool) → (a || b) ≡ false → a ≡ false
 left_false true b h = cc
 left_false false b h = refl
 
+right_false : (a b : Bool) → (a || b) ≡ false → b ≡ false
+right_false true b h = cc
+right_false false b h = h
+
 not_there : {X : Type 0} (o : Option X) → is_some o ≡ false → o ≡ None
 not_there None h = refl
 not_there (Some x) h = cc
+
+-- the fourth and the fifth fault are all that a tree lacks
+pub tree : (net : Net) → net_fault net ≡ None → IsTree net
+tree net none =
+    record {
+      top = not_there (hop net 0) (left_false (is_some (hop net 0)) _ (no_bad_hop net none 0 (few net none).0));
+      managed =
+          not_missed _ (right_false (is_some (hop net 0)) _ (no_bad_hop net none 0 (few net none).0));
+      hops =
+          λ w above low.
+          elim (eqb_tells w 0) [
+            | inl e ↦ absurd (omega (arith, e.1, above))
+            | inr e ↦
+                not_missed _ (sym (ap (λ b. if b then is_some (hop net w) || not (is_manager net w)
+                else not (option_map_or (is_manager net) (hop net w) false)) e.0) ∙ no_bad_hop net none w low)
+          ];
+      ends = none_missed net none;
+    }
 
 module _ (net : Net) where
   -- who has a hop is inside
@@ -124,22 +146,10 @@ module _ (net : Net) where
       go false = refl
 
 module _ (net : Net) (t : IsTree net) where
-  -- the master has no hop
-  pub root : hop net 0 ≡ None
-  root = not_there (hop net 0) (left_false (is_some (hop net 0)) _ (t.hops 0 t.some))
-
   -- every other one has a manager as its hop
   pub hop_there : (w : ℕ) → w < node_count net → w ≢ 0
       → (h : ℕ) × (hop net w ≡ Some h) × (is_manager net h ≡ true)
-  hop_there w low other =
-      elim (eqb_tells w 0) [
-        | inl e ↦ absurd (other e.1)
-        | inr e ↦
-            let good : not (option_map_or (is_manager net) (hop net w) false) ≡ false =
-            sym (ap (λ b. if b then is_some (hop net w) || not (is_manager net w)
-            else not (option_map_or (is_manager net) (hop net w) false)) e.0) ∙ t.hops w low in
-            go (hop net w) refl (not_missed _ good)
-      ]
+  hop_there w low other = go (hop net w) refl (t.hops w (omega (arith, other)) low)
     where
       go : (o : Option ℕ) → hop net w ≡ o → option_map_or (is_manager net) o false ≡ true
           → (h : ℕ) × (hop net w ≡ Some h) × (is_manager net h ≡ true)
@@ -150,7 +160,7 @@ module _ (net : Net) (t : IsTree net) where
   pub hop_manager : (w h : ℕ) → hop net w ≡ Some h → is_manager net h ≡ true
   hop_manager w h e =
       let other : w ≢ 0 =
-      λ z. (let h0 : hop net 0 ≡ Some h = subst (λ v. hop net v ≡ Some h) z e in let r = root in cc) in
+      λ z. (let h0 : hop net 0 ≡ Some h = subst (λ v. hop net v ≡ Some h) z e in let r = t.top in cc) in
       let there = hop_there w (hop_within net w h e) other in
       let same : there.0 ≡ h = (let f = there.1 in cc) in
       subst (λ v. is_manager net v ≡ true) same there.2
@@ -168,7 +178,7 @@ module _ (net : Net) (t : IsTree net) where
       ]
 
   pub not_back : (i w : ℕ) → w < node_count net → up net (suc i) w ≡ Some w → ⊥
-  not_back i w low back = let r = reaches w low in no_return net root r.0 i w r.1 back
+  not_back i w low back = let r = reaches w low in no_return net t.top r.0 i w r.1 back
 
   -- nobody is behind itself
   pub not_behind_itself : (m w : ℕ) → w < node_count net → has (drop 1 (climb net m w)) w ≡ false

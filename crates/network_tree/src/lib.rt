@@ -10,8 +10,6 @@ mod hops;
 mod networks;
 mod ranges;
 mod rows;
-#[cfg(test)]
-mod tests;
 
 pub use faults::NetFault;
 pub use networks::Network;

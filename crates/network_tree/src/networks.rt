@@ -3,7 +3,7 @@ ghost use Rattle.std.specs.Prelude.{◌≡◌, ◌≢◌, ◌<◌, ◌≤◌, �
 ghost use Rattle.std.specs.Prelude.{IsNone, IsTrue, slice_get};
 ghost use Rattle.std.specs.Option.{IfSome, option_and_then};
 ghost use Rattle.model.specs.Network as spec;
-ghost use Rattle.model.specs.Network.{are_neighbours, is_behind, is_manager, node_count};
+ghost use Rattle.model.specs.Network.{IsTree, are_neighbours, is_behind, is_manager, node_count};
 ghost use Rattle.network_tree.specs.Faults.{net_fault};
 ghost use Rattle.network_tree.specs.Ways.{table};
 
@@ -14,7 +14,7 @@ use std::alloc::Global;
 use std::marker::Model;
 
 /// A net without faults. Its workstations are a tree, with the master at the root.
-#[derive(Debug, Drop)]
+#[derive(Drop)]
 pub struct Network {
     net: Net,
     /// By the number of a workstation, the ways to it.
@@ -50,10 +50,11 @@ impl Network {
         Ok(Network { net, ways })
     }
 
-    /// The net as it is defined.
+    /// The net that was tested.
     pub fn net(&self) -> &Net
         ensures value { result.now ≡ self.now }
         ensures faultless { net_fault self.now ≡ None }
+        ensures tree { IsTree self.now }
     {
         &self.net
     }

@@ -1,7 +1,6 @@
 -- The units that an object asks for, one dependency further.
-use Rattle.std.proofs.Common.{[], ℕ, ◌+◌, ◌<◌, ◌∙◌, ◌∷◌, ◌≡◌, Bool, List, None, Option, Some, arith, cond, drop, false}
+use Rattle.std.proofs.Common.{[], ℕ, ◌+◌, ◌<◌, ◌∷◌, ◌≡◌, Bool, List, Some, arith, cond, drop, false}
 use Rattle.std.proofs.Common.{filter, length, not, refl, slice_get, suc, sum_by, true, zero}
-use Rattle.std.specs.Option.{option_map_or}
 use Rattle.std.specs.Prelude.{if◌then◌else◌}
 use Rattle.std.proofs.lemmas.List.Sums.{sum_by-cons}
 use Rattle.model.specs.Types.{Dep, Obj}

@@ -9,6 +9,7 @@ use Rattle.std.proofs.lemmas.List.{append-nil, map-append}
 use Rattle.std.proofs.lemmas.List.Elements.{filter-append}
 use Rattle.std.proofs.lemmas.List.Sums.{fold-append}
 use Rattle.std.proofs.lemmas.Grind.{flat_map-append}
+use Rattle.model.specs.Types.{Late}
 use Rattle.model.specs.Types.{Added, Body, Clock, Declined, Ended, Entry, Events, Failed, Feed, Fulfilled, Launched}
 use Rattle.model.specs.Types.{Orders}
 use Rattle.model.specs.Types.{Lost, NewPlan, Obeyed, Order, Released, Started, StreamDoc, StreamEnded, UntilPassed}
@@ -110,6 +111,7 @@ no_docs (Fulfilled p i) h = refl
 no_docs (Obeyed a k c) h = refl
 no_docs (Declined a k why) h = refl
 no_docs (Order c) h = refl
+no_docs (Late p i) h = refl
 
 no_names : (so_far : Option (List ℕ)) (b : Body) → is_planning_body b ≡ false → members_with so_far b ≡ so_far
 no_names so_far (NewPlan run cut carried docs) h = cc
@@ -127,6 +129,7 @@ no_names so_far (Fulfilled p i) h = refl
 no_names so_far (Obeyed a k c) h = refl
 no_names so_far (Declined a k why) h = refl
 no_names so_far (Order c) h = refl
+no_names so_far (Late p i) h = refl
 
 -- so the documents stay
 pub docs_without : (kept : List Entry) (e : Entry) → is_planning e ≡ false

@@ -1,17 +1,17 @@
 -- Who holds units at a workstation: no more than it has events, since each was launched or released there.
-use Rattle.std.proofs.Common.{[], ℕ, ◌&&◌, ◌+◌, ◌++◌, ◌||◌, ◌∙◌, ◌∷◌, ◌≡◌, ◌≤◌, Bool, List, None, Option, Some, ap}
+use Rattle.std.proofs.Common.{[], ℕ, ◌&&◌, ◌+◌, ◌||◌, ◌∙◌, ◌∷◌, ◌≡◌, ◌≤◌, Bool, List, None, Option, Some, ap}
 use Rattle.std.proofs.Common.{arith}
 use Rattle.std.proofs.Common.{cond, false, filter, flat_map, inl, inr, is_none, is_some, length, map, not}
 use Rattle.std.proofs.Common.{option_and_then, refl, sum_by, sym, true}
 use Rattle.std.specs.Bool.{then_some}
 use Rattle.std.specs.List.{list_any}
 use Rattle.std.specs.Option.{option_or}
-use Rattle.std.specs.Prelude.{◌==◌, eqb}
-use Rattle.std.proofs.lemmas.Bool.{eq-eqb}
+use Rattle.std.specs.Prelude.{◌==◌}
 use Rattle.std.proofs.lemmas.Bool.Decides.{eqb_tells}
 use Rattle.std.proofs.lemmas.List.Sums.{sum_by-append, sum_by-cons}
+use Rattle.model.specs.Types.{Late}
 use Rattle.model.specs.Types.{Added, Body, Clock, Declined, Ended, Events, Failed, Fulfilled, Job, Launched, Lost}
-use Rattle.model.specs.Types.{NewPlan, Obeyed, Obj, Order, Released, Started, Stream, StreamDoc, StreamEnded}
+use Rattle.model.specs.Types.{NewPlan, Obeyed, Order, Released, Started, Stream, StreamDoc, StreamEnded}
 use Rattle.model.specs.Types.{UntilPassed}
 use Rattle.model.specs.Words.{firsts, has}
 use Rattle.model.specs.History.{View}
@@ -149,6 +149,7 @@ one_each ps ds f g (Fulfilled p i) = neither ps ds
 one_each ps ds f g (Obeyed a k c) = neither ps ds
 one_each ps ds f g (Declined a k why) = neither ps ds
 one_each ps ds f g (Order c) = neither ps ds
+one_each ps ds f g (Late p i) = neither ps ds
 
 -- those that a list of events launched or released
 abbrev launched_among : List StreamJob → List Body → List StreamJob
@@ -191,6 +192,7 @@ launch_is_told j (Fulfilled p i) bs l h = cc
 launch_is_told j (Obeyed a k c) bs l h = cc
 launch_is_told j (Declined a k why) bs l h = cc
 launch_is_told j (Order c) bs l h = cc
+launch_is_told j (Late p i) bs l h = cc
 
 or_true : (a : Bool) → (a || true) ≡ true
 or_true true = refl

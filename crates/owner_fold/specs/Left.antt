@@ -1,6 +1,6 @@
 -- What the iterators have still to give.
 use Rattle.std.specs.Prelude.{◌==◌, List, filter, filter_map}
-use Rattle.model.specs.Types.{Body, Cmd, Entry, Feed, StreamDoc}
+use Rattle.model.specs.Types.{Body, Cmd, StreamDoc}
 use Rattle.model.specs.History.{list_of}
 use Rattle.model.specs.Catalogue.{StreamJob}
 use Rattle.model.specs.Facts.{commands}

@@ -1,5 +1,5 @@
 -- Where the documents of the plan stand among the entries, and that a list of such places is that of the catalogue.
-use Rattle.std.specs.Prelude.{[], ℕ, ◌≡◌, List, Option, Some, filter_map, flat_map, map, option_and_then}
+use Rattle.std.specs.Prelude.{[], ℕ, ◌≡◌, List, Option, Some, flat_map, map, option_and_then}
 use Rattle.std.specs.Prelude.{option_map, slice_get}
 use Rattle.model.specs.Types.{Entry, JobDoc, StreamDoc}
 use Rattle.model.specs.Words.{firsts}

@@ -4,6 +4,7 @@ ghost use Rattle.std.specs.Option.{option_or};
 ghost use Rattle.model.specs.Types.{Events};
 ghost use Rattle.model.specs.History.{list_of};
 ghost use Rattle.model.specs.Facts.{launches, reruns, is_due, answered, is_released, is_ended, is_cancelled};
+ghost use Rattle.model.specs.Facts.{is_late, is_ever_late};
 ghost use Rattle.model.specs.Facts.{is_fulfilled, is_until_recorded, own_reply, global_reply, is_started};
 ghost use Rattle.model.specs.Facts.{now, fence, limit, total, priority, stream_limit, is_stopped};
 ghost use Rattle.model.specs.NewPlan.{last_run};
@@ -11,8 +12,8 @@ ghost use Rattle.model.specs.NewPlan.{last_run};
 use crate::holdings::Owners;
 use crate::sayings::{
     global_reply_of, is_answer, is_cancel, is_cancelling_body, is_end, is_fulfilment_body,
-    is_launch, is_release, is_rerun, is_start, is_until_body, own_reply_of, priority_of,
-    stream_limit_of, total_of,
+    is_late_body, is_lateness_body, is_launch, is_release, is_rerun, is_start, is_until_body,
+    own_reply_of, priority_of, stream_limit_of, total_of,
 };
 use base_types::{Body, Cmd, JobNo, Moment, Obj, StreamNo, Ws};
 
@@ -267,6 +268,30 @@ impl Owners {
     {
         for body in self.events(w) {
             if is_until_body(o, i, body) {
+                return true;
+            }
+        }
+        false
+    }
+
+    #[tactic(auto, unfolding(model::specs::Facts::is_late))]
+    pub(crate) fn is_late_at(&self, w: Ws, o: &Obj, i: u16) -> bool
+        ensures { result ≡ is_late o.now i (list_of self.now (Events w)) }
+    {
+        for body in self.events(w) {
+            if is_late_body(o, i, body) {
+                return true;
+            }
+        }
+        false
+    }
+
+    #[tactic(auto, unfolding(model::specs::Facts::is_ever_late))]
+    pub(crate) fn is_ever_late_at(&self, w: Ws, o: &Obj) -> bool
+        ensures { result ≡ is_ever_late o.now (list_of self.now (Events w)) }
+    {
+        for body in self.events(w) {
+            if is_lateness_body(o, body) {
                 return true;
             }
         }

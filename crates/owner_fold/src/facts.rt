@@ -5,6 +5,7 @@ ghost use Rattle.model.specs.Types.{Job, Stream};
 ghost use Rattle.model.specs.History.{view_of};
 ghost use Rattle.model.specs.Catalogue.{told_by_owner};
 ghost use Rattle.model.specs.Facts.{launches, reruns, open_launch, is_started, is_last_started, last_outcome, is_due};
+ghost use Rattle.model.specs.Facts.{is_late, is_ever_late, last_end};
 ghost use Rattle.model.specs.Facts.{is_good, is_released, is_ended, is_cancelled, is_fulfilled, is_until_recorded};
 ghost use Rattle.model.specs.Facts.{own_reply, priority, stream_limit};
 ghost use Rattle.owner_fold.specs.Outcomes.{told_outcome};
@@ -145,6 +146,37 @@ impl Owners {
         match self.owner_of(&o) {
             None => false,
             Some(w) => self.is_fulfilled_at(w, &o, i),
+        }
+    }
+
+    /// Whether an object was recorded as late by its DEADLINE of this number, from 1. False outside the catalogue.
+    pub fn is_late(&self, o: Obj, i: u16) -> bool
+        ensures { result ≡ told_by_owner false (is_late o i) (view_of self.now) o }
+    {
+        match self.owner_of(&o) {
+            None => false,
+            Some(w) => self.is_late_at(w, &o, i),
+        }
+    }
+
+    /// Whether an object was recorded as late by whichever DEADLINE. False outside the catalogue.
+    pub fn is_ever_late(&self, o: Obj) -> bool
+        ensures { result ≡ told_by_owner false (is_ever_late o) (view_of self.now) o }
+    {
+        match self.owner_of(&o) {
+            None => false,
+            Some(w) => self.is_ever_late_at(w, &o),
+        }
+    }
+
+    /// The return code with which a job's last launch ended. None where it has none, and outside the catalogue.
+    pub fn last_end(&self, j: JobNo) -> Option<i32>
+        ensures { result ≡ told_by_owner None (last_end j) (view_of self.now) (Job j) }
+    {
+        let o = Obj::Job(j);
+        match self.owner_of(&o) {
+            None => None,
+            Some(w) => self.last_end_at(w, j),
         }
     }
 

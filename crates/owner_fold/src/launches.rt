@@ -4,6 +4,7 @@ ghost use Rattle.std.specs.List.{list_any};
 ghost use Rattle.model.specs.Types.{Events};
 ghost use Rattle.model.specs.History.{list_of};
 ghost use Rattle.model.specs.Facts.{last_launch, first_end, end_of, open_launch, is_good, is_open, last_outcome};
+ghost use Rattle.model.specs.Facts.{code_of, first_code, last_end};
 ghost use Rattle.model.specs.Facts.{commands, is_confirm_of, is_last_started, is_start_of};
 ghost use Rattle.owner_fold.specs.Launches.{launch_at};
 ghost use Rattle.owner_fold.specs.Outcomes.{told_outcome};
@@ -78,6 +79,45 @@ fn first_end_of(j: JobNo, number: u32, later: &[Entry], feed: &Feed) -> Option<O
     for body in bodies {
         if let Some(outcome) = end_in(j, number, body) {
             return Some(outcome);
+        }
+    }
+    None
+}
+
+/// The end of this launch that a body tells, with its return code where there is one.
+fn code_in(j: JobNo, number: u32, body: &Body) -> Option<Option<i32>>
+    ensures { result ≡ code_of j number body.now }
+{
+    match body {
+        Body::Failed(k, n) | Body::Lost(k, n) => {
+            if is_same(j, number, k, *n) {
+                Some(None)
+            } else {
+                None
+            }
+        }
+        Body::Ended(k, n, rc, _) => {
+            if is_same(j, number, k, *n) {
+                Some(Some(*rc))
+            } else {
+                None
+            }
+        }
+        _ => None,
+    }
+}
+
+/// The return code with which this launch ended first among the bodies of a feed, where it has one.
+fn first_code_of(j: JobNo, number: u32, later: &[Entry], feed: &Feed) -> Option<i32>
+    ensures { result ≡ first_code j number (list_of later.now feed.now) }
+{
+    let bodies = Bodies {
+        entries: later,
+        feed: *feed,
+    };
+    for body in bodies {
+        if let Some(code) = code_in(j, number, body) {
+            return code;
         }
     }
     None
@@ -162,6 +202,17 @@ impl Owners {
         match self.last_launch(w, j) {
             None => None,
             Some((number, later)) => first_end_of(j, number, later, &feed),
+        }
+    }
+
+    #[tactic(auto, unfolding(model::specs::Facts::last_end))]
+    pub(crate) fn last_end_at(&self, w: Ws, j: JobNo) -> Option<i32>
+        ensures { result ≡ last_end j (list_of self.now (Events w)) }
+    {
+        let feed = Feed::Events(w);
+        match self.last_launch(w, j) {
+            None => None,
+            Some((number, later)) => first_code_of(j, number, later, &feed),
         }
     }
 

@@ -18,8 +18,6 @@ mod launches;
 mod plans;
 mod sayings;
 mod spots;
-#[cfg(test)]
-mod tests;
 mod units;
 
 pub use catalogue::{PlannedJobs, StreamJobs, Streams};

@@ -3,6 +3,7 @@ ghost use Rattle.std.specs.Prelude.{◌≡◌, option_map, Some};
 ghost use Rattle.model.specs.Equalities.{obj_eq};
 ghost use Rattle.model.specs.Facts.{is_launch_of, is_release_of, is_end_of, is_rerun_of, is_confirm_of, is_cancel_of};
 ghost use Rattle.model.specs.Facts.{is_cancelling, is_fulfilment, is_until_record, answers_to, is_start_of};
+ghost use Rattle.model.specs.Facts.{is_late_record, is_lateness};
 ghost use Rattle.model.specs.Facts.{own_reply_in, global_reply_in, priority_in, stream_limit_in, total_in};
 
 use base_types::{Body, Cmd, JobNo, Obj, OnUntil, StreamNo, Ws};
@@ -111,6 +112,26 @@ pub(crate) fn is_fulfilment_body(o: &Obj, i: u16, body: &Body) -> bool
 {
     match body {
         Body::Fulfilled(other, k) => same_object(o, other) && i == *k,
+        _ => false,
+    }
+}
+
+/// The body records that the object is late by this DEADLINE.
+pub(crate) fn is_late_body(o: &Obj, i: u16, body: &Body) -> bool
+    ensures { result ≡ is_late_record o.now i body.now }
+{
+    match body {
+        Body::Late(other, k) => same_object(o, other) && i == *k,
+        _ => false,
+    }
+}
+
+/// The body records that the object is late.
+pub(crate) fn is_lateness_body(o: &Obj, body: &Body) -> bool
+    ensures { result ≡ is_lateness o.now body.now }
+{
+    match body {
+        Body::Late(other, _) => same_object(o, other),
         _ => false,
     }
 }

@@ -15,55 +15,66 @@ use std::alloc::Global;
 #[tactic(auto, unfolding(crate::specs::Entries::body_at))]
 pub(crate) fn read_body(
     alloc: Global,
+    second: bool,
     feed: &Feed,
     from: &[u8],
     at: usize,
 ) -> Result<(Body, usize), EntryFault>
     requires { IsPlace from.now at }
-    ensures reads { Gives result (body_at feed.now from.now at) }
+    ensures reads { Gives result (body_at second feed.now from.now at) }
     ensures within { IfOk result (λ r. r.1 ≤ length from.now) }
 {
     match feed {
-        Feed::Events(_) => read_event(alloc, from, at),
-        Feed::Orders(..) => read_order(alloc, from, at),
+        Feed::Events(_) => read_event(alloc, second, from, at),
+        Feed::Orders(..) => read_order(alloc, second, from, at),
     }
 }
 
 /// The kind of an order, and its command.
 #[tactic(auto, unfolding(crate::specs::Read::chain, crate::specs::Fields::choice_at, crate::specs::Entries::order_at))]
-fn read_order(alloc: Global, from: &[u8], at: usize) -> Result<(Body, usize), EntryFault>
+fn read_order(
+    alloc: Global,
+    second: bool,
+    from: &[u8],
+    at: usize,
+) -> Result<(Body, usize), EntryFault>
     requires { IsPlace from.now at }
-    ensures reads { Gives result (order_at from.now at) }
+    ensures reads { Gives result (order_at second from.now at) }
     ensures within { IfOk result (λ r. r.1 ≤ length from.now) }
 {
     match read_u8(from, at)? {
         (15, next) => {
-            let (cmd, next) = read_cmd(alloc, from, next)?;
+            let (cmd, next) = read_cmd(alloc, second, from, next)?;
             Ok((Body::Order(cmd), next))
         }
         _ => Err(EntryFault::BadField(at as u32)),
     }
 }
 
-/// The kind of an event, and its fields.
+/// The kind of an event, and its fields. A lateness stands in version 2 alone.
 #[tactic(auto, unfolding(crate::specs::Read::chain, crate::specs::Fields::choice_at, crate::specs::Entries::event_at))]
-fn read_event(alloc: Global, from: &[u8], at: usize) -> Result<(Body, usize), EntryFault>
+fn read_event(
+    alloc: Global,
+    second: bool,
+    from: &[u8],
+    at: usize,
+) -> Result<(Body, usize), EntryFault>
     requires { IsPlace from.now at }
-    ensures reads { Gives result (event_at from.now at) }
+    ensures reads { Gives result (event_at second from.now at) }
     ensures within { IfOk result (λ r. r.1 ≤ length from.now) }
 {
     match read_u8(from, at)? {
         (1, next) => {
             let (run, next) = read_u32(from, next)?;
             let (cut, next) = read_seen(alloc, from, next)?;
-            let (carried, next) = read_list(alloc, from, next)?;
-            let (docs, next) = read_list(alloc, from, next)?;
+            let (carried, next) = read_list(alloc, second, from, next)?;
+            let (docs, next) = read_list(alloc, second, from, next)?;
             Ok((Body::NewPlan(run, cut, carried, docs), next))
         }
         (2, next) => {
             let (issuer, next) = read_u16(from, next)?;
             let (order, next) = read_u32(from, next)?;
-            let (doc, next) = StreamDoc::read(alloc, from, next)?;
+            let (doc, next) = StreamDoc::read(alloc, second, from, next)?;
             Ok((Body::Added(Ws(issuer), order, doc), next))
         }
         (3, next) => {
@@ -122,7 +133,7 @@ fn read_event(alloc: Global, from: &[u8], at: usize) -> Result<(Body, usize), En
         (13, next) => {
             let (issuer, next) = read_u16(from, next)?;
             let (order, next) = read_u32(from, next)?;
-            let (cmd, next) = read_cmd(alloc, from, next)?;
+            let (cmd, next) = read_cmd(alloc, second, from, next)?;
             Ok((Body::Obeyed(Ws(issuer), order, cmd), next))
         }
         (14, next) => {
@@ -130,6 +141,11 @@ fn read_event(alloc: Global, from: &[u8], at: usize) -> Result<(Body, usize), En
             let (order, next) = read_u32(from, next)?;
             let (why, next) = read_why(from, next)?;
             Ok((Body::Declined(Ws(issuer), order, why), next))
+        }
+        (16, next) if second => {
+            let (obj, next) = read_obj(from, next)?;
+            let (dep, next) = read_u16(from, next)?;
+            Ok((Body::Late(obj, dep), next))
         }
         _ => Err(EntryFault::BadField(at as u32)),
     }

@@ -12,15 +12,20 @@ use std::alloc::Global;
 
 /// A command: its choice and its fields.
 #[tactic(auto, unfolding(crate::specs::Read::chain, crate::specs::Fields::choice_at, crate::specs::Commands::cmd_at))]
-pub(crate) fn read_cmd(alloc: Global, from: &[u8], at: usize) -> Result<(Cmd, usize), EntryFault>
+pub(crate) fn read_cmd(
+    alloc: Global,
+    second: bool,
+    from: &[u8],
+    at: usize,
+) -> Result<(Cmd, usize), EntryFault>
     requires { IsPlace from.now at }
-    ensures reads { Gives result (cmd_at from.now at) }
+    ensures reads { Gives result (cmd_at second from.now at) }
     ensures within { IfOk result (λ r. r.1 ≤ length from.now) }
 {
     match read_u8(from, at)? {
         (1, next) => {
             let (obj, next) = read_obj(from, next)?;
-            let (dep, next) = Dep::read(alloc, from, next)?;
+            let (dep, next) = Dep::read(alloc, second, from, next)?;
             Ok((Cmd::AddDep(obj, dep), next))
         }
         (2, next) => {
@@ -85,7 +90,7 @@ pub(crate) fn read_cmd(alloc: Global, from: &[u8], at: usize) -> Result<(Cmd, us
         (15, next) => Ok((Cmd::Start, next)),
         (16, next) => Ok((Cmd::Stop, next)),
         (17, next) => {
-            let (draft, next) = StreamDraft::read(alloc, from, next)?;
+            let (draft, next) = StreamDraft::read(alloc, second, from, next)?;
             Ok((Cmd::Submit(draft), next))
         }
         (18, next) => {

@@ -15,16 +15,21 @@ impl Read for Dep {
 
     ghost reader = { dep_at };
 
-    fn read(alloc: Global, from: &[u8], at: usize) -> Result<(Dep, usize), EntryFault> {
-        read_dep(alloc, from, at)
+    fn read(
+        alloc: Global,
+        second: bool,
+        from: &[u8],
+        at: usize,
+    ) -> Result<(Dep, usize), EntryFault> {
+        read_dep(alloc, second, from, at)
     }
 }
 
-/// A dependency: its choice and its fields.
+/// A dependency: its choice and its fields. A DEADLINE stands in version 2 alone.
 #[tactic(auto, unfolding(crate::specs::Read::chain, crate::specs::Fields::choice_at, crate::specs::Parts::dep_at))]
-fn read_dep(alloc: Global, from: &[u8], at: usize) -> Result<(Dep, usize), EntryFault>
+fn read_dep(alloc: Global, second: bool, from: &[u8], at: usize) -> Result<(Dep, usize), EntryFault>
     requires { IsPlace from.now at }
-    ensures reads { Gives result (dep_at from.now at) }
+    ensures reads { Gives result (dep_at second from.now at) }
     ensures within { IfOk result (λ r. r.1 ≤ length from.now) }
 {
     match read_u8(from, at)? {
@@ -62,6 +67,10 @@ fn read_dep(alloc: Global, from: &[u8], at: usize) -> Result<(Dep, usize), Entry
             let (path, next) = read_text(alloc, from, next)?;
             Ok((Dep::Outside(path), next))
         }
+        (9, next) if second => {
+            let (time, next) = read_u64(from, next)?;
+            Ok((Dep::Deadline(Moment(time)), next))
+        }
         _ => Err(EntryFault::BadField(at as u32)),
     }
 }
@@ -72,7 +81,12 @@ impl Read for DraftDep {
     ghost reader = { draft_dep_at };
 
     #[tactic(auto, unfolding(crate::specs::Read::chain, crate::specs::Parts::draft_dep_at))]
-    fn read(alloc: Global, from: &[u8], at: usize) -> Result<(DraftDep, usize), EntryFault> {
+    fn read(
+        alloc: Global,
+        second: bool,
+        from: &[u8],
+        at: usize,
+    ) -> Result<(DraftDep, usize), EntryFault> {
         let (choice, next) = read_u8(from, at)?;
         if choice == 0 {
             let (ws, next) = read_u16(from, next)?;
@@ -80,7 +94,7 @@ impl Read for DraftDep {
             let (job, next) = read_job_name(alloc, from, next)?;
             Ok((DraftDep::Follows(Ws(ws), name, job), next))
         } else {
-            let (dep, next) = read_dep(alloc, from, at)?;
+            let (dep, next) = read_dep(alloc, second, from, at)?;
             Ok((DraftDep::Plain(dep), next))
         }
     }

@@ -19,7 +19,12 @@ impl Read for JobDoc {
     ghost reader = { job_at };
 
     #[tactic(auto, unfolding(crate::specs::Read::chain, crate::specs::Parts::job_at))]
-    fn read(alloc: Global, from: &[u8], at: usize) -> Result<(JobDoc, usize), EntryFault> {
+    fn read(
+        alloc: Global,
+        second: bool,
+        from: &[u8],
+        at: usize,
+    ) -> Result<(JobDoc, usize), EntryFault> {
         let (no, next) = read_u32(from, at)?;
         let (ws, next) = read_u16(from, next)?;
         let (name, next) = read_text(alloc, from, next)?;
@@ -28,7 +33,7 @@ impl Read for JobDoc {
         let (logon, next) = read_text(alloc, from, next)?;
         let (cond, next) = read_cond(alloc, from, next)?;
         let (recovery, next) = read_recovery(from, next)?;
-        let (deps, next) = read_list(alloc, from, next)?;
+        let (deps, next) = read_list(alloc, second, from, next)?;
         let doc = JobDoc {
             no: JobNo(no),
             ws: Ws(ws),
@@ -50,15 +55,20 @@ impl Read for StreamDoc {
     ghost reader = { stream_at };
 
     #[tactic(auto, unfolding(crate::specs::Read::chain, crate::specs::Parts::stream_at))]
-    fn read(alloc: Global, from: &[u8], at: usize) -> Result<(StreamDoc, usize), EntryFault> {
+    fn read(
+        alloc: Global,
+        second: bool,
+        from: &[u8],
+        at: usize,
+    ) -> Result<(StreamDoc, usize), EntryFault> {
         let (no, next) = read_u32(from, at)?;
         let (ws, next) = read_u16(from, next)?;
         let (name, next) = read_text(alloc, from, next)?;
         let (priority, next) = read_u8(from, next)?;
         let (limit, next) = read_limit(from, next)?;
         let (carry, next) = read_flag(from, next)?;
-        let (deps, next) = read_list(alloc, from, next)?;
-        let (jobs, next) = read_list(alloc, from, next)?;
+        let (deps, next) = read_list(alloc, second, from, next)?;
+        let (jobs, next) = read_list(alloc, second, from, next)?;
         let doc = StreamDoc {
             no: StreamNo(no),
             ws: Ws(ws),

@@ -13,7 +13,12 @@ impl Read for JobDraft {
     ghost reader = { job_draft_at };
 
     #[tactic(auto, unfolding(crate::specs::Read::chain, crate::specs::Parts::job_draft_at))]
-    fn read(alloc: Global, from: &[u8], at: usize) -> Result<(JobDraft, usize), EntryFault> {
+    fn read(
+        alloc: Global,
+        second: bool,
+        from: &[u8],
+        at: usize,
+    ) -> Result<(JobDraft, usize), EntryFault> {
         let (ws, next) = read_u16(from, at)?;
         let (name, next) = read_text(alloc, from, next)?;
         let (priority, next) = read_u8(from, next)?;
@@ -21,7 +26,7 @@ impl Read for JobDraft {
         let (logon, next) = read_text(alloc, from, next)?;
         let (cond, next) = read_cond(alloc, from, next)?;
         let (recovery, next) = read_recovery(from, next)?;
-        let (deps, next) = read_list(alloc, from, next)?;
+        let (deps, next) = read_list(alloc, second, from, next)?;
         let draft = JobDraft {
             ws: Ws(ws),
             name,
@@ -42,14 +47,19 @@ impl Read for StreamDraft {
     ghost reader = { stream_draft_at };
 
     #[tactic(auto, unfolding(crate::specs::Read::chain, crate::specs::Parts::stream_draft_at))]
-    fn read(alloc: Global, from: &[u8], at: usize) -> Result<(StreamDraft, usize), EntryFault> {
+    fn read(
+        alloc: Global,
+        second: bool,
+        from: &[u8],
+        at: usize,
+    ) -> Result<(StreamDraft, usize), EntryFault> {
         let (ws, next) = read_u16(from, at)?;
         let (name, next) = read_text(alloc, from, next)?;
         let (priority, next) = read_u8(from, next)?;
         let (limit, next) = read_limit(from, next)?;
         let (carry, next) = read_flag(from, next)?;
-        let (deps, next) = read_list(alloc, from, next)?;
-        let (jobs, next) = read_list(alloc, from, next)?;
+        let (deps, next) = read_list(alloc, second, from, next)?;
+        let (jobs, next) = read_list(alloc, second, from, next)?;
         let draft = StreamDraft {
             ws: Ws(ws),
             name,

@@ -1,27 +1,29 @@
 //! Whole entries.
-ghost use Rattle.std.specs.Prelude.{◌≡◌, ◌≢◌, ◌≤◌, ◌<◌, ◌++◌, ℕ, List, length, Ok, Err, IfOk, IfErr};
+ghost use Rattle.std.specs.Prelude.{◌≡◌, ◌≢◌, ◌≤◌, ◌++◌, ℕ, List, length, Ok, Err, IfOk, IfErr};
 ghost use Rattle.std.specs.Result.{IsErrOf};
-ghost use Rattle.byte_fields.specs.Places.{StandsAt};
 ghost use Rattle.model.specs.Types.{Entry};
 ghost use Rattle.model.specs.Fit.{IsFit};
 ghost use Rattle.model.specs.Ranges.{InRange};
 ghost use Rattle.model.specs.Spelling.{entry_bytes};
 ghost use Rattle.entry_codec.specs.declared.EntryFault.TheVariants.{TooMuch, Version};
-ghost use Rattle.entry_codec.specs.Read.{Gives, IsPlace};
-ghost use Rattle.entry_codec.specs.Entries.{entry_at, entry_in, version_at, HasOtherVersion, IsLeftAt, IsLasting};
+ghost use Rattle.entry_codec.specs.Read.{Gives, IsPlace, all_of};
+ghost use Rattle.entry_codec.specs.Entries.{entry_at, entry_in, version_at};
+ghost use Rattle.entry_codec.specs.Entries.{HasOtherVersion, IsLeftAt, IsLasting};
 
 use crate::EntryFault;
 use crate::reading::bodies::read_body;
 use crate::reading::fields::read_u8;
 use crate::reading::parts::{read_count, read_feed};
+use crate::versions::version;
 use base_types::Entry;
 use std::alloc::Global;
 
 /// The entry that the bytes are, which are at most 4,294,967,295.
 ///
 /// Bytes that are no fit entry's spelling are answered with their first fault from the left: Short where bytes of a
-/// field are missing, Version where the version is another than 1, BadField where a field has a value that it may not
-/// have, TooMuch where bytes are left. `NoMemory` comes only where memory runs out.
+/// field are missing, Version where the version is neither 1 nor 2, BadField where a field has a value that it may not
+/// have, TooMuch where bytes are left. Where there is none of these, an entry that is told in version 2 and needs
+/// version 1 is `BadField(0)`. `NoMemory` comes only where memory runs out.
 pub fn read_entry(alloc: Global, bytes: &[u8]) -> Result<Entry, EntryFault>
     requires { length bytes.now ≤ 4294967295 }
     // What is read is fit, and the bytes are its spelling.
@@ -33,45 +35,56 @@ pub fn read_entry(alloc: Global, bytes: &[u8]) -> Result<Entry, EntryFault>
     ensures other_version { HasOtherVersion bytes.now → Gives result (Err Version) }
     // Bytes are told as left over behind a fit entry, and nowhere else.
     ensures too_much { (p : ℕ) → IsErrOf result (TooMuch p) → IsLeftAt bytes.now p }
-    ensures left_over { (e : Entry) (p : ℕ) → IsFit e → InRange e → StandsAt (entry_bytes e) bytes.now 0 p
-        → p < length bytes.now → Gives result (Err (TooMuch p)) }
+    ensures left_over { (p : ℕ) (l : IsLeftAt bytes.now p) → InRange l.entry → Gives result (Err (TooMuch p)) }
     // Which answer it is: the entry, or the first fault from the left.
     ensures exact { Gives result (entry_in bytes.now) }
     // No entry begins with bytes that have another fault than missing bytes.
     ensures lasting { IfErr result (λ f. IsLasting f → (e : Entry) (more : List ℕ) → IsFit e → InRange e
         → bytes.now ++ more ≢ entry_bytes e) }
 {
-    read_whole(alloc, bytes)
+    read_by_format(alloc, bytes)
 }
 
 /// The same, by the format alone.
 #[tactic(auto, unfolding(crate::specs::Entries::entry_in))]
-fn read_whole(alloc: Global, bytes: &[u8]) -> Result<Entry, EntryFault>
+fn read_by_format(alloc: Global, bytes: &[u8]) -> Result<Entry, EntryFault>
     requires { length bytes.now ≤ 4294967295 }
     ensures { Gives result (entry_in bytes.now) }
 {
-    let (entry, next) = read_front(alloc, bytes)?;
-    if next < bytes.len() {
-        return Err(EntryFault::TooMuch(next as u32));
+    let (number, entry) = read_whole(alloc, bytes)?;
+    if version(&entry.body) != number {
+        return Err(EntryFault::BadField(0));
     }
     Ok(entry)
 }
 
-/// The entry at the front of the bytes: its version, its feed, its place, its kind and its body.
+/// The version and the entry that all of the bytes are.
+fn read_whole(alloc: Global, bytes: &[u8]) -> Result<(u8, Entry), EntryFault>
+    requires { length bytes.now ≤ 4294967295 }
+    ensures { Gives result (all_of entry_at bytes.now) }
+{
+    let (found, next) = read_front(alloc, bytes)?;
+    if next < bytes.len() {
+        return Err(EntryFault::TooMuch(next as u32));
+    }
+    Ok(found)
+}
+
+/// The version and the entry at the front of the bytes: its version, its feed, its place, its kind and its body.
 #[tactic(auto, unfolding(crate::specs::Read::chain, crate::specs::Entries::entry_at))]
-fn read_front(alloc: Global, from: &[u8]) -> Result<(Entry, usize), EntryFault>
+fn read_front(alloc: Global, from: &[u8]) -> Result<((u8, Entry), usize), EntryFault>
     requires { IsPlace from.now 0 }
     ensures reads { Gives result (entry_at from.now 0) }
     ensures within { IfOk result (λ r. r.1 ≤ length from.now) }
 {
-    let (_, next) = read_version(from)?;
+    let (number, next) = read_version(from)?;
     let (feed, next) = read_feed(from, next)?;
     let (place, next) = read_count(from, next)?;
-    let (body, next) = read_body(alloc, &feed, from, next)?;
-    Ok((Entry { feed, place, body }, next))
+    let (body, next) = read_body(alloc, number == 2, &feed, from, next)?;
+    Ok(((number, Entry { feed, place, body }), next))
 }
 
-/// The version, which is 1.
+/// The version, which is 1 or 2.
 #[tactic(auto, unfolding(crate::specs::Entries::version_at))]
 fn read_version(from: &[u8]) -> Result<(u8, usize), EntryFault>
     requires { IsPlace from.now 0 }
@@ -80,6 +93,7 @@ fn read_version(from: &[u8]) -> Result<(u8, usize), EntryFault>
 {
     match read_u8(from, 0)? {
         (1, next) => Ok((1, next)),
+        (2, next) => Ok((2, next)),
         _ => Err(EntryFault::Version),
     }
 }

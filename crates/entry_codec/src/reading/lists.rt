@@ -10,24 +10,35 @@ use std::alloc::Global;
 
 /// A value that stands in lists.
 pub(crate) trait Read: Sized + Drop {
+    ghost use Rattle.std.specs.Prelude.{Bool};
     ghost use Rattle.entry_codec.specs.Read.{Reader};
 
-    /// How its bytes are read.
-    ghost reader: { Reader Self };
+    /// How its bytes are read in an entry of version 2, and in one of version 1.
+    ghost reader: { Bool → Reader Self };
 
     /// The value at a place.
-    fn read(alloc: Global, from: &[u8], at: usize) -> Result<(Self, usize), EntryFault>
+    fn read(
+        alloc: Global,
+        second: bool,
+        from: &[u8],
+        at: usize,
+    ) -> Result<(Self, usize), EntryFault>
         requires { IsPlace from.now at }
-        ensures reads { Gives result (reader from.now at) }
+        ensures reads { Gives result (reader second from.now at) }
         ensures within { IfOk result (λ r. r.1 ≤ length from.now) };
 }
 
 impl Read for StreamNo {
     ghost use Rattle.entry_codec.specs.Fields.{u32_at};
 
-    ghost reader = { u32_at };
+    ghost reader = { λ _. u32_at };
 
-    fn read(_alloc: Global, from: &[u8], at: usize) -> Result<(StreamNo, usize), EntryFault> {
+    fn read(
+        _alloc: Global,
+        _second: bool,
+        from: &[u8],
+        at: usize,
+    ) -> Result<(StreamNo, usize), EntryFault> {
         let (number, next) = read_u32(from, at)?;
         Ok((StreamNo(number), next))
     }
@@ -37,32 +48,34 @@ impl Read for StreamNo {
 #[tactic(auto, unfolding(crate::specs::Read::chain, crate::specs::Fields::list_at))]
 pub(crate) fn read_list<T: Read>(
     alloc: Global,
+    second: bool,
     from: &[u8],
     at: usize,
 ) -> Result<(Items<T>, usize), EntryFault>
     requires { IsPlace from.now at }
-    ensures reads { Gives result (list_at T.reader from.now at) }
+    ensures reads { Gives result (list_at (T.reader second) from.now at) }
     ensures within { IfOk result (λ r. r.1 ≤ length from.now) }
 {
     let (count, next) = read_u32(from, at)?;
-    read_items(alloc, count, from, next)
+    read_items(alloc, second, count, from, next)
 }
 
 /// So many items.
 fn read_items<T: Read>(
     alloc: Global,
+    second: bool,
     count: u32,
     from: &[u8],
     at: usize,
 ) -> Result<(Items<T>, usize), EntryFault>
     requires { IsPlace from.now at }
-    ensures reads { Gives result (items_at T.reader count from.now at) }
+    ensures reads { Gives result (items_at (T.reader second) count from.now at) }
     ensures within { IfOk result (λ r. r.1 ≤ length from.now) }
 {
     let mut items = Items::new(alloc);
     let mut next = at;
     for _ in 0..count {
-        let (item, after) = T::read(alloc, from, next)?;
+        let (item, after) = T::read(alloc, second, from, next)?;
         items.push(item)?;
         next = after;
     }

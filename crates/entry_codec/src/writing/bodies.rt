@@ -56,6 +56,7 @@ pub(crate) fn put_body(out: &mut Bytes, body: &Body) -> Result<(), NoMemory>
             put_u8(out, 15)?;
             put_cmd(out, cmd)
         }
+        Body::Late(obj, dep) => put_dependency(out, 16, obj, *dep),
     }
 }
 

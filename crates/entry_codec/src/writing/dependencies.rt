@@ -54,6 +54,10 @@ impl Put for Dep {
                 put_u8(out, 8)?;
                 put_text(out, path.as_str())
             }
+            Dep::Deadline(time) => {
+                put_u8(out, 9)?;
+                put_u64(out, time.0)
+            }
         }
     }
 }

@@ -1,11 +1,11 @@
 use Rattle.std.proofs.Common.{arith, unwrap_or}
 use Rattle.model.specs.Network.{hop}
 use Rattle.network_tree.proofs.Fills.{map_below_more}
-use Rattle.network_tree.proofs.Trees.{tree}
+use Rattle.network_tree.proofs.Trees.{few}
 use Rattle.network_tree.proofs.rows.own_hops.Goals as goal
 
 pub overflow_cast-w-end : goal.overflow_cast-w-end
-overflow_cast-w-end c = omega (arith, (tree c.args.net.now c.requires).few)
+overflow_cast-w-end c = omega (arith, (few c.args.net.now c.requires).1)
 
 pub loop-w-preserved : goal.loop-w-preserved
 loop-w-preserved c =

@@ -1,10 +1,7 @@
-use Rattle.std.proofs.Common.{[], ◌-◌, ◌<◌, ◌∙◌, ◌≡◌, ◌≤◌, None, Option, Some, ap, arith, flat_map, length, refl}
-use Rattle.std.proofs.Common.{slice_get}
-use Rattle.std.proofs.Common.{subst, sym}
-use Rattle.model.specs.Types.{Body, Dep, Events}
-use Rattle.model.specs.History.{list_of, view_of}
-use Rattle.model.specs.Facts.{commands}
-use Rattle.model.specs.Dependencies.{deps_added_by, document_deps, owner_events}
+use Rattle.std.proofs.Common.{◌-◌, ◌<◌, ◌∙◌, ◌≤◌, arith, length}
+use Rattle.std.proofs.Common.{sym}
+use Rattle.model.specs.History.{view_of}
+use Rattle.model.specs.Dependencies.{document_deps}
 use Rattle.owner_fold.proofs.Counted.{dep_added, dep_written, owned_none, owned_some}
 use Rattle.owner_fold.proofs.holdings.Owners.dep_of.Goals as goal
 

@@ -1,4 +1,4 @@
-use Rattle.std.proofs.Common.{◌+◌, ◌<◌, ◌^◌, ◌∙◌, ◌≡◌, arith, length, sym}
+use Rattle.std.proofs.Common.{◌+◌, ◌<◌, ◌^◌, ◌∙◌, arith, length, sym}
 use Rattle.model.specs.History.{list_of}
 use Rattle.owner_fold.proofs.Further.{kept_without}
 use Rattle.owner_fold.proofs.holdings.Owners.take.Goals as goal

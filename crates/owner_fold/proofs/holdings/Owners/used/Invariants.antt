@@ -1,7 +1,6 @@
 use Rattle.std.proofs.Common.{◌≡◌, ◌+◌, ◌*◌, ◌≤◌, filter, length}
 use Rattle.model.specs.Types.{Events}
 use Rattle.model.specs.History.{list_of, view_of}
-use Rattle.model.specs.Catalogue.{catalogue}
 use Rattle.model.specs.Dependencies.{used}
 use Rattle.owner_fold.specs.Left.{streams_left}
 use Rattle.owner_fold.specs.Holders.{is_under_way, open_left, streams_under_way}

@@ -1,4 +1,4 @@
-use Rattle.std.proofs.Common.{[], ◌++◌, ◌∙◌, ◌∷◌, ap, map, sym}
+use Rattle.std.proofs.Common.{◌∙◌, ap, map, sym}
 use Rattle.model.specs.Words.{has}
 use Rattle.owner_fold.specs.declared.spots.StreamSpot.{StreamSpot}
 use Rattle.owner_fold.proofs.Standing.{add_known, add_new}

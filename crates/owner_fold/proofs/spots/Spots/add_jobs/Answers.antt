@@ -1,4 +1,4 @@
-use Rattle.std.proofs.Common.{◌++◌, ◌∙◌, ◌≡◌, List, Some, ap, map, refl, slice_get, subst, sym, take}
+use Rattle.std.proofs.Common.{◌++◌, ◌∙◌, ◌≡◌, List, Some, ap, map, slice_get, subst, sym, take}
 use Rattle.std.proofs.lemmas.List.{take_all}
 use Rattle.model.specs.Types.{JobDoc}
 use Rattle.model.specs.Catalogue.{StreamJob}

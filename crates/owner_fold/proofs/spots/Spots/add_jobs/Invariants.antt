@@ -1,5 +1,5 @@
 use Rattle.std.proofs.Common.{◌≡◌, ◌++◌, List, Some, map, take}
-use Rattle.model.specs.Types.{Entry, JobDoc}
+use Rattle.model.specs.Types.{Entry}
 use Rattle.model.specs.Catalogue.{StreamJob}
 use Rattle.owner_fold.specs.Spots.{AreJobSpots, doc_at, first_jobs_among, stream_job}
 use Rattle.owner_fold.proofs.spots.Spots.add_jobs.Given as goal

@@ -1,0 +1,16 @@
+use Rattle.std.proofs.Common.{◌<◌, ◌≡◌, ◌^◌, map}
+use Rattle.model.specs.Types.{StreamDoc}
+use Rattle.model.specs.Words.{greatest}
+use Rattle.model.specs.History.{view_of}
+use Rattle.model.specs.NewPlan.{last_stream}
+use Rattle.owner_fold.specs.Larger.{larger}
+use Rattle.owner_fold.specs.Left.{streams_left}
+use Rattle.owner_fold.proofs.holdings.Owners.last_stream.Given as goal
+
+abbrev pub invariant-loop-doc : goal.invariant-loop-doc
+invariant-loop-doc l =
+    record {
+      so_far : last_stream (view_of l.self)
+          ≡ larger l.last (greatest (map (λ (d : StreamDoc). d.no) (streams_left l.doc-iterator)));
+      fits : l.last < 2 ^ 32;
+    }

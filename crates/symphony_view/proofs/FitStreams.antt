@@ -4,7 +4,7 @@ use Rattle.std.proofs.lemmas.List.Elements.{All-from_recursion, recursion_from_A
 use Rattle.std.specs.List.{AllByRecursion}
 use Rattle.std.specs.Prelude.{◌==◌, filter, flat_map, map}
 use Rattle.model.specs.Types.{Added, Body, Clock, Declined, Ended, Entry, Events, Failed, Feed, Fulfilled, Launched}
-use Rattle.model.specs.Types.{Lost, NewPlan, Obeyed, Order, Released, Started, StreamDoc, StreamEnded, UntilPassed}
+use Rattle.model.specs.Types.{Late, Lost, NewPlan, Obeyed, Order, Released, Started, StreamDoc, StreamEnded, UntilPassed}
 use Rattle.model.specs.Equalities.{feed_eq}
 use Rattle.model.specs.History.{list_of, view_of}
 use Rattle.model.specs.Catalogue.{catalogue, docs_in, stream}
@@ -41,6 +41,7 @@ docs_fit (Fulfilled o i) h = tt
 docs_fit (Obeyed a k c) h = tt
 docs_fit (Declined a k why) h = tt
 docs_fit (Order c) h = tt
+docs_fit (Late o i) h = tt
 
 each_docs_fit : (bs : List Body) → AllByRecursion IsFitBody bs
     → AllByRecursion (λ (b : Body). AllByRecursion IsFitStream (docs_in b)) bs

@@ -2,6 +2,6 @@ mod Shown
 mod Few
 mod Tables
 mod Belows
-mod FitStreams
+pub mod FitStreams
 mod Numbered
 mod Joins

@@ -4,7 +4,7 @@ use Rattle.std.specs.Fmt.{decimal}
 use Rattle.std.specs.List.{enumerate_from}
 use Rattle.std.specs.Option.{option_map_or}
 use Rattle.std.specs.Prelude.{[], if◌then◌else◌, ℕ, ◌++◌, ◌==◌, List, codes, flat_map}
-use Rattle.model.specs.Types.{Events, JobDoc, Net, PromptDef, Resource, StreamDoc}
+use Rattle.model.specs.Types.{Events, Job, JobDoc, Net, PromptDef, Resource, Stream, StreamDoc}
 use Rattle.model.specs.Words.{below}
 use Rattle.model.specs.Network.{node_count}
 use Rattle.model.specs.History.{View}
@@ -12,11 +12,11 @@ use Rattle.model.specs.Catalogue.{StreamJob, has_plan, job, members, stream}
 use Rattle.model.specs.Facts.{global_reply, launches, total}
 use Rattle.model.specs.Dependencies.{used}
 use Rattle.model.specs.NewPlan.{last_run}
-use Rattle.model.specs.States.{job_state, stream_state}
+use Rattle.model.specs.States.{is_shown_late, job_state, stream_state}
 use Rattle.report_text.specs.Names.{name_of}
 use Rattle.symphony_view.specs.Cpus.{cpu_of}
 use Rattle.symphony_view.specs.declared.cpus.Cpu.{Cpu}
-use Rattle.symphony_view.specs.Words.{activity_word, job_word, prompt_state, prompt_word, stream_word}
+use Rattle.symphony_view.specs.Words.{activity_word, job_word, late_word, prompt_state, prompt_word, stream_word}
 
 -- `plan RUN`, or `no plan`
 unfoldable pub plan_line : View → List ℕ
@@ -52,18 +52,18 @@ prompt_line V p =
     codes "prompt " ++ p.1.name ++ codes " "
     ++ prompt_word (prompt_state p.1.text (global_reply p.0 (V (Events 0)))) ++ codes "\n"
 
--- `stream NO W#NAME STATE`
+-- `stream NO W#NAME STATE`, and ` late` where it is
 unfoldable pub stream_line : Net → View → StreamDoc → List ℕ
 stream_line net V d =
     codes "stream " ++ decimal d.no ++ codes " " ++ name_of net d.ws ++ codes "#" ++ d.name ++ codes " "
-    ++ stream_word (stream_state net V d) ++ codes "\n"
+    ++ stream_word (stream_state net V d) ++ late_word (is_shown_late V (Stream d.no)) ++ codes "\n"
 
--- `job NO W#STREAM.JOB STATE LAUNCHES`
+-- `job NO W#STREAM.JOB STATE LAUNCHES`, and ` late` where it is
 unfoldable pub job_line : Net → View → StreamJob → List ℕ
 job_line net V p =
     codes "job " ++ decimal p.doc.no ++ codes " " ++ name_of net p.parent.ws ++ codes "#" ++ p.parent.name
     ++ codes "." ++ p.doc.name ++ codes " " ++ job_word (job_state net V p) ++ codes " "
-    ++ decimal (launches p.doc.no (V (Events p.doc.ws))) ++ codes "\n"
+    ++ decimal (launches p.doc.no (V (Events p.doc.ws))) ++ late_word (is_shown_late V (Job p.doc.no)) ++ codes "\n"
 
 -- a job of a document, by its number: of several with one number the first of the catalogue is told
 unfoldable pub numbered_job_line : Net → View → JobDoc → List ℕ

@@ -1,7 +1,8 @@
--- How states are told: which of the model's they are, the word of each in a listing, and its number in Symphony.
+-- How states are told: which of the model's they are, the number of each in Symphony, and its word in a listing.
 use Rattle.std.specs.Prelude.{if◌then◌else◌, ℕ, Bool, List, None, Option, Some, codes, false, true}
 use Rattle.model.specs.Dependencies.{is_only_shown}
 use Rattle.model.specs.States as model
+use Rattle.report_text.specs.States.{job_words, stream_words, word_at}
 use Rattle.symphony_view.specs.declared.states.JobState.{JobState}
 use Rattle.symphony_view.specs.declared.states.JobState.TheVariants as job
 use Rattle.symphony_view.specs.declared.states.StreamState.{StreamState}
@@ -31,27 +32,7 @@ told_stream stream_.Succ = model.StreamState.Succ
 told_stream stream_.Abend = model.StreamState.Abend
 told_stream stream_.Cancel = model.StreamState.Cancel
 
-abbrev pub job_word : model.JobState → List ℕ
-job_word model.JobState.Hold = codes "HOLD"
-job_word model.JobState.Fence = codes "FENCE"
-job_word model.JobState.Ready = codes "READY"
-job_word model.JobState.Intro = codes "INTRO"
-job_word model.JobState.Exec = codes "EXEC"
-job_word model.JobState.Succ = codes "SUCC"
-job_word model.JobState.Abend = codes "ABEND"
-job_word model.JobState.Fail = codes "FAIL"
-job_word model.JobState.Cancel = codes "CANCEL"
-
-abbrev pub stream_word : model.StreamState → List ℕ
-stream_word model.StreamState.Hold = codes "HOLD"
-stream_word model.StreamState.Ready = codes "READY"
-stream_word model.StreamState.Exec = codes "EXEC"
-stream_word model.StreamState.Stuck = codes "STUCK"
-stream_word model.StreamState.Succ = codes "SUCC"
-stream_word model.StreamState.Abend = codes "ABEND"
-stream_word model.StreamState.Cancel = codes "CANCEL"
-
--- the states of jobs count from 0 in the order of the summary
+-- the states of jobs count from 0 in the order of their words
 abbrev pub job_number : model.JobState → ℕ
 job_number model.JobState.Hold = 0
 job_number model.JobState.Fence = 1
@@ -72,6 +53,13 @@ stream_number model.StreamState.Stuck = 3
 stream_number model.StreamState.Succ = 4
 stream_number model.StreamState.Abend = 5
 stream_number model.StreamState.Cancel = 6
+
+-- the words are those of the numbers
+abbrev pub job_word : model.JobState → List ℕ
+job_word state = word_at job_words (job_number state)
+
+abbrev pub stream_word : model.StreamState → List ℕ
+stream_word state = word_at stream_words (stream_number state)
 
 -- what a reply says of its prompt
 abbrev pub replied : Option Bool → PromptState
@@ -98,3 +86,8 @@ prompt_number prompt.Shown = 3
 abbrev pub activity_word : Bool → List ℕ
 activity_word true = codes "stopped"
 activity_word false = codes "running"
+
+-- what follows in the line of an object that is late
+abbrev pub late_word : Bool → List ℕ
+late_word true = codes " late"
+late_word false = codes ""

@@ -7,14 +7,13 @@
 
 mod counts;
 mod cpus;
+mod lateness;
 mod launches;
 mod listings;
 mod prompts;
 mod ranges;
 mod states;
 mod symphonies;
-#[cfg(test)]
-mod tests;
 
 ghost use Rattle.std.specs.Prelude.{◌≡◌};
 ghost use Rattle.model.specs.Types.{Net};

@@ -11,10 +11,13 @@ ghost use Rattle.symphony_view.specs.Listings as spec;
 ghost use Rattle.symphony_view.specs.Words as words;
 
 use crate::cpus::{Cpu, cpu_of};
+use crate::lateness::{is_shown_late, late_word};
 use crate::prompts::{prompt_state, prompt_word};
 use crate::ranges::{prompts, resources};
 use crate::states::{job_word, state_of_job, state_of_stream, stream_word};
-use base_types::{Bytes, Items, JobDoc, NoMemory, PromptDef, Resource, StreamDoc, StreamNo, Ws};
+use base_types::{
+    Bytes, Items, JobDoc, NoMemory, Obj, PromptDef, Resource, StreamDoc, StreamNo, Ws,
+};
 use network_tree::Network;
 use owner_fold::Owners;
 use report_text::name;
@@ -187,13 +190,10 @@ fn write_stream(out: &mut Vec<u8>, net: &Network, o: &Owners, doc: &StreamDoc) -
     ensures { OnOk result (out.new.items ≡ out.old.items ++ spec.stream_line net.now (view_of o.now) doc.now) }
 {
     let ws = name(net.net(), &doc.ws);
+    write!(out, "stream {} {ws}#{}", doc.no.0, doc.name.as_str())?;
     let state = stream_word(state_of_stream(net, o, doc));
-    write!(
-        out,
-        "stream {} {ws}#{} {state}\n",
-        doc.no.0,
-        doc.name.as_str()
-    )
+    let late = late_word(is_shown_late(o, Obj::Stream(doc.no)));
+    write!(out, " {state}{late}\n")
 }
 
 fn write_jobs(out: &mut Vec<u8>, net: &Network, o: &Owners, doc: &StreamDoc) -> io::Result<()>
@@ -233,5 +233,6 @@ fn write_job(
     let stream = parent.name.as_str();
     write!(out, "job {} {ws}#{stream}.{}", doc.no.0, doc.name.as_str())?;
     let state = job_word(state_of_job(net, o, parent, doc));
-    write!(out, " {state} {}\n", o.launches(doc.no))
+    let late = late_word(is_shown_late(o, Obj::Job(doc.no)));
+    write!(out, " {state} {}{late}\n", o.launches(doc.no))
 }

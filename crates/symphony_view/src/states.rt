@@ -179,38 +179,6 @@ fn state_by_jobs(net: &Network, o: &Owners, doc: &StreamDoc) -> StreamState
     }
 }
 
-/// The word of a job's state in a listing.
-pub(crate) fn job_word(state: JobState) -> &'static str
-    ensures { result.now ≡ words.job_word (told_job state) }
-{
-    match state {
-        JobState::Hold => "HOLD",
-        JobState::Fence => "FENCE",
-        JobState::Ready => "READY",
-        JobState::Intro => "INTRO",
-        JobState::Exec => "EXEC",
-        JobState::Succ => "SUCC",
-        JobState::Abend => "ABEND",
-        JobState::Fail => "FAIL",
-        JobState::Cancel => "CANCEL",
-    }
-}
-
-/// The word of a stream's state in a listing.
-pub(crate) fn stream_word(state: StreamState) -> &'static str
-    ensures { result.now ≡ words.stream_word (told_stream state) }
-{
-    match state {
-        StreamState::Hold => "HOLD",
-        StreamState::Ready => "READY",
-        StreamState::Exec => "EXEC",
-        StreamState::Stuck => "STUCK",
-        StreamState::Succ => "SUCC",
-        StreamState::Abend => "ABEND",
-        StreamState::Cancel => "CANCEL",
-    }
-}
-
 /// The number of a job's state in Symphony.
 pub(crate) fn job_number(state: JobState) -> u8
     ensures { result ≡ words.job_number (told_job state) }
@@ -241,4 +209,18 @@ pub(crate) fn stream_number(state: StreamState) -> u8
         StreamState::Abend => 5,
         StreamState::Cancel => 6,
     }
+}
+
+/// The word of a job's state in a listing.
+pub(crate) fn job_word(state: JobState) -> &'static str
+    ensures { result.now ≡ words.job_word (told_job state) }
+{
+    report_text::job_word(job_number(state))
+}
+
+/// The word of a stream's state in a listing.
+pub(crate) fn stream_word(state: StreamState) -> &'static str
+    ensures { result.now ≡ words.stream_word (told_stream state) }
+{
+    report_text::stream_word(stream_number(state))
 }

@@ -12,11 +12,12 @@ ghost use Rattle.dependencies.specs.Planned.{IsPlannedJob, IsPlannedStream};
 ghost use Rattle.symphony_view.specs.Symphonies as spec;
 
 use crate::cpus::{Cpu, cpu_of};
+use crate::lateness::{is_second, is_shown_late};
 use crate::prompts::{prompt_number, prompt_state};
 use crate::ranges::{prompts, resources};
 use crate::states::{job_number, state_of_job, state_of_stream, stream_number};
 use base_types::{
-    Bytes, Feed, Items, JobDoc, NoMemory, PromptDef, Resource, StreamDoc, StreamNo, Ws,
+    Bytes, Items, JobDoc, NoMemory, Obj, PromptDef, Resource, StreamDoc, StreamNo, Ws,
 };
 use byte_fields::{put_u8, put_u16, put_u32, put_u64};
 use dependencies::{job_priority, stream_priority};
@@ -25,7 +26,10 @@ use network_tree::Network;
 use owner_fold::Owners;
 use std::alloc::Global;
 
-/// The Symphony of the plan that the entries of `o` make, version 1.
+/// The Symphony of the plan that the entries of `o` make.
+///
+/// It has version 2 where a document of a member has a DEADLINE, or a member or one of its jobs is late, and tells then
+/// what is late. Every other plan has version 1.
 ///
 /// `NoMemory` where memory runs out; a list of more than 4,294,967,295 members counts as such.
 pub fn symphony(alloc: Global, net: &Network, o: &Owners) -> Result<Bytes, NoMemory>
@@ -42,12 +46,13 @@ fn put_symphony(out: &mut Bytes, net: &Network, o: &Owners) -> Result<(), NoMemo
     requires { AreFitEntries o.now }
     ensures { OnOk result (out.new ≡ out.old ++ spec.symphony_of net.now (view_of o.now)) }
 {
+    let second = is_second(o);
     put_mark(out)?;
-    put_u16(out, 1)?;
+    put_u16(out, version_of(second))?;
     put_u16(out, net.count())?;
     put_cpus(out, net, o)?;
     put_u32(out, o.run())?;
-    put_members(out, net, o)?;
+    put_members(out, second, net, o)?;
     put_resources(out, resources(net), o)?;
     put_prompts(out, prompts(net), o)
 }
@@ -60,6 +65,12 @@ fn put_mark(out: &mut Bytes) -> Result<(), NoMemory>
     put_u8(out, b'W')?;
     put_u8(out, b'S')?;
     put_u8(out, b'Y')
+}
+
+fn version_of(second: bool) -> u16
+    ensures { result ≡ spec.version_of second }
+{
+    if second { 2 } else { 1 }
 }
 
 /// How many items a list has.
@@ -115,41 +126,54 @@ fn put_clock(out: &mut Bytes, cpu: &Cpu) -> Result<(), NoMemory>
     put_flag(out, cpu.stopped)
 }
 
-fn put_members(out: &mut Bytes, net: &Network, o: &Owners) -> Result<(), NoMemory>
+fn put_members(out: &mut Bytes, second: bool, net: &Network, o: &Owners) -> Result<(), NoMemory>
     requires { AreFitEntries o.now }
     ensures { OnOk result (out.new ≡ out.old
-        ++ list_bytes (spec.member_bytes net.now (view_of o.now)) (members (view_of o.now))) }
+        ++ list_bytes (spec.member_bytes second net.now (view_of o.now)) (members (view_of o.now))) }
 {
     let streams = o.members().as_slice();
     put_count(out, streams.len())?;
     for s in streams {
-        put_member(out, net, o, *s)?;
+        put_member(out, second, net, o, *s)?;
     }
     Ok(())
 }
 
 #[tactic(auto, unfolding(crate::specs::Symphonies::member_bytes))]
-fn put_member(out: &mut Bytes, net: &Network, o: &Owners, s: StreamNo) -> Result<(), NoMemory>
+fn put_member(
+    out: &mut Bytes,
+    second: bool,
+    net: &Network,
+    o: &Owners,
+    s: StreamNo,
+) -> Result<(), NoMemory>
     requires { AreFitEntries o.now }
-    ensures { OnOk result (out.new ≡ out.old ++ spec.member_bytes net.now (view_of o.now) s) }
+    ensures { OnOk result (out.new ≡ out.old ++ spec.member_bytes second net.now (view_of o.now) s) }
 {
     match o.stream(s) {
         None => Ok(()),
-        Some(doc) => put_planned(out, net, o, doc),
+        Some(doc) => put_planned(out, second, net, o, doc),
     }
 }
 
 #[tactic(auto, unfolding(crate::specs::Symphonies::stream_bytes))]
-fn put_planned(out: &mut Bytes, net: &Network, o: &Owners, doc: &StreamDoc) -> Result<(), NoMemory>
+fn put_planned(
+    out: &mut Bytes,
+    second: bool,
+    net: &Network,
+    o: &Owners,
+    doc: &StreamDoc,
+) -> Result<(), NoMemory>
     requires planned { IsPlannedStream (view_of o.now) doc.now }
     requires fit { IsFitStream doc.now }
-    ensures { OnOk result (out.new ≡ out.old ++ spec.stream_bytes net.now (view_of o.now) doc.now) }
+    ensures { OnOk result (out.new ≡ out.old ++ spec.stream_bytes second net.now (view_of o.now) doc.now) }
 {
     put_stream(out, doc)?;
     put_u8(out, stream_number(state_of_stream(net, o, doc)))?;
     put_u8(out, stream_priority(o, doc))?;
+    put_late(out, second, o, Obj::Stream(doc.no))?;
     for job in doc.jobs.as_slice() {
-        put_numbered_job(out, net, o, job)?;
+        put_numbered_job(out, second, net, o, job)?;
     }
     Ok(())
 }
@@ -157,21 +181,23 @@ fn put_planned(out: &mut Bytes, net: &Network, o: &Owners, doc: &StreamDoc) -> R
 #[tactic(auto, unfolding(crate::specs::Symphonies::numbered_job_bytes))]
 fn put_numbered_job(
     out: &mut Bytes,
+    second: bool,
     net: &Network,
     o: &Owners,
     job: &JobDoc,
 ) -> Result<(), NoMemory>
-    ensures { OnOk result (out.new ≡ out.old ++ spec.numbered_job_bytes net.now (view_of o.now) job.now) }
+    ensures { OnOk result (out.new ≡ out.old ++ spec.numbered_job_bytes second net.now (view_of o.now) job.now) }
 {
     match o.planned_job(job.no) {
         None => Ok(()),
-        Some((parent, doc)) => put_job(out, net, o, parent, doc),
+        Some((parent, doc)) => put_job(out, second, net, o, parent, doc),
     }
 }
 
 #[tactic(auto, unfolding(crate::specs::Symphonies::job_bytes))]
 fn put_job(
     out: &mut Bytes,
+    second: bool,
     net: &Network,
     o: &Owners,
     parent: &StreamDoc,
@@ -179,11 +205,23 @@ fn put_job(
 ) -> Result<(), NoMemory>
     requires { IsPlannedJob (view_of o.now) (stream_job parent.now doc.now) }
     ensures { OnOk result (out.new ≡ out.old
-        ++ spec.job_bytes net.now (view_of o.now) (stream_job parent.now doc.now)) }
+        ++ spec.job_bytes second net.now (view_of o.now) (stream_job parent.now doc.now)) }
 {
     put_u8(out, job_number(state_of_job(net, o, parent, doc)))?;
     put_u32(out, o.launches(doc.no))?;
-    put_u8(out, job_priority(o, parent, doc))
+    put_u8(out, job_priority(o, parent, doc))?;
+    put_late(out, second, o, Obj::Job(doc.no))
+}
+
+/// Whether an object is late, in version 2.
+#[tactic(auto, unfolding(crate::specs::Symphonies::late_bytes))]
+fn put_late(out: &mut Bytes, second: bool, o: &Owners, object: Obj) -> Result<(), NoMemory>
+    ensures { OnOk result (out.new ≡ out.old ++ spec.late_bytes second (view_of o.now) object) }
+{
+    if !second {
+        return Ok(());
+    }
+    put_flag(out, is_shown_late(o, object))
 }
 
 #[tactic(auto, using(crate::proofs::Numbered::listed))]

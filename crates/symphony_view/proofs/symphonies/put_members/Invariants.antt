@@ -9,4 +9,4 @@ use Rattle.symphony_view.proofs.symphonies.put_members.Given as goal
 abbrev pub invariant-loop-s : goal.invariant-loop-s
 invariant-loop-s l =
     l.out ≡ l.fn.out ++ (u32_bytes (length (members (view_of l.o)))
-    ++ flat_map (member_bytes l.net (view_of l.o)) (take l.s-index (members (view_of l.o))))
+    ++ flat_map (member_bytes l.second l.net (view_of l.o)) (take l.s-index (members (view_of l.o))))

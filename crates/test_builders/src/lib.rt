@@ -24,7 +24,7 @@ pub use draft_rows::{
     DraftWaits, JobDraftRow, StreamDraftRow, draft, draft_deps, drafts, job_draft, stream_draft,
 };
 pub use entry_rows::{EntryRow, FeedRow, entries, entry, feed};
-pub use lists::{job_nos, many, one, stream_nos, two};
+pub use lists::{job_nos, listed, many, one, stream_nos, two};
 pub use networks::{
     ALONE, DOMAIN, NodeRow, PromptRow, ResourceRow, TWO_AGENTS, net, node, nodes, plain_net,
     prompts, resources,

@@ -17,6 +17,15 @@ pub fn two<T: Drop>(alloc: Global, first: T, second: T) -> Result<Items<T>, NoMe
     Ok(list)
 }
 
+/// A list of these items.
+pub fn listed<T: Copy + Drop>(alloc: Global, items: &[T]) -> Result<Items<T>, NoMemory> {
+    let mut list = Items::new(alloc);
+    for item in items {
+        list.push(*item)?;
+    }
+    Ok(list)
+}
+
 /// A list of one item so many times.
 pub fn many<T: Copy + Drop>(alloc: Global, item: &T, count: u32) -> Result<Items<T>, NoMemory> {
     let mut list = Items::new(alloc);

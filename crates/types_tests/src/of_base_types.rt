@@ -1,0 +1,257 @@
+//! Each public function of `base_types` on its happy path, and copies of what has many kinds.
+use base_types::{
+    Body, Carry, Copied, Feed, Growing, Items, JobNo, Local, Moment, Obj, OnUntil, Out, Packet,
+    Peer, Seen, StreamNo, Text, Why, WorldStep, Ws, is_name,
+};
+use std::alloc::Global;
+use std::test::Fail;
+use test_builders::{
+    Asks, DraftWaits, JobRow, NodeRow, Says, StreamDraftRow, StreamRow, Waits, body, drafts, net,
+};
+
+const JOB: JobRow = (
+    7,
+    1,
+    "PAYROLL",
+    10,
+    &[
+        Waits::Job(3),
+        Waits::Stream(4),
+        Waits::Units(1, 2),
+        Waits::Global(1),
+        Waits::Own("ready?"),
+        Waits::At(5),
+        Waits::Until(6, OnUntil::Canc),
+        Waits::File("/in/day"),
+        Waits::Deadline(9),
+    ],
+);
+
+const STREAM: StreamRow = (2, 0, "NIGHT", true, &[Waits::At(1)], &[JOB]);
+
+const DRAFT: StreamDraftRow = (
+    0,
+    "NIGHT",
+    false,
+    &[DraftWaits::Stream(1, "DAY")],
+    &[(
+        1,
+        "A",
+        &[
+            DraftWaits::Job(1, "DAY", "B"),
+            DraftWaits::Plain(Waits::At(3)),
+        ],
+    )],
+);
+
+const JOB_1: Obj = Obj::Job(JobNo(1));
+
+const STREAM_2: Obj = Obj::Stream(StreamNo(2));
+
+/// What a workstation decides and sees.
+const EVENTS: [Says; 15] = [
+    Says::NewPlan(2, &[(0, 5), (1, 3)], &[1, 4], &[STREAM]),
+    Says::Added(1, 2, &STREAM),
+    Says::Clock(100),
+    Says::Released(2, &[(0, 1)]),
+    Says::StreamEnded(2, &[(0, 9)]),
+    Says::UntilPassed(JOB_1, 1, OnUntil::Suppr),
+    Says::Launched(7, 1, &[(0, 6)]),
+    Says::Started(7, 1),
+    Says::Failed(7, 1),
+    Says::Ended(7, 1, 0),
+    Says::EndedAs(7, 2, -4, true),
+    Says::Lost(7, 1),
+    Says::Fulfilled(STREAM_2, 3),
+    Says::Declined(1, 2, Why::NotBuilt),
+    Says::Late(JOB_1, 9),
+];
+
+/// Orders of every command.
+const ORDERS: [Says; 18] = [
+    Says::Order(Asks::AddDep(JOB_1, Waits::Own("go?"))),
+    Says::Order(Asks::DelDep(STREAM_2, 1)),
+    Says::Order(Asks::Release(JOB_1)),
+    Says::Order(Asks::AltPri(STREAM_2, 101)),
+    Says::Order(Asks::Cancel(JOB_1)),
+    Says::Order(Asks::Confirm(1)),
+    Says::Order(Asks::Kill(1)),
+    Says::Order(Asks::Rerun(1)),
+    Says::Obeyed(1, 2, Asks::Fence(100)),
+    Says::Obeyed(1, 2, Asks::Limit(3)),
+    Says::Obeyed(1, 2, Asks::StreamLimit(2, 3)),
+    Says::Obeyed(1, 2, Asks::Total(1, 1024)),
+    Says::Obeyed(1, 2, Asks::ReplyGlobal(1, true)),
+    Says::Obeyed(1, 2, Asks::ReplyOwn(JOB_1, 1, false)),
+    Says::Order(Asks::Start),
+    Says::Order(Asks::Stop),
+    Says::Order(Asks::Submit(&DRAFT)),
+    Says::Order(Asks::SwitchMgr(1)),
+];
+
+fn shown(alloc: Global, body: &Body) -> Result<String, Fail> {
+    Ok(format!(in alloc; "{body:?}")?)
+}
+
+fn copy_shown(alloc: Global, body: &Body) -> Result<String, Fail> {
+    let copy = body.copy()?;
+    shown(alloc, &copy)
+}
+
+/// Whether the copy of the body shows as the body does.
+fn shows_the_same(alloc: Global, body: &Body) -> Result<bool, Fail> {
+    Ok(copy_shown(alloc, body)?.as_str() == shown(alloc, body)?.as_str())
+}
+
+fn is_copied(alloc: Global, says: &Says) -> Result<bool, Fail> {
+    let body = body(alloc, says)?;
+    shows_the_same(alloc, &body)
+}
+
+/// How many of the bodies have copies that show as they do, up to the first that has not.
+fn copied(alloc: Global, rows: &[Says]) -> Result<usize, Fail> {
+    for (i, says) in rows.iter().enumerate() {
+        if !is_copied(alloc, says)? {
+            return Ok(i);
+        }
+    }
+    Ok(rows.len())
+}
+
+#[test]
+fn copies_of_bodies_are_equal(rt: HostRuntime) -> Result<(), Fail> {
+    assert_eq!(rt; copied(rt.alloc(), &EVENTS)?, 15);
+    assert_eq!(rt; copied(rt.alloc(), &ORDERS)?, 18);
+    Ok(())
+}
+
+#[test]
+fn texts(rt: HostRuntime) -> Result<(), Fail> {
+    let text = Text::of(rt.alloc(), "Zoë")?;
+    assert_eq!(rt; text.as_str(), "Zoë");
+    assert_eq!(rt; text.len(), 4);
+    assert!(rt; text.copy()? == text);
+    assert!(rt; Text::new(rt.alloc()) < text);
+    assert!(rt; Text::new(rt.alloc()).is_empty());
+    assert_eq!(rt; Text::of_upper(rt.alloc(), "Zoë-1a")?.as_str(), "ZOë-1A");
+    let text = Text::from_string(format!(in rt.alloc(); "{text}#1")?);
+    assert_eq!(rt; text.as_str(), "Zoë#1");
+    Ok(())
+}
+
+#[test]
+fn names(rt: HostRuntime) {
+    assert!(rt; is_name("A-1_b"));
+    assert!(rt; !is_name(""));
+    assert!(rt; !is_name("1A"));
+    assert!(rt; !is_name("Zoë"));
+    assert!(rt; is_name("abcdefghijabcdefghijabcdefghijabcdefghij"));
+    assert!(rt; !is_name("abcdefghijabcdefghijabcdefghijabcdefghijk"));
+}
+
+#[test]
+fn counts(rt: HostRuntime) -> Result<(), Fail> {
+    let mut seen = Seen::new(rt.alloc());
+    seen.reserve(1)?;
+    seen.push((Ws(3), 8))?;
+    assert_eq!(rt; seen.count(Ws(3)), 8);
+    assert_eq!(rt; seen.count(Ws(4)), 0);
+    assert_eq!(rt; seen.copy()?.as_slice(), seen.as_slice());
+    Ok(())
+}
+
+#[test]
+fn room(rt: HostRuntime) -> Result<(), Fail> {
+    let mut list = Growing::new(rt.alloc());
+    list.reserve(2)?;
+    list.push(Obj::Job(JobNo(1)))?;
+    list.put(Obj::Job(JobNo(2)));
+    let mut list = list.into_items();
+    list.reserve(1)?;
+    list.push(Obj::Job(JobNo(3)))?;
+    assert_eq!(rt; list.len(), 3);
+    list.set(0, Obj::Job(JobNo(4)));
+    assert_eq!(rt; list.get(0), Some(&Obj::Job(JobNo(4))));
+    assert_eq!(rt; Growing::of_items(list).len(), 3);
+    Ok(())
+}
+
+/// Whether the step is the one of the test below, with its drafts shown as this text.
+fn is_the_step(alloc: Global, step: &WorldStep, text: &str) -> Result<bool, Fail> {
+    match step {
+        WorldStep::CrashTake(Ws(2), Local::Next(drafts), true) => {
+            Ok(format!(in alloc; "{drafts:?}")?.as_str() == text)
+        }
+        _ => Ok(false),
+    }
+}
+
+#[test]
+fn copies_of_steps(rt: HostRuntime) -> Result<(), Fail> {
+    let alloc = rt.alloc();
+    let drafts = drafts(alloc, &[DRAFT])?;
+    let text = format!(in alloc; "{drafts:?}")?;
+    let step = WorldStep::CrashTake(Ws(2), Local::Next(drafts), true);
+    let copy = step.copy()?;
+    assert!(rt; is_the_step(alloc, &copy, text.as_str())?);
+    Ok(())
+}
+
+#[test]
+fn copies_of_peers(rt: HostRuntime) -> Result<(), Fail> {
+    let peer = Peer {
+        ws: Ws(1),
+        host: Text::of(rt.alloc(), "mdm.example")?,
+        port: 31111,
+    };
+    let copy = peer.copy()?;
+    assert_eq!(rt; copy.ws, Ws(1));
+    assert_eq!(rt; copy.host.as_str(), "mdm.example");
+    assert_eq!(rt; copy.port, 31111);
+    Ok(())
+}
+
+#[test]
+fn copies_of_outputs(rt: HostRuntime) -> Result<(), Fail> {
+    let mut outs = Items::new(rt.alloc());
+    outs.push(Out::Send(Ws(1), Packet::Ack(Feed::Events(Ws(0)), 3)))?;
+    let copies = outs.copy()?;
+    let same = match copies.as_slice() {
+        [Out::Send(to, packet)] => {
+            *to == Ws(1) && *packet == Packet::Ack(Feed::Events(Ws(0)), 3)
+        }
+        _ => false,
+    };
+    assert!(rt; same);
+    Ok(())
+}
+
+const NODES: [NodeRow; 2] = [("M", None, true, true), ("P", Some(0), false, false)];
+
+#[test]
+fn copies_of_networks(rt: HostRuntime) -> Result<(), Fail> {
+    let net = net(rt.alloc(), &NODES, &[(1, "TAPE", 2)], &[("GO", "go on?")])?;
+    let copy = net.copy()?;
+    let last = copy.nodes.get(1).ok_or("no second workstation")?;
+    assert!(rt; last.name.as_str() == "P" && last.hop == Some(Ws(0)));
+    assert!(rt; !last.manager && !last.full);
+    assert!(rt;
+        copy.resources
+            .get(0)
+            .is_some_and(|r| r.total == 2 && r.ws == Ws(1))
+    );
+    assert!(rt;
+        copy.prompts
+            .get(0)
+            .is_some_and(|p| p.text.as_str() == "go on?")
+    );
+    assert!(rt; copy.carry == Carry::Yes);
+    Ok(())
+}
+
+#[test]
+fn feeds_and_moments_in_order(rt: HostRuntime) {
+    assert!(rt; Feed::Events(Ws(2)) < Feed::Orders(Ws(0), Ws(1)));
+    assert!(rt; Feed::Orders(Ws(0), Ws(1)) < Feed::Orders(Ws(0), Ws(2)));
+    assert!(rt; Moment(9) < Moment(10));
+}

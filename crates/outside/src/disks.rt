@@ -1,5 +1,5 @@
 // A disk that may stop at any moment.
-ghost use Rattle.std.specs.Prelude.{◌≡◌, ◌+◌, ◌<◌, ◌≤◌, ◌^◌, List, ℕ, length, take, drop, IfOk, OnOk, OnErr, IfSome, ◌↔◌};
+ghost use Rattle.std.specs.Prelude.{◌≡◌, ◌+◌, ◌<◌, ◌≤◌, ◌^◌, List, ℕ, length, take, drop, IfOk, OnOk, OnErr, IfSome};
 ghost use Rattle.std.specs.declared.option.Option.{Option};
 ghost use Rattle.outside.specs.Causes.{HasCause};
 ghost use Rattle.outside.specs.Stops.{Elapses};
@@ -17,16 +17,13 @@ pub trait Disk {
     /// The bytes that reads give, where the disk tells them.
     ghost seen: { Self → Option (List ℕ) };
 
-    /// That it tells what a stop may leave. Where it doesn't, any file may be left.
-    ghost tells_stops: { Type 0 };
-
-    /// What a stop at this moment may leave.
+    /// The files that it tells a stop at this moment may leave. A disk that doesn't know tells none.
     ghost may_leave: { Self → List ℕ → Type 0 };
 
     /// The moment, a number that does not fall.
     ghost moment: { Self → ℕ };
 
-    /// What a stop at some moment from that one on might have left, during a call or between two.
+    /// The files that it tells a stop at some moment from that one on might have left, during a call or between two.
     ghost left_since: { Self → ℕ → List ℕ → Type 0 };
 
     /// The count of its faults, up to 2^64 - 1: it rises in each call that fails, and in no other.
@@ -36,7 +33,8 @@ pub trait Disk {
     fn len(&mut self) -> Result<u64, Failed>
         ensures length { IfOk result (λ n. IfSome (seen self.old) (λ file. n ≡ length file)) }
         ensures seen { seen self.new ≡ seen self.old }
-        ensures crash { (file : List ℕ) → (may_leave self.new file ↔ may_leave self.old file) }
+        ensures crash { (file : List ℕ) → may_leave self.new file → may_leave self.old file }
+        ensures still { (file : List ℕ) → may_leave self.old file → may_leave self.new file }
         ensures time { Elapses (moment self.old) (moment self.new) (left_since self.old) (left_since self.new) (may_leave self.new) }
         ensures cause { HasCause (faults self.old) (faults self.new) result };
 
@@ -45,7 +43,8 @@ pub trait Disk {
         requires inside { IfSome (seen self.old) (λ file. at + length buf.old ≤ length file) }
         ensures bytes { OnOk result (IfSome (seen self.old) (λ file. buf.new ≡ take (length buf.old) (drop at file))) }
         ensures seen { seen self.new ≡ seen self.old }
-        ensures crash { (file : List ℕ) → (may_leave self.new file ↔ may_leave self.old file) }
+        ensures crash { (file : List ℕ) → may_leave self.new file → may_leave self.old file }
+        ensures still { (file : List ℕ) → may_leave self.old file → may_leave self.new file }
         ensures time { Elapses (moment self.old) (moment self.new) (left_since self.old) (left_since self.new) (may_leave self.new) }
         ensures cause { HasCause (faults self.old) (faults self.new) result };
 
@@ -72,14 +71,14 @@ pub trait Disk {
 
     /// After it a stop leaves what reads give.
     fn sync(&mut self) -> Result<(), Failed>
-        ensures durable { OnOk result (IfSome (seen self.new) (λ file. tells_stops → Only file (may_leave self.new))) }
+        ensures durable { OnOk result (IfSome (seen self.new) (λ file. Only file (may_leave self.new))) }
         ensures seen { seen self.new ≡ seen self.old }
         ensures crash { (file : List ℕ) → may_leave self.new file → may_leave self.old file }
         ensures time { Elapses (moment self.old) (moment self.new) (left_since self.old) (left_since self.new) (may_leave self.new) }
         ensures cause { HasCause (faults self.old) (faults self.new) result };
 
-    /// What reads give is one of the files that a stop may leave.
-    ghost seen_may_be_left: { (disk : Self) → IfSome (seen disk) (may_leave disk) };
+    /// Where it tells a file that a stop may leave, what reads give is one of them.
+    ghost seen_may_be_left: { (disk : Self) (file : List ℕ) → may_leave disk file → IfSome (seen disk) (may_leave disk) };
 
     /// This moment is one of those since an earlier one.
     ghost counts_now: { (disk : Self) (t : ℕ) (file : List ℕ) → t ≤ moment disk → may_leave disk file → left_since disk t file };

@@ -36,16 +36,13 @@ pub trait Keeper {
     /// Whether it has answered that its disk failed. From then on it keeps nothing more.
     ghost spent: { Self → Bool };
 
-    /// That it tells what a stop may leave.
-    ghost tells_stops: { Type 0 };
-
-    /// What a stop at this moment may leave.
+    /// The lists that it tells a stop at this moment may leave. A keeper that doesn't know tells none.
     ghost may_leave: { Self → Bodies → Type 0 };
 
     /// The moment, a number that does not fall.
     ghost moment: { Self → ℕ };
 
-    /// What a stop at some moment from that one on might have left.
+    /// The lists that it tells a stop at some moment from that one on might have left.
     ghost left_since: { Self → ℕ → Bodies → Type 0 };
 
     /// The count of its disk's faults.
@@ -72,11 +69,11 @@ pub trait Keeper {
 
         // What a stop leaves: at any moment of the call what was kept, or that and the body.
         ensures time { moment self.old ≤ moment self.new }
-        ensures any_moment { tells_stops → (t : ℕ) → (left : Bodies) → t ≤ moment self.old → left_since self.new t left →
+        ensures any_moment { (t : ℕ) → (left : Bodies) → t ≤ moment self.old → left_since self.new t left →
             left_since self.old t left ⊎ KeptOrWith (kept self.old) body.now left }
-        ensures failed { tells_stops → spent self.old ≡ false → IsErrOf result OfDisk →
+        ensures failed { spent self.old ≡ false → IsErrOf result OfDisk →
             (left : Bodies) → may_leave self.new left → KeptOrWith (kept self.old) body.now left }
-        ensures rest { tells_stops → spent self.new ≡ false → (left : Bodies) → may_leave self.new left → IsKept (kept self.new) left }
+        ensures rest { spent self.new ≡ false → (left : Bodies) → may_leave self.new left → IsKept (kept self.new) left }
         ensures spent_now { spent self.old ≡ true → (left : Bodies) → (may_leave self.new left ↔ may_leave self.old left) }
         ensures spent_since { spent self.old ≡ true → (t : ℕ) → (left : Bodies) → t ≤ moment self.old →
             (left_since self.new t left ↔ left_since self.old t left) };
@@ -85,7 +82,7 @@ pub trait Keeper {
     fn count(&self) -> u32
         ensures count { result ≡ number self.now }
         ensures kept { IfSome (kept self.now) (λ bodies. length bodies ≡ number self.now) }
-        ensures rest { tells_stops → spent self.now ≡ false → (left : Bodies) → may_leave self.now left → IsKept (kept self.now) left };
+        ensures rest { spent self.now ≡ false → (left : Bodies) → may_leave self.now left → IsKept (kept self.now) left };
 
     /// The body of this number, counted from 0. NotThere exactly where there are no more than so many.
     fn read(&mut self, i: u32) -> Result<Bytes, KeepFault>

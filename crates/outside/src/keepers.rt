@@ -99,11 +99,10 @@ pub trait Keeper {
         ensures not_spent { spent self.old ≡ false → (IsErrOf result OfDisk → ⊥) → spent self.new ≡ false }
         ensures stays_spent { spent self.old ≡ true → spent self.new ≡ true }
 
-        // It changes nothing of what a stop leaves.
+        // It adds nothing to what a stop leaves.
         ensures time { moment self.old ≤ moment self.new }
-        ensures now { (left : Bodies) → (may_leave self.new left ↔ may_leave self.old left) }
-        ensures since { (t : ℕ) → (left : Bodies) → t ≤ moment self.old →
-            (left_since self.new t left ↔ left_since self.old t left) };
+        ensures now { (left : Bodies) → may_leave self.new left → may_leave self.old left }
+        ensures since { (t : ℕ) → (left : Bodies) → t ≤ moment self.old → left_since self.new t left → left_since self.old t left };
 
     /// This moment is one of those since an earlier one.
     ghost counts_now: { (keeper : Self) (t : ℕ) (left : Bodies) → t ≤ moment keeper → may_leave keeper left → left_since keeper t left };

@@ -1,4 +1,4 @@
-//! The outside, as traits: a source of bytes and a sink for bytes.
+//! The outside, as traits: sources and sinks of bytes, disks, keepers of bodies, links, spawners of processes, clocks.
 //!
 //! Each object counts the calls that failed, so that whoever holds it can see from the count whether the outside is at
 //! fault. What an object holds is told where it is known, as in memory; a file, a socket or a terminal tells nothing.
@@ -10,6 +10,22 @@ ghost use Rattle.std.specs.Io.{ReadsAtMost};
 ghost use Rattle.std.specs.Io.KnownBytes.{WriteAppends};
 ghost use Rattle.outside.specs.Causes.{HasCause};
 ghost use Rattle.outside.specs.Streams.{Stream, Takes, IsAtEnd};
+
+mod clocks;
+mod disks;
+mod framed;
+mod images;
+mod keepers;
+mod links;
+mod spawners;
+
+pub use clocks::Clock;
+pub use disks::Disk;
+pub use framed::{FrameFault, Framed};
+pub use images::stops_leave_exactly_these;
+pub use keepers::{KeepFault, Keeper};
+pub use links::{Arrival, Link};
+pub use spawners::{End, Spawner};
 
 /// A call to the outside failed, and the object's count of faults rose.
 #[derive(Clone, Copy, Debug, PartialEq, Eq)]

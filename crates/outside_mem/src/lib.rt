@@ -5,10 +5,14 @@
 #![tactic(auto)]
 
 mod calls;
+mod disks;
 mod sink;
 mod source;
+mod stopping;
 #[cfg(test)]
 mod tests;
 
+pub use disks::MemDisk;
 pub use sink::MemSink;
 pub use source::MemSource;
+pub use stopping::StoppingDisk;

@@ -1,0 +1,10 @@
+pub mod Moments
+pub mod Tears
+pub mod Reading
+pub mod Putting
+pub mod Appending
+pub mod Finding
+pub mod Scanning
+pub mod Settling
+pub mod Attached
+pub mod Cursors

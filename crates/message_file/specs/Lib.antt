@@ -1,0 +1,7 @@
+pub mod Steps
+pub mod Files
+pub mod State
+pub mod Attaching
+pub mod Bounds
+pub mod Refusals
+pub mod Cursors

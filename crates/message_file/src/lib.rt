@@ -1,0 +1,19 @@
+//! A file of records, which keeps bodies on a disk that may stop at any moment.
+//!
+//! A record counts where its gate is open (1) and it is whole. Behind the last one stands a closed gate, on the disk
+//! before anything is written behind it: a record is written and synced behind the closed gate, and then that gate is
+//! opened by a write of its own and synced. So each stop leaves the bodies of before, or these and the new one.
+#![tactic(auto)]
+
+mod attaches;
+mod files;
+mod keeps;
+mod puts;
+mod reads;
+mod records;
+
+pub use attaches::AttachFault;
+pub use files::{MessageFile, NotAttached};
+
+/// How many bytes a file may have.
+const LONGEST_FILE: u64 = 2_147_483_648;

@@ -6,8 +6,6 @@
 
 mod puts;
 mod takes;
-#[cfg(test)]
-mod tests;
 
 pub use puts::{put_i32, put_text, put_u8, put_u16, put_u32, put_u64};
 pub use takes::{take_i32, take_text, take_u8, take_u16, take_u32, take_u64};

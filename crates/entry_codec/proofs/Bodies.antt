@@ -64,15 +64,19 @@ plan_fits second run cut carried docs f g h k =
       refl,
     )
 
-event_again : (second : Bool) (bytes : List ℕ) (p : ℕ) (b : Body) (q : ℕ) → EventFits second b → Stands (body_bytes b) bytes p q
+event_again : (second : Bool) (bytes : List ℕ) (p : ℕ) (b : Body) (q : ℕ) → EventFits second b
+    → Stands (body_bytes b) bytes p q
     → event_at second bytes p ≡ Ok (b, q)
 unfolding event_at body_bytes
 event_again second bytes p (NewPlan w x y z) q fits s =
-    again_4 u32_reader seen_reader (list_reader u32_reader) (list_reader (stream_reader second)) (event_rows second) 1 NewPlan w x y z
+    again_4 u32_reader seen_reader (list_reader u32_reader) (list_reader (stream_reader second)) (event_rows second)
+    1 NewPlan w x y z
     refl (omega arith) fits.0.0.1.0 (seen_fits x fits.0.0.0.0 fits.0.0.1.1)
-    (fits.0.0.0.1, recursion_from_All IsU32 y fits.0.0.1.2) (together second IsFitStream StreamInRange doc_has_deadline z fits.0.0.0.2 fits.0.0.1.3 fits.0.1) s
+    (fits.0.0.0.1, recursion_from_All IsU32 y fits.0.0.1.2) (together second IsFitStream StreamInRange
+    doc_has_deadline z fits.0.0.0.2 fits.0.0.1.3 fits.0.1) s
 event_again second bytes p (Added x y z) q fits s =
-    again_3 u16_reader u32_reader (stream_reader second) (event_rows second) 2 Added x y z refl (omega arith) fits.0.0.1.0 fits.0.0.1.1
+    again_3 u16_reader u32_reader (stream_reader second) (event_rows second) 2 Added x y z refl (omega arith)
+    fits.0.0.1.0 fits.0.0.1.1
     ((fits.0.0.0, fits.0.0.1.2), fits.0.1) s
 event_again second bytes p (Clock x) q fits s =
     again_1 u64_reader (event_rows second) 3 Clock x refl (omega arith) fits.0.0.1 s
@@ -83,27 +87,32 @@ event_again second bytes p (StreamEnded x y) q fits s =
     again_2 u32_reader seen_reader (event_rows second) 5 StreamEnded x y refl (omega arith) fits.0.0.1.0
     (seen_fits y fits.0.0.0 fits.0.0.1.1) s
 event_again second bytes p (UntilPassed x y z) q fits s =
-    again_3 obj_reader u16_reader until_reader (event_rows second) 6 UntilPassed x y z refl (omega arith) fits.0.0.1.0 fits.0.0.1.1
+    again_3 obj_reader u16_reader until_reader (event_rows second) 6 UntilPassed x y z refl (omega arith)
+    fits.0.0.1.0 fits.0.0.1.1
     tt s
 event_again second bytes p (Launched x y z) q fits s =
-    again_3 u32_reader u32_reader seen_reader (event_rows second) 7 Launched x y z refl (omega arith) fits.0.0.1.0 fits.0.0.1.1
+    again_3 u32_reader u32_reader seen_reader (event_rows second) 7 Launched x y z refl (omega arith) fits.0.0.1.0
+    fits.0.0.1.1
     (seen_fits z fits.0.0.0 fits.0.0.1.2) s
 event_again second bytes p (Started x y) q fits s =
     again_2 u32_reader u32_reader (event_rows second) 8 Started x y refl (omega arith) fits.0.0.1.0 fits.0.0.1.1 s
 event_again second bytes p (Failed x y) q fits s =
     again_2 u32_reader u32_reader (event_rows second) 9 Failed x y refl (omega arith) fits.0.0.1.0 fits.0.0.1.1 s
 event_again second bytes p (Ended w x y z) q fits s =
-    again_4 u32_reader u32_reader i32_reader flag_reader (event_rows second) 10 Ended w x y z refl (omega arith) fits.0.0.1.0
+    again_4 u32_reader u32_reader i32_reader flag_reader (event_rows second) 10 Ended w x y z refl (omega arith)
+    fits.0.0.1.0
     fits.0.0.1.1 fits.0.0.1.2 tt s
 event_again second bytes p (Lost x y) q fits s =
     again_2 u32_reader u32_reader (event_rows second) 11 Lost x y refl (omega arith) fits.0.0.1.0 fits.0.0.1.1 s
 event_again second bytes p (Fulfilled x y) q fits s =
     again_2 obj_reader u16_reader (event_rows second) 12 Fulfilled x y refl (omega arith) fits.0.0.1.0 fits.0.0.1.1 s
 event_again second bytes p (Obeyed x y z) q fits s =
-    again_3 u16_reader u32_reader (cmd_reader second) (event_rows second) 13 Obeyed x y z refl (omega arith) fits.0.0.1.0 fits.0.0.1.1
+    again_3 u16_reader u32_reader (cmd_reader second) (event_rows second) 13 Obeyed x y z refl (omega arith)
+    fits.0.0.1.0 fits.0.0.1.1
     ((fits.0.0.0, fits.0.0.1.2), fits.0.1) s
 event_again second bytes p (Declined x y z) q fits s =
-    again_3 u16_reader u32_reader why_reader (event_rows second) 14 Declined x y z refl (omega arith) fits.0.0.1.0 fits.0.0.1.1 tt
+    again_3 u16_reader u32_reader why_reader (event_rows second) 14 Declined x y z refl (omega arith) fits.0.0.1.0
+    fits.0.0.1.1 tt
     s
 event_again true bytes p (Late x y) q fits s =
     again_2 obj_reader u16_reader (event_rows true) 16 Late x y refl (omega arith) fits.0.0.1.0 fits.0.0.1.1 s
@@ -121,7 +130,8 @@ unfolding event_at body_bytes
 event_reader second =
     let none : Allows second false = allows_none second in
     choice_reader (EventFits second) body_bytes (event_rows second) (
-    row_4 u32_reader seen_reader (list_reader u32_reader) (list_reader (stream_reader second)) 1 NewPlan (plan_fits second)
+    row_4 u32_reader seen_reader (list_reader u32_reader) (list_reader (stream_reader second)) 1 NewPlan
+    (plan_fits second)
     (λ w x y z. refl)
     & row_3 u16_reader u32_reader (stream_reader second) 2 Added (λ x y z f g h. (((h.0.0, (f, g, h.0.1)), h.1), refl))
     (λ x y z. refl)
@@ -145,10 +155,12 @@ event_reader second =
     & row_3 u16_reader u32_reader why_reader 14 Declined (λ x y z f g h. (((tt, (f, g)), none), refl)) (λ x y z. refl)
     & late_row second) (event_again second)
 
-order_again : (second : Bool) (bytes : List ℕ) (p : ℕ) (b : Body) (q : ℕ) → OrderFits second b → Stands (body_bytes b) bytes p q
+order_again : (second : Bool) (bytes : List ℕ) (p : ℕ) (b : Body) (q : ℕ) → OrderFits second b
+    → Stands (body_bytes b) bytes p q
     → order_at second bytes p ≡ Ok (b, q)
 unfolding order_at body_bytes
-order_again second bytes p (Order c) q fits s = again_1 (cmd_reader second) (order_rows second) 15 Order c refl (omega arith) fits.0 s
+order_again second bytes p (Order c) q fits s =
+    again_1 (cmd_reader second) (order_rows second) 15 Order c refl (omega arith) fits.0 s
 order_again second bytes p _ q fits s = absurd cc
 
 order_reader : (second : Bool) → IsReader (OrderFits second) body_bytes (order_at second)

@@ -19,11 +19,13 @@ use Rattle.entry_codec.proofs.Allowed.{Allows, allows_none}
 abbrev pub CmdFits : Bool → Cmd → Type 0
 CmdFits second c = (IsFitCmd c × CmdInRange c) × Allows second (cmd_has_deadline c)
 
-cmd_again : (second : Bool) (bytes : List ℕ) (p : ℕ) (c : Cmd) (q : ℕ) → CmdFits second c → Stands (cmd_bytes c) bytes p q
+cmd_again : (second : Bool) (bytes : List ℕ) (p : ℕ) (c : Cmd) (q : ℕ) → CmdFits second c
+    → Stands (cmd_bytes c) bytes p q
     → cmd_at second bytes p ≡ Ok (c, q)
 unfolding cmd_at cmd_bytes
 cmd_again second bytes p (AddDep x y) q fits s =
-    again_2 obj_reader (dep_reader second) (cmd_rows second) 1 AddDep x y refl (omega arith) fits.0.1.0 ((fits.0.0, fits.0.1.1), fits.1) s
+    again_2 obj_reader (dep_reader second) (cmd_rows second) 1 AddDep x y refl (omega arith) fits.0.1.0
+    ((fits.0.0, fits.0.1.1), fits.1) s
 cmd_again second bytes p (DelDep x y) q fits s =
     again_2 obj_reader u16_reader (cmd_rows second) 2 DelDep x y refl (omega arith) fits.0.1.0 fits.0.1.1 s
 cmd_again second bytes p (Release x) q fits s =
@@ -49,7 +51,8 @@ cmd_again second bytes p (Total x y) q fits s =
 cmd_again second bytes p (ReplyGlobal x y) q fits s =
     again_2 u16_reader flag_reader (cmd_rows second) 13 ReplyGlobal x y refl (omega arith) fits.0.1 tt s
 cmd_again second bytes p (ReplyOwn x y z) q fits s =
-    again_3 obj_reader u16_reader flag_reader (cmd_rows second) 14 ReplyOwn x y z refl (omega arith) fits.0.1.0 fits.0.1.1 tt s
+    again_3 obj_reader u16_reader flag_reader (cmd_rows second) 14 ReplyOwn x y z refl (omega arith) fits.0.1.0
+    fits.0.1.1 tt s
 cmd_again second bytes p Cmd.Start q fits s = again_0 (cmd_rows second) 15 Cmd.Start refl (omega arith) s
 cmd_again second bytes p Stop q fits s = again_0 (cmd_rows second) 16 Stop refl (omega arith) s
 cmd_again second bytes p (Submit x) q fits s =

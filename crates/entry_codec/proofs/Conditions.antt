@@ -68,13 +68,15 @@ job_fits second w name (Some job) f = (f.0.0.1, f.0.1.2)
 -- what stands behind a 0
 zero_row : (second : Bool) → IsRow (DraftDepFits second) draft_dep_bytes (0, followed)
 unfolding draft_dep_bytes
-zero_row second = row_3 u16_reader text_reader (option_reader text_reader) 0 Follows (follows_fit second) (λ w name job. refl)
+zero_row second =
+    row_3 u16_reader text_reader (option_reader text_reader) 0 Follows (follows_fit second) (λ w name job. refl)
 
 draft_dep_found : (second : Bool) (bytes : List ℕ) (p : ℕ) (d : DraftDep) (q : ℕ) → IsBytes bytes → p ≤ length bytes
     → draft_dep_at second bytes p ≡ Ok (d, q) → DraftDepFits second d × Stands (draft_dep_bytes d) bytes p q
 unfolding draft_dep_at draft_dep_bytes
 draft_dep_found second bytes p d q is lt e =
-    let c = came (u8_at bytes p) (λ (n : ℕ × ℕ). cond (eqb n.0 0) (followed bytes n.1) (one (dep_at second) Plain bytes p))
+    let c = came (u8_at bytes p) (λ (n : ℕ × ℕ). cond (eqb n.0 0) (followed bytes n.1)
+    (one (dep_at second) Plain bytes p))
     (d, q) e in
     let tag = u8_reader.found bytes p c.value.0 c.value.1 is lt c.first in
     chose (eqb c.value.0 0) c.value.0 c.value.1 refl tag.1 c.then_
@@ -92,13 +94,15 @@ draft_dep_found second bytes p d q is lt e =
             (b.fits, subst (λ (l : List ℕ). Stands l bytes p q) (sym b.spelled) (joined head b.stands))
     chose false n m is_it tag f = as_dep f
       where
-        as_dep : one (dep_at second) Plain bytes p ≡ Ok (d, q) → DraftDepFits second d × Stands (draft_dep_bytes d) bytes p q
+        as_dep : one (dep_at second) Plain bytes p ≡ Ok (d, q)
+            → DraftDepFits second d × Stands (draft_dep_bytes d) bytes p q
         as_dep f =
             let u = step (dep_reader second) is (starts bytes p lt) f in
             subst (λ (z : DraftDep × ℕ). DraftDepFits second z.0 × Stands (draft_dep_bytes z.0) bytes p z.1)
             (same_value u.rest) (u.fits, u.stands)
 
-plain_again : (second : Bool) (bytes : List ℕ) (p : ℕ) (d : Dep) (q : ℕ) → DepFits second d → Stands (dep_bytes d) bytes p q
+plain_again : (second : Bool) (bytes : List ℕ) (p : ℕ) (d : Dep) (q : ℕ) → DepFits second d
+    → Stands (dep_bytes d) bytes p q
     → draft_dep_at second bytes p ≡ Ok (Plain d, q)
 unfolding draft_dep_at
 plain_again second bytes p d q fits s =
@@ -141,12 +145,14 @@ named_steady = three_steady Follows u16_reader.steady text_steady (option_reader
 plain_steady : (second : Bool) → IsSteady (one (dep_at second) Plain)
 plain_steady second = one_steady Plain (dep_reader second).steady
 
-drafted_on : (second named : Bool) (bytes more : List ℕ) (p m : ℕ) (x : DraftDep × ℕ) → drafted second named bytes p m ≡ Ok x
+drafted_on : (second named : Bool) (bytes more : List ℕ) (p m : ℕ) (x : DraftDep × ℕ)
+    → drafted second named bytes p m ≡ Ok x
     → drafted second named (bytes ++ more) p m ≡ Ok x
 drafted_on second true bytes more p m x e = named_steady.goes_on bytes more m x e
 drafted_on second false bytes more p m x e = (plain_steady second).goes_on bytes more p x e
 
-drafted_out : (second named : Bool) (bytes more : List ℕ) (p m : ℕ) (f : EntryFault) → drafted second named bytes p m ≡ Err f
+drafted_out : (second named : Bool) (bytes more : List ℕ) (p m : ℕ) (f : EntryFault)
+    → drafted second named bytes p m ≡ Err f
     → Fails f (drafted second named (bytes ++ more) p m)
 drafted_out second true bytes more p m f e = named_steady.fails bytes more m f e
 drafted_out second false bytes more p m f e = (plain_steady second).fails bytes more p f e
@@ -164,7 +170,8 @@ draft_dep_out : (second : Bool) (bytes more : List ℕ) (p : ℕ) (f : EntryFaul
 unfolding draft_dep_at
 draft_dep_out second bytes more p f e =
     then_fails (u8_at bytes p) (u8_at (bytes ++ more) p) (λ (n : ℕ × ℕ). drafted second (nat_eq n.0 0) bytes p n.1)
-    (λ (n : ℕ × ℕ). drafted second (nat_eq n.0 0) (bytes ++ more) p n.1) f (u8_reader.steady.goes_on bytes more p) (u8_reader.steady.fails bytes more p)
+    (λ (n : ℕ × ℕ). drafted second (nat_eq n.0 0) (bytes ++ more) p n.1) f (u8_reader.steady.goes_on bytes more p)
+    (u8_reader.steady.fails bytes more p)
     (λ n c h. drafted_out second (nat_eq n.0 0) bytes more p n.1 c h) e
 
 draft_dep_steady : (second : Bool) → IsSteady (draft_dep_at second)

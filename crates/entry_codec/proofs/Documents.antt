@@ -107,7 +107,8 @@ job_found second bytes p d q is lt e =
       deps.stands,
     )
 
-job_again : (second : Bool) (bytes : List ℕ) (p : ℕ) (d : JobDoc) (q : ℕ) → JobFits second d → Stands (job_doc_bytes d) bytes p q
+job_again : (second : Bool) (bytes : List ℕ) (p : ℕ) (d : JobDoc) (q : ℕ) → JobFits second d
+    → Stands (job_doc_bytes d) bytes p q
     → job_at second bytes p ≡ Ok (d, q)
 unfolding job_at job_doc_bytes
 job_again second bytes p d q fits s =
@@ -137,7 +138,8 @@ job_again second bytes p d q fits s =
     (on text_reader _ d.logon (fits.0.0.logon_, fits.0.1.logon_) logon.first
     (on cond_reader _ d.cond (fits.0.0.cond_, recursion_from_All OpInRange d.cond fits.0.1.cond_) ops.first
     (on recovery_reader _ d.recovery tt recovery.first
-    (on (list_reader (dep_reader second)) _ d.deps (together second IsFitDep DepInRange is_deadline d.deps fits.0.0.deps_ fits.0.1.deps_ fits.1) deps.first
+    (on (list_reader (dep_reader second)) _ d.deps (together second IsFitDep DepInRange is_deadline d.deps
+    fits.0.0.deps_ fits.0.1.deps_ fits.1) deps.first
     (ap (λ (m : ℕ). Ok (d, m)) (sym (at_end deps.rest)))))))))))
 
 job_steady : (second : Bool) → IsSteady (job_at second)
@@ -171,7 +173,8 @@ stream_found second bytes p d q is lt e =
     let jobs = step (list_reader (job_reader second)) is deps.stands deps.rest in
     let both = apart second IsFitDep DepInRange is_deadline deps.value deps.fits in
     let all_jobs = apart second IsFitJob JobInRange job_has_one jobs.value jobs.fits in
-    subst (λ (z : StreamDoc × ℕ). StreamFits second z.0 × Stands (stream_doc_bytes z.0) bytes p z.1) (same_value jobs.rest) (
+    subst (λ (z : StreamDoc × ℕ). StreamFits second z.0 × Stands (stream_doc_bytes z.0) bytes p z.1)
+    (same_value jobs.rest) (
       (
         (
           record { name_ = name.fits.0; deps_ = both.0.0; jobs_ = all_jobs.0.0 },
@@ -190,7 +193,8 @@ stream_found second bytes p d q is lt e =
       jobs.stands,
     )
 
-stream_again : (second : Bool) (bytes : List ℕ) (p : ℕ) (d : StreamDoc) (q : ℕ) → StreamFits second d → Stands (stream_doc_bytes d) bytes p q
+stream_again : (second : Bool) (bytes : List ℕ) (p : ℕ) (d : StreamDoc) (q : ℕ) → StreamFits second d
+    → Stands (stream_doc_bytes d) bytes p q
     → stream_at second bytes p ≡ Ok (d, q)
 unfolding stream_at stream_doc_bytes
 stream_again second bytes p d q fits s =
@@ -217,8 +221,10 @@ stream_again second bytes p d q fits s =
     (on u8_reader _ d.priority fits.0.1.priority_ priority.first
     (on (option_reader u16_reader) _ d.limit fits.0.1.limit_ limit.first
     (on flag_reader _ d.carry tt carry.first
-    (on (list_reader (dep_reader second)) _ d.deps (together second IsFitDep DepInRange is_deadline d.deps fits.0.0.deps_ fits.0.1.deps_ allowed.0) deps.first
-    (on (list_reader (job_reader second)) _ d.jobs (together second IsFitJob JobInRange job_has_one d.jobs fits.0.0.jobs_ fits.0.1.jobs_ allowed.1) jobs.first
+    (on (list_reader (dep_reader second)) _ d.deps (together second IsFitDep DepInRange is_deadline d.deps
+    fits.0.0.deps_ fits.0.1.deps_ allowed.0) deps.first
+    (on (list_reader (job_reader second)) _ d.jobs (together second IsFitJob JobInRange job_has_one d.jobs
+    fits.0.0.jobs_ fits.0.1.jobs_ allowed.1) jobs.first
     (ap (λ (m : ℕ). Ok (d, m)) (sym (at_end jobs.rest))))))))))
 
 stream_steady : (second : Bool) → IsSteady (stream_at second)
@@ -251,7 +257,8 @@ job_draft_found second bytes p d q is lt e =
     let recovery = step recovery_reader is ops.stands ops.rest in
     let deps = step (list_reader (draft_dep_reader second)) is recovery.stands recovery.rest in
     let both = apart second IsFitDraftDep DraftDepInRange is_draft_deadline deps.value deps.fits in
-    subst (λ (z : JobDraft × ℕ). JobDraftFits second z.0 × Stands (job_draft_bytes z.0) bytes p z.1) (same_value deps.rest) (
+    subst (λ (z : JobDraft × ℕ). JobDraftFits second z.0 × Stands (job_draft_bytes z.0) bytes p z.1)
+    (same_value deps.rest) (
       (
         (
           record {
@@ -304,7 +311,8 @@ job_draft_again second bytes p d q fits s =
     (on cond_reader _ d.cond (fits.0.0.cond_, recursion_from_All OpInRange d.cond fits.0.1.cond_) ops.first
     (on recovery_reader _ d.recovery tt recovery.first
     (on (list_reader (draft_dep_reader second)) _ d.deps
-    (together second IsFitDraftDep DraftDepInRange is_draft_deadline d.deps fits.0.0.deps_ fits.0.1.deps_ fits.1) deps.first
+    (together second IsFitDraftDep DraftDepInRange is_draft_deadline d.deps fits.0.0.deps_ fits.0.1.deps_ fits.1)
+    deps.first
     (ap (λ (m : ℕ). Ok (d, m)) (sym (at_end deps.rest))))))))))
 
 job_draft_steady : (second : Bool) → IsSteady (job_draft_at second)
@@ -381,9 +389,11 @@ draft_again second bytes p d q fits s =
     (on (option_reader u16_reader) _ d.limit fits.0.1.limit_ limit.first
     (on flag_reader _ d.carry tt carry.first
     (on (list_reader (draft_dep_reader second)) _ d.deps
-    (together second IsFitDraftDep DraftDepInRange is_draft_deadline d.deps fits.0.0.deps_ fits.0.1.deps_ allowed.0) deps.first
+    (together second IsFitDraftDep DraftDepInRange is_draft_deadline d.deps fits.0.0.deps_ fits.0.1.deps_ allowed.0)
+    deps.first
     (on (list_reader (job_draft_reader second)) _ d.jobs
-    (together second IsFitJobDraft JobDraftInRange job_draft_has_one d.jobs fits.0.0.jobs_ fits.0.1.jobs_ allowed.1) jobs.first
+    (together second IsFitJobDraft JobDraftInRange job_draft_has_one d.jobs fits.0.0.jobs_ fits.0.1.jobs_ allowed.1)
+    jobs.first
     (ap (λ (m : ℕ). Ok (d, m)) (sym (at_end jobs.rest)))))))))
 
 draft_steady : (second : Bool) → IsSteady (stream_draft_at second)

@@ -61,7 +61,12 @@ items_reader {X} {P} {spell} {item} reader zero =
     }
 items_reader reader (suc n) =
     let fewer = items_reader reader n in
-    record { found = more_found reader n fewer; again = more_again reader n fewer; steady = items_steady reader.steady (suc n) }
+    record {
+      found = more_found reader n fewer;
+      again = more_again reader n fewer;
+      steady = items_steady
+          reader.steady (suc n);
+    }
 
 -- a list whose items are fit, and as many as four bytes can count
 abbrev pub AreListed : {X : Type 0} → (X → Type 0) → List X → Type 0

@@ -1,5 +1,6 @@
 -- Entries as they are read. The number of a row is the choice that leads to it.
-use Rattle.std.specs.Prelude.{◌≡◌, ◌≢◌, ◌⊎◌, ◌==◌, ◌||◌, ◌<◌, ℕ, Bool, List, [], ◌∷◌, length, drop, Result, Ok, Err, nat_lt, if◌then◌else◌}
+use Rattle.std.specs.Prelude.{◌≡◌, ◌≢◌, ◌⊎◌, ◌==◌, ◌||◌, ◌<◌, ℕ, Bool, List, [], ◌∷◌, length, drop, Result, Ok, Err}
+use Rattle.std.specs.Prelude.{nat_lt, if◌then◌else◌}
 use Rattle.std.specs.Int.{w32}
 use Rattle.byte_fields.specs.Places.{StandsAt}
 use Rattle.model.specs.Types.{Feed, Events, Orders, Entry, Body, NewPlan, Added, Clock, Released, StreamEnded}

@@ -2,7 +2,8 @@
 //!
 //! The spelling is that of `model::specs::Spelling`, in version 2 where the entry needs it and else in version 1. A fit
 //! entry is written so, and exactly the spellings of fit entries are read, each as its entry. All other bytes have a
-//! first fault from the left, which is told with the place of its field; `specs/Entries.antt` and the files before it have the format, part by part, with its faults.
+//! first fault from the left, which is told with the place of its field; `specs/Entries.antt` and the files before it
+//! have the format, part by part, with its faults.
 #![tactic(auto)]
 
 mod laws;

@@ -13,8 +13,6 @@ mod laws;
 mod nexts;
 mod places;
 mod scans;
-#[cfg(test)]
-mod tests;
 mod writes;
 
 pub use decoders::{Decoder, Fed};

@@ -1,6 +1,6 @@
 //! Frames and faults with bytes worked out by hand.
-use crate::{Decoder, Fed, Frame, Frames, write_frame};
 use base_types::{Bytes, Feed, Items, NoMemory, Text, Ws};
+use mail_frames::{Decoder, Fed, Frame, Frames, write_frame};
 use std::alloc::Global;
 use std::test::Fail;
 

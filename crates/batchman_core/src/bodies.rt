@@ -60,6 +60,7 @@ fn body_of(
         Choice::Lost(j) => Ok(lost(o, me, *j)),
         Choice::Answer(a) => answer(alloc, net, o, me, *a),
         Choice::Until(obj, i) => Ok(until_passed(o, obj, *i)),
+        Choice::Late(obj, i) => Ok(Some(Body::Late(*obj, *i))),
         Choice::Release(s) => Ok(Some(released(alloc, o, me, *s)?)),
         Choice::End(s) => Ok(Some(ended(alloc, o, me, *s)?)),
         Choice::Launch(j) => Ok(Some(launched(alloc, o, me, *j)?)),

@@ -10,14 +10,14 @@ use crate::issuers::next_issuer;
 use crate::losses::lowest_lost;
 use crate::lowest::{lowest_to_end, lowest_to_release};
 use base_types::{JobNo, Live, Moment, Obj, StreamNo, Ws};
-use dependencies::{Readiness, until_due};
+use dependencies::{Readiness, late_due, until_due};
 use network_tree::Network;
 use owner_fold::Owners;
 
 /// A rule of a turn, and what it applies to.
 #[derive(Clone, Copy, Debug, PartialEq, Eq)]
 pub enum Choice {
-    /// The time of an own member's AT or UNTIL has come by the reading, and the clock is kept.
+    /// The time of an own member's AT, UNTIL or DEADLINE has come by the reading, and the clock is kept.
     Clock,
     /// An open launch of this job has no live process.
     Lost(JobNo),
@@ -25,6 +25,8 @@ pub enum Choice {
     Answer(Ws),
     /// The UNTIL of this number is due at the object.
     Until(Obj, u16),
+    /// The object is late by its DEADLINE of this number.
+    Late(Obj, u16),
     /// The stream may be released.
     Release(StreamNo),
     /// The stream may end.
@@ -62,6 +64,9 @@ pub fn turn_choice<R: Readiness>(
     }
     if let Some((obj, i)) = until_due(net, o, me) {
         return Choice::Until(obj, i);
+    }
+    if let Some((obj, i)) = late_due(net, o, me) {
+        return Choice::Late(obj, i);
     }
     if let Some(s) = lowest_to_release(net, o, me) {
         return Choice::Release(s);

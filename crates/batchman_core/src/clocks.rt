@@ -10,11 +10,11 @@ ghost use Rattle.model.specs.Turn as spec;
 ghost use Rattle.batchman_core.specs.Comings.{any_comes, any_comes_of, comes};
 
 use base_types::{Dep, JobDoc, Moment, Obj, StreamDoc, Ws};
-use dependencies::{is_member, unwaived_deps};
+use dependencies::unwaived_deps;
 use owner_fold::Owners;
 
-/// Whether the time of an AT or UNTIL of an own member's object, which is not waived, lies above the clock of `me` and
-/// at most at t.
+/// Whether the time of an AT, UNTIL or DEADLINE of an own member's object, which is not waived, lies above the clock of
+/// `me` and at most at t.
 #[tactic(auto, unfolding(model::specs::Turn::is_clock_due, model::specs::Turn::own_times, model::specs::OwnMembers::own_objects))]
 pub(crate) fn is_clock_due(o: &Owners, me: Ws, t: Moment) -> bool
     ensures { result ≡ spec.is_clock_due (view_of o.now) me t }
@@ -56,7 +56,7 @@ fn time_of_stream_comes(o: &Owners, w: Ws, doc: &StreamDoc, now: Moment, t: Mome
     ensures { let V = view_of o.now in let d = doc.now in
         result ≡ ((d.ws == w) && (is_member V d.no && any_comes now t (unwaived_deps V (Stream d.no)))) }
 {
-    doc.ws == w && is_member(o, doc.no) && time_comes(o, &Obj::Stream(doc.no), now, t)
+    doc.ws == w && o.is_member(doc.no) && time_comes(o, &Obj::Stream(doc.no), now, t)
 }
 
 /// Whether the job is an own member's of w of which such a time does.
@@ -71,7 +71,7 @@ fn time_of_job_comes(
     ensures { let V = view_of o.now in let d = doc.now in
         result ≡ ((d.ws == w) && (is_member V parent.now.no && any_comes now t (unwaived_deps V (Job d.no)))) }
 {
-    doc.ws == w && is_member(o, parent.no) && time_comes(o, &Obj::Job(doc.no), now, t)
+    doc.ws == w && o.is_member(parent.no) && time_comes(o, &Obj::Job(doc.no), now, t)
 }
 
 /// Whether the time of a dependency of the object that is not waived does.
@@ -93,6 +93,8 @@ fn comes(dep: &Dep, now: Moment, t: Moment) -> bool
     match dep {
         Dep::At(u) => now.0 < u.0 && u.0 <= t.0,
         Dep::Until(u, _) => now.0 < u.0 && u.0 <= t.0,
-        _ => false,
+        Dep::Deadline(u) => now.0 < u.0 && u.0 <= t.0,
+        Dep::FollowsJob(_) | Dep::FollowsStream(_) => false,
+        Dep::Needs(_, _) | Dep::Prompt(_) | Dep::Outside(_) => false,
     }
 }

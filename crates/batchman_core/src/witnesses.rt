@@ -158,6 +158,7 @@ fn add_cited(o: &Owners, dep: &Dep, found: &mut Witnesses) -> Result<(), NoMemor
         Dep::Prompt(PromptRef::Global(_)) => found.add(MASTER),
         Dep::Prompt(PromptRef::Own(_)) => Ok(()),
         Dep::Needs(_, _) | Dep::At(_) | Dep::Until(_, _) | Dep::Outside(_) => Ok(()),
+        Dep::Deadline(_) => Ok(()),
     }
 }
 

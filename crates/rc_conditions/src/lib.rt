@@ -11,8 +11,6 @@ mod printing;
 mod readers;
 mod reading;
 mod results;
-#[cfg(test)]
-mod tests;
 mod tokens;
 
 pub use laws::{

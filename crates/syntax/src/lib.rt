@@ -8,8 +8,6 @@ mod names;
 mod numbers;
 mod quotes;
 mod splits;
-#[cfg(test)]
-mod tests;
 
 pub use names::name;
 pub use numbers::{number_i32, number_u32, number_u64};

@@ -7,8 +7,6 @@
 mod calls;
 mod sink;
 mod source;
-#[cfg(test)]
-mod tests;
 
 pub use sink::MemSink;
 pub use source::MemSource;

@@ -9,8 +9,6 @@ mod disks;
 mod sink;
 mod source;
 mod stopping;
-#[cfg(test)]
-mod tests;
 
 pub use disks::MemDisk;
 pub use sink::MemSink;

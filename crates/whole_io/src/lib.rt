@@ -12,8 +12,6 @@ ghost use Rattle.whole_io.specs.declared.ReadError.TheVariants.{Fault, NoMemory}
 use outside::{Failed, Sink, Source};
 use std::alloc::{AllocError, Global};
 
-#[cfg(test)]
-mod tests;
 
 /// Why an input was not read to its end.
 #[derive(Clone, Copy, Debug, PartialEq, Eq)]

@@ -1,21 +1,14 @@
 //! Reads and writes of an outside in memory, with and without a call that fails.
-use crate::{ReadError, read_whole, write_whole};
 use base_types::Items;
 use outside::{Failed, Sink};
 use outside_mem::{MemSink, MemSource};
 use std::alloc::Global;
 use std::test::Fail;
-
-fn list<T: Copy + Drop>(alloc: Global, items: &[T]) -> Result<Items<T>, Fail> {
-    let mut list = Items::new(alloc);
-    for item in items {
-        list.push(*item)?;
-    }
-    Ok(list)
-}
+use test_builders::listed;
+use whole_io::{ReadError, read_whole, write_whole};
 
 fn source(alloc: Global, text: &str, fails: &[u32]) -> Result<MemSource, Fail> {
-    Ok(MemSource::new(list(alloc, text.as_bytes())?, list(alloc, fails)?))
+    Ok(MemSource::new(listed(alloc, text.as_bytes())?, listed(alloc, fails)?))
 }
 
 /// What is read of 40,000 bytes is more than two pieces.
@@ -24,7 +17,7 @@ fn long(alloc: Global, fails: &[u32]) -> Result<MemSource, Fail> {
     for i in 0..40_000u32 {
         bytes.push((i % 251) as u8)?;
     }
-    Ok(MemSource::new(bytes, list(alloc, fails)?))
+    Ok(MemSource::new(bytes, listed(alloc, fails)?))
 }
 
 #[test]
@@ -76,7 +69,7 @@ impl Sink for OneByOne {
 #[test]
 fn a_write_that_fails_leaves_a_front(rt: HostRuntime) -> Result<(), Fail> {
     let alloc = rt.alloc();
-    let mut sink = OneByOne(MemSink::new(alloc, list(alloc, &[3])?, 9)?);
+    let mut sink = OneByOne(MemSink::new(alloc, listed(alloc, &[3])?, 9)?);
     assert_eq!(rt; write_whole(&mut sink, b"node"), Err(Failed));
     assert_eq!(rt; sink.0.bytes(), b"no".as_slice());
     assert_eq!(rt; write_whole(&mut sink, b"de"), Ok(()));
@@ -87,7 +80,7 @@ fn a_write_that_fails_leaves_a_front(rt: HostRuntime) -> Result<(), Fail> {
 #[test]
 fn writes_all_or_a_front(rt: HostRuntime) -> Result<(), Fail> {
     let alloc = rt.alloc();
-    let mut sink = MemSink::new(alloc, list(alloc, &[2])?, 9)?;
+    let mut sink = MemSink::new(alloc, listed(alloc, &[2])?, 9)?;
     assert_eq!(rt; write_whole(&mut sink, b"node M\n"), Ok(()));
     assert_eq!(rt; sink.bytes(), b"node M\n".as_slice());
     assert_eq!(rt; write_whole(&mut sink, b"\n"), Err(Failed));

@@ -12,7 +12,6 @@ ghost use Rattle.whole_io.specs.declared.ReadError.TheVariants.{Fault, NoMemory}
 use outside::{Failed, Sink, Source};
 use std::alloc::{AllocError, Global};
 
-
 /// Why an input was not read to its end.
 #[derive(Clone, Copy, Debug, PartialEq, Eq)]
 pub enum ReadError {

@@ -129,10 +129,7 @@ const QUOTED: [(&str, &str); 6] = [
         r#"adj S.A;prompt="is \"it\"; up?""#,
         r#"adddep job S.A;prompt=<is "it"; up?>"#,
     ),
-    (
-        r#"submit docommand M#"true""#,
-        "submit docommand M#<true>",
-    ),
+    (r#"submit docommand M#"true""#, "submit docommand M#<true>"),
     (
         r#"sbd m#"a;b";alias=one;priority=255"#,
         "submit docommand M#<a;b>;alias=ONE;priority=255",

@@ -67,7 +67,12 @@ fn put_dep(out: &mut String, dep: &DepRef) -> Result<(), AllocError> {
     }
 }
 
-fn put_with_dep(out: &mut String, command: &str, o: &ObjRef, dep: &DepRef) -> Result<(), AllocError> {
+fn put_with_dep(
+    out: &mut String,
+    command: &str,
+    o: &ObjRef,
+    dep: &DepRef,
+) -> Result<(), AllocError> {
     out.push_str(command)?;
     put_object(out, o)?;
     out.push_str(";")?;

@@ -5,3 +5,5 @@
 
 #[cfg(test)]
 mod composer_lexer_tests;
+#[cfg(test)]
+mod dates_tests;

@@ -1,0 +1,4 @@
+pub mod Forms
+pub mod Places
+pub mod Walks
+pub mod Widths

@@ -5,8 +5,6 @@ mod night;
 mod record;
 mod replies;
 mod report;
-#[cfg(test)]
-mod tests;
 mod top;
 
 pub use top::tws;

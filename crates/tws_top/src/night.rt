@@ -3,10 +3,6 @@ pub(crate) mod facts;
 mod laws;
 mod planning;
 pub(crate) mod rules;
-#[cfg(test)]
-pub(crate) mod samples;
-#[cfg(test)]
-mod state_tests;
 pub(crate) mod states;
 mod steps;
 mod world;

@@ -4,14 +4,12 @@ mod bounds;
 mod lines;
 mod places;
 mod reading;
-#[cfg(test)]
-mod tests;
 
 use base_types::{Items, JobNo, Moment, Text};
 pub use reading::{read_record, records_are_unique};
 
 /// A record: the network's one workstation, its one stream, and the steps of a night.
-#[derive(Debug, Drop)]
+#[derive(Drop)]
 pub struct Record {
     pub workstation: Text,
     pub stream: Text,
@@ -20,7 +18,7 @@ pub struct Record {
 }
 
 /// A job of the stream.
-#[derive(Debug, Drop)]
+#[derive(Drop)]
 pub struct RecordJob {
     pub name: Text,
     /// What it runs. None stands for the empty command.
@@ -30,7 +28,7 @@ pub struct RecordJob {
 }
 
 /// A step of the night.
-#[derive(Clone, Copy, Debug, PartialEq, Eq)]
+#[derive(Clone, Copy)]
 pub enum Step {
     /// The master takes the plan.
     Next,

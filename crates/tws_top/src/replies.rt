@@ -24,14 +24,14 @@ const RECORD_REFUSED: u8 = 3;
 const LIMIT_PASSED: u8 = 10;
 
 /// A status, and the text that is written with it.
-#[derive(Debug, Drop)]
+#[derive(Drop)]
 pub struct Reply {
     pub status: u8,
     pub text: Text,
 }
 
 /// Why nothing is said.
-#[derive(Clone, Copy, Debug, PartialEq, Eq)]
+#[derive(Clone, Copy)]
 pub enum Silence {
     SourceFailed,
     NoMemory,

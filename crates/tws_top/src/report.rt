@@ -6,8 +6,6 @@ ghost use Rattle.tws_top.specs.Report as spec;
 mod bodies;
 mod listings;
 mod lists;
-#[cfg(test)]
-mod tests;
 
 use crate::night::World;
 use crate::record::Record;

@@ -7,7 +7,7 @@ use crate::night::rules::are_met;
 use base_types::{Entry, JobDoc, StreamDoc};
 
 /// The state of a job.
-#[derive(Clone, Copy, Debug, PartialEq, Eq)]
+#[derive(Clone, Copy, PartialEq)]
 pub enum JobState {
     /// A launch of it is open.
     Intro,
@@ -22,7 +22,7 @@ pub enum JobState {
 }
 
 /// The state of a stream.
-#[derive(Clone, Copy, Debug, PartialEq, Eq)]
+#[derive(Clone, Copy)]
 pub enum StreamState {
     /// It has ended.
     Succ,

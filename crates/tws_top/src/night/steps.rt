@@ -97,7 +97,7 @@ fn take_end(world: &mut World, job: JobNo, code: i32) -> Result<bool, NoMemory>
 }
 
 /// What came of a step.
-#[derive(Clone, Copy, Debug, PartialEq, Eq)]
+#[derive(Clone, Copy)]
 enum Taken {
     /// An entry was kept.
     Kept,

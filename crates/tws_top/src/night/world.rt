@@ -2,14 +2,14 @@
 use base_types::{Entries, Starts};
 
 /// The entries that were made, in order, and the launches that were started, in order.
-#[derive(Debug, Drop)]
+#[derive(Drop)]
 pub struct World {
     pub history: Entries,
     pub starts: Starts,
 }
 
 /// What a list of steps comes to.
-#[derive(Debug, Drop)]
+#[derive(Drop)]
 pub enum Outcome {
     /// Each step was taken.
     Ran(World),

@@ -8,7 +8,7 @@ use std::alloc::Global;
 use syntax::{first_word, name, number_i32, number_u32, number_u64, quoted};
 
 /// What a line says. Names are in upper case, and the first name is a workstation's where there are two.
-#[derive(Debug, Drop)]
+#[derive(Drop)]
 pub enum Line {
     Network,
     Workstation(Text),

@@ -11,7 +11,7 @@ use base_types::{Items, NoMemory, Text};
 use std::alloc::Global;
 
 /// What was read, by the line that it ends with. Names follow in the order of their lines.
-#[derive(Debug, Drop)]
+#[derive(Drop)]
 pub enum SoFar {
     Nothing,
     Network,

@@ -1,9 +1,13 @@
-//! What the program answers over sources and sinks in memory.
-use crate::tws;
+//! What `tws` answers: whole reports, refusals, limits, and each call that fails.
+mod records;
+mod states;
+
 use base_types::{Bytes, Items, Text};
 use outside_mem::{MemSink, MemSource};
 use std::alloc::Global;
 use std::test::Fail;
+use test_builders::{bytes, listed};
+use tws_top::tws;
 
 const NIGHT: &str = "$NETWORK
 ws M
@@ -73,6 +77,34 @@ job 1 M#S.A SUCC 1
 job 2 M#S.B SUCC 1
 ";
 
+/// The only job ends badly.
+const BAD_NIGHT: &str = "$NETWORK
+ws M
+$PLAN
+stream M S
+job M A
+$STEPS
+next
+turn M 1
+turn M 1
+ended M 1 -3
+";
+
+const BAD_REPORT: &str = "events 4
+M 1 newplan 1 cut - carried - fresh 1
+M 2 released 1 seen M:1
+M 3 launched 1 1 seen M:2
+M 4 ended 1 1 rc -3 bad
+starts 1
+M 1 1
+node M
+holds M 4
+plan 1
+cpu M fence 0 limit 10 clock 0 running
+stream 1 M#S ABEND
+job 1 M#S.A ABEND 1
+";
+
 const REFUSED: &str = "record refused\n";
 
 /// The n-th call to fail, 0 for none.
@@ -82,14 +114,6 @@ fn calls(alloc: Global, n: u32) -> Result<Items<u32>, Fail> {
         calls.push(n)?;
     }
     Ok(calls)
-}
-
-fn bytes_of(alloc: Global, text: &str) -> Result<Bytes, Fail> {
-    let mut bytes = Items::new(alloc);
-    for b in text.as_bytes() {
-        bytes.push(*b)?;
-    }
-    Ok(bytes)
 }
 
 /// The status, and whether this text was written and no other, where the n-th read and the m-th write fail.
@@ -111,7 +135,17 @@ fn says(
 }
 
 fn replays(alloc: Global, input: &str, text: &str) -> Result<(u8, bool), Fail> {
-    says(alloc, "replay", bytes_of(alloc, input)?, (0, 0), text)
+    says(alloc, "replay", bytes(alloc, input)?, (0, 0), text)
+}
+
+/// What is written for this record.
+fn replayed(alloc: Global, input: &str) -> Result<Bytes, Fail> {
+    let mut words = Vec::new(alloc);
+    words.push(Text::of(alloc, "replay")?)?;
+    let mut source = MemSource::new(bytes(alloc, input)?, Items::new(alloc));
+    let mut sink = MemSink::new(alloc, Items::new(alloc), 4096)?;
+    let _status = tws(alloc, words.as_slice(), &mut source, &mut sink);
+    Ok(listed(alloc, sink.bytes())?)
 }
 
 #[test]
@@ -119,6 +153,7 @@ fn a_night_is_reported(rt: HostRuntime) -> Result<(), Fail> {
     let alloc = rt.alloc();
     assert_eq!(rt; replays(alloc, NIGHT, NIGHT_REPORT)?, (0, true));
     assert_eq!(rt; replays(alloc, FOLLOWED, FOLLOWED_REPORT)?, (0, true));
+    assert_eq!(rt; replays(alloc, BAD_NIGHT, BAD_REPORT)?, (0, true));
     Ok(())
 }
 
@@ -181,7 +216,7 @@ ended M 1 0
 #[test]
 fn other_words_are_refused(rt: HostRuntime) -> Result<(), Fail> {
     let alloc = rt.alloc();
-    let night = bytes_of(alloc, NIGHT)?;
+    let night = bytes(alloc, NIGHT)?;
     let said = says(alloc, "replay now", night, (1, 0), "words refused\n")?;
     assert_eq!(rt; said, (2, true));
     let said = says(
@@ -202,10 +237,10 @@ fn other_words_are_refused(rt: HostRuntime) -> Result<(), Fail> {
 fn each_call_may_fail(rt: HostRuntime) -> Result<(), Fail> {
     let alloc = rt.alloc();
     for n in 1..6 {
-        let night = bytes_of(alloc, NIGHT)?;
+        let night = bytes(alloc, NIGHT)?;
         let (text, status) = if n < 3 { ("", 4) } else { (NIGHT_REPORT, 0) };
         assert_eq!(rt; says(alloc, "replay", night, (n, 0), text)?, (status, true));
-        let night = bytes_of(alloc, NIGHT)?;
+        let night = bytes(alloc, NIGHT)?;
         let (text, status) = if n < 2 { ("", 5) } else { (NIGHT_REPORT, 0) };
         assert_eq!(rt; says(alloc, "replay", night, (0, n), text)?, (status, true));
     }
@@ -240,7 +275,7 @@ fn an_input_has_a_limit(rt: HostRuntime) -> Result<(), Fail> {
 
 /// A record whose steps are the plan, so many turns, and the end of a job that is not launched.
 fn turns(alloc: Global, count: u32) -> Result<Bytes, Fail> {
-    let mut bytes = bytes_of(
+    let mut bytes = bytes(
         alloc,
         "$NETWORK\nws M\n$PLAN\nstream M S\njob M A\nfollows A\n$STEPS\nnext\n",
     )?;

@@ -5,5 +5,3 @@
 
 #[cfg(test)]
 mod composer_lexer_tests;
-#[cfg(test)]
-mod dates_tests;

@@ -5,3 +5,7 @@
 
 #[cfg(test)]
 mod composer_lexer_tests;
+#[cfg(test)]
+mod composer_parser_tests;
+#[cfg(test)]
+mod dates_tests;

@@ -1,0 +1,10 @@
+pub mod Apart
+pub mod Completes
+pub mod Exactly
+pub mod Firsts
+pub mod Fronts
+pub mod Halts
+pub mod Leaves
+pub mod Loops
+pub mod Parsings
+pub mod Sound

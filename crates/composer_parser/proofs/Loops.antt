@@ -1,6 +1,6 @@
 -- A loop over pieces, one piece further.
-use Rattle.std.proofs.Common.{◌≡◌, ◌≤◌, ◌<◌, ◌+◌, ◌&&◌, ℕ, zero, suc, Bool, true, false, List, [], ◌∷◌, ◌++◌}
-use Rattle.std.proofs.Common.{Option, Some, None, length, refl, ap, sym, subst, ◌∙◌, append-nil, length-append, arith}
+use Rattle.std.proofs.Common.{◌≡◌, ◌≤◌, ◌<◌, ◌+◌, ◌&&◌, cond, ℕ, zero, suc, Bool, true, false, List, [], ◌∷◌, ◌++◌}
+use Rattle.std.proofs.Common.{Option, Some, None, length, refl, ap, sym, subst, ◌∙◌, append_assoc, append-nil, length-append, arith}
 use Rattle.composer_parser.specs.Kinds.{Kind, Spelled, is}
 use Rattle.composer_parser.specs.declared.stops.Why.{Why}
 use Rattle.composer_parser.specs.Grammars.{Grammar, Spells, Pieces}
@@ -9,6 +9,7 @@ use Rattle.composer_parser.specs.Reading.{Outcome, done, stuck, and_then, read, 
 use Rattle.std.proofs.lemmas.List.{length-map}
 use Rattle.base_types.specs.declared.reports.Token.{Token}
 use Rattle.composer_parser.specs.Tokens.{all_spelled}
+use Rattle.composer_parser.specs.Parts.{put, always, any_number, with_commas}
 use Rattle.composer_parser.proofs.Fronts.{next, both_true}
 use Rattle.composer_parser.proofs.Firsts.{empty_sentence}
 use Rattle.composer_parser.proofs.Halts.{Good, good, GoodPieces, pieces_good, repeat_step, repeat_ends, repeat_none}
@@ -86,3 +87,43 @@ turns_end after may g s (t ∷ ts) h =
 pub tokens_shorter : (text : List ℕ) (xs ys : List Token) → length (all_spelled text xs) < length (all_spelled text ys)
     → length xs < length ys
 tokens_shorter text xs ys h = simp length-map at h
+
+-- pieces put behind a list are those read from nothing, put behind it
+behind_list : {A : Type 0} (g : Grammar A) (n : ℕ) (xs ys : List A) (ts : List Spelled)
+    → repeat put (λ x t. is_any (tries g) t && always x t) (λ us. read g us) n (xs ++ ys) ts
+    ≡ and_then (repeat put (λ x t. is_any (tries g) t && always x t) (λ us. read g us) n ys ts) (λ zs rest. done (xs ++ zs) rest)
+behind_list g zero xs ys ts = refl
+behind_list g (suc n) xs ys [] = refl
+behind_list {A = A} g (suc n) xs ys (t ∷ ts) =
+    by_test (is_any (tries g) t && true) (read g (t ∷ ts)) (λ zs rest. behind_list g n xs zs rest)
+  where
+    by_test : (b : Bool) (o : Outcome A)
+        → ((zs : List A) (rest : List Spelled)
+        → repeat put (λ x u. is_any (tries g) u && always x u) (λ us. read g us) n (xs ++ zs) rest
+        ≡ and_then (repeat put (λ x u. is_any (tries g) u && always x u) (λ us. read g us) n zs rest) (λ vs last. done (xs ++ vs) last))
+        → cond b (and_then o (λ a rest. repeat put (λ x u. is_any (tries g) u && always x u) (λ us. read g us) n (put (xs ++ ys) a) rest)) (done (xs ++ ys) (t ∷ ts))
+        ≡ and_then (cond b (and_then o (λ a rest. repeat put (λ x u. is_any (tries g) u && always x u) (λ us. read g us) n (put ys a) rest)) (done ys (t ∷ ts))) (λ zs rest. done (xs ++ zs) rest)
+    by_test false o rec = refl
+    by_test true (stuck w us) rec = refl
+    by_test true (done a rest) rec =
+        ap (λ zs. repeat put (λ x u. is_any (tries g) u && always x u) (λ us. read g us) n zs rest) (append_assoc xs ys (a ∷ []))
+        ∙ rec (ys ++ a ∷ []) rest
+
+-- a list with commas: its first piece, and those behind it
+pub list_read : {A : Type 0} (g h : Grammar A) (ts : List Spelled)
+    → read (with_commas g h) ts ≡ and_then (read g ts) (λ a rest. turns put always h (a ∷ []) rest)
+list_read {A = A} g h ts = by_first (read g ts)
+  where
+    by_rest : (a : A) (o : Outcome (List A))
+        → and_then (and_then o (λ x last. done x last)) (λ more last. done (a ∷ more) last)
+        ≡ and_then o (λ zs last. done ((a ∷ []) ++ zs) last)
+    by_rest a (done zs last) = refl
+    by_rest a (stuck w last) = refl
+
+    by_first : (o : Outcome A)
+        → and_then (and_then (done (λ (a : A) more. a ∷ more) ts) (λ f rest. and_then o (λ a last. done (f a) last)))
+        (λ f rest. and_then (read (any_number h) rest) (λ more last. done (f more) last))
+        ≡ and_then o (λ a rest. turns put always h (a ∷ []) rest)
+    by_first (stuck w us) = refl
+    by_first (done a rest) =
+        by_rest a (turns put always h [] rest) ∙ sym (behind_list h (length rest) (a ∷ []) [] rest)

@@ -209,8 +209,8 @@ all_expected last ts r (inl is) n (before, t ∷ rest, split, stop, none, line) 
     by_bool : (w : Why) (b : Bool) → (is_left w || is_left_word before t) ≡ b
         → ((is_left w || is_left_word before t) ≡ true → ⊥)
         → cond (is_left w || is_left_word before t) (LeftOut t.line) (Expected t.line) ≡ Expected n
-    by_bool w true e no = absurd (no e)
-    by_bool w false e no = rw (e, line) refl
+    by_bool w true e never = absurd (never e)
+    by_bool w false e never = rw (e, line) refl
 all_expected last ts r (inr is) n h = inr is
 
 pub all_left_out : (last : ℕ) (ts : List Spelled) (r : Result Defs SyntaxFault) → Answered last ts r → (n : ℕ)

@@ -213,7 +213,7 @@ fn more_items<'a>(
 }
 
 /// Items, with commas between them.
-#[tactic(auto, unfolding(crate::specs::Schedules::items))]
+#[tactic(auto, using(crate::proofs::Loops::list_read), unfolding(crate::specs::Schedules::items))]
 pub(crate) fn items<'a>(
     alloc: Global,
     text: &str,

@@ -7,15 +7,21 @@
 //! # What is open
 //!
 //! The grammar, the contracts, the readers and the answers stand for every statement, and the tests of `composer_tests`
-//! pass when they are run without a proof. The crate is not proved whole yet:
+//! pass when they are run without a proof. Proved are the laws of grammars, that the next token always decides in the whole
+//! grammar (`proofs/Sound.antt`), that a fault is left out exactly where the grammar leaves it out (`proofs/Leaves.antt`),
+//! and what makes the answer of reading exact (`proofs/Parsings.antt`); so are the readers as far as a check came, but for
+//! these:
 //!
-//! - A whole check has not come to its end. Where it had come, each function was proved. The loops (`flags`, `work_flags`,
-//!   `more_preds` and its like, `clauses`, `ons`, `entries`, the groups, `statements`) have invariants and answers that were
-//!   written after the pattern of `flags` and were not all tried, and so has `parse`.
-//! - The lists with commas (`preds`, `needs`, `prompts`, `files`, `items`) read their first item and hand it to a loop; they
-//!   want one lemma, that pieces put behind a list are those read from nothing, put behind it.
-//! - `rt plant` and the edits in `must-fail/` were not run, nor `rt test`.
-//! - Speed was not measured: each test of a keyword cuts its word from the text again.
+//! - `rules::without_last` and `rules::is_month_day`, `moments::minus_number`: a choice within a choice, where the prefix or
+//!   the suffix is not there. The value wants one choice on the first byte or the last, and a choice on the number within.
+//! - `rules::are_parts`, `rules::all_known`, `rules::are_weekdays`: `all` over words. The clause wants a condition on `p.now`
+//!   in place of `map`, as `words::is_one_of` has it, and `list_all-map` at its callers.
+//! - `items::is_weekday_next`: seven words in one `||`; early returns, or two functions.
+//! - The loops other than that of `flags` (`proofs/works`, `lists`, `items`, `clause_forms`, `ons`, `entries`, `groups`,
+//!   `statements`), `batches::append`, the lists with commas (by `list_read` of `proofs/Loops.antt`), and `parse` with its
+//!   helpers: a check did not come to them. Their invariants and answers are written.
+//! - `rt plant`, the edits in `must-fail/`, `rt test`.
+//! - Speed: each test of a keyword cuts its word from the text again, and a name is looked for among 95 words.
 #![tactic(auto)]
 
 mod batches;

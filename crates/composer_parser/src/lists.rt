@@ -106,7 +106,7 @@ fn more_preds<'a>(
 }
 
 /// What is followed, with commas between them.
-#[tactic(auto, unfolding(crate::specs::Clauses::preds))]
+#[tactic(auto, using(crate::proofs::Loops::list_read), unfolding(crate::specs::Clauses::preds))]
 pub(crate) fn preds<'a>(
     alloc: Global,
     text: &str,
@@ -148,7 +148,7 @@ fn more_needs<'a>(
 }
 
 /// Units of resources, with commas between them.
-#[tactic(auto, unfolding(crate::specs::Clauses::needs))]
+#[tactic(auto, using(crate::proofs::Loops::list_read), unfolding(crate::specs::Clauses::needs))]
 pub(crate) fn needs<'a>(
     alloc: Global,
     text: &str,
@@ -194,7 +194,7 @@ fn more_prompts<'a>(
 }
 
 /// Prompts, with commas between them.
-#[tactic(auto, unfolding(crate::specs::Clauses::prompts))]
+#[tactic(auto, using(crate::proofs::Loops::list_read), unfolding(crate::specs::Clauses::prompts))]
 pub(crate) fn prompts<'a>(
     alloc: Global,
     text: &str,
@@ -236,7 +236,7 @@ fn more_files<'a>(
 }
 
 /// Files, with commas between them.
-#[tactic(auto, unfolding(crate::specs::Clauses::files))]
+#[tactic(auto, using(crate::proofs::Loops::list_read), unfolding(crate::specs::Clauses::files))]
 pub(crate) fn files<'a>(
     alloc: Global,
     text: &str,

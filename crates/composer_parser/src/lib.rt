@@ -14,7 +14,7 @@
 //!
 //! - `rules::without_last` and `rules::is_month_day`, `moments::minus_number`: a choice within a choice, where the prefix or
 //!   the suffix is not there. The value wants one choice on the first byte or the last, and a choice on the number within.
-//! - `rules::are_parts`, `rules::all_known`, `rules::are_weekdays`: `all` over words. The clause wants a condition on `p.now`
+//! - `rules::are_parts`, `rules::all_known`, `rules::are_weekdays`, `parsing::is_word_of`: `all` and `any` over words. The clause wants a condition on `p.now`
 //!   in place of `map`, as `words::is_one_of` has it, and `list_all-map` at its callers.
 //! - `items::is_weekday_next`: seven words in one `||`; early returns, or two functions.
 //! - The loops other than that of `flags` (`proofs/works`, `lists`, `items`, `clause_forms`, `ons`, `entries`, `groups`,

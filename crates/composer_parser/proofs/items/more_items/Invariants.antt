@@ -8,7 +8,7 @@ use Rattle.composer_parser.proofs.items.more_items.Given as goal
 abbrev pub invariant-pieces : goal.invariant-pieces
 invariant-pieces l =
     turns put always next_item l.all (all_spelled l.text l.left)
-    ≡ turns put always next_item (l.initial.first ∷ []) (all_spelled l.text l.initial.left)
+    ≡ turns put always next_item l.initial.all (all_spelled l.text l.initial.left)
 
 abbrev pub decreases-pieces : goal.decreases-pieces
 decreases-pieces l = length l.left

@@ -8,7 +8,7 @@ use Rattle.composer_parser.proofs.lists.more_preds.Given as goal
 abbrev pub invariant-pieces : goal.invariant-pieces
 invariant-pieces l =
     turns put always next_pred l.all (all_spelled l.text l.left)
-    ≡ turns put always next_pred (l.initial.first ∷ []) (all_spelled l.text l.initial.left)
+    ≡ turns put always next_pred l.initial.all (all_spelled l.text l.initial.left)
 
 abbrev pub decreases-pieces : goal.decreases-pieces
 decreases-pieces l = length l.left

@@ -1,5 +1,6 @@
 pub mod Apart
 pub mod Completes
+pub mod Ends
 pub mod Exactly
 pub mod Firsts
 pub mod Fronts

@@ -121,7 +121,7 @@ list_read {A = A} g h ts = by_first (read g ts)
     by_rest a (stuck w last) = refl
 
     by_first : (o : Outcome A)
-        → and_then (and_then (done (λ (a : A) more. a ∷ more) ts) (λ f rest. and_then o (λ a last. done (f a) last)))
+        → and_then {A = List A → List A} (and_then {A = A → List A → List A} (done (λ a more. a ∷ more) ts) (λ f rest. and_then o (λ a last. done (f a) last)))
         (λ f rest. and_then (read (any_number h) rest) (λ more last. done (f more) last))
         ≡ and_then o (λ a rest. turns put always h (a ∷ []) rest)
     by_first (stuck w us) = refl

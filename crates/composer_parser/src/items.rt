@@ -9,13 +9,16 @@ ghost use Rattle.composer_parser.specs.Parts.{put, always};
 ghost use Rattle.composer_parser.specs.Reading.{begins, turns};
 
 use crate::moments::{date_value, is_date_next, is_offset_next, signed};
-use crate::parts::{is_mark_next, is_next, key, mark, name, quoted_value};
+use crate::parts::{is_mark_next, is_next, is_word_of, key, mark, name, quoted_value};
 use crate::places::is_name_next;
 use crate::rules::{RuleForm, rule_form};
 use crate::schedules::{Offset, OffsetUnit, OnItem};
 use crate::stops::{Stop, Why};
 use base_types::{Items, Token, TokenKind};
 use std::alloc::Global;
+
+/// The days of the week, from Monday on.
+const WEEKDAYS: [&str; 7] = ["MO", "TU", "WE", "TH", "FR", "SA", "SU"];
 
 #[tactic(auto, unfolding(crate::specs::Schedules::offset_unit))]
 fn offset_unit<'a>(text: &str, rest: &'a [Token]) -> Result<(OffsetUnit, &'a [Token]), Stop>
@@ -119,13 +122,10 @@ fn days<'a>(text: &str, rest: &'a [Token]) -> Result<(OnItem, &'a [Token]), Stop
 fn is_weekday_next(text: &str, rest: &[Token]) -> bool
     ensures { result ≡ begins (keyword (codes "MO") ∷ keyword (codes "TU") ∷ keyword (codes "WE") ∷ keyword (codes "TH") ∷ keyword (codes "FR") ∷ keyword (codes "SA") ∷ keyword (codes "SU") ∷ []) (all_spelled text.now rest.now) }
 {
-    is_next(text, rest, "MO")
-        || is_next(text, rest, "TU")
-        || is_next(text, rest, "WE")
-        || is_next(text, rest, "TH")
-        || is_next(text, rest, "FR")
-        || is_next(text, rest, "SA")
-        || is_next(text, rest, "SU")
+    match rest {
+        [token, ..] => is_word_of(text, token, &WEEKDAYS),
+        [] => false,
+    }
 }
 
 /// Whether the next token is a word for days.

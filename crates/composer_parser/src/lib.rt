@@ -7,20 +7,24 @@
 //! # What is open
 //!
 //! The grammar, the contracts, the readers and the answers stand for every statement, and the tests of `composer_tests`
-//! pass when they are run without a proof. Proved are the laws of grammars, that the next token always decides in the whole
-//! grammar (`proofs/Sound.antt`), that a fault is left out exactly where the grammar leaves it out (`proofs/Leaves.antt`),
-//! and what makes the answer of reading exact (`proofs/Parsings.antt`); so are the readers as far as a check came, but for
-//! these:
+//! that are tables of texts pass when they are run without a proof. Proved are the laws of grammars, that the next token
+//! always decides in the whole grammar (`proofs/Sound.antt`), that a fault is left out exactly where the grammar leaves it
+//! out (`proofs/Leaves.antt`), what makes the answer of reading exact (`proofs/Parsings.antt`), and most single readers.
 //!
-//! - `rules::without_last` and `rules::is_month_day`, `moments::minus_number`: a choice within a choice, where the prefix or
-//!   the suffix is not there. The value wants one choice on the first byte or the last, and a choice on the number within.
-//! - `rules::are_parts`, `rules::all_known`, `rules::are_weekdays`, `parsing::is_word_of`: `all` and `any` over words. The clause wants a condition on `p.now`
-//!   in place of `map`, as `words::is_one_of` has it, and `list_all-map` at its callers.
-//! - `items::is_weekday_next`: seven words in one `||`; early returns, or two functions.
-//! - The loops other than that of `flags` (`proofs/works`, `lists`, `items`, `clause_forms`, `ons`, `entries`, `groups`,
-//!   `statements`), `batches::append`, the lists with commas (by `list_read` of `proofs/Loops.antt`), and `parse` with its
-//!   helpers: a check did not come to them. Their invariants and answers are written.
-//! - `rt plant`, the edits in `must-fail/`, `rt test`.
+//! Written, and not seen proved:
+//!
+//! - `rules::without_last`, `rules::is_month_day` and `moments::minus_number`, by `proofs/Ends.antt`: what a text without
+//!   the prefix or the suffix does not begin or end with.
+//! - `rules::are_parts`, `rules::all_known`, `rules::are_weekdays`, `rules::are_month_days`: `all` by the list that its
+//!   iterator yields. `parts::is_word_of` has the condition on the words as they are borrowed, and wants no answer.
+//! - `items::is_weekday_next`, by `is_word_of` over a table of seven words.
+//! - The loops other than that of `flags`: their invariants and answers are all of one form. Those of `groups` push to a
+//!   `Vec`, whose clause is `items`.
+//! - `batches::append` and `parsing::feeds`, by an invariant alone.
+//! - The lists with commas, by `list_read` of `proofs/Loops.antt`.
+//! - `parsing::parse_tokens`, where tokens are left behind the definitions (`rest_answer` of `proofs/Parsings.antt`; the
+//!   goal wants a name from a check), and `parse`, by answers that were not tried.
+//! - `rt test`, `rt plant`, the edits in `must-fail/`.
 //! - Speed: each test of a keyword cuts its word from the text again, and a name is looked for among 95 words.
 #![tactic(auto)]
 

@@ -1,5 +1,5 @@
 //! Definitions from the tokens of a text.
-ghost use Rattle.std.specs.Prelude.{◌≡◌, ◌⊎◌, ◌≤◌, ◌-◌, ◌==◌, ◌+◌, ◌<◌, ◌^◌, ℕ, List, length, take, drop, map, Ok, Err};
+ghost use Rattle.std.specs.Prelude.{◌≡◌, ◌⊎◌, ◌≤◌, ◌-◌, ◌==◌, ◌+◌, ◌<◌, ◌^◌, ℕ, List, length, take, drop, Ok, Err};
 ghost use Rattle.std.specs.List.{count_by, list_any};
 ghost use Rattle.composer_parser.specs.declared.definitions.Defs.{Defs as Definitions};
 ghost use Rattle.composer_parser.specs.declared.faults.SyntaxFault.TheVariants as fault;
@@ -12,7 +12,7 @@ ghost use Rattle.composer_parser.specs.Tokens.{all_spelled, spelled};
 
 use crate::definitions::Defs;
 use crate::faults::SyntaxFault;
-use crate::parts::is_keyword;
+use crate::parts::{is_keyword, is_word_of};
 use crate::statements::definitions;
 use crate::stops::{Stop, Why};
 use base_types::{Token, Tokens};
@@ -119,12 +119,6 @@ fn is_left_word(text: &str, before: &[Token], token: &Token) -> bool
 {
     is_word_of(text, token, &LEFT_WORDS)
         || is_word_of(text, token, &ZONE_WORDS) && !in_options(text, before)
-}
-
-fn is_word_of(text: &str, token: &Token, words: &[&str]) -> bool
-    ensures { result ≡ spec.is_word_of (map (λ k. k.now) words.now) (spelled text.now token.now) }
-{
-    words.iter().any(|word| is_keyword(text, token, word))
 }
 
 /// Whether `$OPTIONS` stands first, and no statement has begun.

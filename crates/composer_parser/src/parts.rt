@@ -1,6 +1,6 @@
 //! Single tokens: what the next one is, and reading it.
 ghost use Rattle.std.specs.Prelude.{◌≡◌, ℕ, List, [], ◌∷◌, IfOk, if◌then◌else◌, slice_index};
-ghost use Rattle.std.specs.List.{list_all};
+ghost use Rattle.std.specs.List.{list_all, list_any};
 ghost use Rattle.std.specs.Char.{is_ascii_digit};
 ghost use Rattle.std.specs.Option.{option_map_or};
 ghost use Rattle.syntax.specs.Quotes.{quoted_of};
@@ -39,6 +39,13 @@ pub(crate) fn is_keyword(text: &str, token: &Token, word: &str) -> bool
         TokenKind::Word => piece(text, token).eq_ignore_ascii_case(word),
         TokenKind::Quoted | TokenKind::Mark => false,
     }
+}
+
+/// Whether the token is one of these words, in any case.
+pub(crate) fn is_word_of(text: &str, token: &Token, words: &[&str]) -> bool
+    ensures { result ≡ list_any (λ k. kinds.is (keyword_kind k.now) (tokens.spelled text.now token.now)) words.now }
+{
+    words.iter().any(|word| is_keyword(text, token, word))
 }
 
 /// This word, in any case, with its line.

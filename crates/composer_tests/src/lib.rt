@@ -6,6 +6,8 @@
 #[cfg(test)]
 mod composer_lexer_tests;
 #[cfg(test)]
+mod composer_parser_rows;
+#[cfg(test)]
 mod composer_parser_tests;
 #[cfg(test)]
 mod dates_tests;

@@ -8,7 +8,7 @@ use Rattle.composer_parser.proofs.groups.calendars.Goals as goal
 
 pub pieces-preserved : goal.pieces-preserved
 pieces-preserved c =
-    rw c.in_ok-push.ensures.ok
+    rw c.in_ok-push.ensures.items
     (sym (turn_more put always calendar calendar_decided calendar_some c.pieces.all.items
     (all_spelled c.args.text.now c.pieces.left.now) c.in_ok-next.next
     (all_spelled c.args.text.now c.in_ok-next.behind.now) (sym (c.begins_calendar.ensures c.pieces.all.items) ∙ c.pieces-test.true)

@@ -1,0 +1,15 @@
+-- Canonical text: the lines of the normal form, one line feed behind each. Between tokens stands one blank, but none before a
+-- comma.
+--
+--   shape_text (word w) = w        shape_text (quoted v) = quoted_text v        shape_text (mark c) = c ∷ []
+--   line_text [] = []
+--   line_text (x ∷ xs) = shape_text x ++ flat_map (λ y. if is_comma y then shape_text y else codes " " ++ shape_text y) xs
+--   canonical_text d = flat_map (λ l. line_text l ++ codes "\n") (canonical (normal d))
+--
+-- print_defs(alloc, defs) -> Result<Bytes, NoMemory>
+--     ensures { IfOk result (λ b. b ≡ canonical_text defs) }
+--
+-- and the laws, each the clause of a public function with an empty body:
+--   read_back : Spells (defs last) ts d → (us, e) with tokens_of (canonical_text d) ≡ Ok us,
+--       Spells (defs (last_line_of (canonical_text d))) (all_spelled (canonical_text d) us) e, and bare_defs e ≡ normal d
+--   normal_is_normal : Spells (defs last) ts d → normal (normal d) ≡ normal d

@@ -1,2 +1,5 @@
 pub mod Memory
 pub mod Disks
+pub mod Rooms
+pub mod Moments
+pub mod CrashLaws

@@ -5,13 +5,16 @@
 #![tactic(auto)]
 
 mod calls;
+mod crashes;
 mod disks;
+mod rooms;
 mod sink;
 mod source;
 mod stopping;
 #[cfg(test)]
 mod tests;
 
+pub use crashes::CrashDisk;
 pub use disks::MemDisk;
 pub use sink::MemSink;
 pub use source::MemSource;

@@ -74,7 +74,9 @@ impl<D: Disk> Disk for StoppingDisk<D> {
     ghost only_now = { λ s. D.only_now s.disk };
 
     fn len(&mut self) -> Result<u64, Failed> {
-        if self.goes_on() && let Ok(n) = self.disk.len() {
+        if self.goes_on()
+            && let Ok(n) = self.disk.len()
+        {
             return Ok(n);
         }
         Err(self.fail())

@@ -1,0 +1,89 @@
+//! Disks in memory, with calls that fail and with a stop.
+use base_types::Items;
+use outside::{Disk, Failed};
+use outside_mem::{MemDisk, StoppingDisk};
+use std::alloc::Global;
+use std::test::Fail;
+
+fn list<T: Copy + Drop>(alloc: Global, items: &[T]) -> Result<Items<T>, Fail> {
+    let mut list = Items::new(alloc);
+    for item in items {
+        list.push(*item)?;
+    }
+    Ok(list)
+}
+
+fn disk(alloc: Global, fails: &[u32]) -> Result<MemDisk, Fail> {
+    Ok(MemDisk::new(alloc, list(alloc, &[1u8, 2, 3])?, list(alloc, fails)?, 5)?)
+}
+
+/// Writes where the file has this place.
+fn write<D: Disk>(disk: &mut D, at: u64, piece: &[u8]) -> Result<(), Failed> {
+    if disk.len()? < at || at > 1000 || piece.len() > 1000 {
+        return Err(Failed);
+    }
+    disk.write_at(at, piece)
+}
+
+fn cut<D: Disk>(disk: &mut D, len: u64) -> Result<(), Failed> {
+    if disk.len()? < len {
+        return Err(Failed);
+    }
+    disk.cut(len)
+}
+
+fn read<D: Disk>(disk: &mut D, at: u64, buf: &mut [u8]) -> Result<(), Failed> {
+    if at > 1000 || buf.len() > 1000 || disk.len()? < at + buf.len() as u64 {
+        return Err(Failed);
+    }
+    disk.read_at(at, buf)
+}
+
+#[test]
+fn a_write_goes_over_what_is_there_and_past_the_end(rt: HostRuntime) -> Result<(), Fail> {
+    let mut disk = disk(rt.alloc(), &[])?;
+    assert!(rt; write(&mut disk, 1, &[7]).is_ok());
+    assert_eq!(rt; disk.bytes(), [1, 7, 3].as_slice());
+    assert!(rt; write(&mut disk, 2, &[8, 9]).is_ok());
+    assert_eq!(rt; disk.bytes(), [1, 7, 8, 9].as_slice());
+    let mut buf = [0; 2];
+    assert!(rt; read(&mut disk, 1, &mut buf).is_ok());
+    assert_eq!(rt; buf, [7, 8]);
+    assert!(rt; cut(&mut disk, 1).is_ok());
+    assert_eq!(rt; disk.bytes(), [1].as_slice());
+    assert!(rt; disk.sync().is_ok());
+    Ok(())
+}
+
+#[test]
+fn a_write_past_the_room_changes_nothing(rt: HostRuntime) -> Result<(), Fail> {
+    let mut disk = disk(rt.alloc(), &[])?;
+    assert!(rt; write(&mut disk, 3, &[4, 5, 6]).is_err());
+    assert_eq!(rt; disk.bytes(), [1, 2, 3].as_slice());
+    assert!(rt; write(&mut disk, 3, &[4, 5]).is_ok());
+    assert_eq!(rt; disk.bytes(), [1, 2, 3, 4, 5].as_slice());
+    Ok(())
+}
+
+#[test]
+fn a_listed_call_changes_nothing(rt: HostRuntime) -> Result<(), Fail> {
+    let mut disk = disk(rt.alloc(), &[2, 4, 5])?;
+    assert!(rt; write(&mut disk, 0, &[9]).is_err());
+    assert!(rt; cut(&mut disk, 0).is_err());
+    assert!(rt; disk.sync().is_err());
+    assert_eq!(rt; disk.bytes(), [1, 2, 3].as_slice());
+    assert!(rt; write(&mut disk, 0, &[9]).is_ok());
+    assert_eq!(rt; disk.bytes(), [9, 2, 3].as_slice());
+    Ok(())
+}
+
+#[test]
+fn after_a_stop_no_call_reaches_the_disk(rt: HostRuntime) -> Result<(), Fail> {
+    let mut disk = StoppingDisk::new(disk(rt.alloc(), &[])?, 3);
+    assert!(rt; write(&mut disk, 0, &[9]).is_ok());
+    assert!(rt; disk.sync().is_ok());
+    assert!(rt; disk.sync().is_err());
+    assert!(rt; disk.len().is_err());
+    assert_eq!(rt; disk.into_disk().bytes(), [9, 2, 3].as_slice());
+    Ok(())
+}

@@ -51,7 +51,7 @@ impl<'a> Iterator for Bodies<'a> {
 
 /// The commands that the bodies of one feed obeyed, in order.
 #[derive(Drop)]
-pub(crate) struct Commands<'a> {
+pub struct Commands<'a> {
     pub(crate) entries: &'a [Entry],
     pub(crate) feed: Feed,
 }

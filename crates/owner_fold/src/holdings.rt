@@ -166,8 +166,8 @@ impl Owners {
         }
     }
 
-    /// The commands that the events of a workstation obeyed.
-    pub(crate) fn commands(&self, w: Ws) -> Commands<'_>
+    /// The commands that the events of a workstation obeyed, in order.
+    pub fn commands(&self, w: Ws) -> Commands<'_>
         ensures few { length (commands_left result) < 2 ^ 32 }
         ensures left { commands_left result ≡ commands (list_of self.now (Events w)) }
     {

@@ -20,6 +20,7 @@ mod sayings;
 mod spots;
 mod units;
 
+pub use bodies::Commands;
 pub use catalogue::{PlannedJobs, StreamJobs, Streams};
 pub use holdings::Owners;
 pub use launches::Outcome;

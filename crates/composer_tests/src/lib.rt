@@ -5,3 +5,7 @@
 
 #[cfg(test)]
 mod composer_lexer_tests;
+#[cfg(test)]
+mod composer_parser_rows;
+#[cfg(test)]
+mod composer_parser_tests;

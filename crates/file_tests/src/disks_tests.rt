@@ -1,6 +1,6 @@
 //! Disks in memory, with calls that fail and with a stop.
 use outside::{Disk, Failed};
-use outside_mem::{MemDisk, StoppingDisk};
+use outside_mem::{CrashDisk, MemDisk, StoppingDisk};
 use std::alloc::Global;
 use std::test::Fail;
 use test_builders::listed;
@@ -82,5 +82,42 @@ fn after_a_stop_no_call_reaches_the_disk(rt: HostRuntime) -> Result<(), Fail> {
     assert!(rt; disk.sync().is_err());
     assert!(rt; disk.len().is_err());
     assert_eq!(rt; disk.into_disk().bytes(), [9, 2, 3].as_slice());
+    Ok(())
+}
+
+fn crash_disk(alloc: Global, fails: &[u32], room: u32) -> Result<CrashDisk, Fail> {
+    Ok(CrashDisk::new(
+        alloc,
+        listed(alloc, &[1u8, 2, 3])?,
+        listed(alloc, fails)?,
+        room,
+    )?)
+}
+
+#[test]
+fn a_disk_that_keeps_every_moment_tears_a_listed_write(rt: HostRuntime) -> Result<(), Fail> {
+    let mut disk = crash_disk(rt.alloc(), &[2, 4], 9)?;
+    assert!(rt; write(&mut disk, 2, &[7, 8, 9]).is_err());
+    assert_eq!(rt; disk.bytes(), [1, 2, 7].as_slice());
+    assert_eq!(rt; disk.moments(), 1);
+    assert!(rt; cut(&mut disk, 1).is_err());
+    assert_eq!(rt; disk.bytes(), [1, 2, 7].as_slice());
+    assert_eq!(rt; disk.moments(), 2);
+    assert!(rt; cut(&mut disk, 1).is_ok());
+    assert!(rt; disk.sync().is_ok());
+    assert_eq!(rt; disk.bytes(), [1].as_slice());
+    assert_eq!(rt; disk.moments(), 4);
+    Ok(())
+}
+
+#[test]
+fn a_disk_that_keeps_every_moment_has_room_for_so_many(rt: HostRuntime) -> Result<(), Fail> {
+    let mut disk = crash_disk(rt.alloc(), &[], 2)?;
+    assert!(rt; write(&mut disk, 0, &[5, 6, 7]).is_err());
+    assert!(rt; write(&mut disk, 0, &[5, 6]).is_ok());
+    assert!(rt; disk.sync().is_ok());
+    assert!(rt; disk.sync().is_err());
+    assert_eq!(rt; disk.bytes(), [5, 6, 3].as_slice());
+    assert_eq!(rt; disk.moments(), 2);
     Ok(())
 }

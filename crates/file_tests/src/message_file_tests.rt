@@ -10,6 +10,7 @@ use test_builders::listed;
 mod attached;
 mod refused;
 mod stopped;
+mod torn;
 mod written;
 
 /// Events of workstation 0, place 1, the clock at 100.

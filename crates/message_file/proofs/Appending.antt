@@ -1,13 +1,16 @@
 -- What a message file keeps after one record is put, or after the try failed.
-use Rattle.std.proofs.Common.{◌≡◌, ◌⊎◌, inl, inr, ⊎_elim, ℕ, zero, suc, ◌+◌, ◌<◌, ◌≤◌, true, false, List, [], ◌∷◌, ◌++◌, length, take, refl, sym, ◌∙◌, ap, arith, length-append, Some, None, IfSome, option_map, OnOk, OnErr, Result, Ok, Err, is_err}
+use Rattle.std.proofs.Common.{◌≡◌, ◌⊎◌, inl, inr, ⊎_elim, ℕ, zero, suc, ◌+◌, ◌<◌, ◌≤◌, true, false, List, [], ◌∷◌, ◌++◌, length, take, refl, sym, ◌∙◌, ap, arith, length-append, map, sum, Some, None, IfSome, option_map, OnOk, OnErr, Result, Ok, Err, is_err}
 use Rattle.std.specs.declared.option.Option.{Option}
+use Rattle.std.specs.List.{sum_by}
+use Rattle.std.proofs.lemmas.List.Concat.{length-flat_map}
+use Rattle.std.proofs.lemmas.List.Sums.{sum-map, sum_by-cons}
 use Rattle.std.proofs.lemmas.List.{take_all, take_at, length-take-le}
 use Rattle.model.specs.Fields.{u32_bytes}
 use Rattle.outside.specs.Records.{longest_body, longest_file, piece_of}
-use Rattle.outside.specs.Kept.{Bodies, with_body, KeptOrWith, IsKept}
+use Rattle.outside.specs.Kept.{Bodies, with_body, KeptOrWith, IsKept, size_of}
 use Rattle.outside.specs.Files.{Only, Told}
 use Rattle.outside.specs.Stops.{LeavesOnly}
-use Rattle.message_file.specs.Files.{kept_of, place_behind, IsAtRest, KeepsAtLeast}
+use Rattle.message_file.specs.Files.{kept_of, record_of, records, place_behind, IsAtRest, KeepsAtLeast}
 use Rattle.message_file.specs.State.{kept_in, StandsBehind, KeptLeft}
 use Rattle.message_file.specs.Steps.{IsStaged, StagedOf, EndsAt, Opened}
 use Rattle.message_file.proofs.Reading.{kept_is}
@@ -26,6 +29,23 @@ length-piece body = omega (arith, length-append (u32_bytes (length body) ++ body
   where
     four : length (u32_bytes (length body)) ≡ 4
     four = refl
+
+length-record : (body : List ℕ) → length (record_of body) ≡ 5 + length body
+length-record body = omega (arith, length-append (u32_bytes (length body)) body, four)
+  where
+    four : length (u32_bytes (length body)) ≡ 4
+    four = refl
+
+by_each : (bodies : Bodies) → sum_by (λ (body : List ℕ). length (record_of body)) bodies ≡ sum_by (λ (body : List ℕ). 5 + length body) bodies
+by_each [] = refl
+by_each (body ∷ bodies) = omega (arith, sum_by-cons (λ (b : List ℕ). length (record_of b)) body bodies, sum_by-cons (λ (b : List ℕ). 5 + length b) body bodies, length-record body, by_each bodies)
+
+-- the records of bodies have five bytes and its own for each
+size_behind : (bodies : Bodies) → place_behind bodies + 1 ≡ size_of bodies
+size_behind bodies = omega (arith, each bodies)
+  where
+    each : (bodies : Bodies) → length (records bodies) ≡ sum (map (λ (body : List ℕ). 5 + length body) bodies)
+    each bodies = length-flat_map record_of bodies ∙ by_each bodies ∙ sym (sum-map (λ (body : List ℕ). 5 + length body) bodies)
 
 -- the front of a front
 take_less : {X : Type 0} (m n : ℕ) (xs : List X) → m ≤ n → take m (take n xs) ≡ take m xs
@@ -53,6 +73,11 @@ module _ (owner count gate : ℕ) where
   counted None keeps = tt
   counted (Some file) keeps =
       ap (λ (l : Bodies). length (take count l)) (kept_is owner file keeps.bodies keeps.is_file) ∙ length-take-le count keeps.bodies keeps.enough
+
+  -- its size is that of what is kept
+  pub sized : (told : Option (List ℕ)) (left : List ℕ → Type 0) → Rests told left → IfSome (kept_in told count) (λ bodies. gate + 1 ≡ size_of bodies)
+  sized None left rest = tt
+  sized (Some file) left rest = omega (arith, rest.gate_at, size_behind rest.bodies, ap size_of (kept_at_rest file left rest))
 
   -- a stop leaves what is kept
   pub rest_kept : (told : Option (List ℕ)) (left : List ℕ → Type 0) → Rests told left → (bodies : Bodies) → KeptLeft left bodies → IsKept (kept_in told count) bodies

@@ -8,3 +8,5 @@ pub mod Scanning
 pub mod Settling
 pub mod Attached
 pub mod Cursors
+pub mod Own
+pub mod Again

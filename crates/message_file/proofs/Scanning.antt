@@ -38,6 +38,8 @@ module _ {D : Type 0} (seen : D → Option (List ℕ)) (may_leave : D → List �
     left = λ file left. first.left file (second.left file left);
     later = omega (arith, first.later, second.later);
     since = λ t file le left. ⊎_elim (λ was. first.since t file le was) (λ now. inr (first.left file now)) (second.since t file (omega (arith, le, first.later)) left);
+    still = λ file left. second.still file (first.still file left);
+    keeps = λ t file le was. second.keeps t file (omega (arith, le, first.later)) (first.keeps t file le was);
   }
 
   -- reading changes nothing of what a stop leaves

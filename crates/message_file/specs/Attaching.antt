@@ -16,6 +16,8 @@ pub record OnlyReads {D : Type 0} (seen : D → Option (List ℕ)) (may_leave : 
   pub left : (file : List ℕ) → may_leave new file → may_leave old file
   pub later : moment old ≤ moment new
   pub since : (t : ℕ) (file : List ℕ) → t ≤ moment old → left_since new t file → left_since old t file ⊎ may_leave old file
+  pub still : (file : List ℕ) → may_leave old file → may_leave new file
+  pub keeps : (t : ℕ) (file : List ℕ) → t ≤ moment old → left_since old t file → left_since new t file
 
 -- at this place stands a gate that is not open
 abbrev pub IsClosedAt : List ℕ → ℕ → Type 0

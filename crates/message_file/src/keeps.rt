@@ -3,10 +3,10 @@ ghost use Rattle.std.specs.Prelude.{◌≡◌, ◌+◌, ◌*◌, ◌<◌, ◌≤
 ghost use Rattle.std.specs.Result.{IsErrOf};
 ghost use Rattle.std.specs.declared.option.Option.{Option};
 ghost use Rattle.outside.specs.Causes.{Rose};
-ghost use Rattle.outside.specs.Kept.{Bodies, with_body, KeptOrWith, IsKept};
+ghost use Rattle.outside.specs.Kept.{Bodies, with_body, KeptOrWith, IsKept, size_of};
 ghost use Rattle.outside.specs.Records.{longest_file};
 ghost use Rattle.outside.specs.declared.keepers.KeepFault.TheVariants.{Disk as OfDisk, Full, NotThere};
-ghost use Rattle.message_file.specs.State.{kept_in, KeptLeft};
+ghost use Rattle.message_file.specs.State.{kept_in, KeptLeft, OwnFiles};
 
 use crate::LONGEST_FILE;
 use crate::files::MessageFile;
@@ -29,6 +29,8 @@ impl<D: Disk> Keeper for MessageFile<D> {
     ghost moment = { λ m. D.moment m.disk };
 
     ghost left_since = { λ m t. KeptLeft (D.left_since m.disk t) };
+
+    ghost opens_since = { λ m owner t. (m.owner ≡ owner) × OwnFiles owner (D.seen m.disk) (D.left_since m.disk t) };
 
     ghost faults = { λ m. D.faults m.disk };
 

@@ -14,7 +14,7 @@ AddsOrEnds x (Some old) (Some new) = new ≡ old ++ x ∷ []
 AddsOrEnds x None (Some new) = ⊥
 AddsOrEnds x (Some old) None = ⊤
 
--- a link is to begin: the own number, the workstation to connect to, and the addresses
+-- a link is to begin: the own number, the workstation to connect to, and the addresses of all workstations
 pub record Begin : Type 0 where
   pub me : Option ℕ
   pub hop : Option ℕ

@@ -3,7 +3,7 @@ ghost use Rattle.std.specs.Prelude.{◌≡◌, ◌+◌, ◌<◌, ◌≤◌, ◌�
 ghost use Rattle.std.specs.Result.{IsErrOf};
 ghost use Rattle.std.specs.declared.option.Option.{Option};
 ghost use Rattle.outside.specs.Causes.{Rose};
-ghost use Rattle.outside.specs.Kept.{Bodies, with_body, KeptOrWith, IsKept};
+ghost use Rattle.outside.specs.Kept.{Bodies, with_body, KeptOrWith, IsKept, size_of};
 ghost use Rattle.outside.specs.Records.{longest_file};
 ghost use Rattle.outside.specs.declared.keepers.KeepFault.TheVariants.{Disk as OfDisk, Full, NotThere};
 
@@ -30,7 +30,7 @@ pub trait Keeper {
     /// How many they are.
     ghost number: { Self → ℕ };
 
-    /// How many bytes it takes for them.
+    /// How many bytes it takes for them, up to 2,147,483,648.
     ghost size: { Self → ℕ };
 
     /// Whether it has answered that its disk failed. From then on it keeps nothing more.
@@ -44,6 +44,10 @@ pub trait Keeper {
 
     /// The lists that it tells a stop at some moment from that one on might have left.
     ghost left_since: { Self → ℕ → Bodies → Type 0 };
+
+    /// Whether it tells that all that a stop left since a moment is of a workstation and can be opened again: the keeper, the
+    /// workstation, and the moment.
+    ghost opens_since: { Self → ℕ → ℕ → Type 0 };
 
     /// The count of its disk's faults.
     ghost faults: { Self → ℕ };
@@ -76,12 +80,14 @@ pub trait Keeper {
         ensures rest { spent self.new ≡ false → (left : Bodies) → may_leave self.new left → IsKept (kept self.new) left }
         ensures spent_now { spent self.old ≡ true → (left : Bodies) → (may_leave self.new left ↔ may_leave self.old left) }
         ensures spent_since { spent self.old ≡ true → (t : ℕ) → (left : Bodies) → t ≤ moment self.old →
-            (left_since self.new t left ↔ left_since self.old t left) };
+            (left_since self.new t left ↔ left_since self.old t left) }
+        ensures opens { (owner t : ℕ) → t ≤ moment self.old → opens_since self.old owner t → opens_since self.new owner t };
 
-    /// How many bodies it keeps.
+    /// How many bodies it keeps. They alone say how many bytes it takes, and what a stop leaves.
     fn count(&self) -> u32
         ensures count { result ≡ number self.now }
         ensures kept { IfSome (kept self.now) (λ bodies. length bodies ≡ number self.now) }
+        ensures size { spent self.now ≡ false → IfSome (kept self.now) (λ bodies. size self.now ≡ size_of bodies) }
         ensures rest { spent self.now ≡ false → (left : Bodies) → may_leave self.now left → IsKept (kept self.now) left };
 
     /// The body of this number, counted from 0. NotThere exactly where there are no more than so many.
@@ -99,10 +105,11 @@ pub trait Keeper {
         ensures not_spent { spent self.old ≡ false → (IsErrOf result OfDisk → ⊥) → spent self.new ≡ false }
         ensures stays_spent { spent self.old ≡ true → spent self.new ≡ true }
 
-        // It adds nothing to what a stop leaves.
+        // It changes nothing of what a stop leaves.
         ensures time { moment self.old ≤ moment self.new }
-        ensures now { (left : Bodies) → may_leave self.new left → may_leave self.old left }
-        ensures since { (t : ℕ) → (left : Bodies) → t ≤ moment self.old → left_since self.new t left → left_since self.old t left };
+        ensures now { (left : Bodies) → (may_leave self.new left ↔ may_leave self.old left) }
+        ensures since { (t : ℕ) → (left : Bodies) → t ≤ moment self.old → (left_since self.new t left ↔ left_since self.old t left) }
+        ensures opens { (owner t : ℕ) → t ≤ moment self.old → opens_since self.old owner t → opens_since self.new owner t };
 
     /// This moment is one of those since an earlier one.
     ghost counts_now: { (keeper : Self) (t : ℕ) (left : Bodies) → t ≤ moment keeper → may_leave keeper left → left_since keeper t left };

@@ -1,5 +1,5 @@
 // The links of a node to its neighbours, and its clients.
-ghost use Rattle.std.specs.Prelude.{◌≡◌, ◌≤◌, ℕ, List, is_ok};
+ghost use Rattle.std.specs.Prelude.{◌≡◌, ℕ, List, is_ok};
 ghost use Rattle.outside.specs.Causes.{HasCause};
 ghost use Rattle.outside.specs.Calls.{LinkCalls, Begins, Sends, Replies, Asks};
 ghost use Rattle.outside.specs.Calls.Asked.{Raise, Close};
@@ -35,16 +35,17 @@ pub trait Link {
     /// The count of its faults, up to 2^64 - 1: it rises in each call that fails, and in no other.
     ghost faults: { Self → ℕ };
 
-    /// Begins, with the own number (none for a client), the workstation to connect to, and the addresses of the own
-    /// workstation and of its neighbours.
+    /// Begins, with the own number (none for a client), the workstation to connect to, and the addresses of all
+    /// workstations, since any of them may become a neighbour later. A client has one address, that of the workstation
+    /// that it asks.
     fn begin(&mut self, me: Option<Ws>, hop: Option<Ws>, peers: &Peers) -> Result<(), Failed>
         ensures calls { Begins (record { me = me; hop = hop; peers = peers.now; ok = is_ok result }) (calls self.old) (calls self.new) }
         ensures cause { HasCause (faults self.old) (faults self.new) result };
 
-    /// What comes next. Where there is no memory for it nothing changes.
+    /// What comes next. Where there is no memory for it nothing changes. It cannot fail: a link that breaks comes as `Down`.
     fn poll(&mut self) -> Arrival
         ensures calls { Arrives result (calls self.old) (calls self.new) }
-        ensures later { faults self.old ≤ faults self.new };
+        ensures same { faults self.new ≡ faults self.old };
 
     /// Sends all these bytes to a workstation, or fails.
     fn send(&mut self, to: Ws, bytes: &[u8]) -> Result<(), Failed>

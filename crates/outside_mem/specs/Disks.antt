@@ -1,5 +1,5 @@
 -- What a disk in memory holds, and what its calls do.
-use Rattle.std.specs.Prelude.{◌≡◌, ◌+◌, ◌||◌, nat_lt, Bool, ℕ, List, ◌++◌, length, take, drop, Result, is_err, if◌then◌else◌}
+use Rattle.std.specs.Prelude.{◌+◌, ◌/◌, ◌||◌, nat_lt, Bool, ℕ, List, ◌++◌, length, take, drop, Result, is_err, if◌then◌else◌}
 use Rattle.outside_mem.specs.Memory.{CallCount, after_call, is_next_listed}
 
 -- its bytes, for how many there is room, and its calls
@@ -11,6 +11,10 @@ pub record DiskState : Type 0 where
 -- the bytes with a piece over them
 abbrev pub written : ℕ → List ℕ → List ℕ → List ℕ
 written place piece bytes = take place bytes ++ piece ++ drop (place + length piece) bytes
+
+-- half of a piece, which a write that is torn leaves
+abbrev pub half : List ℕ → List ℕ
+half piece = take (length piece / 2) piece
 
 -- the disk after a call more, which failed and changed nothing or left these bytes
 abbrev pub after : {T E : Type 0} → Result T E → List ℕ → DiskState → DiskState

@@ -1,2 +1,11 @@
 pub mod Memory
 pub mod Disks
+pub mod Stopping
+pub mod Rooms
+pub mod Moments
+pub mod CrashLaws
+pub mod Keepers
+pub mod Clocks
+pub mod Spawners
+pub mod Begun
+pub mod Links

@@ -1,10 +1,10 @@
 // A disk in memory.
-ghost use Rattle.std.specs.Prelude.{◌≡◌, ◌+◌, ◌≤◌, ◌<◌, ◌^◌, ℕ, List, max, length, take, drop, Some, IfOk, OnOk, OnErr, is_err, true, vec_capacity};
+ghost use Rattle.std.specs.Prelude.{◌≡◌, ◌+◌, ◌≤◌, ◌<◌, ◌^◌, ℕ, List, max, length, take, drop, Some, IfOk, OnOk, OnErr, is_err, true, nat_le, vec_capacity};
 ghost use Rattle.outside.specs.Causes.{HasCause};
 ghost use Rattle.outside.specs.Files.{Torn, Cut, Follows, Reaches, Only};
 ghost use Rattle.outside.specs.Stops.{Elapses};
 ghost use Rattle.outside_mem.specs.Memory as spec;
-ghost use Rattle.outside_mem.specs.Disks.{written, after, write_fails};
+ghost use Rattle.outside_mem.specs.Disks.{written, half, after, write_fails};
 
 use crate::calls::Calls;
 use base_types::{Bytes, Items, NoMemory};
@@ -55,6 +55,34 @@ impl MemDisk {
         ensures { ⟦<MemDisk as Disk>⟧.seen self.now ≡ Some result.now }
     {
         &self.bytes
+    }
+
+    /// Whether the next call is listed.
+    pub(crate) fn next_is_listed(&self) -> bool
+        ensures { result ≡ spec.is_next_listed self.now.calls }
+    {
+        self.calls.next_is_listed()
+    }
+
+    /// Whether so many bytes at a place end within the room.
+    pub(crate) fn has_room(&self, at: u64, count: usize) -> bool
+        requires { at ≤ length self.now.bytes }
+        ensures { result ≡ nat_le (at + count) self.now.room }
+    {
+        count <= self.room - at as usize
+    }
+
+    /// Fails a write, for which there is room, behind half of its piece.
+    pub(crate) fn tear(&mut self, at: u64, piece: &[u8]) -> Failed
+        requires inside { at ≤ length self.old.bytes }
+        requires room { at + length piece.now ≤ self.old.room }
+        ensures bytes { self.new.bytes ≡ written at (half piece.now) self.old.bytes }
+        ensures room { self.new.room ≡ self.old.room }
+        ensures calls { self.new.calls ≡ spec.after_call true self.old.calls }
+        ensures later { self.old.calls.faults ≤ self.new.calls.faults }
+    {
+        put(&mut self.bytes, at as usize, &piece[..piece.len() / 2]);
+        self.calls.fail()
     }
 
     /// Fails a call, which changes nothing.

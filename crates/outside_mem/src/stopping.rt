@@ -1,8 +1,12 @@
 // A disk that stops at one of its calls.
-ghost use Rattle.std.specs.Prelude.{◌≡◌, ◌≤◌, ◌-◌, ◌==◌, ◌||◌, nat_lt, IfOk, is_err};
-ghost use Rattle.outside.specs.Causes.{one_more};
+ghost use Rattle.std.specs.Prelude.{◌≡◌, ◌+◌, ◌-◌, ◌≤◌, ◌<◌, ◌^◌, List, ℕ, nat_lt, length, take, drop, IfOk, OnOk, OnErr, IfSome};
+ghost use Rattle.outside.specs.Causes.{one_more, HasCause};
+ghost use Rattle.outside.specs.Files.{Told, Holds, Keeps, Follows, Reaches, Torn, Cut, Only};
+ghost use Rattle.outside.specs.Stops.{Elapses};
+ghost use Rattle.outside_mem.specs.Stopping.{IsCounted};
 
 use outside::{Disk, Failed};
+use std::marker::Model;
 
 /// A disk over another, all of whose calls fail from one of them on. These don't reach the disk below, as after a stop.
 #[derive(Drop)]
@@ -12,11 +16,18 @@ pub struct StoppingDisk<D> {
     faults: u64,
 }
 
+impl<D> Model for StoppingDisk<D> {
+    ghost use Rattle.outside_mem.specs.Stopping.{StoppingState};
+
+    ghost Value = { StoppingState D };
+
+    ghost view = { λ s. record { disk = s.disk; left = s.left; faults = s.faults } };
+}
+
 impl<D: Disk> StoppingDisk<D> {
     /// A disk over this one, which makes so many calls before all fail.
     pub fn new(disk: D, calls: u64) -> Self
-        ensures disk { result.disk ≡ disk }
-        ensures left { result.left ≡ calls }
+        ensures value { result ≡ record { disk = disk; left = calls; faults = 0 } }
         ensures faults { ⟦<StoppingDisk<D> as Disk>⟧.faults result ≡ 0 }
     {
         StoppingDisk {
@@ -36,6 +47,7 @@ impl<D: Disk> StoppingDisk<D> {
     /// Fails a call.
     fn fail(&mut self) -> Failed
         ensures disk { self.new.disk ≡ self.old.disk }
+        ensures left { self.new.left ≡ self.old.left }
         ensures faults { self.new.faults ≡ one_more self.old.faults }
         ensures later { self.old.faults ≤ self.new.faults }
     {
@@ -73,7 +85,18 @@ impl<D: Disk> Disk for StoppingDisk<D> {
 
     ghost only_now = { λ s. D.only_now s.disk };
 
-    fn len(&mut self) -> Result<u64, Failed> {
+    /// It fails where no call is left, and else as the disk below does.
+    fn len(&mut self) -> Result<u64, Failed>
+        ensures length { IfOk result (λ n. IfSome (D.seen self.old.disk) (λ file. n ≡ length file)) }
+        ensures seen { D.seen self.new.disk ≡ D.seen self.old.disk }
+        ensures crash { (file : List ℕ) → D.may_leave self.new.disk file → D.may_leave self.old.disk file }
+        ensures still { (file : List ℕ) → D.may_leave self.old.disk file → D.may_leave self.new.disk file }
+        ensures time { Elapses (D.moment self.old.disk) (D.moment self.new.disk) (D.left_since self.old.disk) (D.left_since self.new.disk) (D.may_leave self.new.disk) }
+        ensures cause { HasCause self.old.faults self.new.faults result }
+
+        // Past the trait's clauses: how many calls are made.
+        ensures counted { IsCounted D.faults self.old self.new result }
+    {
         if self.goes_on()
             && let Ok(n) = self.disk.len()
         {
@@ -82,28 +105,75 @@ impl<D: Disk> Disk for StoppingDisk<D> {
         Err(self.fail())
     }
 
-    fn read_at(&mut self, at: u64, buf: &mut [u8]) -> Result<(), Failed> {
+    /// It fails where no call is left, and else as the disk below does.
+    fn read_at(&mut self, at: u64, buf: &mut [u8]) -> Result<(), Failed>
+        requires inside { IfSome (D.seen self.old.disk) (λ file. at + length buf.old ≤ length file) }
+        ensures bytes { OnOk result (IfSome (D.seen self.old.disk) (λ file. buf.new ≡ take (length buf.old) (drop at file))) }
+        ensures seen { D.seen self.new.disk ≡ D.seen self.old.disk }
+        ensures crash { (file : List ℕ) → D.may_leave self.new.disk file → D.may_leave self.old.disk file }
+        ensures still { (file : List ℕ) → D.may_leave self.old.disk file → D.may_leave self.new.disk file }
+        ensures time { Elapses (D.moment self.old.disk) (D.moment self.new.disk) (D.left_since self.old.disk) (D.left_since self.new.disk) (D.may_leave self.new.disk) }
+        ensures cause { HasCause self.old.faults self.new.faults result }
+
+        // Past the trait's clauses: how many calls are made.
+        ensures counted { IsCounted D.faults self.old self.new result }
+    {
         if self.goes_on() && self.disk.read_at(at, buf).is_ok() {
             return Ok(());
         }
         Err(self.fail())
     }
 
-    fn write_at(&mut self, at: u64, piece: &[u8]) -> Result<(), Failed> {
+    /// It fails where no call is left, and else as the disk below does.
+    fn write_at(&mut self, at: u64, piece: &[u8]) -> Result<(), Failed>
+        requires inside { IfSome (D.seen self.old.disk) (λ file. at ≤ length file) }
+        requires end { at + length piece.now < 2 ^ 64 }
+        ensures written { OnOk result (Told (Holds at piece.now) (D.seen self.old.disk) (D.seen self.new.disk)) }
+        ensures failed { OnErr result (Told (Torn at (length piece.now)) (D.seen self.old.disk) (D.seen self.new.disk)) }
+        ensures crash { Follows (Torn at (length piece.now)) (D.may_leave self.old.disk) (D.may_leave self.new.disk) }
+        ensures any_part { OnOk result (Reaches (Torn at (length piece.now)) (D.may_leave self.old.disk) (D.may_leave self.new.disk)) }
+        ensures time { Elapses (D.moment self.old.disk) (D.moment self.new.disk) (D.left_since self.old.disk) (D.left_since self.new.disk) (D.may_leave self.new.disk) }
+        ensures cause { HasCause self.old.faults self.new.faults result }
+
+        // Past the trait's clauses: how many calls are made.
+        ensures counted { IsCounted D.faults self.old self.new result }
+    {
         if self.goes_on() && self.disk.write_at(at, piece).is_ok() {
             return Ok(());
         }
         Err(self.fail())
     }
 
-    fn cut(&mut self, len: u64) -> Result<(), Failed> {
+    /// It fails where no call is left, and else as the disk below does.
+    fn cut(&mut self, len: u64) -> Result<(), Failed>
+        requires inside { IfSome (D.seen self.old.disk) (λ file. len ≤ length file) }
+        ensures done { OnOk result (Told (Keeps len) (D.seen self.old.disk) (D.seen self.new.disk)) }
+        ensures failed { OnErr result (Told (Cut len) (D.seen self.old.disk) (D.seen self.new.disk)) }
+        ensures crash { Follows (Cut len) (D.may_leave self.old.disk) (D.may_leave self.new.disk) }
+        ensures any_part { OnOk result (Reaches (Cut len) (D.may_leave self.old.disk) (D.may_leave self.new.disk)) }
+        ensures time { Elapses (D.moment self.old.disk) (D.moment self.new.disk) (D.left_since self.old.disk) (D.left_since self.new.disk) (D.may_leave self.new.disk) }
+        ensures cause { HasCause self.old.faults self.new.faults result }
+
+        // Past the trait's clauses: how many calls are made.
+        ensures counted { IsCounted D.faults self.old self.new result }
+    {
         if self.goes_on() && self.disk.cut(len).is_ok() {
             return Ok(());
         }
         Err(self.fail())
     }
 
-    fn sync(&mut self) -> Result<(), Failed> {
+    /// It fails where no call is left, and else as the disk below does.
+    fn sync(&mut self) -> Result<(), Failed>
+        ensures durable { OnOk result (IfSome (D.seen self.new.disk) (λ file. Only file (D.may_leave self.new.disk))) }
+        ensures seen { D.seen self.new.disk ≡ D.seen self.old.disk }
+        ensures crash { (file : List ℕ) → D.may_leave self.new.disk file → D.may_leave self.old.disk file }
+        ensures time { Elapses (D.moment self.old.disk) (D.moment self.new.disk) (D.left_since self.old.disk) (D.left_since self.new.disk) (D.may_leave self.new.disk) }
+        ensures cause { HasCause self.old.faults self.new.faults result }
+
+        // Past the trait's clauses: how many calls are made.
+        ensures counted { IsCounted D.faults self.old self.new result }
+    {
         if self.goes_on() && self.disk.sync().is_ok() {
             return Ok(());
         }

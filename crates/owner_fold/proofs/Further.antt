@@ -1,9 +1,8 @@
 -- The plan one entry further.
 use Rattle.std.proofs.Common.{[], ℕ, ◌&&◌, ◌++◌, ◌∙◌, ◌∷◌, ◌≡◌, Bool, List, None, Option, ap, false, filter, find}
 use Rattle.std.proofs.Common.{flat_map}
-use Rattle.std.proofs.Common.{◌+◌, ◌<◌, ◌^◌, ◌⊎◌, ap₂, arith, fold, inl, inr, is_some, length, length-append, map, refl}
+use Rattle.std.proofs.Common.{ap₂, fold, is_some, map, refl}
 use Rattle.std.proofs.Common.{subst, sym, true}
-use Rattle.std.proofs.lemmas.Bool.Decides.{eqb_tells}
 use Rattle.std.specs.Prelude.{◌==◌, unwrap_or}
 use Rattle.std.proofs.lemmas.List.{append-nil, map-append}
 use Rattle.std.proofs.lemmas.List.Elements.{filter-append}
@@ -11,13 +10,15 @@ use Rattle.std.proofs.lemmas.List.Sums.{fold-append}
 use Rattle.std.proofs.lemmas.Grind.{flat_map-append}
 use Rattle.model.specs.Types.{Late}
 use Rattle.model.specs.Types.{Added, Body, Clock, Declined, Ended, Entry, Events, Failed, Feed, Fulfilled, Launched}
-use Rattle.model.specs.Types.{Orders}
 use Rattle.model.specs.Types.{Lost, NewPlan, Obeyed, Order, Released, Started, StreamDoc, StreamEnded, UntilPassed}
 use Rattle.model.specs.Equalities.{feed_eq}
 use Rattle.model.specs.Words.{has}
 use Rattle.model.specs.History.{list_of, view_of}
 use Rattle.model.specs.Catalogue.{catalogue, docs_in, members, members_with, named_members, stream}
-use Rattle.owner_fold.specs.Plans.{AreKept, AreShort, IsPlanOf, is_planning, is_planning_body}
+use Rattle.owner_fold.specs.Numbers.{IsIndexOf}
+use Rattle.owner_fold.specs.declared.numbers.Index.{Index}
+use Rattle.owner_fold.specs.declared.spots.JobSpot.{JobSpot}
+use Rattle.owner_fold.specs.Plans.{IsPlanOf, is_planning, is_planning_body}
 use Rattle.owner_fold.specs.Spots.{AreSpotsOf, first_docs_among}
 use Rattle.owner_fold.specs.declared.plans.Plan.{Plan}
 use Rattle.owner_fold.specs.declared.spots.Spots.{Spots}
@@ -160,24 +161,6 @@ pub named_without : (kept : List Entry) (e : Entry) → is_planning e ≡ false
 unfolding named_members
 named_without kept e h = stays kept e (feed_eq (Events 0) e.feed) refl h
 
-feed_cases : (f g : Feed) → ((feed_eq f g ≡ true) × (f ≡ g)) ⊎ (feed_eq f g ≡ false)
-feed_cases (Events w) (Events v) = elim (eqb_tells w v) [ inl e ↦ inl (e.0, ap Events e.1) | inr e ↦ inr e.0 ]
-feed_cases (Orders a w) (Orders b v) = grind (arith, eqb_tells a b, eqb_tells w v)
-feed_cases (Events w) (Orders b v) = inr refl
-feed_cases (Orders a w) (Events v) = inr refl
-
--- no feed is too long with the entry, where its own is not
-pub short_with : (kept : List Entry) (e : Entry) → AreShort kept → length (list_of kept e.feed) + 1 < 2 ^ 32
-    → AreShort (kept ++ e ∷ [])
-short_with kept e short room f =
-    elim (feed_cases f e.feed) [
-      | inl c ↦ (
-          let l : length (list_of kept f)
-          ≡ length (list_of kept e.feed) = ap (λ (g : Feed). length (list_of kept g)) c.1 in
-          rw (list_with kept e f c.0, length-append (list_of kept f) (e.body ∷ [])) (omega (arith, l, room)))
-      | inr c ↦ rw (list_without kept e f c) (short f)
-    ]
-
 -- the plan stays with an entry that is neither plan nor added stream
 pub plan_without : (kept : List Entry) (e : Entry) (plan : Plan) → is_planning e ≡ false → IsPlanOf kept plan
     → IsPlanOf (kept ++ e ∷ []) plan
@@ -194,16 +177,18 @@ plan_without kept e plan h p =
           (λ (docs : List StreamDoc) (names : Option (List ℕ)).
           filter (λ s. is_some (find (λ (d : StreamDoc). d.no == s) (first_docs_among docs))) (unwrap_or names []))
           (sym (docs_without kept e h)) (sym (named_without kept e h));
+      index = p.index;
     }
 
 -- the plan after a plan or an added stream
 pub plan_with : (kept : List Entry) (e : Entry) (plan : Plan) (spots : Spots) (named : Option (List ℕ))
-    (numbers : List ℕ) → is_planning e ≡ true → IsPlanOf kept plan
+    (numbers : List ℕ) (index : Index) → is_planning e ≡ true → IsPlanOf kept plan
     → AreSpotsOf (kept ++ e ∷ []) (flat_map docs_in (list_of kept (Events 0)) ++ docs_in e.body) spots
     → named ≡ members_with plan.named e.body
     → numbers ≡ filter (has (map (λ (p : StreamSpot). p.number) spots.streams)) (unwrap_or named [])
-    → IsPlanOf (kept ++ e ∷ []) (record { spots = spots; named = named; members = numbers })
-plan_with kept e plan spots named numbers h p placed names found =
+    → IsIndexOf (map (λ (p : StreamSpot). p.number) spots.streams) (map (λ (p : JobSpot). p.number) spots.jobs) numbers
+    index → IsPlanOf (kept ++ e ∷ []) (record { spots = spots; named = named; members = numbers; index = index })
+plan_with kept e plan spots named numbers index h p placed names found indexed =
     let here : AreSpotsOf (kept ++ e ∷ []) (flat_map docs_in (list_of (kept ++ e ∷ []) (Events 0))) spots =
     subst (λ (docs : List StreamDoc). AreSpotsOf (kept ++ e ∷ []) docs spots) (sym (docs_with kept e h)) placed
     in
@@ -219,22 +204,23 @@ plan_with kept e plan spots named numbers h p placed names found =
           filter (has (map (λ (p : StreamSpot). p.number) spots.streams)) (unwrap_or m [])) same
           ∙ members_of_docs (kept ++ e ∷ []) (map (λ (p : StreamSpot). p.number) spots.streams)
           here.streams.1;
+      index = indexed;
     }
 
--- all that is kept beside another entry
-pub kept_without : (kept new : List Entry) (e x : Entry) (plan : Plan) → AreKept kept plan → x ≡ e
-    → new ≡ kept ++ x ∷ [] → is_planning e ≡ false → length (list_of kept e.feed) + 1 < 2 ^ 32 → AreKept new plan
-kept_without kept new e x plan h same grown other room =
-    rw (grown, same)
-    (record { short = short_with kept e h.short room; plan = plan_without kept e plan other h.plan })
+-- so with any such list
+pub kept_without : (kept new : List Entry) (e : Entry) (plan : Plan) → IsPlanOf kept plan → new ≡ kept ++ e ∷ []
+    → is_planning e ≡ false → IsPlanOf new plan
+kept_without kept new e plan h grown other = rw grown (plan_without kept e plan other h)
 
 -- the plan of no entries
-pub plan_of_none : (spots : Spots) (numbers : List ℕ) → spots.streams ≡ [] → spots.jobs ≡ [] → numbers ≡ []
-    → IsPlanOf [] (record { spots = spots; named = None; members = numbers })
+pub plan_of_none : (spots : Spots) (numbers : List ℕ) (index : Index) → spots.streams ≡ [] → spots.jobs ≡ []
+    → numbers ≡ [] → IsIndexOf [] [] [] index
+    → IsPlanOf [] (record { spots = spots; named = None; members = numbers; index = index })
 unfolding list_of members named_members stream catalogue
-plan_of_none spots numbers e f g =
+plan_of_none spots numbers index e f g h =
     record {
       spots = record { streams = (rw e refl, rw e refl); jobs = (rw f refl, rw f refl) };
       named = refl;
       members = g;
+      index = rw (e, f, g) h;
     }

@@ -1,4 +1,4 @@
-mod Few
+mod Finding
 mod Firsts
 mod Standing
 mod Further

@@ -1,23 +1,11 @@
 -- What the iterators have still to give.
 use Rattle.std.specs.Prelude.{◌==◌, List, filter, filter_map}
-use Rattle.model.specs.Types.{Body, Cmd, StreamDoc}
-use Rattle.model.specs.History.{list_of}
+use Rattle.model.specs.Types.{StreamDoc}
 use Rattle.model.specs.Catalogue.{StreamJob}
-use Rattle.model.specs.Facts.{commands}
 use Rattle.owner_fold.specs.Spots.{doc_at, job_at}
-use Rattle.owner_fold.specs.declared.bodies.Bodies.{Bodies}
-use Rattle.owner_fold.specs.declared.bodies.Commands.{Commands}
 use Rattle.owner_fold.specs.declared.catalogue.Streams.{Streams}
 use Rattle.owner_fold.specs.declared.catalogue.PlannedJobs.{PlannedJobs}
 use Rattle.owner_fold.specs.declared.catalogue.StreamJobs.{StreamJobs}
-
--- the bodies of the feed among the entries that are left
-abbrev pub bodies_left : Bodies → List Body
-bodies_left it = list_of it.entries.now it.feed
-
--- and the commands that these obeyed
-abbrev pub commands_left : Commands → List Cmd
-commands_left it = commands (list_of it.entries.now it.feed)
 
 -- the streams that are left
 unfoldable pub streams_left : Streams → List StreamDoc

@@ -1,7 +1,7 @@
 pub mod Left
 pub mod Larger
-pub mod Launches
-pub mod Outcomes
+pub use Rattle.owner_rows.specs.Outcomes
 pub mod Spots
+pub mod Numbers
 pub mod Plans
 pub mod Holders

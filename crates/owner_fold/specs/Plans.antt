@@ -1,10 +1,13 @@
 -- What `Owners` keeps of the plan beside the entries.
-use Rattle.std.specs.Prelude.{◌&&◌, ◌<◌, ◌^◌, ◌≡◌, Bool, List, false, flat_map, length, true}
-use Rattle.model.specs.Types.{Added, Body, Entry, Events, Feed, NewPlan}
+use Rattle.std.specs.Prelude.{◌&&◌, ◌≡◌, Bool, List, false, flat_map, map, true}
+use Rattle.model.specs.Types.{Added, Body, Entry, Events, NewPlan}
 use Rattle.model.specs.Equalities.{feed_eq}
 use Rattle.model.specs.History.{list_of, view_of}
 use Rattle.model.specs.Catalogue.{docs_in, members, named_members}
+use Rattle.owner_fold.specs.Numbers.{IsIndexOf}
 use Rattle.owner_fold.specs.Spots.{AreSpotsOf}
+use Rattle.owner_fold.specs.declared.spots.JobSpot.{JobSpot}
+use Rattle.owner_fold.specs.declared.spots.StreamSpot.{StreamSpot}
 use Rattle.owner_fold.specs.declared.plans.Plan.{Plan}
 
 -- a plan, or a stream that is added to it
@@ -22,12 +25,5 @@ pub record IsPlanOf (kept : List Entry) (plan : Plan) : Type 0 where
   pub spots : AreSpotsOf kept (flat_map docs_in (list_of kept (Events 0))) plan.spots
   pub named : plan.named ≡ named_members (view_of kept)
   pub members : plan.members ≡ members (view_of kept)
-
--- no feed has more entries than a place can tell
-abbrev pub AreShort : List Entry → Type 0
-AreShort kept = (f : Feed) → length (list_of kept f) < 2 ^ 32
-
--- what holds of the entries and of the plan beside them
-pub record AreKept (kept : List Entry) (planned : Plan) : Type 0 where
-  pub short : AreShort kept
-  pub plan : IsPlanOf kept planned
+  pub index : IsIndexOf (map (λ (p : StreamSpot). p.number) plan.spots.streams)
+      (map (λ (p : JobSpot). p.number) plan.spots.jobs) plan.members plan.index

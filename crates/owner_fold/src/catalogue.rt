@@ -143,19 +143,6 @@ impl Owners {
         }
     }
 
-    /// Whether a stream is a member of the plan.
-    #[tactic(auto, unfolding(model::specs::Catalogue::is_member))]
-    pub fn is_member(&self, s: StreamNo) -> bool
-        ensures { result ≡ is_member (view_of self.now) s }
-    {
-        for member in self.members().as_slice() {
-            if member.0 == s.0 {
-                return true;
-            }
-        }
-        false
-    }
-
     /// The greatest number of a stream in the catalogue, 0 where it is empty.
     pub fn last_stream(&self) -> StreamNo
         ensures { result ≡ last_stream (view_of self.now) }
@@ -183,29 +170,23 @@ impl Owners {
     }
 
     /// The document of this number. None outside the catalogue.
-    #[tactic(auto, unfolding(model::specs::Catalogue::stream))]
     pub fn stream(&self, s: StreamNo) -> Option<&StreamDoc>
         ensures { option_copied result ≡ stream (view_of self.now) s }
     {
-        for doc in self.streams() {
-            if doc.no.0 == s.0 {
-                return Some(doc);
-            }
+        match self.stream_spot(s) {
+            None => None,
+            Some(spot) => stream_at(self.entries(), spot),
         }
-        None
     }
 
     /// The job of this number with its stream. None outside the catalogue.
-    #[tactic(auto, unfolding(model::specs::Catalogue::job))]
     pub fn planned_job(&self, j: JobNo) -> Option<(&StreamDoc, &JobDoc)>
         ensures { option_map (λ p. stream_job p.0.now p.1.now) result ≡ job (view_of self.now) j }
     {
-        for (parent, doc) in self.jobs() {
-            if doc.no.0 == j.0 {
-                return Some((parent, doc));
-            }
+        match self.job_spot(j) {
+            None => None,
+            Some(spot) => planned_job_at(self.entries(), spot),
         }
-        None
     }
 
     /// The job of this number. None outside the catalogue.

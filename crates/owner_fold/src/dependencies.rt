@@ -8,30 +8,7 @@ ghost use Rattle.model.specs.Dependencies.{dep, deps, deps_added_by, document_de
 ghost use Rattle.model.specs.Dependencies.{owner_events};
 
 use crate::holdings::Owners;
-use crate::sayings::same_object;
-use base_types::{Cmd, Dep, Obj, Ws};
-
-/// How many dependencies the command adds to the object.
-fn adds(o: &Obj, command: &Cmd) -> u32
-    ensures adds { result ≡ length (deps_added_by o.now command.now) }
-    ensures few { result ≤ 1 }
-{
-    match command {
-        Cmd::AddDep(p, _) => { if same_object(o, p) { 1 } else { 0 } }
-        _ => 0,
-    }
-}
-
-/// The command waives a dependency of the object, which has so many when it is obeyed.
-fn is_waiving(o: &Obj, i: u16, count: u128, command: &Cmd) -> bool
-    ensures { result ≡ waives o.now i count command.now }
-{
-    match command {
-        Cmd::DelDep(p, k) => same_object(o, p) && *k == i,
-        Cmd::Release(p) => same_object(o, p) && u128::from(i) <= count,
-        _ => false,
-    }
-}
+use base_types::{Dep, Obj, Ws};
 
 /// The dependency at a place, counted from 0.
 fn dep_at(deps: &[Dep], place: usize) -> Option<&Dep>
@@ -86,18 +63,7 @@ impl Owners {
         ensures { option_copied result ≡
             slice_get (flat_map (deps_added_by o.now) (commands (list_of self.now (Events w)))) place }
     {
-        let mut left = place;
-        for command in self.commands(w) {
-            if let Cmd::AddDep(p, dep) = command {
-                if same_object(o, p) {
-                    if left == 0 {
-                        return Some(dep);
-                    }
-                    left -= 1;
-                }
-            }
-        }
-        None
+        self.kept().added_dep_at(w, o, place)
     }
 
     pub(crate) fn dep_of(&self, o: &Obj, i: u16) -> Option<&Dep>
@@ -117,17 +83,6 @@ impl Owners {
         }
     }
 
-    /// How many dependencies commands of w added to the object.
-    fn added_count(&self, w: Ws, o: &Obj) -> u32
-        ensures { result ≡ length (flat_map (deps_added_by o.now) (commands (list_of self.now (Events w)))) }
-    {
-        let mut count = 0;
-        for command in self.commands(w) {
-            count += adds(o, command);
-        }
-        count
-    }
-
     /// How many dependencies commands of its owner added to the object.
     #[tactic(auto, unfolding(model::specs::Dependencies::owner_events, model::specs::Facts::commands))]
     fn added_to(&self, o: &Obj) -> u32
@@ -135,7 +90,7 @@ impl Owners {
     {
         match self.owner_of(o) {
             None => 0,
-            Some(w) => self.added_count(w, o),
+            Some(w) => self.kept().added_at(w, o),
         }
     }
 
@@ -147,21 +102,6 @@ impl Owners {
         if count < 65535 { count as u16 } else { 65535 }
     }
 
-    /// Commands of w waive a dependency of an object that was written with so many.
-    fn is_waived_among(&self, w: Ws, o: &Obj, i: u16, written: u128) -> bool
-        requires { written < 2 ^ 64 }
-        ensures { result ≡ is_waived_by o.now i written (commands (list_of self.now (Events w))) }
-    {
-        let mut count = written;
-        for command in self.commands(w) {
-            if is_waiving(o, i, count, command) {
-                return true;
-            }
-            count += u128::from(adds(o, command));
-        }
-        false
-    }
-
     /// Commands of its owner waive a dependency of the object.
     #[tactic(auto, unfolding(model::specs::Dependencies::owner_events, model::specs::Facts::commands))]
     fn is_waived_by_owner(&self, o: &Obj, i: u16) -> bool
@@ -171,7 +111,10 @@ impl Owners {
     {
         match self.owner_of(o) {
             None => false,
-            Some(w) => self.is_waived_among(w, o, i, self.document_deps(o).len() as u128),
+            Some(w) => {
+                let written = self.document_deps(o).len() as u128;
+                self.kept().is_waived_at(w, o, i, written)
+            }
         }
     }
 

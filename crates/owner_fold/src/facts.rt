@@ -8,11 +8,11 @@ ghost use Rattle.model.specs.Facts.{launches, reruns, open_launch, is_started, i
 ghost use Rattle.model.specs.Facts.{is_late, is_ever_late, last_end};
 ghost use Rattle.model.specs.Facts.{is_good, is_released, is_ended, is_cancelled, is_fulfilled, is_until_recorded};
 ghost use Rattle.model.specs.Facts.{own_reply, priority, stream_limit};
-ghost use Rattle.owner_fold.specs.Outcomes.{told_outcome};
+ghost use Rattle.owner_rows.specs.Outcomes.{told_outcome};
 
 use crate::holdings::Owners;
-use crate::launches::Outcome;
 use base_types::{JobNo, Obj, StreamNo};
+use owner_rows::Outcome;
 
 impl Owners {
     /// How often a job was launched. 0 outside the catalogue.
@@ -22,7 +22,7 @@ impl Owners {
         let o = Obj::Job(j);
         match self.owner_of(&o) {
             None => 0,
-            Some(w) => self.launches_at(w, j),
+            Some(w) => self.kept().launches_at(w, j),
         }
     }
 
@@ -33,7 +33,7 @@ impl Owners {
         let o = Obj::Job(j);
         match self.owner_of(&o) {
             None => 0,
-            Some(w) => self.reruns_at(w, j),
+            Some(w) => self.kept().reruns_at(w, j),
         }
     }
 
@@ -44,7 +44,7 @@ impl Owners {
         let o = Obj::Job(j);
         match self.owner_of(&o) {
             None => None,
-            Some(w) => self.open_launch_at(w, j),
+            Some(w) => self.kept().open_launch_at(w, j),
         }
     }
 
@@ -55,7 +55,7 @@ impl Owners {
         let o = Obj::Job(j);
         match self.owner_of(&o) {
             None => false,
-            Some(w) => self.is_started_at(w, j, number),
+            Some(w) => self.kept().is_started_at(w, j, number),
         }
     }
 
@@ -66,7 +66,7 @@ impl Owners {
         let o = Obj::Job(j);
         match self.owner_of(&o) {
             None => false,
-            Some(w) => self.is_last_started_at(w, j),
+            Some(w) => self.kept().is_last_started_at(w, j),
         }
     }
 
@@ -77,7 +77,7 @@ impl Owners {
         let o = Obj::Job(j);
         match self.owner_of(&o) {
             None => None,
-            Some(w) => self.last_outcome_at(w, j),
+            Some(w) => self.kept().last_outcome_at(w, j),
         }
     }
 
@@ -88,7 +88,7 @@ impl Owners {
         let o = Obj::Job(j);
         match self.owner_of(&o) {
             None => false,
-            Some(w) => self.is_due_at(w, j),
+            Some(w) => self.kept().is_due_at(w, j),
         }
     }
 
@@ -100,7 +100,7 @@ impl Owners {
         let o = Obj::Job(j);
         match self.owner_of(&o) {
             None => false,
-            Some(w) => self.is_good_at(w, j),
+            Some(w) => self.kept().is_good_at(w, j),
         }
     }
 
@@ -111,7 +111,7 @@ impl Owners {
         let o = Obj::Stream(s);
         match self.owner_of(&o) {
             None => false,
-            Some(w) => self.is_released_at(w, s),
+            Some(w) => self.kept().is_released_at(w, s),
         }
     }
 
@@ -122,7 +122,7 @@ impl Owners {
         let o = Obj::Stream(s);
         match self.owner_of(&o) {
             None => false,
-            Some(w) => self.is_ended_at(w, s),
+            Some(w) => self.kept().is_ended_at(w, s),
         }
     }
 
@@ -135,7 +135,7 @@ impl Owners {
         let o = Obj::Stream(s);
         match self.owner_of(&o) {
             None => None,
-            Some(w) => self.stream_limit_set_at(w, s),
+            Some(w) => self.kept().stream_limit_set_at(w, s),
         }
     }
 
@@ -145,7 +145,7 @@ impl Owners {
     {
         match self.owner_of(&o) {
             None => false,
-            Some(w) => self.is_fulfilled_at(w, &o, i),
+            Some(w) => self.kept().is_fulfilled_at(w, &o, i),
         }
     }
 
@@ -155,7 +155,7 @@ impl Owners {
     {
         match self.owner_of(&o) {
             None => false,
-            Some(w) => self.is_late_at(w, &o, i),
+            Some(w) => self.kept().is_late_at(w, &o, i),
         }
     }
 
@@ -165,7 +165,7 @@ impl Owners {
     {
         match self.owner_of(&o) {
             None => false,
-            Some(w) => self.is_ever_late_at(w, &o),
+            Some(w) => self.kept().is_ever_late_at(w, &o),
         }
     }
 
@@ -176,7 +176,7 @@ impl Owners {
         let o = Obj::Job(j);
         match self.owner_of(&o) {
             None => None,
-            Some(w) => self.last_end_at(w, j),
+            Some(w) => self.kept().last_end_at(w, j),
         }
     }
 
@@ -186,7 +186,7 @@ impl Owners {
     {
         match self.owner_of(&o) {
             None => false,
-            Some(w) => self.is_until_recorded_at(w, &o, i),
+            Some(w) => self.kept().is_until_recorded_at(w, &o, i),
         }
     }
 
@@ -197,7 +197,7 @@ impl Owners {
     {
         match self.owner_of(&o) {
             None => None,
-            Some(w) => self.own_reply_at(w, &o, i),
+            Some(w) => self.kept().own_reply_at(w, &o, i),
         }
     }
 
@@ -207,7 +207,7 @@ impl Owners {
     {
         match self.owner_of(&o) {
             None => false,
-            Some(w) => self.is_cancelled_at(w, &o),
+            Some(w) => self.kept().is_cancelled_at(w, &o),
         }
     }
 
@@ -219,7 +219,7 @@ impl Owners {
     {
         match self.owner_of(&o) {
             None => None,
-            Some(w) => self.priority_set_at(w, &o),
+            Some(w) => self.kept().priority_set_at(w, &o),
         }
     }
 }

@@ -1,41 +1,38 @@
 //! What a node holds: the entries that it took.
-ghost use Rattle.std.specs.Prelude.{◌≡◌, ◌+◌, ◌++◌, ◌<◌, ◌^◌, [], ◌∷◌, length, filter_map, OnOk, OnErr};
+ghost use Rattle.std.specs.Prelude.{◌≡◌, ◌+◌, ◌++◌, [], ◌∷◌, length, filter_map, OnOk, OnErr};
 ghost use Rattle.std.specs.Prelude.{option_and_then};
 ghost use Rattle.std.specs.Option.{option_copied};
-ghost use Rattle.model.specs.Types.{Events, Orders};
+ghost use Rattle.model.specs.Types.{Orders};
 ghost use Rattle.model.specs.Words.{nth};
 ghost use Rattle.model.specs.History.{list_of, view_of};
-ghost use Rattle.model.specs.Facts.{commands};
 ghost use Rattle.model.specs.Turn.{ordered_command};
-ghost use Rattle.model.specs.Catalogue.{catalogue, has_plan, jobs, members};
+ghost use Rattle.model.specs.Catalogue.{catalogue, has_plan, is_member, job, jobs, members, stream};
 ghost use Rattle.owner_fold.specs.Spots.{doc_at, job_at};
-ghost use Rattle.owner_fold.specs.Left.{bodies_left, commands_left};
-ghost use Rattle.owner_fold.specs.Plans.{AreShort};
 
-use crate::bodies::{Bodies, Commands};
 use crate::plans::{Plan, is_planning};
-use crate::spots::{JobSpot, StreamSpot};
-use base_types::{Body, Cmd, Copied, Entry, Feed, Items, NoMemory, StreamNos, Ws};
+use crate::spots::{JobSpot, StreamSpot, job_spot_at, stream_spot_at};
+use base_types::{Body, Cmd, Entry, Feed, JobNo, NoMemory, StreamNo, StreamNos, Ws};
+use owner_rows::Kept;
 use std::alloc::Global;
 use std::marker::Model;
 
 /// The entries that a node took. A contract sees them as a list, in the order in which they were taken.
 #[derive(Drop)]
 pub struct Owners {
-    entries: Items<Entry>,
+    kept: Kept,
     plan: Plan,
 }
 
 impl Model for Owners {
     ghost use Rattle.std.specs.Prelude.{List};
-    ghost use Rattle.owner_fold.specs.Plans.{AreKept};
+    ghost use Rattle.owner_fold.specs.Plans.{IsPlanOf};
     ghost use Rattle.model.specs.Types.{Entry as Taken};
 
     ghost Value = { List Taken };
 
-    ghost view = { λ o. o.entries };
+    ghost view = { λ o. o.kept };
 
-    ghost invariant = { λ o. AreKept o.entries o.plan };
+    ghost invariant = { λ o. IsPlanOf o.kept o.plan };
 }
 
 impl Owners {
@@ -44,7 +41,7 @@ impl Owners {
         ensures { result ≡ [] }
     {
         Owners {
-            entries: Items::new(alloc),
+            kept: Kept::new(alloc),
             plan: Plan::new(alloc),
         }
     }
@@ -55,16 +52,13 @@ impl Owners {
         ensures ok { OnOk result (self.new ≡ self.old ++ e.now ∷ []) }
         ensures err { OnErr result (self.new ≡ self.old) }
     {
-        // A place that can be told keeps the feed short.
-        let _place = e.place;
-        let copy = e.copy()?;
         if is_planning(e) {
-            let plan = self.plan.with(self.entries.as_slice(), e)?;
-            self.entries.push(copy)?;
+            let plan = self.plan.with(self.kept.entries(), e)?;
+            self.kept.take(e)?;
             self.plan = plan;
             return Ok(());
         }
-        self.entries.push(copy)?;
+        self.kept.take(e)?;
         Ok(())
     }
 
@@ -72,38 +66,28 @@ impl Owners {
     pub fn count(&self, f: Feed) -> u32
         ensures { result ≡ length (list_of self.now f) }
     {
-        let mut count = 0;
-        for _ in self.bodies(&f) {
-            count += 1;
-        }
-        count
+        self.kept().count(&f)
     }
 
     /// The body at a place of a feed, counted from 1. None where the feed has no such place.
     pub fn entry(&self, f: Feed, place: u32) -> Option<&Body>
         ensures { option_copied result ≡ nth (list_of self.now f) place }
     {
-        if place == 0 {
-            return None;
-        }
-        let mut left = place - 1;
-        for body in self.bodies(&f) {
-            if left == 0 {
-                return Some(body);
-            }
-            left -= 1;
-        }
-        None
+        self.kept().entry(&f, place)
     }
 
     /// The command of the order at a place, counted from 1, of the orders from a to w. None where there is no order.
     pub fn order(&self, a: Ws, w: Ws, place: u32) -> Option<&Cmd>
         ensures { option_copied result ≡ option_and_then ordered_command (nth (list_of self.now (Orders a w)) place) }
     {
-        match self.entry(Feed::Orders(a, w), place) {
-            Some(Body::Order(command)) => Some(command),
-            _ => None,
-        }
+        self.kept().order(a, w, place)
+    }
+
+    /// The entries with what each workstation tells in its own list, whoever owns the objects of which it speaks.
+    pub fn kept(&self) -> &Kept
+        ensures { result.now ≡ self.now }
+    {
+        &self.kept
     }
 
     /// The members of the plan: the carried streams of the last plan, its fresh ones, and what was added after it, in
@@ -126,7 +110,7 @@ impl Owners {
     pub(crate) fn entries(&self) -> &[Entry]
         ensures { result.now ≡ self.now }
     {
-        self.entries.as_slice()
+        self.kept().entries()
     }
 
     /// Where the streams of the catalogue stand.
@@ -136,44 +120,37 @@ impl Owners {
         self.plan.spots.streams.as_slice()
     }
 
+    /// Where the stream of this number stands.
+    pub(crate) fn stream_spot(&self, s: StreamNo) -> Option<&StreamSpot>
+        ensures { option_and_then (doc_at self.now) (option_copied result) ≡ stream (view_of self.now) s }
+    {
+        match self.plan.index.streams.place(s.0) {
+            None => None,
+            Some(place) => stream_spot_at(self.plan.spots.streams.as_slice(), place),
+        }
+    }
+
+    /// Where the job of this number stands.
+    pub(crate) fn job_spot(&self, j: JobNo) -> Option<&JobSpot>
+        ensures { option_and_then (job_at self.now) (option_copied result) ≡ job (view_of self.now) j }
+    {
+        match self.plan.index.jobs.place(j.0) {
+            None => None,
+            Some(place) => job_spot_at(self.plan.spots.jobs.as_slice(), place),
+        }
+    }
+
+    /// Whether a stream is a member of the plan.
+    pub fn is_member(&self, s: StreamNo) -> bool
+        ensures { result ≡ is_member (view_of self.now) s }
+    {
+        self.plan.index.members.place(s.0).is_some()
+    }
+
     /// Where the jobs of the catalogue stand.
     pub(crate) fn job_spots(&self) -> &[JobSpot]
-        ensures jobs { filter_map (job_at self.now) result.now ≡ jobs (view_of self.now) }
-        ensures short { AreShort self.now }
+        ensures { filter_map (job_at self.now) result.now ≡ jobs (view_of self.now) }
     {
         self.plan.spots.jobs.as_slice()
-    }
-
-    /// The bodies of a feed.
-    pub(crate) fn bodies(&self, feed: &Feed) -> Bodies<'_>
-        ensures few { length (bodies_left result) < 2 ^ 32 }
-        ensures left { bodies_left result ≡ list_of self.now feed.now }
-    {
-        Bodies {
-            entries: self.entries.as_slice(),
-            feed: *feed,
-        }
-    }
-
-    /// The events of a workstation.
-    pub(crate) fn events(&self, w: Ws) -> Bodies<'_>
-        ensures few { length (bodies_left result) < 2 ^ 32 }
-        ensures left { bodies_left result ≡ list_of self.now (Events w) }
-    {
-        Bodies {
-            entries: self.entries.as_slice(),
-            feed: Feed::Events(w),
-        }
-    }
-
-    /// The commands that the events of a workstation obeyed.
-    pub(crate) fn commands(&self, w: Ws) -> Commands<'_>
-        ensures few { length (commands_left result) < 2 ^ 32 }
-        ensures left { commands_left result ≡ commands (list_of self.now (Events w)) }
-    {
-        Commands {
-            entries: self.entries.as_slice(),
-            feed: Feed::Events(w),
-        }
     }
 }

@@ -4,23 +4,21 @@
 //! `model::specs`, in the view of the entries: of a workstation in the list of its events, of an object in the list of
 //! its owner. A fact of an object that the catalogue lacks is 0, false or None. No fact takes memory.
 //!
-//! Beside the entries `Owners` keeps where the documents of the catalogue stand, and the members of the plan. Every
-//! other fact is found by a walk over the entries.
+//! What each workstation tells in its own list is that of `owner_rows`, which `kept` hands out. Beside it `Owners` keeps
+//! where the documents of the catalogue stand, and the members of the plan, each by its number.
 #![tactic(auto, unfolding(model::specs::History::list_of, model::specs::Facts::commands))]
 
-mod bodies;
 mod catalogue;
 mod dependencies;
 mod events;
 mod facts;
 mod holdings;
-mod launches;
+mod numbers;
 mod plans;
-mod sayings;
 mod spots;
 mod units;
 
 pub use catalogue::{PlannedJobs, StreamJobs, Streams};
 pub use holdings::Owners;
-pub use launches::Outcome;
+pub use owner_rows::Outcome;
 pub use units::OpenLaunches;

@@ -7,6 +7,7 @@ ghost use Rattle.model.specs.Catalogue.{docs_in, members_with};
 ghost use Rattle.owner_fold.specs.Plans.{is_planning, IsPlanOf};
 ghost use Rattle.owner_fold.specs.Spots.{AreSpotsOf};
 
+use crate::numbers::Index;
 use crate::spots::Spots;
 use base_types::{Body, Copied, Entry, Feed, Items, NoMemory, StreamNos};
 use std::alloc::Global;
@@ -26,13 +27,14 @@ pub(crate) fn is_planning(e: &Entry) -> bool
 }
 
 /// The plan that a list of entries makes.
-#[derive(Debug, Drop)]
+#[derive(Drop)]
 pub(crate) struct Plan {
     pub(crate) spots: Spots,
     /// What the last plan and the streams added to it name, None before the first plan.
     pub(crate) named: Option<StreamNos>,
     /// Those among them that the catalogue has.
     pub(crate) members: StreamNos,
+    pub(crate) index: Index,
 }
 
 impl Plan {
@@ -44,6 +46,7 @@ impl Plan {
             spots: Spots::new(alloc),
             named: None,
             members: Items::new(alloc),
+            index: Index::new(alloc),
         }
     }
 
@@ -96,10 +99,12 @@ impl Plan {
         let spots = self.spots.with(entries, e)?;
         let named = self.named_with(&e.body)?;
         let members = self.members_among(&named, &spots)?;
+        let index = self.index.of(&spots, &members)?;
         Ok(Plan {
             spots,
             named,
             members,
+            index,
         })
     }
 }

@@ -1,5 +1,5 @@
 //! Where the documents of the plan stand among the entries.
-ghost use Rattle.std.specs.Prelude.{◌≡◌, ◌++◌, [], ◌∷◌, List, Some, map, flat_map, option_map, IfOk, OnOk};
+ghost use Rattle.std.specs.Prelude.{◌≡◌, ◌++◌, [], ◌∷◌, List, Some, map, flat_map, option_map, slice_get, IfOk, OnOk};
 ghost use Rattle.std.specs.Option.{option_copied};
 ghost use Rattle.model.specs.Types.{Entry as Taken, StreamDoc as Doc, Events};
 ghost use Rattle.model.specs.Words.{has};
@@ -50,6 +50,20 @@ pub(crate) fn docs_of(body: &Body) -> &[StreamDoc]
         Body::Added(_, _, doc) => from_ref(doc),
         _ => &[],
     }
+}
+
+/// The spot of a stream at a place, from 0.
+pub(crate) fn stream_spot_at(spots: &[StreamSpot], place: usize) -> Option<&StreamSpot>
+    ensures { option_copied result ≡ slice_get spots.now place }
+{
+    spots.get(place)
+}
+
+/// The spot of a job at a place, from 0.
+pub(crate) fn job_spot_at(spots: &[JobSpot], place: usize) -> Option<&JobSpot>
+    ensures { option_copied result ≡ slice_get spots.now place }
+{
+    spots.get(place)
 }
 
 /// The document that stands there.

@@ -49,7 +49,7 @@ impl<'a> Iterator for OpenLaunches<'a> {
 fn is_open_job(owners: &Owners, w: Ws, job: &JobDoc) -> bool
     ensures { result ≡ is_open_here w (list_of owners.now (Events w)) job.now }
 {
-    job.ws.0 == w.0 && owners.is_open_at(w, job.no)
+    job.ws.0 == w.0 && owners.kept().is_open_at(w, job.no)
 }
 
 /// The stream is neither ended nor cancelled at w.
@@ -57,14 +57,14 @@ fn is_unfinished(owners: &Owners, w: Ws, doc: &StreamDoc) -> bool
     ensures { result ≡ is_unfinished (list_of owners.now (Events w)) doc.now }
 {
     let o = Obj::Stream(doc.no);
-    !owners.is_ended_at(w, doc.no) && !owners.is_cancelled_at(w, &o)
+    !owners.kept().is_ended_at(w, doc.no) && !owners.kept().is_cancelled_at(w, &o)
 }
 
 /// The stream is one of w, and is released, not ended and not cancelled.
 fn is_under_way_at(owners: &Owners, w: Ws, doc: &StreamDoc) -> bool
     ensures { result ≡ is_under_way w (list_of owners.now (Events w)) doc.now }
 {
-    doc.ws.0 == w.0 && (owners.is_released_at(w, doc.no) && is_unfinished(owners, w, doc))
+    doc.ws.0 == w.0 && (owners.kept().is_released_at(w, doc.no) && is_unfinished(owners, w, doc))
 }
 
 /// The units of a resource that a dependency asks for.
@@ -130,6 +130,8 @@ impl Owners {
         ensures few { length (open_jobs (view_of self.now) w) +
             length (streams_under_way (view_of self.now) w) < 2 ^ 32 }
     {
+        // The entries of a feed are few.
+        let _entries = self.kept().entries();
         OpenLaunches {
             owners: self,
             spots: self.job_spots(),

@@ -1,10 +1,12 @@
 use Rattle.std.proofs.Common.{◌≡◌, ◌+◌, ◌<◌, ◌≤◌, ◌⊎◌, ℕ, List, false, length, subst, sym, ◌∙◌, ap, arith, IfSome, option_map}
 use Rattle.outside.specs.Kept.{Bodies, with_body, KeptOrWith, IsKept}
-use Rattle.outside.specs.Records.{longest_file}
+use Rattle.outside.specs.Records.{longest_file, piece_of}
 use Rattle.outside.specs.Files.{Told}
 use Rattle.message_file.specs.Steps.{Opened, IsStaged, StagedOf}
 use Rattle.message_file.specs.Files.{IsAtRest}
-use Rattle.message_file.specs.State.{FileState, kept_in, KeptLeft}
+use Rattle.outside.specs.Stops.{LeavesOnly}
+use Rattle.message_file.specs.State.{FileState, kept_in, KeptLeft, OwnFiles}
+use Rattle.message_file.proofs.Own.{staged_own, opened_staged}
 use Rattle.message_file.proofs.Appending.{length-piece, rest_kept, on_ok_is, on_err_is, staged_kept, staged_same, staged_keeping, staged_stands, opened_rests, opened_kept, opened_stands, keeps_at_rest, moments}
 use Rattle.message_file.proofs.keeps.MessageFileKeeper.append.Goals as goal
 
@@ -148,3 +150,45 @@ returns-clause-rest g c =
     let opened = subst (λ (p : List ℕ). Told (Opened s.gate p) told new) piece (on_ok_is c.put.result is_ok c.put.ensures.opened) in
     λ unspent. rest_kept s.owner (s.count + 1) (s.gate + 5 + length body) new now
     (opened_rests s.owner s.count s.gate body c.piece-piece.ensures.short fits told new (g.D.Disk.may_leave s.disk) now (v.rests c.if-self.false) opened (on_ok_is c.put.result is_ok c.put.ensures.durable))
+
+pub returns-then-is_err-clause-opens : goal.returns-then-is_err-clause-opens
+returns-then-is_err-clause-opens g c =
+    let s = c.self.inside in
+    let v = c.self.invariant in
+    let body = c.args.body.now in
+    let piece = c.piece-piece.ensures.piece in
+    let fits : s.gate + 5 + length body < longest_file = omega (arith, c.if-behind-ge-LONGEST_FILE.false, ap length piece, length-piece body) in
+    let told = g.D.Disk.seen s.disk in
+    let new = g.D.Disk.seen c.put.new.disk in
+    let rest = v.rests c.if-self.false in
+    let staged : Told (IsStaged s.gate (piece_of body)) told new = subst (λ (p : List ℕ). Told (IsStaged s.gate p) told new) piece (on_err_is c.put.result (sym c.is_err.ensures.value ∙ c.if-is_err.true) c.put.ensures.failed) in
+    let moments = subst (λ (p : List ℕ). LeavesOnly g.D.Disk.moment g.D.Disk.left_since s.disk c.put.new.disk (StagedOf s.gate p told)) piece c.put.ensures.any_moment in
+    subst (λ (m : FileState g.row.D.Denot). (owner t : ℕ) → t ≤ g.D.Disk.moment m.disk → ((m.owner ≡ owner) × OwnFiles owner (g.D.Disk.seen m.disk) (g.D.Disk.left_since m.disk t))
+    → ((s.owner ≡ owner) × OwnFiles owner new (g.D.Disk.left_since c.put.new.disk t))) c.self.view_is
+    (λ owner t le own. (
+      own.0,
+      subst (λ (o : ℕ). OwnFiles o told (g.D.Disk.left_since s.disk t) → OwnFiles o new (g.D.Disk.left_since c.put.new.disk t)) own.0
+          (staged_own s.owner s.count s.gate body c.piece-piece.ensures.short fits told new (g.D.Disk.may_leave s.disk) (g.D.Disk.left_since s.disk t) (g.D.Disk.left_since c.put.new.disk t) rest staged (λ file was. moments.before t file le was))
+          own.1,
+    ))
+
+pub returns-clause-opens : goal.returns-clause-opens
+returns-clause-opens g c =
+    let s = c.self.inside in
+    let v = c.self.invariant in
+    let body = c.args.body.now in
+    let piece = c.piece-piece.ensures.piece in
+    let fits : s.gate + 5 + length body < longest_file = omega (arith, c.if-behind-ge-LONGEST_FILE.false, ap length piece, length-piece body) in
+    let told = g.D.Disk.seen s.disk in
+    let new = g.D.Disk.seen c.put.new.disk in
+    let rest = v.rests c.if-self.false in
+    let staged : Told (IsStaged s.gate (piece_of body)) told new = opened_staged s.gate (piece_of body) told new (subst (λ (p : List ℕ). Told (Opened s.gate p) told new) piece (on_ok_is c.put.result (sym c.is_err.ensures.value ∙ c.if-is_err.false) c.put.ensures.opened)) in
+    let moments = subst (λ (p : List ℕ). LeavesOnly g.D.Disk.moment g.D.Disk.left_since s.disk c.put.new.disk (StagedOf s.gate p told)) piece c.put.ensures.any_moment in
+    subst (λ (m : FileState g.row.D.Denot). (owner t : ℕ) → t ≤ g.D.Disk.moment m.disk → ((m.owner ≡ owner) × OwnFiles owner (g.D.Disk.seen m.disk) (g.D.Disk.left_since m.disk t))
+    → ((s.owner ≡ owner) × OwnFiles owner new (g.D.Disk.left_since c.put.new.disk t))) c.self.view_is
+    (λ owner t le own. (
+      own.0,
+      subst (λ (o : ℕ). OwnFiles o told (g.D.Disk.left_since s.disk t) → OwnFiles o new (g.D.Disk.left_since c.put.new.disk t)) own.0
+          (staged_own s.owner s.count s.gate body c.piece-piece.ensures.short fits told new (g.D.Disk.may_leave s.disk) (g.D.Disk.left_since s.disk t) (g.D.Disk.left_since c.put.new.disk t) rest staged (λ file was. moments.before t file le was))
+          own.1,
+    ))

@@ -6,11 +6,11 @@ use Rattle.owner_fold.specs.Spots.{first_docs_among, first_jobs_among, job_at}
 use Rattle.owner_fold.proofs.Standing.{found_in_order}
 use Rattle.owner_fold.proofs.holdings.Owners.job_spots.Goals as goal
 
-pub returns-clause-jobs : goal.returns-clause-jobs
+pub returns : goal.returns
 unfolding catalogue jobs
-returns-clause-jobs c =
+returns c =
     rw (c.as_slice.ensures, ← c.self.view_is)
-    (found_in_order (job_at c.self.inside.entries) c.self.inside.plan.spots.jobs
+    (found_in_order (job_at c.self.inside.kept) c.self.inside.plan.spots.jobs
     (first_jobs_among (flat_map jobs_in
-    (first_docs_among (flat_map docs_in (list_of c.self.inside.entries (Events 0))))))
-    c.self.invariant.plan.spots.jobs.0)
+    (first_docs_among (flat_map docs_in (list_of c.self.inside.kept (Events 0))))))
+    c.self.invariant.spots.jobs.0)

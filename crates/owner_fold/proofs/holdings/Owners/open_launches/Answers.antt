@@ -9,4 +9,4 @@ pub returns : goal.returns
 unfolding open_left
 returns c =
     open_among (view_of c.args.self.now) c.args.w (filter_map (job_at c.args.self.now) c.job_spots.result.now)
-    c.job_spots.ensures.jobs
+    c.job_spots.ensures

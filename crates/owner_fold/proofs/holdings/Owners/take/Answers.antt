@@ -1,13 +1,16 @@
-use Rattle.std.proofs.Common.{◌+◌, ◌<◌, ◌^◌, ◌∙◌, arith, length, sym}
-use Rattle.model.specs.History.{list_of}
+use Rattle.std.proofs.Common.{Err, Ok, Result, sym, ◌∙◌}
+use Rattle.std.specs.Prelude.{OnErr}
 use Rattle.owner_fold.proofs.Further.{kept_without}
 use Rattle.owner_fold.proofs.holdings.Owners.take.Goals as goal
 
 pub invariant_of-self-2 : goal.invariant_of-self-2
 invariant_of-self-2 c =
-    let room : length (list_of c.self.inside.entries c.args.e.now.feed) + 1 < 2 ^ 32 =
-    rw c.self.view_is (omega (arith, c.requires))
-    in
-    kept_without c.self.inside.entries c.push-2.new.self c.args.e.now c.in_ok-copy.copy c.self.inside.plan
-    c.self.invariant c.in_ok-copy.ensures c.in_ok-push-2.ensures.ok (sym c.is_planning.ensures ∙ c.if-is_planning.false)
-    room
+    kept_without c.self.inside.kept c.take-2.new.self c.args.e.now c.self.inside.plan c.self.invariant
+    c.in_ok-take-2.ensures.ok (sym c.is_planning.ensures ∙ c.if-is_planning.false)
+
+on_err : {T E P : Type 0} (r : Result T E) → P → OnErr r P
+on_err (Ok x) p = tt
+on_err (Err x) p = p
+
+pub returns-in_err-take-clause-err : goal.returns-in_err-take-clause-err
+returns-in_err-take-clause-err c = on_err _ (c.in_err-take.ensures.err ∙ c.self.view_is)

@@ -1,0 +1,4 @@
+pub mod Calendar
+pub mod Members
+pub mod Counting
+pub mod Digits

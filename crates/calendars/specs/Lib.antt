@@ -1,0 +1,5 @@
+pub mod Dates
+pub mod Sets
+pub mod Free
+pub mod Nth
+pub mod Written

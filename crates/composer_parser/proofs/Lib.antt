@@ -1,0 +1,12 @@
+pub mod Apart
+pub mod Begins
+pub mod Completes
+pub mod Ends
+pub mod Exactly
+pub mod Firsts
+pub mod Fronts
+pub mod Halts
+pub mod Leaves
+pub mod Loops
+pub mod Parsings
+pub mod Sound

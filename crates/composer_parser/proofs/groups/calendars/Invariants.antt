@@ -1,0 +1,13 @@
+use Rattle.std.proofs.Common.{◌≡◌, [], length}
+use Rattle.composer_parser.specs.Parts.{put, always}
+use Rattle.composer_parser.specs.Composer.{calendar}
+use Rattle.composer_parser.specs.Reading.{turns}
+use Rattle.composer_parser.specs.Tokens.{all_spelled}
+use Rattle.composer_parser.proofs.groups.calendars.Given as goal
+
+abbrev pub invariant-pieces : goal.invariant-pieces
+invariant-pieces l =
+    turns put always calendar l.all.items (all_spelled l.text l.left) ≡ turns put always calendar [] (all_spelled l.text l.initial.left)
+
+abbrev pub decreases-pieces : goal.decreases-pieces
+decreases-pieces l = length l.left

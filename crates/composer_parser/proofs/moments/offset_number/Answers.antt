@@ -1,0 +1,8 @@
+use Rattle.std.proofs.Common.{lit<, None, ◌∙◌}
+use Rattle.std.proofs.lemmas.Str.Pattern.{strip_prefix_char}
+use Rattle.composer_parser.proofs.Ends.{no_offset}
+use Rattle.composer_parser.proofs.moments.offset_number.Goals as goal
+
+pub returns-in-None : goal.returns-in-None
+returns-in-None c =
+    c.minus_number.ensures ∙ no_offset c.args.word.now (strip_prefix_char 43 c.args.word.now None c.in-None.ensures.cases (lit< tt))

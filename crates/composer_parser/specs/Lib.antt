@@ -1,0 +1,15 @@
+pub mod Answers
+pub mod Clauses
+pub mod Composer
+pub mod Faults
+pub mod Grammars
+pub mod Groups
+pub mod Kinds
+pub mod Parts
+pub mod Reading
+pub mod Rules
+pub mod Schedules
+pub mod Stations
+pub mod Tokens
+pub mod Words
+pub mod Works

@@ -1,0 +1,85 @@
+//! The jobs of a stream.
+ghost use Rattle.std.specs.Prelude.{◌≡◌, ℕ, List, codes};
+ghost use Rattle.composer_parser.specs.Reading.{read, begins_piece};
+ghost use Rattle.composer_parser.specs.Schedules as spec;
+ghost use Rattle.composer_parser.specs.Tokens.{all_spelled, Gives};
+ghost use Rattle.composer_parser.specs.Parts.{always};
+ghost use Rattle.composer_parser.specs.declared.definitions.Lined.{Lined as LinedOf};
+ghost use Rattle.composer_parser.specs.declared.schedules.EntryDef.{EntryDef as Entry};
+
+use crate::clause_forms::clauses;
+use crate::definitions::{Lined, WorkDef};
+use crate::parts::is_next;
+use crate::places::{is_scoped_next, scoped};
+use crate::schedules::EntryDef;
+use crate::scopes::{own_of, ws_of};
+use crate::stops::Stop;
+use crate::works::work;
+use base_types::{Items, Token};
+use std::alloc::Global;
+
+/// The own work of an entry, if it has one.
+#[tactic(auto, unfolding(crate::specs::Schedules::own_work, crate::specs::Works::work, crate::specs::Works::command))]
+fn own_work<'a>(
+    alloc: Global,
+    text: &str,
+    rest: &'a [Token],
+) -> Result<(Option<WorkDef>, &'a [Token]), Stop>
+    ensures { Gives (λ x. x.0) (λ x. x.1.now) text.now result (read spec.own_work (all_spelled text.now rest.now)) }
+{
+    if is_next(text, rest, "SCRIPTNAME") || is_next(text, rest, "DOCOMMAND") {
+        let (found, rest) = work(alloc, text, rest)?;
+        return Ok((Some(found), rest));
+    }
+    Ok((None, rest))
+}
+
+/// A job of a stream.
+#[tactic(auto, unfolding(crate::specs::Schedules::entry))]
+fn entry<'a>(
+    alloc: Global,
+    text: &str,
+    rest: &'a [Token],
+) -> Result<(Lined<EntryDef>, &'a [Token]), Stop>
+    ensures { Gives (λ x. x.0) (λ x. x.1.now) text.now result (read spec.entry (all_spelled text.now rest.now)) }
+{
+    let (word, line, rest) = scoped(text, rest)?;
+    let ws = ws_of(alloc, word)?;
+    let name = own_of(alloc, word)?;
+    let (work, rest) = own_work(alloc, text, rest)?;
+    let (clauses, rest) = clauses(alloc, text, rest, false)?;
+    let item = EntryDef {
+        ws,
+        name,
+        work,
+        clauses,
+    };
+    Ok((Lined { line, item }, rest))
+}
+
+/// Whether an entry begins here.
+#[tactic(auto, unfolding(crate::specs::Schedules::entry))]
+fn begins_entry(text: &str, rest: &[Token]) -> bool
+    ensures { (s : List (LinedOf Entry)) → result ≡ begins_piece always spec.entry s (all_spelled text.now rest.now) }
+{
+    is_scoped_next(text, rest)
+}
+
+/// All that stand one behind the other.
+#[tactic(auto, unfolding(crate::specs::Schedules::entries))]
+pub(crate) fn entries<'a>(
+    alloc: Global,
+    text: &str,
+    rest: &'a [Token],
+) -> Result<(Items<Lined<EntryDef>>, &'a [Token]), Stop>
+    ensures { Gives (λ x. x.0) (λ x. x.1.now) text.now result (read spec.entries (all_spelled text.now rest.now)) }
+{
+    let mut all = Items::new(alloc);
+    let mut left = rest;
+    'pieces: while begins_entry(text, left) {
+        let (next, behind) = entry(alloc, text, left)?;
+        all.push(next)?;
+        left = behind;
+    }
+    Ok((all, left))
+}

@@ -1,0 +1,228 @@
+//! The items of an ON or an EXCEPT.
+ghost use Rattle.std.specs.Prelude.{◌≡◌, ℕ, List, codes};
+ghost use Rattle.composer_parser.specs.Reading.{read, begins_piece};
+ghost use Rattle.composer_parser.specs.Schedules as spec;
+ghost use Rattle.composer_parser.specs.Tokens.{all_spelled, Gives};
+ghost use Rattle.std.specs.Prelude.{[], ◌∷◌};
+ghost use Rattle.composer_parser.specs.Kinds.{keyword};
+ghost use Rattle.composer_parser.specs.Parts.{put, always};
+ghost use Rattle.composer_parser.specs.Reading.{begins, turns};
+
+use crate::moments::{date_value, is_date_next, is_offset_next, signed};
+use crate::parts::{is_mark_next, is_next, is_word_of, key, mark, name, quoted_value};
+use crate::places::is_name_next;
+use crate::rules::{is_foreign_rule, is_rule};
+use crate::schedules::{Offset, OffsetUnit, OnItem};
+use crate::stops::{Stop, Why};
+use base_types::{Items, Token, TokenKind};
+use std::alloc::Global;
+
+/// The days of the week, from Monday on.
+const WEEKDAYS: [&str; 7] = ["MO", "TU", "WE", "TH", "FR", "SA", "SU"];
+
+#[tactic(auto, unfolding(crate::specs::Schedules::offset_unit))]
+fn offset_unit<'a>(text: &str, rest: &'a [Token]) -> Result<(OffsetUnit, &'a [Token]), Stop>
+    ensures { Gives (λ x. x.0) (λ x. x.1.now) text.now result (read spec.offset_unit (all_spelled text.now rest.now)) }
+{
+    if is_next(text, rest, "DAYS") {
+        let (_, rest) = key(text, rest, "DAYS")?;
+        return Ok((OffsetUnit::Days, rest));
+    }
+    if is_next(text, rest, "WEEKDAYS") {
+        let (_, rest) = key(text, rest, "WEEKDAYS")?;
+        return Ok((OffsetUnit::Weekdays, rest));
+    }
+    let (_, rest) = key(text, rest, "WORKDAYS")?;
+    Ok((OffsetUnit::Workdays, rest))
+}
+
+#[tactic(auto, unfolding(crate::specs::Schedules::offset))]
+fn offset<'a>(text: &str, rest: &'a [Token]) -> Result<(Option<Offset>, &'a [Token]), Stop>
+    ensures { Gives (λ x. x.0) (λ x. x.1.now) text.now result (read spec.offset (all_spelled text.now rest.now)) }
+{
+    if is_offset_next(text, rest) {
+        let ((plus, n), rest) = signed(text, rest)?;
+        let (unit, rest) = offset_unit(text, rest)?;
+        return Ok((Some(Offset { plus, n, unit }), rest));
+    }
+    Ok((None, rest))
+}
+
+/// A calendar, with days behind its dates or before them.
+#[tactic(auto, unfolding(crate::specs::Schedules::calendar_item))]
+fn calendar_item<'a>(
+    alloc: Global,
+    text: &str,
+    rest: &'a [Token],
+) -> Result<(OnItem, &'a [Token]), Stop>
+    ensures { Gives (λ x. x.0) (λ x. x.1.now) text.now result (read spec.calendar_item (all_spelled text.now rest.now)) }
+{
+    let (name, rest) = name(alloc, text, rest)?;
+    let (offset, rest) = offset(text, rest)?;
+    Ok((OnItem::Calendar(name, offset), rest))
+}
+
+#[tactic(auto, unfolding(crate::specs::Schedules::weekday))]
+fn weekday<'a>(text: &str, rest: &'a [Token]) -> Result<(OnItem, &'a [Token]), Stop>
+    ensures { Gives (λ x. x.0) (λ x. x.1.now) text.now result (read spec.weekday (all_spelled text.now rest.now)) }
+{
+    if is_next(text, rest, "MO") {
+        let (_, rest) = key(text, rest, "MO")?;
+        return Ok((OnItem::Weekday(0), rest));
+    }
+    if is_next(text, rest, "TU") {
+        let (_, rest) = key(text, rest, "TU")?;
+        return Ok((OnItem::Weekday(1), rest));
+    }
+    if is_next(text, rest, "WE") {
+        let (_, rest) = key(text, rest, "WE")?;
+        return Ok((OnItem::Weekday(2), rest));
+    }
+    if is_next(text, rest, "TH") {
+        let (_, rest) = key(text, rest, "TH")?;
+        return Ok((OnItem::Weekday(3), rest));
+    }
+    if is_next(text, rest, "FR") {
+        let (_, rest) = key(text, rest, "FR")?;
+        return Ok((OnItem::Weekday(4), rest));
+    }
+    if is_next(text, rest, "SA") {
+        let (_, rest) = key(text, rest, "SA")?;
+        return Ok((OnItem::Weekday(5), rest));
+    }
+    let (_, rest) = key(text, rest, "SU")?;
+    Ok((OnItem::Weekday(6), rest))
+}
+
+#[tactic(auto, unfolding(crate::specs::Schedules::days))]
+fn days<'a>(text: &str, rest: &'a [Token]) -> Result<(OnItem, &'a [Token]), Stop>
+    ensures { Gives (λ x. x.0) (λ x. x.1.now) text.now result (read spec.days (all_spelled text.now rest.now)) }
+{
+    if is_next(text, rest, "EVERYDAY") {
+        let (_, rest) = key(text, rest, "EVERYDAY")?;
+        return Ok((OnItem::EveryDay, rest));
+    }
+    if is_next(text, rest, "WEEKDAYS") {
+        let (_, rest) = key(text, rest, "WEEKDAYS")?;
+        return Ok((OnItem::Weekdays, rest));
+    }
+    if is_next(text, rest, "WORKDAYS") {
+        let (_, rest) = key(text, rest, "WORKDAYS")?;
+        return Ok((OnItem::Workdays, rest));
+    }
+    if is_next(text, rest, "FREEDAYS") {
+        let (_, rest) = key(text, rest, "FREEDAYS")?;
+        return Ok((OnItem::FreeDays, rest));
+    }
+    let (_, rest) = key(text, rest, "REQUEST")?;
+    Ok((OnItem::Request, rest))
+}
+
+/// Whether the next token is a day of the week.
+fn is_weekday_next(text: &str, rest: &[Token]) -> bool
+    ensures { result ≡ begins (keyword (codes "MO") ∷ keyword (codes "TU") ∷ keyword (codes "WE") ∷ keyword (codes "TH") ∷ keyword (codes "FR") ∷ keyword (codes "SA") ∷ keyword (codes "SU") ∷ []) (all_spelled text.now rest.now) }
+{
+    match rest {
+        [token, ..] => is_word_of(text, token, &WEEKDAYS),
+        [] => false,
+    }
+}
+
+/// Whether the next token is a word for days.
+fn is_days_next(text: &str, rest: &[Token]) -> bool
+    ensures { result ≡ begins (keyword (codes "EVERYDAY") ∷ keyword (codes "WEEKDAYS") ∷ keyword (codes "WORKDAYS") ∷ keyword (codes "FREEDAYS") ∷ keyword (codes "REQUEST") ∷ []) (all_spelled text.now rest.now) }
+{
+    is_next(text, rest, "EVERYDAY")
+        || is_next(text, rest, "WEEKDAYS")
+        || is_next(text, rest, "WORKDAYS")
+        || is_next(text, rest, "FREEDAYS")
+        || is_next(text, rest, "REQUEST")
+}
+
+/// A rule.
+#[tactic(auto, unfolding(crate::specs::Schedules::rule))]
+fn rule<'a>(alloc: Global, text: &str, rest: &'a [Token]) -> Result<(OnItem, &'a [Token]), Stop>
+    ensures { Gives (λ x. x.0) (λ x. x.1.now) text.now result (read spec.rule (all_spelled text.now rest.now)) }
+{
+    let [token, behind @ ..] = rest else {
+        return Err(Stop::Here(Why::NotExpected, 0));
+    };
+    let TokenKind::Quoted = token.kind else {
+        return Err(Stop::Here(Why::NotExpected, rest.len()));
+    };
+    let value = quoted_value(alloc, text, token)?;
+    if is_rule(alloc, value.as_str())? {
+        return Ok((OnItem::Rule(value), behind));
+    }
+    if is_foreign_rule(alloc, value.as_str())? {
+        return Err(Stop::Here(Why::IsLeftOut, rest.len()));
+    }
+    Err(Stop::Here(Why::NotExpected, rest.len()))
+}
+
+/// One item of an ON or an EXCEPT.
+#[tactic(auto, unfolding(crate::specs::Schedules::item, crate::specs::Schedules::weekday, crate::specs::Schedules::days, crate::specs::Schedules::rule, crate::specs::Schedules::calendar_item))]
+fn item<'a>(alloc: Global, text: &str, rest: &'a [Token]) -> Result<(OnItem, &'a [Token]), Stop>
+    ensures { Gives (λ x. x.0) (λ x. x.1.now) text.now result (read spec.item (all_spelled text.now rest.now)) }
+{
+    if is_weekday_next(text, rest) {
+        return weekday(text, rest);
+    }
+    if is_days_next(text, rest) {
+        return days(text, rest);
+    }
+    if is_date_next(text, rest) {
+        let (day, rest) = date_value(text, rest)?;
+        return Ok((OnItem::Date(day), rest));
+    }
+    if is_name_next(text, rest) {
+        return calendar_item(alloc, text, rest);
+    }
+    rule(alloc, text, rest)
+}
+
+/// A comma, and an item.
+#[tactic(auto, unfolding(crate::specs::Schedules::next_item))]
+fn next_item<'a>(
+    alloc: Global,
+    text: &str,
+    rest: &'a [Token],
+) -> Result<(OnItem, &'a [Token]), Stop>
+    ensures { Gives (λ x. x.0) (λ x. x.1.now) text.now result (read spec.next_item (all_spelled text.now rest.now)) }
+{
+    let rest = mark(text, rest, b',')?;
+    item(alloc, text, rest)
+}
+
+/// Those that follow behind commas.
+fn more_items<'a>(
+    alloc: Global,
+    text: &str,
+    rest: &'a [Token],
+    first: OnItem,
+) -> Result<(Items<OnItem>, &'a [Token]), Stop>
+    ensures { Gives (λ x. x.0) (λ x. x.1.now) text.now result (turns put always spec.next_item (first ∷ []) (all_spelled text.now rest.now)) }
+{
+    let mut all = Items::new(alloc);
+    all.push(first)?;
+    let mut left = rest;
+    'pieces: while is_mark_next(text, left, b',') {
+        let (next, behind) = next_item(alloc, text, left)?;
+        all.push(next)?;
+        left = behind;
+    }
+    Ok((all, left))
+}
+
+/// Items, with commas between them.
+#[tactic(auto, using(crate::proofs::Loops::list_read), unfolding(crate::specs::Schedules::items))]
+pub(crate) fn items<'a>(
+    alloc: Global,
+    text: &str,
+    rest: &'a [Token],
+) -> Result<(Items<OnItem>, &'a [Token]), Stop>
+    ensures { Gives (λ x. x.0) (λ x. x.1.now) text.now result (read spec.items (all_spelled text.now rest.now)) }
+{
+    let (first, rest) = item(alloc, text, rest)?;
+    more_items(alloc, text, rest, first)
+}

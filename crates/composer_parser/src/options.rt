@@ -1,0 +1,106 @@
+//! The options of the network.
+ghost use Rattle.std.specs.Prelude.{◌≡◌, ℕ, List, codes};
+ghost use Rattle.composer_parser.specs.Reading.{read, begins_piece};
+ghost use Rattle.composer_parser.specs.Composer as spec;
+ghost use Rattle.composer_parser.specs.Tokens.{all_spelled, Gives};
+
+use crate::definitions::Lined;
+use crate::moments::time;
+use crate::parts::{is_next, key, text_value};
+use crate::stops::Stop;
+use base_types::{Carry, Text, Token};
+use std::alloc::Global;
+
+/// The options of a text.
+#[derive(Drop)]
+pub(crate) struct Options {
+    pub(crate) start: Option<Lined<u16>>,
+    pub(crate) zone: Option<Lined<Text>>,
+    pub(crate) carry: Option<Lined<Carry>>,
+}
+
+#[tactic(auto, unfolding(crate::specs::Composer::start_of_day))]
+fn start_of_day<'a>(
+    text: &str,
+    rest: &'a [Token],
+) -> Result<(Option<Lined<u16>>, &'a [Token]), Stop>
+    ensures { Gives (λ x. x.0) (λ x. x.1.now) text.now result (read spec.start_of_day (all_spelled text.now rest.now)) }
+{
+    if is_next(text, rest, "STARTOFDAY") {
+        let (line, rest) = key(text, rest, "STARTOFDAY")?;
+        let (item, rest) = time(text, rest)?;
+        return Ok((Some(Lined { line, item }), rest));
+    }
+    Ok((None, rest))
+}
+
+#[tactic(auto, unfolding(crate::specs::Composer::time_zone))]
+fn time_zone<'a>(
+    alloc: Global,
+    text: &str,
+    rest: &'a [Token],
+) -> Result<(Option<Lined<Text>>, &'a [Token]), Stop>
+    ensures { Gives (λ x. x.0) (λ x. x.1.now) text.now result (read spec.time_zone (all_spelled text.now rest.now)) }
+{
+    if is_next(text, rest, "TIMEZONE") {
+        let (line, rest) = key(text, rest, "TIMEZONE")?;
+        let (item, rest) = text_value(alloc, text, rest)?;
+        return Ok((Some(Lined { line, item }), rest));
+    }
+    Ok((None, rest))
+}
+
+#[tactic(auto, unfolding(crate::specs::Composer::carry_word))]
+fn carry_word<'a>(text: &str, rest: &'a [Token]) -> Result<(Carry, &'a [Token]), Stop>
+    ensures { Gives (λ x. x.0) (λ x. x.1.now) text.now result (read spec.carry_word (all_spelled text.now rest.now)) }
+{
+    if is_next(text, rest, "YES") {
+        let (_, rest) = key(text, rest, "YES")?;
+        return Ok((Carry::Yes, rest));
+    }
+    if is_next(text, rest, "NO") {
+        let (_, rest) = key(text, rest, "NO")?;
+        return Ok((Carry::No, rest));
+    }
+    let (_, rest) = key(text, rest, "ALL")?;
+    Ok((Carry::All, rest))
+}
+
+#[tactic(auto, unfolding(crate::specs::Composer::carry_forward))]
+fn carry_forward<'a>(
+    text: &str,
+    rest: &'a [Token],
+) -> Result<(Option<Lined<Carry>>, &'a [Token]), Stop>
+    ensures { Gives (λ x. x.0) (λ x. x.1.now) text.now result (read spec.carry_forward (all_spelled text.now rest.now)) }
+{
+    if is_next(text, rest, "ENCARRYFORWARD") {
+        let (line, rest) = key(text, rest, "ENCARRYFORWARD")?;
+        let (item, rest) = carry_word(text, rest)?;
+        return Ok((Some(Lined { line, item }), rest));
+    }
+    Ok((None, rest))
+}
+
+/// The options, none where the text does not begin with them.
+#[tactic(auto, unfolding(crate::specs::Composer::options))]
+pub(crate) fn read_options<'a>(
+    alloc: Global,
+    text: &str,
+    rest: &'a [Token],
+) -> Result<(Options, &'a [Token]), Stop>
+    ensures { Gives (λ x. x.0) (λ x. x.1.now) text.now result (read spec.options (all_spelled text.now rest.now)) }
+{
+    if !is_next(text, rest, "$OPTIONS") {
+        let none = Options {
+            start: None,
+            zone: None,
+            carry: None,
+        };
+        return Ok((none, rest));
+    }
+    let (_, rest) = key(text, rest, "$OPTIONS")?;
+    let (start, rest) = start_of_day(text, rest)?;
+    let (zone, rest) = time_zone(alloc, text, rest)?;
+    let (carry, rest) = carry_forward(text, rest)?;
+    Ok((Options { start, zone, carry }, rest))
+}

@@ -1,0 +1,250 @@
+//! Statements one behind the other.
+ghost use Rattle.std.specs.Prelude.{◌≡◌, ℕ, List, codes};
+ghost use Rattle.composer_parser.specs.Reading.{read, begins_piece};
+ghost use Rattle.composer_parser.specs.Composer as spec;
+ghost use Rattle.composer_parser.specs.Tokens.{all_spelled, Gives};
+ghost use Rattle.std.specs.Prelude.{[], ◌∷◌, OnOk};
+ghost use Rattle.composer_parser.specs.declared.definitions.Defs.{Defs as Definitions};
+ghost use Rattle.composer_parser.specs.Kinds.{keyword};
+ghost use Rattle.composer_parser.specs.Parts.{always};
+ghost use Rattle.composer_parser.specs.Reading.{begins};
+ghost use Rattle.composer_parser.specs.Composer.{after_statement, no_defs, with_options};
+
+use crate::batches::Batch;
+use crate::definitions::{CalendarDef, CpuDef, Defs, DomainDef, JobDef, Lined, ResourceDef};
+use crate::groups::{calendars, jobs, prompt_defs, resources};
+use crate::options::{Options, read_options};
+use crate::parts::{is_next, key};
+use crate::schedules::ScheduleDef;
+use crate::stations::{cpu, domain};
+use crate::stops::Stop;
+use crate::streams::schedule;
+use base_types::{Items, NoMemory, PromptDef, Token};
+use std::alloc::Global;
+
+/// One statement.
+#[derive(Drop)]
+pub(crate) enum Statement {
+    Cpu(Lined<CpuDef>),
+    Domain(Lined<DomainDef>),
+    Calendars(Batch<Lined<CalendarDef>>),
+    Prompts(Batch<Lined<PromptDef>>),
+    Resources(Batch<Lined<ResourceDef>>),
+    Jobs(Batch<Lined<JobDef>>),
+    Schedule(Lined<ScheduleDef>),
+}
+
+#[tactic(auto, unfolding(crate::specs::Composer::cpu_statement))]
+fn cpu_statement<'a>(
+    alloc: Global,
+    text: &str,
+    rest: &'a [Token],
+) -> Result<(Statement, &'a [Token]), Stop>
+    ensures { Gives (λ x. x.0) (λ x. x.1.now) text.now result (read spec.cpu_statement (all_spelled text.now rest.now)) }
+{
+    let (found, rest) = cpu(alloc, text, rest)?;
+    Ok((Statement::Cpu(found), rest))
+}
+
+#[tactic(auto, unfolding(crate::specs::Composer::domain_statement))]
+fn domain_statement<'a>(
+    alloc: Global,
+    text: &str,
+    rest: &'a [Token],
+) -> Result<(Statement, &'a [Token]), Stop>
+    ensures { Gives (λ x. x.0) (λ x. x.1.now) text.now result (read spec.domain_statement (all_spelled text.now rest.now)) }
+{
+    let (found, rest) = domain(alloc, text, rest)?;
+    Ok((Statement::Domain(found), rest))
+}
+
+#[tactic(auto, unfolding(crate::specs::Composer::calendar_group))]
+fn calendar_group<'a>(
+    alloc: Global,
+    text: &str,
+    rest: &'a [Token],
+) -> Result<(Statement, &'a [Token]), Stop>
+    ensures { Gives (λ x. x.0) (λ x. x.1.now) text.now result (read spec.calendar_group (all_spelled text.now rest.now)) }
+{
+    let (_, rest) = key(text, rest, "$CALENDAR")?;
+    let (all, rest) = calendars(alloc, text, rest)?;
+    Ok((Statement::Calendars(all), rest))
+}
+
+#[tactic(auto, unfolding(crate::specs::Composer::prompt_group))]
+fn prompt_group<'a>(
+    alloc: Global,
+    text: &str,
+    rest: &'a [Token],
+) -> Result<(Statement, &'a [Token]), Stop>
+    ensures { Gives (λ x. x.0) (λ x. x.1.now) text.now result (read spec.prompt_group (all_spelled text.now rest.now)) }
+{
+    let (_, rest) = key(text, rest, "$PROMPT")?;
+    let (all, rest) = prompt_defs(alloc, text, rest)?;
+    Ok((Statement::Prompts(all), rest))
+}
+
+#[tactic(auto, unfolding(crate::specs::Composer::resource_group))]
+fn resource_group<'a>(
+    alloc: Global,
+    text: &str,
+    rest: &'a [Token],
+) -> Result<(Statement, &'a [Token]), Stop>
+    ensures { Gives (λ x. x.0) (λ x. x.1.now) text.now result (read spec.resource_group (all_spelled text.now rest.now)) }
+{
+    let (_, rest) = key(text, rest, "$RESOURCE")?;
+    let (all, rest) = resources(alloc, text, rest)?;
+    Ok((Statement::Resources(all), rest))
+}
+
+#[tactic(auto, unfolding(crate::specs::Composer::job_group))]
+fn job_group<'a>(
+    alloc: Global,
+    text: &str,
+    rest: &'a [Token],
+) -> Result<(Statement, &'a [Token]), Stop>
+    ensures { Gives (λ x. x.0) (λ x. x.1.now) text.now result (read spec.job_group (all_spelled text.now rest.now)) }
+{
+    let (_, rest) = key(text, rest, "$JOBS")?;
+    let (all, rest) = jobs(alloc, text, rest)?;
+    Ok((Statement::Jobs(all), rest))
+}
+
+#[tactic(auto, unfolding(crate::specs::Composer::schedule_statement))]
+fn schedule_statement<'a>(
+    alloc: Global,
+    text: &str,
+    rest: &'a [Token],
+) -> Result<(Statement, &'a [Token]), Stop>
+    ensures { Gives (λ x. x.0) (λ x. x.1.now) text.now result (read spec.schedule_statement (all_spelled text.now rest.now)) }
+{
+    let (found, rest) = schedule(alloc, text, rest)?;
+    Ok((Statement::Schedule(found), rest))
+}
+
+/// One statement.
+#[tactic(auto, unfolding(crate::specs::Composer::statement, crate::specs::Composer::cpu_statement, crate::specs::Composer::domain_statement, crate::specs::Composer::calendar_group, crate::specs::Composer::prompt_group, crate::specs::Composer::resource_group, crate::specs::Composer::job_group, crate::specs::Composer::schedule_statement, crate::specs::Stations::cpu, crate::specs::Stations::domain, crate::specs::Schedules::schedule, crate::specs::Schedules::header, crate::specs::Schedules::title))]
+fn one_statement<'a>(
+    alloc: Global,
+    text: &str,
+    rest: &'a [Token],
+) -> Result<(Statement, &'a [Token]), Stop>
+    ensures { Gives (λ x. x.0) (λ x. x.1.now) text.now result (read spec.statement (all_spelled text.now rest.now)) }
+{
+    if is_next(text, rest, "CPUNAME") {
+        return cpu_statement(alloc, text, rest);
+    }
+    if is_next(text, rest, "DOMAIN") {
+        return domain_statement(alloc, text, rest);
+    }
+    if is_next(text, rest, "$CALENDAR") {
+        return calendar_group(alloc, text, rest);
+    }
+    if is_next(text, rest, "$PROMPT") {
+        return prompt_group(alloc, text, rest);
+    }
+    if is_next(text, rest, "$RESOURCE") {
+        return resource_group(alloc, text, rest);
+    }
+    if is_next(text, rest, "$JOBS") {
+        return job_group(alloc, text, rest);
+    }
+    schedule_statement(alloc, text, rest)
+}
+
+impl Defs {
+    fn none(alloc: Global, last_line: u32) -> Self
+        ensures { result ≡ no_defs last_line }
+    {
+        Defs {
+            last_line,
+            start: None,
+            zone: None,
+            carry: None,
+            cpus: Items::new(alloc),
+            domains: Items::new(alloc),
+            calendars: Items::new(alloc),
+            prompts: Items::new(alloc),
+            resources: Items::new(alloc),
+            jobs: Items::new(alloc),
+            schedules: Items::new(alloc),
+        }
+    }
+
+    fn put(&mut self, statement: Statement) -> Result<(), NoMemory>
+        ensures { OnOk result (self.new ≡ after_statement self.old statement) }
+    {
+        match statement {
+            Statement::Cpu(item) => self.cpus.push(item),
+            Statement::Domain(item) => self.domains.push(item),
+            Statement::Calendars(all) => all.append_to(&mut self.calendars),
+            Statement::Prompts(all) => all.append_to(&mut self.prompts),
+            Statement::Resources(all) => all.append_to(&mut self.resources),
+            Statement::Jobs(all) => all.append_to(&mut self.jobs),
+            Statement::Schedule(item) => self.schedules.push(item),
+        }
+    }
+
+    fn set_options(&mut self, options: Options)
+        ensures { self.new ≡ with_options options self.old }
+    {
+        self.start = options.start;
+        self.zone = options.zone;
+        self.carry = options.carry;
+    }
+}
+
+/// Whether the next token begins a statement.
+#[tactic(auto, unfolding(crate::specs::Composer::statement, crate::specs::Composer::cpu_statement, crate::specs::Composer::domain_statement, crate::specs::Composer::calendar_group, crate::specs::Composer::prompt_group, crate::specs::Composer::resource_group, crate::specs::Composer::job_group, crate::specs::Composer::schedule_statement, crate::specs::Stations::cpu, crate::specs::Stations::domain, crate::specs::Schedules::schedule, crate::specs::Schedules::header, crate::specs::Schedules::title))]
+fn begins_statement(text: &str, rest: &[Token]) -> bool
+    ensures { (d : Definitions) → result ≡ begins_piece always spec.statement d (all_spelled text.now rest.now) }
+{
+    is_next(text, rest, "CPUNAME")
+        || is_next(text, rest, "DOMAIN")
+        || begins_group(text, rest)
+        || is_next(text, rest, "SCHEDULE")
+}
+
+fn begins_group(text: &str, rest: &[Token]) -> bool
+    ensures { result ≡ begins (keyword (codes "$CALENDAR") ∷ keyword (codes "$PROMPT") ∷ keyword (codes "$RESOURCE") ∷ keyword (codes "$JOBS") ∷ []) (all_spelled text.now rest.now) }
+{
+    is_next(text, rest, "$CALENDAR")
+        || is_next(text, rest, "$PROMPT")
+        || is_next(text, rest, "$RESOURCE")
+        || is_next(text, rest, "$JOBS")
+}
+
+#[tactic(auto, unfolding(crate::specs::Composer::statements))]
+fn statements<'a>(
+    alloc: Global,
+    text: &str,
+    rest: &'a [Token],
+    last_line: u32,
+) -> Result<(Defs, &'a [Token]), Stop>
+    ensures { Gives (λ x. x.0) (λ x. x.1.now) text.now result (read (spec.statements last_line) (all_spelled text.now rest.now)) }
+{
+    let mut defs = Defs::none(alloc, last_line);
+    let mut left = rest;
+    'pieces: while begins_statement(text, left) {
+        let (next, behind) = one_statement(alloc, text, left)?;
+        defs.put(next)?;
+        left = behind;
+    }
+    Ok((defs, left))
+}
+
+/// The definitions that the tokens are from the first on, as far as they go.
+#[tactic(auto, unfolding(crate::specs::Composer::defs))]
+pub(crate) fn definitions<'a>(
+    alloc: Global,
+    text: &str,
+    rest: &'a [Token],
+    last_line: u32,
+) -> Result<(Defs, &'a [Token]), Stop>
+    ensures { Gives (λ x. x.0) (λ x. x.1.now) text.now result (read (spec.defs last_line) (all_spelled text.now rest.now)) }
+{
+    let (options, rest) = read_options(alloc, text, rest)?;
+    let (mut defs, rest) = statements(alloc, text, rest, last_line)?;
+    defs.set_options(options);
+    Ok((defs, rest))
+}

@@ -1,0 +1,142 @@
+//! SCHEDULE.
+ghost use Rattle.std.specs.Prelude.{◌≡◌, ℕ, List, codes};
+ghost use Rattle.composer_parser.specs.Reading.{read, begins_piece};
+ghost use Rattle.composer_parser.specs.Schedules as spec;
+ghost use Rattle.composer_parser.specs.Tokens.{all_spelled, Gives};
+
+use crate::clause_forms::clauses;
+use crate::definitions::Lined;
+use crate::entries::entries;
+use crate::ons::ons;
+use crate::parts::{description, is_next, key, mark, name};
+use crate::places::scoped;
+use crate::schedules::{FreeDef, ScheduleDef};
+use crate::scopes::{own_of, ws_of};
+use crate::stops::Stop;
+use base_types::{Items, Text, Token};
+use std::alloc::Global;
+
+#[tactic(auto, unfolding(crate::specs::Schedules::minus_sa))]
+fn minus_sa<'a>(text: &str, rest: &'a [Token]) -> Result<(bool, &'a [Token]), Stop>
+    ensures { Gives (λ x. x.0) (λ x. x.1.now) text.now result (read spec.minus_sa (all_spelled text.now rest.now)) }
+{
+    if is_next(text, rest, "-SA") {
+        let (_, rest) = key(text, rest, "-SA")?;
+        return Ok((true, rest));
+    }
+    Ok((false, rest))
+}
+
+#[tactic(auto, unfolding(crate::specs::Schedules::minus_su))]
+fn minus_su<'a>(text: &str, rest: &'a [Token]) -> Result<(bool, &'a [Token]), Stop>
+    ensures { Gives (λ x. x.0) (λ x. x.1.now) text.now result (read spec.minus_su (all_spelled text.now rest.now)) }
+{
+    if is_next(text, rest, "-SU") {
+        let (_, rest) = key(text, rest, "-SU")?;
+        return Ok((true, rest));
+    }
+    Ok((false, rest))
+}
+
+/// The free days of a stream, if they are named.
+#[tactic(auto, unfolding(crate::specs::Schedules::free_days))]
+fn free_days<'a>(
+    alloc: Global,
+    text: &str,
+    rest: &'a [Token],
+) -> Result<(Option<FreeDef>, &'a [Token]), Stop>
+    ensures { Gives (λ x. x.0) (λ x. x.1.now) text.now result (read spec.free_days (all_spelled text.now rest.now)) }
+{
+    if !is_next(text, rest, "FREEDAYS") {
+        return Ok((None, rest));
+    }
+    let (_, rest) = key(text, rest, "FREEDAYS")?;
+    let (name, rest) = name(alloc, text, rest)?;
+    let (minus_sa, rest) = minus_sa(text, rest)?;
+    let (minus_su, rest) = minus_su(text, rest)?;
+    let free = FreeDef {
+        name,
+        minus_sa,
+        minus_su,
+    };
+    Ok((Some(free), rest))
+}
+
+/// How a stream begins.
+#[derive(Drop)]
+pub(crate) struct Title {
+    line: u32,
+    ws: Option<Text>,
+    name: Text,
+    free: Option<FreeDef>,
+}
+
+/// A stream up to its free days.
+#[tactic(auto, unfolding(crate::specs::Schedules::title))]
+fn stream_title<'a>(
+    alloc: Global,
+    text: &str,
+    rest: &'a [Token],
+) -> Result<(Title, &'a [Token]), Stop>
+    ensures { Gives (λ x. x.0) (λ x. x.1.now) text.now result (read spec.title (all_spelled text.now rest.now)) }
+{
+    let (line, rest) = key(text, rest, "SCHEDULE")?;
+    let (word, _, rest) = scoped(text, rest)?;
+    let ws = ws_of(alloc, word)?;
+    let name = own_of(alloc, word)?;
+    let rest = description(text, rest)?;
+    let (free, rest) = free_days(alloc, text, rest)?;
+    let title = Title {
+        line,
+        ws,
+        name,
+        free,
+    };
+    Ok((title, rest))
+}
+
+/// A stream up to its colon, without its entries.
+#[tactic(auto, unfolding(crate::specs::Schedules::header))]
+fn header<'a>(
+    alloc: Global,
+    text: &str,
+    rest: &'a [Token],
+) -> Result<(Lined<ScheduleDef>, &'a [Token]), Stop>
+    ensures { Gives (λ x. x.0) (λ x. x.1.now) text.now result (read spec.header (all_spelled text.now rest.now)) }
+{
+    let (title, rest) = stream_title(alloc, text, rest)?;
+    let (ons, rest) = ons(alloc, text, rest)?;
+    let (clauses, rest) = clauses(alloc, text, rest, true)?;
+    let rest = mark(text, rest, b':')?;
+    let item = ScheduleDef {
+        ws: title.ws,
+        name: title.name,
+        free: title.free,
+        ons,
+        clauses,
+        entries: Items::new(alloc),
+    };
+    Ok((
+        Lined {
+            line: title.line,
+            item,
+        },
+        rest,
+    ))
+}
+
+/// A stream.
+#[tactic(auto, unfolding(crate::specs::Schedules::schedule))]
+pub(crate) fn schedule<'a>(
+    alloc: Global,
+    text: &str,
+    rest: &'a [Token],
+) -> Result<(Lined<ScheduleDef>, &'a [Token]), Stop>
+    ensures { Gives (λ x. x.0) (λ x. x.1.now) text.now result (read spec.schedule (all_spelled text.now rest.now)) }
+{
+    let (mut found, rest) = header(alloc, text, rest)?;
+    let (entries, rest) = entries(alloc, text, rest)?;
+    let (_, rest) = key(text, rest, "END")?;
+    found.item.entries = entries;
+    Ok((found, rest))
+}

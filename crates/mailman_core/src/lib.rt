@@ -1,0 +1,19 @@
+//! What a node keeps of its neighbours, which mail it takes, and what it sends.
+//!
+//! A `Mail` has the counts that each neighbour acknowledged and the neighbours whose own end of the link is up.
+//! Contracts see it as `specs/Mails` has it, and as the session of `model::specs::Sessions` by `acked_by` and `is_up`.
+//! `accepts` and `to_send` are those of `model::specs::NewEntry` and `Forwarding`.
+//!
+//! What that costs: a count that was acknowledged is found in a tree. What is to be sent to a neighbour is found by one
+//! walk over the feeds of the network, which ends at eight. A feed of orders is asked for its way first, which is one
+//! look; of what goes this way the entries held are counted, and a feed of events is asked for its way only where
+//! something of it is not acknowledged.
+#![tactic(auto)]
+
+mod accepting;
+mod mails;
+mod sends;
+mod tables;
+
+pub use accepting::{accepts, acknowledgement};
+pub use mails::Mail;

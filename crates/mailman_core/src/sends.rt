@@ -1,0 +1,213 @@
+//! What is sent to a neighbour: up to eight places that it has not acknowledged.
+ghost use Rattle.std.specs.Prelude.{◌≡◌, ◌≤◌, ◌<◌, ◌+◌, ◌-◌, ◌++◌, ◌∷◌, [], IsTrue, false, flat_map, length, map, nat_lt, slice_get, take};
+ghost use Rattle.std.specs.List.{list_all};
+ghost use Rattle.model.specs.Types as types;
+ghost use Rattle.model.specs.Words.{below, numbers_from};
+ghost use Rattle.model.specs.Network.{node_count};
+ghost use Rattle.model.specs.History.{View, view_of};
+ghost use Rattle.model.specs.Workstations.{ws_in_feed};
+ghost use Rattle.model.specs.Forwarding as spec;
+ghost use Rattle.mailman_core.specs.Mails.{acked_by};
+ghost use Rattle.mailman_core.specs.Sends.{sent, unsent};
+
+use crate::mails::Mail;
+use arrayvec::ArrayVec;
+use base_types::{Feed, Growing, Out, Packet, Ws};
+use mailman_routes::forwards;
+use network_tree::Network;
+use owner_fold::Owners;
+use std::marker::Model;
+
+/// An entry by its feed and place. A contract sees it as the pair of these.
+#[derive(Clone, Copy, Debug)]
+pub(crate) struct Place {
+    pub(crate) feed: Feed,
+    pub(crate) place: u32,
+}
+
+impl Model for Place {
+    ghost use Rattle.std.specs.Prelude.{ℕ, ◌<◌, ◌^◌};
+    ghost use Rattle.model.specs.Types.{Feed as Held};
+
+    ghost Value = { Held × ℕ };
+
+    ghost view = { λ a. (a.feed, a.place) };
+
+    ghost inverse = { λ p. record { feed = p.0; place = p.1 } };
+
+    ghost invariant = { λ a. a.place < 2 ^ 32 };
+}
+
+impl Default for Place {
+    fn default() -> Place {
+        Place {
+            feed: Feed::Events(Ws(0)),
+            place: 0,
+        }
+    }
+}
+
+/// Up to eight entries.
+pub(crate) type Batch = ArrayVec<Place, 8>;
+
+/// Whether there are eight.
+fn is_full(batch: &Batch) -> bool
+    ensures eight { IsTrue result → length batch.now.items ≡ 8 }
+    ensures fewer { result ≡ false → length batch.now.items < 8 }
+{
+    batch.is_full()
+}
+
+/// Adds the places of a feed behind `acked` up to `held`, as far as eight go.
+fn add_places(batch: &mut Batch, feed: &Feed, acked: u32, held: u32)
+    requires order { acked ≤ held }
+    requires few { length batch.old.items ≤ 8 }
+    ensures { batch.new.items
+        ≡ take 8 (batch.old.items ++ map (λ p. (feed.now, p)) (numbers_from (1 + acked) (held - acked))) }
+{
+    for behind in acked..held {
+        if is_full(batch) {
+            return;
+        }
+        batch.push(Place {
+            feed: *feed,
+            place: behind + 1,
+        });
+    }
+}
+
+/// Whether a feed of orders goes another way. That is one look into the table of ways.
+#[tactic(auto, unfolding(model::specs::Forwarding::forwards))]
+fn goes_elsewhere(net: &Network, me: Ws, to: Ws, feed: &Feed) -> bool
+    requires from { me < node_count net.now }
+    requires inside { IsTrue (list_all (λ w. nat_lt w (node_count net.now)) (ws_in_feed feed.now)) }
+    ensures { IsTrue result → (V : View) → spec.forwards net.now V me to feed.now ≡ false }
+{
+    match feed {
+        Feed::Events(_) => false,
+        Feed::Orders(_, t) => t.0 == me.0 || net.towards(me, *t) != Some(to),
+    }
+}
+
+impl Mail {
+    /// Adds what is to be sent of one feed.
+    #[tactic(auto, unfolding(model::specs::Forwarding::places_beyond))]
+    fn add_feed(&self, net: &Network, o: &Owners, me: Ws, to: Ws, feed: &Feed, batch: &mut Batch)
+        requires from { me < node_count net.now }
+        requires to { to < node_count net.now }
+        requires inside { IsTrue (list_all (λ w. nat_lt w (node_count net.now)) (ws_in_feed feed.now)) }
+        requires few { length batch.old.items ≤ 8 }
+        ensures { batch.new.items ≡ take 8 (batch.old.items
+            ++ unsent net.now (view_of o.now) me to (acked_by self.now to) (feed.now ∷ [])) }
+    {
+        if goes_elsewhere(net, me, to, feed) {
+            return;
+        }
+        let acked = self.acked_count(to, feed);
+        let held = o.count(*feed);
+        if held <= acked {
+            return;
+        }
+        if !forwards(net, o, me, to, feed) {
+            return;
+        }
+        add_places(batch, feed, acked, held);
+    }
+
+    /// Adds what is to be sent of the feeds of events.
+    fn add_events(&self, net: &Network, o: &Owners, me: Ws, to: Ws, batch: &mut Batch)
+        requires from { me < node_count net.now }
+        requires to { to < node_count net.now }
+        requires few { length batch.old.items ≤ 8 }
+        ensures { batch.new.items ≡ take 8 (batch.old.items
+            ++ unsent net.now (view_of o.now) me to (acked_by self.now to)
+            (map types.Events (below (node_count net.now)))) }
+    {
+        for w in 0..net.count() {
+            if is_full(batch) {
+                return;
+            }
+            let feed = Feed::Events(Ws(w));
+            self.add_feed(net, o, me, to, &feed, batch);
+        }
+    }
+
+    /// Adds what is to be sent of the orders of one issuer.
+    fn add_orders_of(&self, net: &Network, o: &Owners, me: Ws, to: Ws, a: Ws, batch: &mut Batch)
+        requires from { me < node_count net.now }
+        requires to { to < node_count net.now }
+        requires issuer { a < node_count net.now }
+        requires few { length batch.old.items ≤ 8 }
+        ensures { batch.new.items ≡ take 8 (batch.old.items
+            ++ unsent net.now (view_of o.now) me to (acked_by self.now to)
+            (map (types.Orders a) (below (node_count net.now)))) }
+    {
+        for w in 0..net.count() {
+            if is_full(batch) {
+                return;
+            }
+            let feed = Feed::Orders(a, Ws(w));
+            self.add_feed(net, o, me, to, &feed, batch);
+        }
+    }
+
+    /// Adds what is to be sent of the feeds of orders.
+    fn add_orders(&self, net: &Network, o: &Owners, me: Ws, to: Ws, batch: &mut Batch)
+        requires from { me < node_count net.now }
+        requires to { to < node_count net.now }
+        requires few { length batch.old.items ≤ 8 }
+        ensures { let ws = below (node_count net.now) in batch.new.items ≡ take 8 (batch.old.items
+            ++ unsent net.now (view_of o.now) me to (acked_by self.now to)
+            (flat_map (λ a. map (types.Orders a) ws) ws)) }
+    {
+        for a in 0..net.count() {
+            if is_full(batch) {
+                return;
+            }
+            self.add_orders_of(net, o, me, to, Ws(a), batch);
+        }
+    }
+
+    /// The first eight entries that `to` has not acknowledged, by one walk and without memory.
+    #[tactic(auto, using(crate::proofs::Unsent::all_feeds))]
+    pub(crate) fn batch(&self, net: &Network, o: &Owners, me: Ws, to: Ws) -> Batch
+        requires from { me < node_count net.now }
+        requires to { to < node_count net.now }
+        ensures { result.items ≡ spec.to_send net.now (view_of o.now) me to (acked_by self.now to) }
+    {
+        let mut batch = ArrayVec::new();
+        self.add_events(net, o, me, to, &mut batch);
+        self.add_orders(net, o, me, to, &mut batch);
+        batch
+    }
+
+    /// The feed and place of the i-th entry, counted from 0, that is to be sent to `to`: of the feeds that `me` passes
+    /// on to it the first eight that it has not acknowledged, events before orders, feeds and places ascending. None
+    /// where there are at most i. It takes no memory.
+    pub fn to_send(&self, net: &Network, o: &Owners, me: Ws, to: Ws, i: u8) -> Option<(Feed, u32)>
+        requires from { me < node_count net.now }
+        requires to { to < node_count net.now }
+        ensures { result ≡ slice_get (spec.to_send net.now (view_of o.now) me to (acked_by self.now to)) i }
+    {
+        let batch = self.batch(net, o, me, to);
+        match batch.as_slice().get(usize::from(i)) {
+            Some(found) => Some((found.feed, found.place)),
+            None => None,
+        }
+    }
+
+    /// Puts all that is to be sent to `to` at the end of a list with room for eight, by one walk.
+    pub fn put_sends(&self, net: &Network, o: &Owners, me: Ws, to: Ws, outs: &mut Growing<Out>)
+        requires from { me < node_count net.now }
+        requires to { to < node_count net.now }
+        requires room { 8 ≤ outs.old.spare }
+        ensures outs { outs.new.items ≡ outs.old.items ++ map (sent to)
+            (spec.to_send net.now (view_of o.now) me to (acked_by self.now to)) }
+        ensures room { outs.old.spare ≤ outs.new.spare + 8 }
+    {
+        let batch = self.batch(net, o, me, to);
+        for found in batch.as_slice() {
+            outs.put(Out::Send(to, Packet::Mail(found.feed, found.place)));
+        }
+    }
+}

@@ -1,0 +1,2 @@
+-- Who takes over.
+pub mod Switches

@@ -1,0 +1,2 @@
+-- Which workstations are in a network.
+pub mod Inside

@@ -1,0 +1,119 @@
+//! Where numbers stand in a list, found by one look-up.
+ghost use Rattle.std.specs.Prelude.{◌≡◌, ◌++◌, ◌==◌, [], ◌∷◌, List, ℕ, IfOk, OnOk, length, map, nat_eq};
+ghost use Rattle.owner_fold.specs.Numbers.{ArePlaces, IsIndexOf, place_of};
+
+use crate::spots::Spots;
+use base_types::{NoMemory, StreamNos};
+use indexmap::IndexMap;
+use std::alloc::Global;
+
+/// The places, from 0, at which numbers stand first.
+#[derive(Drop)]
+pub(crate) struct Numbers {
+    pub(crate) places: IndexMap<u32, usize>,
+}
+
+impl Numbers {
+    /// The places of no numbers, which takes no memory yet.
+    pub(crate) fn new(alloc: Global) -> Numbers
+        ensures { ArePlaces [] result }
+    {
+        Numbers {
+            places: IndexMap::new(alloc),
+        }
+    }
+
+    /// The same again.
+    fn empty(&self) -> Numbers
+        ensures { ArePlaces [] result }
+    {
+        Numbers::new(*self.places.allocator())
+    }
+
+    /// Where a number stands first.
+    pub(crate) fn place(&self, number: u32) -> Option<usize>
+        ensures { (numbers : List ℕ) → ArePlaces numbers self.now → result ≡ place_of numbers number }
+    {
+        self.places.get(&number).copied()
+    }
+
+    /// Adds a number, which stands at this place behind the others.
+    fn add(&mut self, number: u32, place: usize) -> Result<(), NoMemory>
+        ensures { OnOk result ((numbers : List ℕ) → length numbers ≡ place → ArePlaces numbers self.old
+            → ArePlaces (numbers ++ number ∷ []) self.new) }
+    {
+        if self.places.contains_key(&number) {
+            return Ok(());
+        }
+        match self.places.insert(number, place) {
+            Ok(_) => Ok(()),
+            Err(_) => Err(NoMemory),
+        }
+    }
+
+    /// The places of the catalogue's streams.
+    fn of_streams(&self, spots: &Spots) -> Result<Numbers, NoMemory>
+        ensures { IfOk result (λ p. ArePlaces (map (λ s. s.number) spots.now.streams) p) }
+    {
+        let mut numbers = self.empty();
+        for (i, spot) in spots.streams.as_slice().iter().enumerate() {
+            numbers.add(spot.number, i)?;
+        }
+        Ok(numbers)
+    }
+
+    /// The places of its jobs.
+    fn of_jobs(&self, spots: &Spots) -> Result<Numbers, NoMemory>
+        ensures { IfOk result (λ p. ArePlaces (map (λ s. s.number) spots.now.jobs) p) }
+    {
+        let mut numbers = self.empty();
+        for (i, spot) in spots.jobs.as_slice().iter().enumerate() {
+            numbers.add(spot.number, i)?;
+        }
+        Ok(numbers)
+    }
+
+    /// The places of members.
+    fn of_members(&self, members: &StreamNos) -> Result<Numbers, NoMemory>
+        ensures { IfOk result (λ p. ArePlaces members.now p) }
+    {
+        let mut numbers = self.empty();
+        for (i, member) in members.as_slice().iter().enumerate() {
+            numbers.add(member.0, i)?;
+        }
+        Ok(numbers)
+    }
+}
+
+/// Where the streams and jobs of the catalogue stand, and the members.
+#[derive(Drop)]
+pub(crate) struct Index {
+    pub(crate) streams: Numbers,
+    pub(crate) jobs: Numbers,
+    pub(crate) members: Numbers,
+}
+
+impl Index {
+    /// That of no plan, which takes no memory yet.
+    pub(crate) fn new(alloc: Global) -> Index
+        ensures { IsIndexOf [] [] [] result }
+    {
+        Index {
+            streams: Numbers::new(alloc),
+            jobs: Numbers::new(alloc),
+            members: Numbers::new(alloc),
+        }
+    }
+
+    /// That of these spots and members.
+    pub(crate) fn of(&self, spots: &Spots, members: &StreamNos) -> Result<Index, NoMemory>
+        ensures { IfOk result (λ x. IsIndexOf (map (λ s. s.number) spots.now.streams)
+            (map (λ s. s.number) spots.now.jobs) members.now x) }
+    {
+        Ok(Index {
+            streams: self.streams.of_streams(spots)?,
+            jobs: self.streams.of_jobs(spots)?,
+            members: self.streams.of_members(members)?,
+        })
+    }
+}

@@ -1,0 +1,17 @@
+pub mod Few
+pub mod Keys
+pub mod Feeds
+pub mod Further
+pub mod Rows
+pub mod Counting
+pub mod JobTelling
+pub mod JobFacts
+pub mod StartTelling
+pub mod StreamTelling
+pub mod StationTelling
+pub mod AnswerTelling
+pub mod TotalTelling
+pub mod ObjectTelling
+pub mod DepTelling
+pub mod Nothing
+pub mod Taking

@@ -1,0 +1,14 @@
+pub mod Answers
+pub mod Counts
+pub mod Deps
+pub mod Jobs
+pub mod Left
+pub mod Objects
+pub mod Outcomes
+pub mod Starts
+pub mod Stations
+pub mod Streams
+pub mod Subjects
+pub mod Tables
+pub mod Told
+pub mod Totals

@@ -1,0 +1,146 @@
+-- What is satisfied of the dependencies that are not waived, and who is held back by them.
+use Rattle.std.proofs.Common.{[], ℕ, ◌+◌, ◌∙◌, ◌∷◌, ◌≡◌, Bool, List, None, Option, Some, add-one, ap, cond, drop, false}
+use Rattle.std.proofs.Common.{filter, refl, subst, suc, sym, true, zero}
+use Rattle.std.specs.List.{AllByRecursion, cons_option}
+use Rattle.std.specs.Prelude.{filter_map, not, slice_get}
+use Rattle.model.specs.Types.{At, Deadline, Dep, FollowsJob, FollowsStream, Job, Needs, Net, Outside, Prompt, Until}
+use Rattle.model.specs.History.{View}
+use Rattle.model.specs.Words.{nth}
+use Rattle.model.specs.Catalogue.{owner}
+use Rattle.model.specs.Dependencies.{NumberedDep, dep, deps, is_met, is_satisfied, is_waived, numbered_deps}
+use Rattle.model.specs.Dependencies.{unwaived_deps}
+use Rattle.ready_index.specs.declared.targets.Target.{Target}
+use Rattle.ready_index.specs.Awaited.{held_back, held_back_by}
+use Rattle.ready_index.specs.Targets.{followed}
+use Rattle.ready_index.proofs.Bests.{met_lets_go}
+
+drop_zero : {X : Type 0} (xs : List X) → drop 0 xs ≡ xs
+drop_zero [] = refl
+drop_zero (x ∷ xs) = refl
+
+first_behind : {X : Type 0} (xs : List X) (n : ℕ) (x : X) (rest : List X) → drop n xs ≡ x ∷ rest
+    → (slice_get xs n ≡ Some x) × (drop (suc n) xs ≡ rest)
+first_behind [] zero x rest e = cc
+first_behind [] (suc n) x rest e = cc
+first_behind (y ∷ ys) zero x rest e =
+    let a : y ≡ x = cc in let b : ys ≡ rest = cc in (ap Some a, drop_zero ys ∙ b)
+first_behind (y ∷ ys) (suc n) x rest e = first_behind ys n x rest e
+
+-- each has its number
+numbered : (ds : List Dep) (n : ℕ) (rest : List Dep) → drop n ds ≡ rest
+    → AllByRecursion (λ (q : NumberedDep). nth ds q.number ≡ Some q.dep) (numbered_deps (n + 1) rest)
+numbered ds n [] e = tt
+numbered ds n (d ∷ rest) e =
+    let k : (slice_get ds n ≡ Some d) × (drop (suc n) ds ≡ rest) = first_behind ds n d rest e in (
+      subst (λ i. nth ds i ≡ Some d) (sym (add-one n)) k.0,
+      numbered ds (n + 1) rest (subst (λ i. drop i ds ≡ rest) (sym (add-one n)) k.1),
+    )
+
+all_passing : {X : Type 0} (P : X → Type 0) (f : X → Bool) (xs : List X) → AllByRecursion P xs
+    → AllByRecursion (λ x. P x × (f x ≡ true)) (filter f xs)
+all_passing P f [] h = tt
+all_passing {X} P f (x ∷ xs) h = go (f x) refl (all_passing P f xs h.1)
+  where
+    go : (b : Bool) → f x ≡ b → AllByRecursion (λ (y : X). P y × (f y ≡ true)) (filter f xs)
+        → AllByRecursion (λ (y : X). P y × (f y ≡ true)) (cond b (x ∷ filter f xs) (filter f xs))
+    go true e k = ((h.0, e), k)
+    go false e k = k
+
+all_such : {X : Type 0} (P Q : X → Type 0) (xs : List X) → ((x : X) → P x → Q x) → AllByRecursion P xs
+    → AllByRecursion Q xs
+all_such P Q [] f h = tt
+all_such P Q (x ∷ xs) f h = (f x h.0, all_such P Q xs f h.1)
+
+-- a dependency of job j of w is satisfied where it is met
+abbrev pub IsTold : Net → View → ℕ → ℕ → NumberedDep → Type 0
+IsTold net V w j q = is_satisfied net V (Job j) q.number ≡ is_met net V w (Job j) q.number q.dep
+
+told_by_number : (net : Net) (V : View) (w j : ℕ) → owner V (Job j) ≡ Some w → (q : NumberedDep)
+    → (nth (deps V (Job j)) q.number ≡ Some q.dep) × (not (is_waived V (Job j) q.number) ≡ true) → IsTold net V w j q
+unfolding is_satisfied
+told_by_number net V w j owned q h =
+    let here : dep V (Job j) q.number ≡ Some q.dep = h.0 in
+    let stands : is_waived V (Job j) q.number ≡ false = turned (is_waived V (Job j) q.number) h.1 in
+    rw (owned, here, stands) refl
+  where
+    turned : (b : Bool) → not b ≡ true → b ≡ false
+    turned true e = cc
+    turned false e = refl
+
+-- each that is not waived is told so
+pub all_told : (net : Net) (V : View) (w j : ℕ) → owner V (Job j) ≡ Some w
+    → AllByRecursion (IsTold net V w j) (unwaived_deps V (Job j))
+unfolding unwaived_deps
+all_told net V w j owned =
+    all_such
+    (λ (q : NumberedDep). (nth (deps V (Job j)) q.number ≡ Some q.dep) × (not (is_waived V (Job j) q.number) ≡ true))
+    (IsTold net V w j) _ (told_by_number net V w j owned)
+    (all_passing (λ (q : NumberedDep). nth (deps V (Job j)) q.number ≡ Some q.dep)
+    (λ (q : NumberedDep). not (is_waived V (Job j) q.number)) (numbered_deps 1 (deps V (Job j)))
+    (numbered (deps V (Job j)) 0 (deps V (Job j)) (drop_zero (deps V (Job j)))))
+
+-- what is no FOLLOWS holds nobody back
+no_hold : (V : View) (d : Dep) → followed d ≡ None → held_back V d ≡ None
+no_hold V (FollowsJob j) h = cc
+no_hold V (FollowsStream s) h = cc
+no_hold V (Needs r n) h = refl
+no_hold V (Prompt p) h = refl
+no_hold V (At t) h = refl
+no_hold V (Until t then_) h = refl
+no_hold V (Outside path) h = refl
+no_hold V (Deadline t) h = refl
+
+-- a FOLLOWS that is not met does
+unmet_holds : (net : Net) (V : View) (w j i : ℕ) (d : Dep) (t : Target) → followed d ≡ Some t
+    → is_met net V w (Job j) i d ≡ false → held_back V d ≡ Some t
+unfolding is_met
+unmet_holds net V w j i (FollowsJob k) t h e = rw e h
+unmet_holds net V w j i (FollowsStream s) t h e = rw e h
+unmet_holds net V w j i (Needs r n) t h e = cc
+unmet_holds net V w j i (Prompt p) t h e = cc
+unmet_holds net V w j i (At m) t h e = cc
+unmet_holds net V w j i (Until m then_) t h e = cc
+unmet_holds net V w j i (Outside path) t h e = cc
+unmet_holds net V w j i (Deadline m) t h e = cc
+
+-- what holds a job back among these dependencies
+abbrev pub held_among : View → List NumberedDep → List Target
+held_among V ds = filter_map (λ (q : NumberedDep). held_back V q.dep) ds
+
+-- the walk so far met nothing that holds the job back
+pub record IsFreeSoFar (net : Net) (V : View) (w j : ℕ) (left : List NumberedDep) : Type 0 where
+  pub first : slice_get (held_back_by V j) 0 ≡ slice_get (held_among V left) 0
+  pub told : AllByRecursion (IsTold net V w j) left
+
+pub nothing_walked : (net : Net) (V : View) (w j : ℕ) (left : List NumberedDep) → owner V (Job j) ≡ Some w
+    → left ≡ unwaived_deps V (Job j) → IsFreeSoFar net V w j left
+unfolding held_back_by
+nothing_walked net V w j left owned e = rw e (record { first = refl; told = all_told net V w j owned })
+
+passed : (net : Net) (V : View) (w j : ℕ) (q : NumberedDep) (left : List NumberedDep) → held_back V q.dep ≡ None
+    → IsFreeSoFar net V w j (q ∷ left) → IsFreeSoFar net V w j left
+passed net V w j q left none h = record {
+  first = h.first ∙ ap (λ (o : Option Target). slice_get (cons_option o (held_among V left)) 0) none;
+  told = h.told.1;
+}
+
+pub passed_other : (net : Net) (V : View) (w j : ℕ) (q : NumberedDep) (left : List NumberedDep)
+    → followed q.dep ≡ None → IsFreeSoFar net V w j (q ∷ left) → IsFreeSoFar net V w j left
+passed_other net V w j q left none h = passed net V w j q left (no_hold V q.dep none) h
+
+pub passed_satisfied : (net : Net) (V : View) (w j : ℕ) (q : NumberedDep) (left : List NumberedDep)
+    → is_satisfied net V (Job j) q.number ≡ true → IsFreeSoFar net V w j (q ∷ left) → IsFreeSoFar net V w j left
+passed_satisfied net V w j q left e h =
+    passed net V w j q left (met_lets_go net V w j q.number q.dep (sym h.told.0 ∙ e)) h
+
+pub held_here : (net : Net) (V : View) (w j : ℕ) (q : NumberedDep) (left : List NumberedDep) (t : Target)
+    → followed q.dep ≡ Some t → is_satisfied net V (Job j) q.number ≡ false → IsFreeSoFar net V w j (q ∷ left)
+    → slice_get (held_back_by V j) 0 ≡ Some t
+held_here net V w j q left t e f h =
+    h.first
+    ∙ ap (λ (o : Option Target). slice_get (cons_option o (held_among V left)) 0)
+    (unmet_holds net V w j q.number q.dep t e (sym h.told.0 ∙ f))
+
+pub nothing_holds : (net : Net) (V : View) (w j : ℕ) (left : List NumberedDep) → left ≡ []
+    → IsFreeSoFar net V w j left → slice_get (held_back_by V j) 0 ≡ None
+nothing_holds net V w j left e h = h.first ∙ ap (λ (ds : List NumberedDep). slice_get (held_among V ds) 0) e

@@ -1,0 +1,7 @@
+pub mod Awaited
+pub mod Changes
+pub mod Lists
+pub mod Places
+pub mod Standing
+pub mod Targets
+pub mod Watched

@@ -4,70 +4,36 @@ ghost use Rattle.model.specs.Network.{node_count};
 ghost use Rattle.model.specs.History.{list_of, view_of};
 ghost use Rattle.model.specs.Readiness as spec;
 
-use base_types::{Entry, Feed, JobNo, NoMemory, Obj, OnUntil, StreamNo, Ws};
+use base_types::{Entry, JobNo, NoMemory, Obj, OnUntil, StreamNo, Ws};
 use dependencies::{Readiness, Scan, late_due, may_end, may_release, ready, sat, until_due};
 use network_tree::Network;
 use owner_fold::Owners;
 use std::alloc::Global;
 use std::test::Fail;
-use test_builders::{ALONE, Asks, ResourceRow, Says, StreamRow, Waits, body, new_plan};
-use test_nights::{M, hear, network, take};
+use test_builders::{ALONE, Asks, EntryRow, ResourceRow, Says, StreamRow, Waits, entry};
+use test_nights::{M, hear, holding, network};
 
 const ME: Ws = Ws(0);
 
 const S: StreamNo = StreamNo(1);
 
-/// The network of M alone, and the entries that M took.
-#[derive(Drop)]
-struct Night {
-    net: Network,
-    owners: Owners,
-}
+/// What M may do: whether S may be released, whether it may end, the job whose UNTIL is due, and the best job, by their
+/// numbers, 0 for none.
+type Choices = (bool, bool, u32, u32);
 
-impl Night {
-    fn hear(&mut self, alloc: Global, says: &Says) -> Result<(), Fail> {
-        hear(&mut self.owners, alloc, &M, says)
-    }
-
-    fn hear_all(&mut self, alloc: Global, rows: &[Says]) -> Result<(), Fail> {
-        for says in rows {
-            self.hear(alloc, says)?;
-        }
-        Ok(())
-    }
-
-    fn is_ready(&self, no: u32) -> bool {
-        ready(&self.net, &self.owners, ME, JobNo(no))
-    }
-
-    fn is_satisfied(&self, no: u32, i: u16) -> bool {
-        sat(&self.net, &self.owners, Obj::Job(JobNo(no)), i)
-    }
-
-    /// The number of the job whose dependency is the UNTIL that is due, or 0.
-    fn until_due(&self) -> u32 {
-        match until_due(&self.net, &self.owners, ME) {
-            Some(until) => job_number(&until.0),
-            None => 0,
-        }
-    }
-
-    /// The number of the best job, or 0.
-    fn best(&self) -> u32 {
-        let _count = self.net.count();
-        match Scan.best(&self.net, &self.owners, ME) {
-            Some(j) => j.0,
-            None => 0,
-        }
-    }
-
-    /// What M may do, with the numbers of the job whose UNTIL is due and of the best job, 0 for none.
-    fn choices(&self, alloc: Global) -> Result<String, Fail> {
-        let release = word("release ", may_release(&self.net, &self.owners, ME, S));
-        let end = word("end ", may_end(&self.net, &self.owners, ME, S));
-        let (until, best) = (self.until_due(), self.best());
-        Ok(format!(in alloc; "{release}{end}until {until} best {best}")?)
-    }
+/// A row of a table, read from the top.
+#[derive(Clone, Copy)]
+enum Step<'a> {
+    /// M takes this as its next event.
+    Comes(Says<'a>),
+    /// M takes this, and then has these choices.
+    Then(Says<'a>, Choices),
+    /// M takes this, and then this is late.
+    Lates(Says<'a>, Option<(Obj, u16)>),
+    /// Whether a job is ready.
+    IsReady(u32, bool),
+    /// Whether the dependency of this number of a job is satisfied.
+    IsSatisfied(u32, u16, bool),
 }
 
 fn job_number(obj: &Obj) -> u32 {
@@ -77,40 +43,99 @@ fn job_number(obj: &Obj) -> u32 {
     }
 }
 
-/// The word where it applies, and else nothing.
-fn word(text: &str, applies: bool) -> &str {
-    if applies { text } else { "" }
+/// The number of the job whose dependency is the UNTIL that is due, or 0.
+fn due(net: &Network, owners: &Owners) -> u32 {
+    match until_due(net, owners, ME) {
+        Some(until) => job_number(&until.0),
+        None => 0,
+    }
 }
 
-/// The number, from 1, of the first of these entries after which M has other choices than those beside it.
-fn first_other(
-    night: &mut Night,
+/// The number of the best job, or 0.
+fn best(net: &Network, owners: &Owners) -> u32 {
+    let _count = net.count();
+    match Scan.best(net, owners, ME) {
+        Some(j) => j.0,
+        None => 0,
+    }
+}
+
+fn choices(net: &Network, owners: &Owners) -> Choices {
+    let release = may_release(net, owners, ME, S);
+    let end = may_end(net, owners, ME, S);
+    (release, end, due(net, owners), best(net, owners))
+}
+
+fn comes(alloc: Global, owners: &mut Owners, says: &Says) -> Result<bool, Fail> {
+    hear(owners, alloc, &M, says)?;
+    Ok(true)
+}
+
+fn has_then(
     alloc: Global,
-    table: &[(Says, &str)],
+    net: &Network,
+    owners: &mut Owners,
+    says: &Says,
+    want: &Choices,
+) -> Result<bool, Fail> {
+    hear(owners, alloc, &M, says)?;
+    Ok(choices(net, owners) == *want)
+}
+
+fn is_late_then(
+    alloc: Global,
+    net: &Network,
+    owners: &mut Owners,
+    says: &Says,
+    want: &Option<(Obj, u16)>,
+) -> Result<bool, Fail> {
+    hear(owners, alloc, &M, says)?;
+    Ok(late_due(net, owners, ME) == *want)
+}
+
+/// Whether a row is met.
+fn is_met(alloc: Global, net: &Network, owners: &mut Owners, step: &Step) -> Result<bool, Fail> {
+    match step {
+        Step::Comes(says) => comes(alloc, owners, says),
+        Step::Then(says, want) => has_then(alloc, net, owners, says, want),
+        Step::Lates(says, want) => is_late_then(alloc, net, owners, says, want),
+        Step::IsReady(no, want) => Ok(ready(net, owners, ME, JobNo(*no)) == *want),
+        Step::IsSatisfied(no, i, want) => {
+            Ok(sat(net, owners, Obj::Job(JobNo(*no)), *i) == *want)
+        }
+    }
+}
+
+/// The index of the first row that is not met.
+fn first_unmet(
+    alloc: Global,
+    net: &Network,
+    owners: &mut Owners,
+    steps: &[Step],
 ) -> Result<Option<usize>, Fail> {
-    for (i, (says, want)) in table.iter().enumerate() {
-        night.hear(alloc, says)?;
-        if night.choices(alloc)?.as_str() != *want {
-            return Ok(Some(i + 1));
+    for (i, step) in steps.iter().enumerate() {
+        if !is_met(alloc, net, owners, step)? {
+            return Ok(Some(i));
         }
     }
     Ok(None)
 }
 
+/// M has a resource of 2 units.
 const RESOURCES: [ResourceRow; 1] = [(0, "R", 2)];
 
-/// A night with the first plan of these streams. M has a resource of 2 units.
-fn begin(alloc: Global, streams: &[StreamRow]) -> Result<Night, Fail> {
+/// The same in a night that begins with the first plan, of these streams, in the network of M alone.
+fn first_other(
+    alloc: Global,
+    streams: &[StreamRow],
+    steps: &[Step],
+) -> Result<Option<usize>, Fail> {
+    let mut owners = holding(alloc, &[(M, Says::NewPlan(1, &[], &[], streams))])?;
     let net = network(alloc, &ALONE, &RESOURCES, &[])?;
-    let mut owners = Owners::new(alloc);
-    let plan = new_plan(alloc, 1, &[], &[], streams)?;
-    take(&mut owners, Feed::Events(ME), plan)?;
-    Ok(Night { net, owners })
+    first_unmet(alloc, &net, &mut owners, steps)
 }
 
 const RELEASED: Says = Says::Released(1, &[]);
-
-const RELEASE: [Says; 1] = [RELEASED];
 
 /// A job of middling priority, and two high ones.
 const HIGH: [StreamRow; 1] = [(
@@ -127,37 +152,35 @@ const HIGH: [StreamRow; 1] = [(
 )];
 
 /// At a workstation that may have no open launch, up to a fence that holds the highest.
-const LIMITED: [(Says, &str); 7] = [
-    (Says::Obeyed(0, 1, Asks::Limit(0)), "release until 0 best 0"),
-    (RELEASED, "until 0 best 3"),
-    (Says::Launched(3, 1, &[]), "until 0 best 2"),
-    (Says::Launched(2, 1, &[]), "until 0 best 0"),
-    (Says::Ended(3, 1, 0), "until 0 best 0"),
-    (Says::Obeyed(0, 1, Asks::Rerun(3)), "until 0 best 3"),
-    (Says::Obeyed(0, 1, Asks::Fence(101)), "until 0 best 0"),
+const LIMITED: [Step; 7] = [
+    Step::Then(Says::Obeyed(0, 1, Asks::Limit(0)), (true, false, 0, 0)),
+    Step::Then(RELEASED, (false, false, 0, 3)),
+    Step::Then(Says::Launched(3, 1, &[]), (false, false, 0, 2)),
+    Step::Then(Says::Launched(2, 1, &[]), (false, false, 0, 0)),
+    Step::Then(Says::Ended(3, 1, 0), (false, false, 0, 0)),
+    Step::Then(Says::Obeyed(0, 1, Asks::Rerun(3)), (false, false, 0, 3)),
+    Step::Then(Says::Obeyed(0, 1, Asks::Fence(101)), (false, false, 0, 0)),
 ];
 
 #[test]
 fn high_jobs_pass_a_limit_of_none(rt: HostRuntime) -> Result<(), Fail> {
-    let mut night = begin(rt.alloc(), &HIGH)?;
-    assert_eq!(rt; first_other(&mut night, rt.alloc(), &LIMITED)?, None);
+    assert_eq!(rt; first_other(rt.alloc(), &HIGH, &LIMITED)?, None);
     Ok(())
 }
 
-const LIMIT_OF_NONE: [Says; 1] = [Says::Obeyed(0, 1, Asks::Limit(0))];
-
 /// At a limit of none no job is ready before the release, and then only the high ones are.
-fn are_high_ready(night: &mut Night, alloc: Global) -> Result<bool, Fail> {
-    night.hear_all(alloc, &LIMIT_OF_NONE)?;
-    let early = night.is_ready(3);
-    night.hear_all(alloc, &RELEASE)?;
-    Ok(!early && !night.is_ready(1) && night.is_ready(2) && night.is_ready(3))
-}
+const READY_AT_A_LIMIT: [Step; 6] = [
+    Step::Comes(Says::Obeyed(0, 1, Asks::Limit(0))),
+    Step::IsReady(3, false),
+    Step::Comes(RELEASED),
+    Step::IsReady(1, false),
+    Step::IsReady(2, true),
+    Step::IsReady(3, true),
+];
 
 #[test]
 fn high_jobs_are_ready_at_a_limit_of_none(rt: HostRuntime) -> Result<(), Fail> {
-    let mut night = begin(rt.alloc(), &HIGH)?;
-    assert!(rt; are_high_ready(&mut night, rt.alloc())?);
+    assert_eq!(rt; first_other(rt.alloc(), &HIGH, &READY_AT_A_LIMIT)?, None);
     Ok(())
 }
 
@@ -175,47 +198,42 @@ const NEEDY: [StreamRow; 1] = [(
 )];
 
 /// With fewer units in between, up to the end of the stream.
-const FEWER_UNITS: [(Says, &str); 7] = [
-    (RELEASED, "until 0 best 1"),
-    (Says::Launched(1, 1, &[]), "until 0 best 0"),
-    (Says::Obeyed(0, 1, Asks::Total(1, 1)), "until 0 best 0"),
-    (Says::Ended(1, 1, 0), "until 0 best 0"),
-    (Says::Obeyed(0, 1, Asks::Total(1, 2)), "until 0 best 2"),
-    (Says::Launched(2, 1, &[]), "until 0 best 0"),
-    (Says::Ended(2, 1, 0), "end until 0 best 0"),
+const FEWER_UNITS: [Step; 7] = [
+    Step::Then(RELEASED, (false, false, 0, 1)),
+    Step::Then(Says::Launched(1, 1, &[]), (false, false, 0, 0)),
+    Step::Then(Says::Obeyed(0, 1, Asks::Total(1, 1)), (false, false, 0, 0)),
+    Step::Then(Says::Ended(1, 1, 0), (false, false, 0, 0)),
+    Step::Then(Says::Obeyed(0, 1, Asks::Total(1, 2)), (false, false, 0, 2)),
+    Step::Then(Says::Launched(2, 1, &[]), (false, false, 0, 0)),
+    Step::Then(Says::Ended(2, 1, 0), (false, true, 0, 0)),
 ];
 
 #[test]
 fn a_stream_ends_once_all_jobs_did(rt: HostRuntime) -> Result<(), Fail> {
-    let mut night = begin(rt.alloc(), &NEEDY)?;
-    assert_eq!(rt; first_other(&mut night, rt.alloc(), &FEWER_UNITS)?, None);
+    assert_eq!(rt; first_other(rt.alloc(), &NEEDY, &FEWER_UNITS)?, None);
     Ok(())
 }
 
-const FIRST_LAUNCHED: [Says; 1] = [Says::Launched(1, 1, &[])];
-
-/// The need of the second job is satisfied until the first is launched.
-fn waits_for_units(night: &mut Night, alloc: Global) -> Result<bool, Fail> {
-    night.hear_all(alloc, &RELEASE)?;
-    let before = night.is_satisfied(2, 1);
-    night.hear_all(alloc, &FIRST_LAUNCHED)?;
-    Ok(before && !night.is_satisfied(2, 1))
-}
-
-/// Dependencies 0 and 2 are not there, nor is job 3: none is satisfied, and that job is not ready.
-fn what_is_not_there_is_not_satisfied(night: &Night) -> bool {
-    !night.is_satisfied(2, 0)
-        && !night.is_satisfied(2, 2)
-        && !night.is_satisfied(3, 1)
-        && !night.is_ready(3)
-}
+/// The need of the second job is satisfied until the first is launched. Dependencies 0 and 2 are not there, nor is job
+/// 3: none is satisfied, and that job is not ready.
+const UNITS_IN_USE: [Step; 12] = [
+    Step::IsSatisfied(2, 0, false),
+    Step::IsSatisfied(2, 2, false),
+    Step::IsSatisfied(3, 1, false),
+    Step::IsReady(3, false),
+    Step::Comes(RELEASED),
+    Step::IsSatisfied(2, 1, true),
+    Step::Comes(Says::Launched(1, 1, &[])),
+    Step::IsSatisfied(2, 1, false),
+    Step::IsSatisfied(2, 0, false),
+    Step::IsSatisfied(2, 2, false),
+    Step::IsSatisfied(3, 1, false),
+    Step::IsReady(3, false),
+];
 
 #[test]
 fn units_in_use_are_waited_for(rt: HostRuntime) -> Result<(), Fail> {
-    let mut night = begin(rt.alloc(), &NEEDY)?;
-    assert!(rt; what_is_not_there_is_not_satisfied(&night));
-    assert!(rt; waits_for_units(&mut night, rt.alloc())?);
-    assert!(rt; what_is_not_there_is_not_satisfied(&night));
+    assert_eq!(rt; first_other(rt.alloc(), &NEEDY, &UNITS_IN_USE)?, None);
     Ok(())
 }
 
@@ -236,35 +254,32 @@ const WITH_UNTILS: [StreamRow; 1] = [(
 
 /// At the reading each UNTIL is due in turn. What goes on behind its UNTIL is launched, then what follows the
 /// cancelled job.
-const TIMED: [(Says, &str); 7] = [
-    (RELEASED, "until 0 best 1"),
-    (Says::Clock(200), "until 1 best 2"),
-    (
+const TIMED: [Step; 10] = [
+    Step::Then(RELEASED, (false, false, 0, 1)),
+    Step::Then(Says::Clock(200), (false, false, 1, 2)),
+    Step::Then(
         Says::UntilPassed(Obj::Job(JobNo(1)), 1, OnUntil::Suppr),
-        "until 2 best 2",
+        (false, false, 2, 2),
     ),
-    (
+    Step::Then(
         Says::UntilPassed(Obj::Job(JobNo(2)), 1, OnUntil::Cont),
-        "until 3 best 2",
+        (false, false, 3, 2),
     ),
-    (
+    Step::Then(
         Says::UntilPassed(Obj::Job(JobNo(3)), 1, OnUntil::Canc),
-        "until 0 best 2",
+        (false, false, 0, 2),
     ),
-    (Says::Launched(2, 1, &[]), "until 0 best 4"),
-    (Says::Launched(4, 1, &[]), "until 0 best 0"),
+    Step::Then(Says::Launched(2, 1, &[]), (false, false, 0, 4)),
+    Step::Then(Says::Launched(4, 1, &[]), (false, false, 0, 0)),
+    // The first job is held for good, and the other jobs go on.
+    Step::IsSatisfied(1, 1, false),
+    Step::IsSatisfied(2, 1, true),
+    Step::IsSatisfied(4, 1, true),
 ];
-
-/// Once each UNTIL passed: that of the first job holds it for good, and the other jobs go on.
-fn is_the_first_held(night: &Night) -> bool {
-    !night.is_satisfied(1, 1) && night.is_satisfied(2, 1) && night.is_satisfied(4, 1)
-}
 
 #[test]
 fn untils_are_due_at_the_reading(rt: HostRuntime) -> Result<(), Fail> {
-    let mut night = begin(rt.alloc(), &WITH_UNTILS)?;
-    assert_eq!(rt; first_other(&mut night, rt.alloc(), &TIMED)?, None);
-    assert!(rt; is_the_first_held(&night));
+    assert_eq!(rt; first_other(rt.alloc(), &WITH_UNTILS, &TIMED)?, None);
     Ok(())
 }
 
@@ -291,76 +306,60 @@ const WITH_DEADLINES: [StreamRow; 2] = [
 /// Job 1 is good, job 2 runs, job 3 is cancelled, that of job 5 is waived, and the stream without jobs is ended. They
 /// are late at 200, and not at the second before: streams before jobs, then the lowest number, then the lowest
 /// dependency; what is recorded is not late again.
-const LATENESS: [(Says, Option<(Obj, u16)>); 17] = [
-    (Says::Released(2, &[]), None),
-    (RELEASED, None),
-    (Says::StreamEnded(1, &[]), None),
-    (Says::Launched(1, 1, &[]), None),
-    (Says::Ended(1, 1, 0), None),
-    (Says::Launched(2, 1, &[]), None),
-    (Says::Obeyed(0, 1, Asks::Cancel(Obj::Job(JobNo(3)))), None),
-    (
+const LATENESS: [Step; 17] = [
+    Step::Lates(Says::Released(2, &[]), None),
+    Step::Lates(RELEASED, None),
+    Step::Lates(Says::StreamEnded(1, &[]), None),
+    Step::Lates(Says::Launched(1, 1, &[]), None),
+    Step::Lates(Says::Ended(1, 1, 0), None),
+    Step::Lates(Says::Launched(2, 1, &[]), None),
+    Step::Lates(Says::Obeyed(0, 1, Asks::Cancel(Obj::Job(JobNo(3)))), None),
+    Step::Lates(
         Says::Obeyed(0, 1, Asks::DelDep(Obj::Job(JobNo(5)), 1)),
         None,
     ),
-    (Says::Clock(199), None),
-    (Says::Clock(200), Some((Obj::Stream(StreamNo(2)), 1))),
-    (
+    Step::Lates(Says::Clock(199), None),
+    Step::Lates(Says::Clock(200), Some((Obj::Stream(StreamNo(2)), 1))),
+    Step::Lates(
         Says::Late(Obj::Stream(StreamNo(2)), 1),
         Some((Obj::Job(JobNo(2)), 1)),
     ),
-    (
+    Step::Lates(
         Says::Late(Obj::Job(JobNo(2)), 1),
         Some((Obj::Job(JobNo(4)), 1)),
     ),
-    (
+    Step::Lates(
         Says::Late(Obj::Job(JobNo(4)), 1),
         Some((Obj::Job(JobNo(4)), 2)),
     ),
-    (Says::Late(Obj::Job(JobNo(4)), 2), None),
-    (Says::Clock(201), Some((Obj::Job(JobNo(6)), 1))),
-    (Says::Launched(6, 1, &[]), Some((Obj::Job(JobNo(6)), 1))),
-    (Says::Ended(6, 1, 0), None),
+    Step::Lates(Says::Late(Obj::Job(JobNo(4)), 2), None),
+    Step::Lates(Says::Clock(201), Some((Obj::Job(JobNo(6)), 1))),
+    Step::Lates(Says::Launched(6, 1, &[]), Some((Obj::Job(JobNo(6)), 1))),
+    Step::Lates(Says::Ended(6, 1, 0), None),
 ];
-
-/// The number, from 1, of the first of these entries after which something else is late than what stands beside it.
-fn first_not_late(
-    night: &mut Night,
-    alloc: Global,
-    table: &[(Says, Option<(Obj, u16)>)],
-) -> Result<Option<usize>, Fail> {
-    for (i, (says, want)) in table.iter().enumerate() {
-        night.hear(alloc, says)?;
-        if late_due(&night.net, &night.owners, ME) != *want {
-            return Ok(Some(i + 1));
-        }
-    }
-    Ok(None)
-}
 
 #[test]
 fn what_is_not_done_is_late_at_its_second(rt: HostRuntime) -> Result<(), Fail> {
-    let mut night = begin(rt.alloc(), &WITH_DEADLINES)?;
-    assert_eq!(rt; first_not_late(&mut night, rt.alloc(), &LATENESS)?, None);
+    assert_eq!(rt; first_other(rt.alloc(), &WITH_DEADLINES, &LATENESS)?, None);
     Ok(())
 }
 
-const RELEASE_THE_SECOND: [Says; 1] = [Says::Released(2, &[])];
-
-const PAST_ALL_DEADLINES: [Says; 1] = [Says::Clock(300)];
-
 /// A DEADLINE is satisfied before its time, and after it while the object is late.
-fn holds_nothing_back(night: &mut Night, alloc: Global) -> Result<bool, Fail> {
-    night.hear_all(alloc, &RELEASE_THE_SECOND)?;
-    let before = night.is_satisfied(2, 1) && night.is_ready(2);
-    night.hear_all(alloc, &PAST_ALL_DEADLINES)?;
-    Ok(before && night.is_satisfied(2, 1) && night.is_ready(2))
-}
+const PAST_ALL_DEADLINES: [Step; 6] = [
+    Step::Comes(Says::Released(2, &[])),
+    Step::IsSatisfied(2, 1, true),
+    Step::IsReady(2, true),
+    Step::Comes(Says::Clock(300)),
+    Step::IsSatisfied(2, 1, true),
+    Step::IsReady(2, true),
+];
 
 #[test]
 fn a_deadline_holds_nothing_back(rt: HostRuntime) -> Result<(), Fail> {
-    let mut night = begin(rt.alloc(), &WITH_DEADLINES)?;
-    assert!(rt; holds_nothing_back(&mut night, rt.alloc())?);
+    assert_eq!(rt;
+        first_other(rt.alloc(), &WITH_DEADLINES, &PAST_ALL_DEADLINES)?,
+        None
+    );
     Ok(())
 }
 
@@ -383,26 +382,42 @@ fn best_after<R: Readiness>(
     Ok(tracker.best(net, o, w))
 }
 
-/// Whether no job is the best after the third event of M, over the plain tracker.
-fn has_no_best_after(night: &mut Night, alloc: Global, says: &[Says; 1]) -> Result<bool, Fail> {
+/// The number of the best job after an entry, by the plain tracker, 0 for none, or none where it is not the next of its
+/// feed.
+fn best_then(net: &Network, owners: &mut Owners, entry: &Entry) -> Result<Option<u32>, Fail> {
     let mut tracker = Scan;
-    let entry = Entry {
-        feed: Feed::Events(ME),
-        place: 3,
-        body: body(alloc, &says[0])?,
-    };
-    let _count = night.net.count();
-    if night.owners.count(entry.feed) != 2 {
-        return Ok(false);
+    let _count = net.count();
+    if entry.place == 0 || owners.count(entry.feed) != entry.place - 1 {
+        return Ok(None);
     }
-    let best = best_after(&night.net, &mut night.owners, &mut tracker, ME, &entry)?;
-    Ok(best == None)
+    match best_after(net, owners, &mut tracker, ME, entry)? {
+        Some(j) => Ok(Some(j.0)),
+        None => Ok(Some(0)),
+    }
+}
+
+/// The launch of the first job, as the third event of M.
+const LAUNCHED: EntryRow = (M, 3, Says::Launched(1, 1, &[]));
+
+fn best_after_launch(
+    alloc: Global,
+    net: &Network,
+    owners: &mut Owners,
+) -> Result<Option<u32>, Fail> {
+    let entry = entry(alloc, &LAUNCHED)?;
+    best_then(net, owners, &entry)
+}
+
+/// The same where S, with the two jobs that need all units, is released.
+fn best_of_needy(alloc: Global) -> Result<Option<u32>, Fail> {
+    let plan = (M, Says::NewPlan(1, &[], &[], &NEEDY));
+    let mut owners = holding(alloc, &[plan, (M, RELEASED)])?;
+    let net = network(alloc, &ALONE, &RESOURCES, &[])?;
+    best_after_launch(alloc, &net, &mut owners)
 }
 
 #[test]
 fn a_tracker_follows_the_entries(rt: HostRuntime) -> Result<(), Fail> {
-    let mut night = begin(rt.alloc(), &NEEDY)?;
-    night.hear_all(rt.alloc(), &RELEASE)?;
-    assert!(rt; has_no_best_after(&mut night, rt.alloc(), &FIRST_LAUNCHED)?);
+    assert_eq!(rt; best_of_needy(rt.alloc())?, Some(0));
     Ok(())
 }

@@ -1,8 +1,10 @@
 //! Each fault, networks with all their calls, and the greatest ones.
+ghost use Rattle.std.specs.Prelude.{◌≡◌, ◌<◌};
+ghost use Rattle.model.specs.Network.{node_count};
+
 use base_types::{Carry, Copied, Items, Net, Node, PromptDef, Resource, Text, Ws};
 use network_tree::{NetFault, Network};
 use std::alloc::Global;
-use std::process::Abort;
 use std::test::Fail;
 use test_builders::{DOMAIN, NodeRow, PromptRow, ResourceRow, net, node, plain_net};
 
@@ -111,22 +113,39 @@ const FAULTS: [(&[NodeRow], &[ResourceRow], Option<NetFault>); 14] = [
     ),
 ];
 
-#[test]
-fn refuses_each_fault(rt: HostRuntime) -> Result<(), Fail> {
-    let alloc = rt.alloc();
+/// Why a net of these workstations and resources is refused, if it is.
+fn fault_of(
+    alloc: Global,
+    nodes: &[NodeRow],
+    resources: &[ResourceRow],
+    prompts: &[PromptRow],
+) -> Result<Option<NetFault>, Fail> {
+    let net = net(alloc, nodes, resources, prompts)?;
+    Ok(fault(alloc, net))
+}
+
+/// The index of the first net that is refused otherwise.
+fn first_other_fault(alloc: Global) -> Result<Option<usize>, Fail> {
     for (i, (nodes, resources, want)) in FAULTS.iter().enumerate() {
-        let net = net(alloc, *nodes, *resources, &PROMPTS)?;
-        assert_eq!(rt; fault(alloc, net), *want, "at row {i}");
+        if fault_of(alloc, *nodes, *resources, &PROMPTS)? != *want {
+            return Ok(Some(i));
+        }
     }
-    Ok(())
+    Ok(None)
 }
 
 #[test]
+fn refuses_each_fault(rt: HostRuntime) -> Result<(), Fail> {
+    assert_eq!(rt; first_other_fault(rt.alloc())?, None);
+    Ok(())
+}
+
+const TWICE: [PromptRow; 3] = [("P", "go on?"), ("Q", "go on?"), ("P", "stop?")];
+
+#[test]
 fn refuses_a_prompt_that_is_named_twice(rt: HostRuntime) -> Result<(), Fail> {
-    let alloc = rt.alloc();
-    let prompts = [("P", "go on?"), ("Q", "go on?"), ("P", "stop?")];
-    let net = net(alloc, &[M], &[(0, "P", 1)], &prompts)?;
-    assert_eq!(rt; fault(alloc, net), Some(NetFault::OutOfRange));
+    let fault = fault_of(rt.alloc(), &[M], &[(0, "P", 1)], &TWICE)?;
+    assert_eq!(rt; fault, Some(NetFault::OutOfRange));
     Ok(())
 }
 
@@ -144,17 +163,17 @@ fn namesakes(alloc: Global, count: u32) -> Result<Net, Fail> {
     })
 }
 
+fn fault_of_namesakes(alloc: Global, count: u32) -> Result<Option<NetFault>, Fail> {
+    let net = namesakes(alloc, count)?;
+    Ok(fault(alloc, net))
+}
+
 #[test]
 fn refuses_too_many_workstations(rt: HostRuntime) -> Result<(), Fail> {
-    let alloc = rt.alloc();
-    assert_eq!(rt;
-        fault(alloc, namesakes(alloc, 256)?),
-        Some(NetFault::Duplicate(Ws(1)))
-    );
-    assert_eq!(rt;
-        fault(alloc, namesakes(alloc, 257)?),
-        Some(NetFault::TooMany)
-    );
+    let most = fault_of_namesakes(rt.alloc(), 256)?;
+    assert_eq!(rt; most, Some(NetFault::Duplicate(Ws(1))));
+    let more = fault_of_namesakes(rt.alloc(), 257)?;
+    assert_eq!(rt; more, Some(NetFault::TooMany));
     Ok(())
 }
 
@@ -181,21 +200,28 @@ fn many(alloc: Global, resources: u32, prompts: u32) -> Result<Net, Fail> {
     Ok(net)
 }
 
+fn fault_of_many(alloc: Global, resources: u32, prompts: u32) -> Result<Option<NetFault>, Fail> {
+    let net = many(alloc, resources, prompts)?;
+    Ok(fault(alloc, net))
+}
+
+/// The same with the first resource once more.
+fn fault_of_one_twice(alloc: Global, resources: u32) -> Result<Option<NetFault>, Fail> {
+    let mut net = many(alloc, resources, 0)?;
+    net.resources.push(resource(alloc, 0)?)?;
+    Ok(fault(alloc, net))
+}
+
 #[test]
 fn takes_many_resources_and_prompts(rt: HostRuntime) -> Result<(), Fail> {
-    let alloc = rt.alloc();
-    assert_eq!(rt; fault(alloc, many(alloc, 65_535, 65_535)?), None);
-    assert_eq!(rt;
-        fault(alloc, many(alloc, 65_536, 0)?),
-        Some(NetFault::OutOfRange)
-    );
-    assert_eq!(rt;
-        fault(alloc, many(alloc, 0, 65_536)?),
-        Some(NetFault::OutOfRange)
-    );
-    let mut twice = many(alloc, 65_534, 0)?;
-    twice.resources.push(resource(alloc, 0)?)?;
-    assert_eq!(rt; fault(alloc, twice), Some(NetFault::OutOfRange));
+    let most = fault_of_many(rt.alloc(), 65_535, 65_535)?;
+    assert_eq!(rt; most, None);
+    let resources = fault_of_many(rt.alloc(), 65_536, 0)?;
+    assert_eq!(rt; resources, Some(NetFault::OutOfRange));
+    let prompts = fault_of_many(rt.alloc(), 0, 65_536)?;
+    assert_eq!(rt; prompts, Some(NetFault::OutOfRange));
+    let twice = fault_of_one_twice(rt.alloc(), 65_534)?;
+    assert_eq!(rt; twice, Some(NetFault::OutOfRange));
     Ok(())
 }
 
@@ -207,40 +233,49 @@ fn digit(w: Option<Ws>) -> u8 {
     }
 }
 
-/// Asserts what is said of each two workstations, by a word from each and a character to each: the next on the way,
-/// and, by a star, who is behind whom and who are neighbours.
-fn expect_pairs(rt: &impl Abort, network: &Network, ways: &str, behind: &str, neighbours: &str) {
+/// What is said of two workstations: the next on the way, and, by a star, whether the second is behind the first and
+/// whether they are neighbours.
+fn is_pair(network: &Network, a: Ws, b: Ws, way: u8, behind: u8, near: u8) -> bool
+    requires from { a < node_count network.now }
+    requires to { b < node_count network.now }
+{
+    digit(network.towards(a, b)) == way
+        && network.behind(a, b) == (behind == b'*')
+        && network.neighbours(a, b) == (near == b'*')
+}
+
+/// The first two workstations of which something else is said than in these words, with a character for each pair.
+fn first_other_pair(
+    network: &Network,
+    ways: &str,
+    behind: &str,
+    neighbours: &str,
+) -> Option<(u16, u16)> {
     let mut ways = ways.bytes();
     let mut behind = behind.bytes();
     let mut neighbours = neighbours.bytes();
     for a in 0..network.count() {
         for b in 0..network.count() {
-            assert_eq!(rt;
-                Some(digit(network.towards(Ws(a), Ws(b)))),
-                ways.next(),
-                "from {a} to {b}"
-            );
-            assert_eq!(rt;
-                Some(network.behind(Ws(a), Ws(b))),
-                behind.next().map(|c| c == b'*'),
-                "{a} {b}"
-            );
-            assert_eq!(rt;
-                Some(network.neighbours(Ws(a), Ws(b))),
-                neighbours.next().map(|c| c == b'*'),
-                "{a} {b}"
-            );
+            let way = ways.next().unwrap_or(b'?');
+            let behind = behind.next().unwrap_or(b'?');
+            let near = neighbours.next().unwrap_or(b'?');
+            if !is_pair(network, Ws(a), Ws(b), way, behind, near) {
+                return Some((a, b));
+            }
         }
     }
+    None
 }
 
-/// Asserts the hops, a digit for each workstation.
-fn expect_hops(rt: &impl Abort, network: &Network, hops: &str) {
+/// The hops are these, a digit for each workstation.
+fn has_hops(network: &Network, hops: &str) -> bool {
     let mut hops = hops.bytes();
     for w in 0..network.count() {
-        assert_eq!(rt; Some(digit(network.hop(Ws(w)))), hops.next(), "at {w}");
+        if digit(network.hop(Ws(w))) != hops.next().unwrap_or(b'?') {
+            return false;
+        }
     }
-    assert_eq!(rt; hops.next(), None);
+    hops.next() == None
 }
 
 /// The workstation is that of the row.
@@ -257,18 +292,30 @@ fn has_nodes(net: &Net, rows: &[NodeRow]) -> bool {
     nodes.len() == rows.len() && nodes.iter().zip(rows).all(|(node, row)| is_node(node, row))
 }
 
-#[test]
-fn finds_ways_over_two_hops(rt: HostRuntime) -> Result<(), Fail> {
-    let alloc = rt.alloc();
+/// The network of one domain, with all its parts.
+fn is_domain(network: &Network) -> bool {
+    let net = network.net();
+    has_nodes(net, &DOMAIN)
+        && net.carry == Carry::All
+        && net.resources.len() == 1
+        && net.prompts.len() == 1
+        && network.count() == 3
+        && has_hops(network, "-01")
+}
+
+fn is_domain_found(alloc: Global) -> Result<bool, Fail> {
     let mut net = net(alloc, &DOMAIN, &[(0, "R", 2)], &[("P", "go on?")])?;
     net.carry = Carry::All;
     let network = Network::new(alloc, net)?;
-    assert!(rt; has_nodes(network.net(), &DOMAIN));
-    assert!(rt; network.net().carry == Carry::All);
-    assert!(rt; network.net().resources.len() == 1 && network.net().prompts.len() == 1);
-    assert_eq!(rt; network.count(), 3);
-    expect_hops(&rt, &network, "-01");
-    expect_pairs(&rt, &network, "-110-211-", "...*..**.", ".*.*.*.*.");
+    Ok(
+        is_domain(&network)
+            && first_other_pair(&network, "-110-211-", "...*..**.", ".*.*.*.*.") == None,
+    )
+}
+
+#[test]
+fn finds_ways_over_two_hops(rt: HostRuntime) -> Result<(), Fail> {
+    assert!(rt; is_domain_found(rt.alloc())?);
     Ok(())
 }
 
@@ -282,19 +329,37 @@ const DOMAINS: [NodeRow; 6] = [
     ("D", Some(0), true, false),
 ];
 
+/// The next on the way from each workstation of the domains to each.
+const WAYS: &str = "-453454-444455-555000-000100-000200-";
+
+/// Who of them is behind whom.
+const BEHIND: &str = "......*...*.*....**.....*.....*.....";
+
+/// Who of them are neighbours.
+const NEIGHBOURS: &str = "...***....*......**.....**....*.*...";
+
+fn domains(alloc: Global) -> Result<Network, Fail> {
+    let net = plain_net(alloc, &DOMAINS)?;
+    Ok(Network::new(alloc, net)?)
+}
+
+fn copy_of_domains(alloc: Global) -> Result<Network, Fail> {
+    let network = domains(alloc)?;
+    Ok(network.copy()?)
+}
+
+/// The first two workstations of a copy of the domains of which something else is said.
+fn first_other_of_domains(alloc: Global) -> Result<Option<(u16, u16)>, Fail> {
+    let network = copy_of_domains(alloc)?;
+    if !has_nodes(network.net(), &DOMAINS) || !has_hops(&network, "-45000") {
+        return Ok(Some((0, 0)));
+    }
+    Ok(first_other_pair(&network, WAYS, BEHIND, NEIGHBOURS))
+}
+
 #[test]
 fn finds_ways_between_domains(rt: HostRuntime) -> Result<(), Fail> {
-    let alloc = rt.alloc();
-    let network = Network::new(alloc, plain_net(alloc, &DOMAINS)?)?.copy()?;
-    assert!(rt; has_nodes(network.net(), &DOMAINS));
-    expect_hops(&rt, &network, "-45000");
-    expect_pairs(
-        &rt,
-        &network,
-        "-453454-444455-555000-000100-000200-",
-        "......*...*.*....**.....*.....*.....",
-        "...***....*......**.....**....*.*...",
-    );
+    assert_eq!(rt; first_other_of_domains(rt.alloc())?, None);
     Ok(())
 }
 
@@ -312,16 +377,37 @@ fn chain(alloc: Global) -> Result<Net, Fail> {
     Ok(chain)
 }
 
+/// Each but the ends has the way to 1 over the one below, and that to 255 over the one above, and stands before 1.
+fn is_chain(network: &Network) -> bool {
+    if network.count() != 256 {
+        return false;
+    }
+    for w in 2..255u16 {
+        if !is_link(network, Ws(w - 1), Ws(w), Ws(w + 1)) {
+            return false;
+        }
+    }
+    network.towards(Ws(0), Ws(1)) == Some(Ws(255))
+}
+
+fn is_link(network: &Network, below: Ws, w: Ws, above: Ws) -> bool
+    requires all { node_count network.now ≡ 256 }
+    requires inside { w < 256 }
+{
+    network.towards(w, Ws(1)) == Some(below)
+        && network.towards(w, Ws(255)) == Some(above)
+        && network.behind(Ws(1), w)
+        && !network.behind(w, Ws(1))
+}
+
+fn is_chain_found(alloc: Global) -> Result<bool, Fail> {
+    let net = chain(alloc)?;
+    let network = Network::new(alloc, net)?;
+    Ok(is_chain(&network))
+}
+
 #[test]
 fn takes_a_chain_of_all(rt: HostRuntime) -> Result<(), Fail> {
-    let alloc = rt.alloc();
-    let network = Network::new(alloc, chain(alloc)?)?;
-    assert!(rt; network.count() == 256);
-    assert_eq!(rt; network.towards(Ws(0), Ws(1)), Some(Ws(255)));
-    for w in 2..255u16 {
-        assert_eq!(rt; network.towards(Ws(w), Ws(1)), Some(Ws(w - 1)));
-        assert_eq!(rt; network.towards(Ws(w), Ws(255)), Some(Ws(w + 1)));
-        assert!(rt; network.behind(Ws(1), Ws(w)) && !network.behind(Ws(w), Ws(1)));
-    }
+    assert!(rt; is_chain_found(rt.alloc())?);
     Ok(())
 }

@@ -14,11 +14,20 @@ use std::alloc::Global;
 use std::marker::Model;
 
 /// A net without faults. Its workstations are a tree, with the master at the root.
-#[derive(Drop)]
 pub struct Network {
     net: Net,
     /// By the number of a workstation, the ways to it.
     ways: Items<Items<Ws>>,
+}
+
+/// Written out, so that dropping one is a call for whoever owns it.
+impl Drop for Network {
+    fn drop(self) {
+        let Network {
+            net: _net,
+            ways: _ways,
+        } = self;
+    }
 }
 
 impl Model for Network {

@@ -17,10 +17,19 @@ use std::alloc::Global;
 use std::marker::Model;
 
 /// The entries that a node took. A contract sees them as a list, in the order in which they were taken.
-#[derive(Drop)]
 pub struct Owners {
     kept: Kept,
     plan: Plan,
+}
+
+/// Written out, so that dropping one is a call for whoever owns it.
+impl Drop for Owners {
+    fn drop(self) {
+        let Owners {
+            kept: _kept,
+            plan: _plan,
+        } = self;
+    }
 }
 
 impl Model for Owners {

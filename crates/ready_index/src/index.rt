@@ -20,10 +20,19 @@ use owner_fold::Owners;
 use std::alloc::Global;
 
 /// The candidates for the best job of one workstation, and what each job that waits watches.
-#[derive(Drop)]
 pub struct Index {
     candidates: Candidates,
     watches: Watches,
+}
+
+/// Written out, so that dropping one is a call for whoever owns it.
+impl Drop for Index {
+    fn drop(self) {
+        let Index {
+            candidates: _candidates,
+            watches: _watches,
+        } = self;
+    }
 }
 
 impl Index {

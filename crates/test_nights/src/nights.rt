@@ -1,4 +1,7 @@
 //! Entries that a node takes, as rows.
+ghost use Rattle.std.specs.Prelude.{◌≡◌, ◌+◌, length};
+ghost use Rattle.model.specs.History.{list_of};
+
 use base_types::{Body, Entry, Feed};
 use owner_fold::Owners;
 use std::alloc::Global;
@@ -11,6 +14,13 @@ pub type Row<'a> = (FeedRow, Says<'a>);
 /// The events of the master.
 pub const M: FeedRow = FeedRow::Events(0);
 
+fn take_entry(owners: &mut Owners, entry: &Entry) -> Result<(), Fail>
+    requires { entry.now.place ≡ length (list_of owners.old entry.now.feed) + 1 }
+{
+    owners.take(entry)?;
+    Ok(())
+}
+
 /// Takes a body as the next entry of its feed.
 pub fn take(owners: &mut Owners, feed: Feed, body: Body) -> Result<(), Fail> {
     let mut entry = Entry {
@@ -18,12 +28,11 @@ pub fn take(owners: &mut Owners, feed: Feed, body: Body) -> Result<(), Fail> {
         place: 1,
         body,
     };
-    let taken = owners.count(entry.feed);
-    if taken < u32::MAX {
-        entry.place = taken + 1;
-        owners.take(&entry)?;
+    entry.place = owners.count(entry.feed).saturating_add(1);
+    if entry.place == u32::MAX {
+        return Err("the feed is full")?;
     }
-    Ok(())
+    take_entry(owners, &entry)
 }
 
 /// Takes what is said as the next entry of a feed.

@@ -20,7 +20,7 @@ echo 'appends_bench: base_types outside message_file' >> "$copy/crates.txt"
 
 cat > "$copy/crates/appends_bench/src/disks.rt" <<'PROGRAM'
 // A file of the system, which tells nothing of stops.
-ghost use Rattle.std.specs.Prelude.{◌≡◌, ◌+◌, ◌-◌, ◌^◌, min, None, ⊥};
+ghost use Rattle.std.specs.Prelude.{◌≡◌, ◌+◌, ◌-◌, ◌^◌, ◌≤◌, min, None};
 
 use outside::{Disk, Failed};
 use std::fs::File;
@@ -35,6 +35,7 @@ pub struct FileDisk {
 impl FileDisk {
     fn fail(&mut self) -> Failed
         ensures counted { self.new.faults ≡ min (self.old.faults + 1) (2 ^ 64 - 1) }
+        ensures later { self.old.faults ≤ self.new.faults }
     {
         self.faults = self.faults.saturating_add(1);
         Failed

@@ -11,7 +11,7 @@ use owner_fold::Owners;
 use std::alloc::Global;
 use std::test::Fail;
 use test_builders::{ALONE, Asks, EntryRow, ResourceRow, Says, StreamRow, Waits, entry};
-use test_nights::{M, hear, holding, network};
+use test_nights::{M, Row, hear, holding, network};
 
 const ME: Ws = Ws(0);
 
@@ -408,10 +408,12 @@ fn best_after_launch(
     best_then(net, owners, &entry)
 }
 
-/// The same where S, with the two jobs that need all units, is released.
+/// S, with the two jobs that need all units, is released.
+const NEEDY_RELEASED: [Row; 2] = [(M, Says::NewPlan(1, &[], &[], &NEEDY)), (M, RELEASED)];
+
+/// The same there.
 fn best_of_needy(alloc: Global) -> Result<Option<u32>, Fail> {
-    let plan = (M, Says::NewPlan(1, &[], &[], &NEEDY));
-    let mut owners = holding(alloc, &[plan, (M, RELEASED)])?;
+    let mut owners = holding(alloc, &NEEDY_RELEASED)?;
     let net = network(alloc, &ALONE, &RESOURCES, &[])?;
     best_after_launch(alloc, &net, &mut owners)
 }

@@ -8,6 +8,8 @@ mod conman_syntax_tests;
 #[cfg(test)]
 mod rc_conditions_tests;
 #[cfg(test)]
+mod record_rows_tests;
+#[cfg(test)]
 mod report_text_tests;
 #[cfg(test)]
 mod syntax_tests;

@@ -1,0 +1,3 @@
+pub mod Chains
+pub mod KeptNames
+pub mod Placing

@@ -31,16 +31,21 @@ by_quote true o = by_value o
 by_quote false o = refl
 
 both_readings : (text : List ℕ) → text_of text ≡ joined (quoted_of text) (is_quoted text)
-unfolding text_of, quoted_of
+unfolding text_of quoted_of
 both_readings [] = refl
 both_readings (c ∷ cs) = by_quote (eqb c 34) (unquoted cs)
 
 pub text_within : (text value : List ℕ) → quoted_of text ≡ Some value → text_of text ≡ Some (Within value)
 text_within text value e = both_readings text ∙ ap (λ o. joined o (is_quoted text)) e
 
-pub text_above : (text : List ℕ) (b : Bool) → quoted_of text ≡ None → is_quoted text ≡ b
-    → text_of text ≡ joined None b
-text_above text b e q = both_readings text ∙ ap (λ o. joined o (is_quoted text)) e ∙ ap (λ t. joined None t) q
+above : (text : List ℕ) (b : Bool) → quoted_of text ≡ None → is_quoted text ≡ b → text_of text ≡ joined None b
+above text b e q = both_readings text ∙ ap (λ o. joined o (is_quoted text)) e ∙ ap (λ t. joined None t) q
+
+pub text_longer : (text : List ℕ) → quoted_of text ≡ None → is_quoted text ≡ true → text_of text ≡ Some OutOfRange
+text_longer text e q = above text true e q
+
+pub text_none : (text : List ℕ) → quoted_of text ≡ None → is_quoted text ≡ false → text_of text ≡ None
+text_none text e q = above text false e q
 
 some_map : {A B : Type 0} (f : A → B) (o : Option A) → is_some (option_map f o) ≡ is_some o
 some_map f None = refl
@@ -72,9 +77,3 @@ unfolding unquoted
 closed_here inside [] l q inv = absurd (omega (arith, l))
 closed_here inside (c ∷ []) l q inv = rw (inv, q) refl
 closed_here inside (c ∷ d ∷ cs) l q inv = let t = all_behind c (d ∷ cs) in rw (t, inv, q) refl
-
-pub never_closed : (inside rest : List ℕ) → length rest ≡ 0
-    → is_some (unquoted inside) ≡ is_some (unquoted rest) → false ≡ is_some (unquoted inside)
-unfolding unquoted
-never_closed inside [] l inv = rw inv refl
-never_closed inside (c ∷ cs) l inv = absurd (omega (arith, l))

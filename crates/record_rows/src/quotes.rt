@@ -11,6 +11,7 @@ use syntax::quoted;
 
 /// The text that stands in quotes, within its range where it has at most 4,096 bytes. None where the whole is not one
 /// text in quotes.
+#[tactic(auto, using(crate::proofs::Texts::text_within, crate::proofs::Texts::text_longer, crate::proofs::Texts::text_none))]
 pub(crate) fn text(alloc: Global, rest: &str) -> Result<Option<Ranged<Text>>, NoMemory>
     ensures { IfOk result (λ o. o ≡ text_of rest.now) }
 {
@@ -34,6 +35,7 @@ fn is_quoted(bytes: &[u8]) -> bool
 }
 
 /// Whether the first quote outside an escape is the last byte.
+#[tactic(auto, unfolding(syntax::specs::Quotes::unquoted))]
 fn is_closed(inside: &[u8]) -> bool
     ensures { result ≡ is_some (quotes.unquoted inside.now) }
 {

@@ -67,13 +67,7 @@ fn carry(words: &[&str]) -> Option<bool>
 {
     match words {
         [] => Some(false),
-        [word] => {
-            if *word == "carry" {
-                Some(true)
-            } else {
-                None
-            }
-        }
+        [word] => { if *word == "carry" { Some(true) } else { None } }
         _ => None,
     }
 }

@@ -40,7 +40,9 @@ fn is_dep_in_range(dep: &DepRow) -> bool
         DepRow::Needs(units, _) => units.is_within(),
         DepRow::AskOwn(text) => text.is_within(),
         DepRow::Opens(text) => text.is_within(),
-        DepRow::FollowsStream(_, _) | DepRow::FollowsJob(_, _, _) | DepRow::FollowsOwn(_)
+        DepRow::FollowsStream(_, _)
+        | DepRow::FollowsJob(_, _, _)
+        | DepRow::FollowsOwn(_)
         | DepRow::AskGlobal(_) => true,
     }
 }
@@ -89,8 +91,13 @@ fn is_step_in_range(step: &StepRow) -> bool
         StepRow::Reap(_, rc) => rc.is_within(),
         StepRow::CrashIn(_, _, cut) => is_cut_in_range(cut),
         StepRow::Fulfil(_, object, i) => is_object_in_range(object) && i.is_within(),
-        StepRow::Next | StepRow::NextDay(_) | StepRow::Link(_, _) | StepRow::Unlink(_, _)
-        | StepRow::Flow(_, _) | StepRow::Crash(_) | StepRow::Recover(_) => true,
+        StepRow::Next
+        | StepRow::NextDay(_)
+        | StepRow::Link(_, _)
+        | StepRow::Unlink(_, _)
+        | StepRow::Flow(_, _)
+        | StepRow::Crash(_)
+        | StepRow::Recover(_) => true,
     }
 }
 
@@ -107,7 +114,14 @@ pub fn is_in_range(row: &Row) -> bool
         Row::Part(part) => is_part_in_range(part),
         Row::Dep(dep) => is_dep_in_range(dep),
         Row::Step(step) => is_step_in_range(step),
-        Row::Skipped | Row::NoForm | Row::Network | Row::Definitions | Row::Plan | Row::Steps
-        | Row::Master(_) | Row::Station(_) | Row::CarryForward(_) => true,
+        Row::Skipped
+        | Row::NoForm
+        | Row::Network
+        | Row::Definitions
+        | Row::Plan
+        | Row::Steps
+        | Row::Master(_)
+        | Row::Station(_)
+        | Row::CarryForward(_) => true,
     }
 }

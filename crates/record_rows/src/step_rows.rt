@@ -27,8 +27,14 @@ fn gives_command(line: &Line) -> bool
     ensures { result ≡ spec.gives_command line.now }
 {
     match line {
-        Line::ShowJobs(_) | Line::ShowSchedules(_) | Line::ShowCpus(_) | Line::ShowPrompts(_)
-        | Line::ShowResources(_) | Line::Link(_) | Line::Unlink(_) | Line::Shutdown
+        Line::ShowJobs(_)
+        | Line::ShowSchedules(_)
+        | Line::ShowCpus(_)
+        | Line::ShowPrompts(_)
+        | Line::ShowResources(_)
+        | Line::Link(_)
+        | Line::Unlink(_)
+        | Line::Shutdown
         | Line::JNextPlan(_) => false,
         _ => true,
     }

@@ -48,7 +48,10 @@ const NETWORK: [(&str, &str); 21] = [
     ("res M R 18446744073709551616", "res M R ?"),
     ("prompt tape \"Is it in?\"", "prompt TAPE <Is it in?>"),
     ("prompt TAPE \"\"", "prompt TAPE <>"),
-    (r#"prompt TAPE "a \"b\" \\c\d""#, r#"prompt TAPE <a "b" \c\d>"#),
+    (
+        r#"prompt TAPE "a \"b\" \\c\d""#,
+        r#"prompt TAPE <a "b" \c\d>"#,
+    ),
     ("carryforward yes", "carryforward yes"),
     ("carryforward no", "carryforward no"),
     ("carryforward all", "carryforward all"),
@@ -146,7 +149,10 @@ const STEPS: [(&str, &str); 29] = [
     ("crash m lost turn M 5", "crash M lost turn 5"),
     ("crash M kept started M 2", "crash M kept started 2"),
     ("crash M kept ended M 2 -8", "crash M kept ended 2 -8"),
-    ("crash M lost type M fence A1;0", "crash M lost type fence A1;0"),
+    (
+        "crash M lost type M fence A1;0",
+        "crash M lost type fence A1;0",
+    ),
     ("crash M kept deliver A1 m 3", "crash M kept deliver A1 M 3"),
     ("fulfil M job 1 65535", "fulfil M job 1 65535"),
     ("fulfil M stream 4294967296 65536", "fulfil M stream ? ?"),
@@ -162,7 +168,10 @@ fn steps(rt: HostRuntime) -> Result<(), Fail> {
 
 const TEXTS: [(&str, &str); 4] = [
     ("$NETWORK\nws M\n", "$NETWORK|ws M"),
-    ("\n# one\nws M\r\n\nnext", "skipped|skipped|no form|skipped|next"),
+    (
+        "\n# one\nws M\r\n\nnext",
+        "skipped|skipped|no form|skipped|next",
+    ),
     ("\n", "skipped"),
     ("do \"é\"\n\n", "do <é>|skipped"),
 ];

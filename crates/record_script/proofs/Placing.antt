@@ -11,6 +11,7 @@ pub place_more : (rows : List Row) (i : ℕ) (above : Place) (r : Row) → slice
     ≡ take (suc i) (set rows i (row_at above r))
     ++ placed_from (below_row above (row_at above r)) (drop (suc i) (set rows i (row_at above r)))
 unfolding placed_from
-place_more [] i above r ()
+place_more [] zero above r e = absurd (cc)
+place_more [] (suc i) above r e = absurd (cc)
 place_more (first ∷ rows) zero above r refl = refl
 place_more (first ∷ rows) (suc i) above r e = ap (λ xs. first ∷ xs) (place_more rows i above r e)

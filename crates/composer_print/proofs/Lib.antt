@@ -1,0 +1,5 @@
+pub mod Lists
+pub mod Joins
+pub mod Kinds
+pub mod Again
+pub mod Dates

@@ -25,7 +25,7 @@ use Rattle.composer_print.specs.Scopes.{or_home, has_name, normal_pred, normal_n
 use Rattle.composer_print.specs.Streams.{items}
 use Rattle.composer_print.specs.Normal.{unlined, bare, bare_cpu, all_unlined, manager_of, only, master_of, entry_names, normal_entry, normal_schedule, normal}
 use Rattle.composer_print.proofs.Joins.{items_unlined, item_unlined}
-use Rattle.composer_print.proofs.Kinds.{pick, no_follows, no_needs, no_prompts, no_opens, preds_once, needs_once, prompts_once, files_once, preds_follows, preds_needs, preds_prompts, preds_opens, needs_follows, needs_needs, needs_prompts, needs_opens, prompts_follows, prompts_needs, prompts_prompts, prompts_opens, files_follows, files_needs, files_prompts, files_opens, ten_parts}
+use Rattle.composer_print.proofs.Chosen.{pick, no_follows, no_needs, no_prompts, no_opens, preds_once, needs_once, prompts_once, files_once, preds_follows, preds_needs, preds_prompts, preds_opens, needs_follows, needs_needs, needs_prompts, needs_opens, prompts_follows, prompts_needs, prompts_prompts, prompts_opens, files_follows, files_needs, files_prompts, files_opens, ten_parts}
 
 mapped_again : {A : Type 0} (f : A → A) → ((x : A) → f (f x) ≡ f x) → (xs : List A) → map f (map f xs) ≡ map f xs
 mapped_again f h [] = refl

@@ -1,5 +1,6 @@
 pub mod Lists
 pub mod Joins
-pub mod Kinds
+pub mod Chosen
 pub mod Again
 pub mod Dates
+pub mod Spelling

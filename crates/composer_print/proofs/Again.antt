@@ -21,7 +21,7 @@ use Rattle.composer_print.specs.declared.kinds.Once.{Once}
 use Rattle.composer_print.specs.declared.kinds.Once.TheVariants as once
 use Rattle.composer_print.specs.Texts.{unless, item_of}
 use Rattle.composer_print.specs.Stations.{unless_utc, unless_yes, unless_on, unless_off, normal_cpu}
-use Rattle.composer_print.specs.Scopes.{or_home, has_name, normal_pred, normal_need, normal_clauses, those, preds_in, needs_in, prompts_in, files_in, follows_of, needs_of, prompt_of, opens_of}
+use Rattle.composer_print.specs.Scopes.{or_home, has_name, is_of, normal_pred, normal_need, normal_clauses, those, preds_in, needs_in, prompts_in, files_in, follows_of, needs_of, prompt_of, opens_of}
 use Rattle.composer_print.specs.Streams.{items}
 use Rattle.composer_print.specs.Normal.{unlined, bare, bare_cpu, all_unlined, manager_of, only, master_of, entry_names, normal_entry, normal_schedule, normal}
 use Rattle.composer_print.proofs.Joins.{items_unlined, item_unlined}
@@ -93,8 +93,8 @@ own_test : (names : List (List ℕ)) (home : Option (List ℕ)) (n : List ℕ) (
     → normal_pred names home (normal_pred names home (record { ws = None; name = n; part = part.Plain }))
     ≡ normal_pred names home (record { ws = None; name = n; part = part.Plain })
 unfolding normal_pred
-own_test names home n true h = rw h (rw h refl)
-own_test names None n false h = rw h (rw h refl)
+own_test names home n true h = rw h refl
+own_test names None n false h = rw h refl
 own_test names (Some w) n false h = rw h refl
 
 pred_by : (names : List (List ℕ)) (home ws : Option (List ℕ)) (n : List ℕ) (q : PredPart)
@@ -149,7 +149,7 @@ once_cut : (k : Once) (names : List (List ℕ)) (home own : Option (List ℕ)) (
     → those k (those once.CarryForward cs) ≡ F
     → those k (Blocks names home own cs) ≡ A ++ (B ++ (C ++ (D ++ (E ++ (F ++ [])))))
 once_cut k names home own cs A B C D E F a b c d e f =
-    kinds_cut (λ xs. those k xs) (λ xs ys. filter-append _ xs ys) names home own cs A B C D E F [] [] [] [] a b c d e f
+    kinds_cut (λ xs. those k xs) (λ xs ys. filter-append (is_of k) xs ys) names home own cs A B C D E F [] [] [] [] a b c d e f
     (no_follows k (map (normal_pred names home) (flat_map preds_in cs)))
     (no_needs k (map (normal_need own) (flat_map needs_in cs))) (no_prompts k (flat_map prompts_in cs))
     (no_opens k (flat_map files_in cs))

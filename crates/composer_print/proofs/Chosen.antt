@@ -74,18 +74,19 @@ pick k j [] = empty (eqb (number j) (number k))
     empty : (b : Bool) → [] ≡ cond b [] []
     empty true = refl
     empty false = refl
-pick k j (c ∷ cs) = by_test (is_of j c) refl
+pick k j (c ∷ cs) = by_test (is_of j c) refl (pick k j cs)
   where
     by_test : (b : Bool) → is_of j c ≡ b
+        → those k (those j cs) ≡ cond (eqb (number j) (number k)) (those j cs) []
         → those k (those j (c ∷ cs)) ≡ cond (eqb (number j) (number k)) (those j (c ∷ cs)) []
-    by_test true h =
+    by_test true h rec =
         ap (λ xs. those k xs) (kept_by j c cs true h)
         ∙ kept_by k c (those j cs) (eqb (number j) (number k)) (told k j c h)
-        ∙ ap (λ xs. cond (eqb (number j) (number k)) (c ∷ xs) xs) (pick k j cs)
+        ∙ ap (λ xs. cond (eqb (number j) (number k)) (c ∷ xs) xs) rec
         ∙ pushed c (eqb (number j) (number k)) (those j cs)
         ∙ ap (λ xs. cond (eqb (number j) (number k)) xs []) (sym (kept_by j c cs true h))
-    by_test false h =
-        ap (λ xs. those k xs) (kept_by j c cs false h) ∙ pick k j cs
+    by_test false h rec =
+        ap (λ xs. those k xs) (kept_by j c cs false h) ∙ rec
         ∙ ap (λ xs. cond (eqb (number j) (number k)) xs []) (sym (kept_by j c cs false h))
 
 -- what stands in lists is of no kind that stands once
@@ -117,13 +118,12 @@ no_opens k (f ∷ fs) = refl
 nothing_in : {A : Type 0} (g : Clause → List A) (k : Once) → ((c : Clause) → is_of k c ≡ true → g c ≡ [])
     → (cs : List Clause) → flat_map g (those k cs) ≡ []
 nothing_in g k none [] = refl
-nothing_in g k none (c ∷ cs) = by_test (is_of k c) refl
+nothing_in {A = A} g k none (c ∷ cs) = by_test (is_of k c) refl (nothing_in g k none cs)
   where
-    by_test : (b : Bool) → is_of k c ≡ b → flat_map g (those k (c ∷ cs)) ≡ []
-    by_test true h =
-        ap (λ xs. flat_map g xs) (kept_by k c cs true h) ∙ ap (λ xs. xs ++ flat_map g (those k cs)) (none c h)
-        ∙ nothing_in g k none cs
-    by_test false h = ap (λ xs. flat_map g xs) (kept_by k c cs false h) ∙ nothing_in g k none cs
+    by_test : (b : Bool) → is_of k c ≡ b → flat_map g (those k cs) ≡ [] → flat_map g (those k (c ∷ cs)) ≡ []
+    by_test true h rec =
+        ap (λ xs. flat_map g xs) (kept_by k c cs true h) ∙ ap (λ xs. xs ++ flat_map g (those k cs)) (none c h) ∙ rec
+    by_test false h rec = ap (λ xs. flat_map g xs) (kept_by k c cs false h) ∙ rec
 
 once_preds : (k : Once) (c : Clause) → is_of k c ≡ true → preds_in c ≡ []
 unfolding is_of preds_in

@@ -22,5 +22,8 @@ mod stations;
 mod streams;
 mod works;
 
-pub use laws::normal_form_is_normal;
+pub use laws::{
+    dates_are_read_back, normal_form_is_normal, numbers_are_read_back, texts_are_read_back,
+    times_are_read_back,
+};
 pub use printing::print_defs;

@@ -4,3 +4,4 @@ pub mod Chosen
 pub mod Again
 pub mod Dates
 pub mod Spelling
+pub mod Named

@@ -20,7 +20,7 @@ or_home (Some w) home = Some w
 or_home None home = home
 
 abbrev pub has_name : List (List ℕ) → List ℕ → Bool
-has_name names n = list_any (λ k. bytes_eq k n) names
+has_name names n = list_any (λ k. bytes_eq n k) names
 
 -- One name alone means a job of the same stream, where there is one. The names are those of the stream's jobs; in the
 -- header of a stream there are none.

@@ -1,5 +1,8 @@
 -- What is written of one clause at a time.
 use Rattle.std.specs.Prelude.{ℕ, Bool, true, false, if◌then◌else◌, List, [], ◌++◌, codes, map, flat_map, Option}
+use Rattle.std.specs.List.{list_any}
+use Rattle.std.specs.Str.{bytes_eq}
+use Rattle.std.specs.Borrow.{Bor}
 use Rattle.std.specs.Fmt.{decimal}
 use Rattle.composer_parser.specs.declared.definitions.Lined.{Lined}
 use Rattle.composer_parser.specs.declared.clauses.Clause.{Clause}
@@ -11,6 +14,10 @@ use Rattle.composer_print.specs.declared.kinds.Joined.TheVariants as joined
 use Rattle.composer_print.specs.Texts.{quoted_text, texts_from}
 use Rattle.composer_print.specs.Clauses.{moment_text, until_text, priority_text, pred_text, need_text, prompt_text, list_text}
 use Rattle.composer_print.specs.Scopes.{is_of, normal_pred, normal_need, preds_in, needs_in, prompts_in, files_in}
+
+-- a name is among those of a set
+abbrev pub has_key : List (Bor (List ℕ)) → List ℕ → Bool
+has_key keys n = list_any (λ k. bytes_eq n k.now) keys
 
 -- a clause that stands once, and nothing of the others
 unfoldable pub single_text : Clause → List ℕ

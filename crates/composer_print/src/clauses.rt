@@ -162,12 +162,12 @@ fn write_those(out: &mut Vec<u8>, kind: Once, clauses: &[Lined<Clause>]) -> io::
 /// Writes the clauses of an object on a workstation, which belongs to a stream with its workstation and jobs: each kind in
 /// its place, those of one kind as one, and no default.
 #[tactic(auto, unfolding(crate::specs::Steps::all_text))]
-fn write_all(
+fn write_all<'a>(
     out: &mut Vec<u8>,
-    jobs: &Jobs,
-    home: &Option<Text>,
-    own: &Option<Text>,
-    clauses: &[Lined<Clause>],
+    jobs: &Jobs<'a>,
+    home: &'a Option<Text>,
+    own: &'a Option<Text>,
+    clauses: &'a [Lined<Clause>],
 ) -> io::Result<()>
     ensures { OnOk result (out.new.items ≡ out.old.items ++ all_text jobs.now home.now own.now clauses.now) }
 {
@@ -184,12 +184,12 @@ fn write_all(
 }
 
 /// The same, as the text of the normal form.
-pub(crate) fn write_clauses(
+pub(crate) fn write_clauses<'a>(
     out: &mut Vec<u8>,
-    jobs: &Jobs,
-    home: &Option<Text>,
-    own: &Option<Text>,
-    clauses: &[Lined<Clause>],
+    jobs: &Jobs<'a>,
+    home: &'a Option<Text>,
+    own: &'a Option<Text>,
+    clauses: &'a [Lined<Clause>],
 ) -> io::Result<()>
     ensures { OnOk result (out.new.items ≡ out.old.items
         ++ spec.clauses_text (items (all_unlined (scope.normal_clauses jobs.now home.now own.now (items clauses.now))))) }

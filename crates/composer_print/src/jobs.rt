@@ -1,11 +1,13 @@
 //! The names of a stream's jobs.
-ghost use Rattle.std.specs.Prelude.{◌≡◌, [], IfOk};
+ghost use Rattle.std.specs.Prelude.{◌≡◌, ◌||◌, [], IfOk, OnOk, List, ℕ};
 ghost use Rattle.std.specs.Str.{bytes_eq};
 ghost use Rattle.composer_print.specs.Normal.{entry_names};
 ghost use Rattle.composer_print.specs.Scopes.{has_name};
+ghost use Rattle.composer_print.specs.Steps.{has_key};
 
 use base_types::Text;
 use composer_parser::{EntryDef, Lined};
+use indexmap::IndexSet;
 use std::alloc::{AllocError, Global};
 use std::marker::Model;
 
@@ -13,25 +15,23 @@ use std::marker::Model;
 #[derive(Drop)]
 pub(crate) struct Jobs<'a> {
     entries: &'a [Lined<EntryDef>],
+    names: IndexSet<&'a Text>,
 }
 
 impl<'a> Model for Jobs<'a> {
-    ghost use Rattle.std.specs.Prelude.{List, ℕ};
+    ghost use Rattle.std.specs.Prelude.{◌≡◌, List, ℕ};
     ghost use Rattle.composer_print.specs.Normal.{entry_names};
+    ghost use Rattle.composer_print.specs.Scopes.{has_name};
+    ghost use Rattle.composer_print.specs.Steps.{has_key};
 
     ghost Value = { List (List ℕ) };
 
     ghost view = { λ jobs. entry_names jobs.entries.now };
+
+    ghost invariant = { λ jobs. (n : List ℕ) → has_key jobs.names.keys n ≡ has_name (entry_names jobs.entries.now) n };
 }
 
 impl<'a> Jobs<'a> {
-    /// No job.
-    pub(crate) fn none() -> Jobs<'a>
-        ensures { result ≡ [] }
-    {
-        Jobs { entries: &[] }
-    }
-
     /// The jobs of these entries.
     pub(crate) fn of(
         alloc: Global,
@@ -39,30 +39,37 @@ impl<'a> Jobs<'a> {
     ) -> Result<Jobs<'a>, AllocError>
         ensures { IfOk result (λ jobs. jobs ≡ entry_names entries.now) }
     {
-        Ok(Jobs { entries })
+        let names = names_of(alloc, entries)?;
+        Ok(Jobs { entries, names })
     }
 
     /// Whether one of the jobs has this name.
-    pub(crate) fn has(&self, name: &Text) -> bool
+    pub(crate) fn has(&self, name: &'a Text) -> bool
         ensures { result ≡ has_name self.now name.now }
     {
-        has_entry(self.entries, name)
+        self.names.contains(&name)
     }
 }
 
-fn is_named(entry: &Lined<EntryDef>, name: &Text) -> bool
-    ensures { result ≡ bytes_eq entry.now.item.name name.now }
+/// One name more.
+fn put_name<'a>(names: &mut IndexSet<&'a Text>, name: &'a Text) -> Result<(), AllocError>
+    ensures { OnOk result ((n : List ℕ) → has_key names.new.keys n ≡ (has_key names.old.keys n || bytes_eq n name.now)) }
 {
-    entry.item.name == *name
+    match names.insert(name) {
+        Ok(_) => Ok(()),
+        Err(_) => Err(AllocError),
+    }
 }
 
-fn has_entry(entries: &[Lined<EntryDef>], name: &Text) -> bool
-    ensures { result ≡ has_name (entry_names entries.now) name.now }
+fn names_of<'a>(
+    alloc: Global,
+    entries: &'a [Lined<EntryDef>],
+) -> Result<IndexSet<&'a Text>, AllocError>
+    ensures { IfOk result (λ names. (n : List ℕ) → has_key names.keys n ≡ has_name (entry_names entries.now) n) }
 {
+    let mut names = IndexSet::new(alloc);
     for entry in entries {
-        if is_named(entry, name) {
-            return true;
-        }
+        put_name(&mut names, &entry.item.name)?;
     }
-    false
+    Ok(names)
 }

@@ -54,11 +54,11 @@ fn files_in(clause: &Clause) -> &[Text]
 }
 
 /// Writes what is followed, behind the keyword or behind what the list has already. Answers whether the list is begun.
-fn write_preds(
+fn write_preds<'a>(
     out: &mut Vec<u8>,
-    jobs: &Jobs,
-    home: &Option<Text>,
-    preds: &[Pred],
+    jobs: &Jobs<'a>,
+    home: &'a Option<Text>,
+    preds: &'a [Pred],
     begun: bool,
 ) -> io::Result<bool>
     ensures text { OnOk result (out.new.items ≡ out.old.items ++ texts_from (codes ", ") (codes " FOLLOWS ") begun
@@ -138,13 +138,13 @@ fn write_files(out: &mut Vec<u8>, files: &[Text], begun: bool) -> io::Result<boo
 
 /// Writes what a clause adds to the list of a kind. Answers whether the list is begun.
 #[tactic(auto, unfolding(crate::specs::Steps::texts_of))]
-fn write_added(
+fn write_added<'a>(
     out: &mut Vec<u8>,
     kind: Joined,
-    jobs: &Jobs,
-    home: &Option<Text>,
-    own: &Option<Text>,
-    clause: &Lined<Clause>,
+    jobs: &Jobs<'a>,
+    home: &'a Option<Text>,
+    own: &'a Option<Text>,
+    clause: &'a Lined<Clause>,
     begun: bool,
 ) -> io::Result<bool>
     ensures text { OnOk result (out.new.items ≡ out.old.items ++ texts_from (codes ", ") (keyword_of kind) begun
@@ -161,13 +161,13 @@ fn write_added(
 
 /// Writes one clause with all that the clauses of a kind name, where there is any.
 #[tactic(auto, using(crate::proofs::Lists::from_joined), unfolding(crate::specs::Steps::joined_text))]
-pub(crate) fn write_joined(
+pub(crate) fn write_joined<'a>(
     out: &mut Vec<u8>,
     kind: Joined,
-    jobs: &Jobs,
-    home: &Option<Text>,
-    own: &Option<Text>,
-    clauses: &[Lined<Clause>],
+    jobs: &Jobs<'a>,
+    home: &'a Option<Text>,
+    own: &'a Option<Text>,
+    clauses: &'a [Lined<Clause>],
 ) -> io::Result<()>
     ensures { OnOk result (out.new.items ≡ out.old.items ++ joined_text kind jobs.now home.now own.now clauses.now) }
 {

@@ -41,13 +41,13 @@ fn is_plain(part: &PredPart) -> bool
 }
 
 /// Whether it is a job of the same stream, by its name alone.
-fn is_own(jobs: &Jobs, pred: &Pred) -> bool
+fn is_own<'a>(jobs: &Jobs<'a>, pred: &'a Pred) -> bool
     ensures { result ≡ spec.is_own jobs.now pred.now }
 {
     is_plain(&pred.part) && (pred.ws.is_none() && jobs.has(&pred.name))
 }
 
-fn pred_ws<'a>(jobs: &Jobs, home: &'a Option<Text>, pred: &'a Pred) -> &'a Option<Text>
+fn pred_ws<'a>(jobs: &Jobs<'a>, home: &'a Option<Text>, pred: &'a Pred) -> &'a Option<Text>
     ensures { result.now ≡ spec.pred_ws jobs.now home.now pred.now }
 {
     if is_own(jobs, pred) {
@@ -72,11 +72,11 @@ fn write_part(out: &mut Vec<u8>, part: &PredPart, ws: &Option<Text>) -> io::Resu
 
 /// Writes what is followed.
 #[tactic(auto, unfolding(crate::specs::Clauses::pred_text, crate::specs::Scopes::normal_pred))]
-pub(crate) fn write_pred(
+pub(crate) fn write_pred<'a>(
     out: &mut Vec<u8>,
-    jobs: &Jobs,
-    home: &Option<Text>,
-    pred: &Pred,
+    jobs: &Jobs<'a>,
+    home: &'a Option<Text>,
+    pred: &'a Pred,
 ) -> io::Result<()>
     ensures { OnOk result (out.new.items ≡ out.old.items ++ pred_text (spec.normal_pred jobs.now home.now pred.now)) }
 {

@@ -49,11 +49,11 @@ fn write_own_work(out: &mut Vec<u8>, work: &Option<WorkDef>) -> io::Result<()>
 
 /// Writes an entry of a stream with these jobs and this workstation.
 #[tactic(auto, unfolding(crate::specs::Streams::entry_line, crate::specs::Normal::normal_entry))]
-fn write_entry(
+fn write_entry<'a>(
     out: &mut Vec<u8>,
-    jobs: &Jobs,
-    home: &Option<Text>,
-    entry: &Lined<EntryDef>,
+    jobs: &Jobs<'a>,
+    home: &'a Option<Text>,
+    entry: &'a Lined<EntryDef>,
 ) -> io::Result<()>
     ensures { OnOk result (out.new.items ≡ out.old.items ++ spec.entry_line (normal_entry jobs.now home.now entry.now).item) }
 {
@@ -64,11 +64,11 @@ fn write_entry(
     write!(out, "\n")
 }
 
-fn write_entries(
+fn write_entries<'a>(
     out: &mut Vec<u8>,
-    jobs: &Jobs,
-    home: &Option<Text>,
-    entries: &[Lined<EntryDef>],
+    jobs: &Jobs<'a>,
+    home: &'a Option<Text>,
+    entries: &'a [Lined<EntryDef>],
 ) -> io::Result<()>
     ensures { OnOk result (out.new.items ≡ out.old.items
         ++ flat_map spec.entry_line (items (map (normal_entry jobs.now home.now) entries.now))) }
@@ -81,11 +81,11 @@ fn write_entries(
 
 /// Writes a stream, which is on the master where it has no workstation.
 #[tactic(auto, unfolding(crate::specs::Streams::schedule_lines, crate::specs::Normal::normal_schedule))]
-fn write_schedule(
+fn write_schedule<'a>(
     out: &mut Vec<u8>,
     alloc: Global,
-    master: &Option<Text>,
-    schedule: &Lined<ScheduleDef>,
+    master: &'a Option<Text>,
+    schedule: &'a Lined<ScheduleDef>,
 ) -> io::Result<()>
     ensures { OnOk result (out.new.items ≡ out.old.items ++ spec.schedule_lines (normal_schedule master.now schedule.now).item) }
 {
@@ -95,7 +95,8 @@ fn write_schedule(
     write_name(out, home, &item.name)?;
     write_free(out, &item.free)?;
     write_ons(out, item.ons.as_slice())?;
-    write_clauses(out, &Jobs::none(), home, home, item.clauses.as_slice())?;
+    let none = Jobs::of(alloc, &[])?;
+    write_clauses(out, &none, home, home, item.clauses.as_slice())?;
     write!(out, " :\n")?;
     let jobs = Jobs::of(alloc, item.entries.as_slice())?;
     write_entries(out, &jobs, home, item.entries.as_slice())?;
@@ -103,11 +104,11 @@ fn write_schedule(
 }
 
 /// Writes the streams.
-pub(crate) fn write_schedules(
+pub(crate) fn write_schedules<'a>(
     out: &mut Vec<u8>,
     alloc: Global,
-    master: &Option<Text>,
-    schedules: &[Lined<ScheduleDef>],
+    master: &'a Option<Text>,
+    schedules: &'a [Lined<ScheduleDef>],
 ) -> io::Result<()>
     ensures { OnOk result (out.new.items ≡ out.old.items
         ++ flat_map (λ s. spec.schedule_lines s.item) (map (normal_schedule master.now) schedules.now)) }

@@ -162,3 +162,25 @@ civil_is c n e late =
     } in
     let same : epoch_day own ≡ pos n = day_number (date_after n).0 (date_after n).1 (date_after n).2 stands.0.0 stands.0.3 ∙ ap (λ k. pos k) stands.1 in
     epoch_day_injective c own (e ∙ sym same)
+
+-- so the date is from the year 0 on, and its parts are those of that day
+pub from_zero : (c : Civil) (n : ℕ) → epoch_day c ≡ pos n → n ≤ last_day → pos 0 ≤ℤ c.year
+from_zero c n e late = rw (civil_is c n e late).0 (omega (arith, signed_arith))
+
+pub parts_so : (c : Civil) (n y : ℕ) → epoch_day c ≡ pos n → n ≤ last_day → pos y ≡ c.year
+    → (y, c.month, c.day) ≡ date_after n
+parts_so c n y e late year =
+    let is = civil_is c n e late in
+    let both : pos y ≡ pos (date_after n).0 = year ∙ is.0 in
+    let same : y ≡ (date_after n).0 = cc in
+    λ i. (same i, is.1 i, is.2 i)
+
+pub parts_small : (c : Civil) (n y : ℕ) → epoch_day c ≡ pos n → n ≤ last_day → pos y ≡ c.year → y < 10000
+parts_small c n y e late year =
+    let is = civil_is c n e late in
+    let both : pos y ≡ pos (date_after n).0 = year ∙ is.0 in
+    let same : y ≡ (date_after n).0 = cc in
+    omega (arith, same, late_year n late)
+
+pub in_range : (n : ℕ) → n ≤ last_day → (neg_ℤ (pos 4371587) ≤ℤ pos n) × (pos n ≤ℤ pos 2932896)
+in_range n h = (omega (arith, signed_arith), omega (arith, signed_arith, h))

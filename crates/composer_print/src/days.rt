@@ -1,5 +1,5 @@
 //! Days and times as they are written.
-ghost use Rattle.std.specs.Prelude.{◌≡◌, ◌++◌, ◌≤◌, ◌<◌, OnOk, IfSome, Some, pos};
+ghost use Rattle.std.specs.Prelude.{◌≡◌, ◌++◌, ◌≤◌, ◌<◌, ◌≤ℤ◌, OnOk, IfSome, Some, pos};
 ghost use Rattle.jiff_core.specs.Date.{epoch_day};
 ghost use Rattle.calendars.specs.Dates.{last_day};
 ghost use Rattle.composer_print.specs.Days as spec;
@@ -53,7 +53,15 @@ fn parts_of(date: Date, day: u32) -> (u16, u8, u8)
     ensures value { result ≡ spec.date_after day }
     ensures small { result.0 < 10000 }
 {
-    (date.year as u16, date.month, date.day)
+    let year = from_zero(date.year);
+    (year, date.month, date.day)
+}
+
+fn from_zero(year: i16) -> u16
+    requires { pos 0 ≤ℤ year }
+    ensures { pos result ≡ year }
+{
+    year as u16
 }
 
 /// Writes HHMM of minutes after 0000. A number above 1439 is no time and has no text.

@@ -230,12 +230,12 @@ blocks_again : (names : List (List ℕ)) (home own : Option (List ℕ)) (cs : Li
     → Blocks names home own (Blocks names home own cs) ≡ Blocks names home own cs
 blocks_again names home own cs =
     let preds : map (normal_pred names home) (flat_map preds_in (Blocks names home own cs)) ≡ map (normal_pred names home) (flat_map preds_in cs) =
-        ap (map (normal_pred names home)) (preds_again names home own cs)
-        ∙ mapped_again (normal_pred names home) (pred_again names home) (flat_map preds_in cs)
+    ap (map (normal_pred names home)) (preds_again names home own cs)
+    ∙ mapped_again (normal_pred names home) (pred_again names home) (flat_map preds_in cs)
     in
     let needs : map (normal_need own) (flat_map needs_in (Blocks names home own cs)) ≡ map (normal_need own) (flat_map needs_in cs) =
-        ap (map (normal_need own)) (needs_again names home own cs)
-        ∙ mapped_again (normal_need own) (need_again own) (flat_map needs_in cs)
+    ap (map (normal_need own)) (needs_again names home own cs)
+    ∙ mapped_again (normal_need own) (need_again own) (flat_map needs_in cs)
     in
     λ i. once_again once.At names home own cs i
     ++ (once_again once.Until names home own cs i ++ (once_again once.Deadline names home own cs i
@@ -263,7 +263,7 @@ entry_again : (names : List (List ℕ)) (h1 h2 : Option (List ℕ)) (e : Lined E
 unfolding normal_entry
 entry_again names h1 h2 e eh =
     let own : or_home (or_home e.item.ws h2) h1 ≡ or_home e.item.ws h2 =
-        ap (λ h. or_home (or_home e.item.ws h2) h) eh ∙ home_again e.item.ws h2
+    ap (λ h. or_home (or_home e.item.ws h2) h) eh ∙ home_again e.item.ws h2
     in
     λ i. unlined (record {
       ws = own i;
@@ -292,9 +292,9 @@ schedule_again master s =
     let names = entry_names s.item.entries in
     let same : or_home home master ≡ home = home_again s.item.ws master in
     let all : map (normal_entry (entry_names (map (normal_entry names home) s.item.entries)) (or_home home master)) (map (normal_entry names home) s.item.entries)
-        ≡ map (normal_entry names home) s.item.entries =
-        ap (λ ns. map (normal_entry ns (or_home home master)) (map (normal_entry names home) s.item.entries)) (names_again names home s.item.entries)
-        ∙ entries_again names (or_home home master) home same s.item.entries
+    ≡ map (normal_entry names home) s.item.entries =
+    ap (λ ns. map (normal_entry ns (or_home home master)) (map (normal_entry names home) s.item.entries)) (names_again names home s.item.entries)
+    ∙ entries_again names (or_home home master) home same s.item.entries
     in
     λ i. unlined (record {
       ws = same i;

@@ -77,9 +77,10 @@ one_more y m d (from, some, last, low, high) = by_day (ltb d (days_in_month y m)
     by_month true h end =
         ((from, omega arith, grind (arith, nat_tests), omega arith, some_days y (m + 1)), next_month y m d some end low)
     by_month false h end =
-        let dec : m ≡ 12 = grind (arith, nat_tests) in
-        ((omega (arith, from), omega arith, omega arith, omega arith, some_days (y + 1) 1),
-        next_year y d from (end ∙ ap (λ k. days_in_month y k) dec) ∙ ap (λ k. 1 + days_before y k d) (sym dec))
+        let dec : m ≡ 12 = grind (arith, nat_tests) in (
+          (omega (arith, from), omega arith, omega arith, omega arith, some_days (y + 1) 1),
+          next_year y d from (end ∙ ap (λ k. days_in_month y k) dec) ∙ ap (λ k. 1 + days_before y k d) (sym dec),
+        )
 
     by_day : (b : Bool) → ltb d (days_in_month y m) ≡ b
         → Stands (cond b (y, m, d + 1) (cond (ltb m 12) (y, m + 1, 1) (y + 1, 1, 1)))

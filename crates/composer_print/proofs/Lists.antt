@@ -31,13 +31,13 @@ options_parts start zone carry b c e first second third =
     let C = carry_texts carry in
     let text : List (List ℕ) → Bool → List ℕ = λ xs k. texts_from (codes " ") (codes "$OPTIONS\n") k xs in
     let cut : text (S ++ (Z ++ C)) false ≡ text S false ++ (text Z b ++ text C c) =
-        from_joined (codes " ") (codes "$OPTIONS\n") false S (Z ++ C)
-        ∙ ap (λ k. text S false ++ text (Z ++ C) k) (sym first)
-        ∙ ap (λ t. text S false ++ t) (from_joined (codes " ") (codes "$OPTIONS\n") b Z C ∙ ap (λ k. text Z b ++ text C k) (sym second))
+    from_joined (codes " ") (codes "$OPTIONS\n") false S (Z ++ C)
+    ∙ ap (λ k. text S false ++ text (Z ++ C) k) (sym first)
+    ∙ ap (λ t. text S false ++ t) (from_joined (codes " ") (codes "$OPTIONS\n") b Z C ∙ ap (λ k. text Z b ++ text C k) (sym second))
     in
     let all : begun_after false (S ++ (Z ++ C)) ≡ e =
-        begun_joined false S (Z ++ C) ∙ ap (λ k. begun_after k (Z ++ C)) (sym first)
-        ∙ begun_joined b Z C ∙ ap (λ k. begun_after k C) (sym second) ∙ sym third
+    begun_joined false S (Z ++ C) ∙ ap (λ k. begun_after k (Z ++ C)) (sym first)
+    ∙ begun_joined b Z C ∙ ap (λ k. begun_after k C) (sym second) ∙ sym third
     in
     ap (λ k. text (S ++ (Z ++ C)) false ++ ended k) all ∙ ap (λ t. t ++ ended e) cut
     ∙ append_assoc (text S false) (text Z b ++ text C c) (ended e)

@@ -99,7 +99,7 @@ time_tests t h =
     let hour : t / 60 < 24 = omega (arith, h) in
     let minute : t % 60 < 60 = omega arith in
     let digits = four_digits_by (48 + t / 60 / 10) (48 + t / 60 % 10) (48 + t % 60 / 10) (48 + t % 60 % 10)
-        (tens (t / 60) (omega (arith, hour))) (ones (t / 60)) (tens (t % 60) (omega (arith, minute))) (ones (t % 60))
+    (tens (t / 60) (omega (arith, hour))) (ones (t / 60)) (tens (t % 60) (omega (arith, minute))) (ones (t % 60))
     in
     let first = two_back (t / 60) (omega (arith, hour)) in
     let second = two_back (t % 60) (omega (arith, minute)) in

@@ -87,7 +87,12 @@ fn write_resource(out: &mut Vec<u8>, resource: &ResourceDef) -> io::Result<()>
     ensures { OnOk result (out.new.items ≡ out.old.items ++ spec.resource_line resource.now) }
 {
     let total = resource.total;
-    write!(out, "{}#{} {total}", resource.ws.as_str(), resource.name.as_str())?;
+    write!(
+        out,
+        "{}#{} {total}",
+        resource.ws.as_str(),
+        resource.name.as_str()
+    )?;
     write_note(out, &resource.text)?;
     write!(out, "\n")
 }

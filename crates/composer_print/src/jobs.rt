@@ -33,10 +33,7 @@ impl<'a> Model for Jobs<'a> {
 
 impl<'a> Jobs<'a> {
     /// The jobs of these entries.
-    pub(crate) fn of(
-        alloc: Global,
-        entries: &'a [Lined<EntryDef>],
-    ) -> Result<Jobs<'a>, AllocError>
+    pub(crate) fn of(alloc: Global, entries: &'a [Lined<EntryDef>]) -> Result<Jobs<'a>, AllocError>
         ensures { IfOk result (λ jobs. jobs ≡ entry_names entries.now) }
     {
         let names = names_of(alloc, entries)?;

@@ -60,11 +60,20 @@ fn type_word(manager: bool) -> &'static str
 fn write_cpu(out: &mut Vec<u8>, cpu: &CpuDef) -> io::Result<()>
     ensures { OnOk result (out.new.items ≡ out.old.items ++ spec.cpu_line (spec.normal_cpu cpu.now)) }
 {
-    write!(out, "CPUNAME {} OS {} NODE ", cpu.name.as_str(), cpu.os.as_str())?;
+    write!(
+        out,
+        "CPUNAME {} OS {} NODE ",
+        cpu.name.as_str(),
+        cpu.os.as_str()
+    )?;
     write_quoted(out, &cpu.host)?;
     write_port(out, &cpu.port)?;
     let word = type_word(cpu.manager);
-    write!(out, " DOMAIN {} FOR MAESTRO TYPE {word}", cpu.domain.as_str())?;
+    write!(
+        out,
+        " DOMAIN {} FOR MAESTRO TYPE {word}",
+        cpu.domain.as_str()
+    )?;
     write_link(out, &cpu.autolink)?;
     write_full(out, &cpu.full)?;
     write!(out, " END\n")
@@ -94,7 +103,12 @@ fn write_parent(out: &mut Vec<u8>, parent: &Option<Text>) -> io::Result<()>
 fn write_domain(out: &mut Vec<u8>, domain: &DomainDef) -> io::Result<()>
     ensures { OnOk result (out.new.items ≡ out.old.items ++ spec.domain_line domain.now) }
 {
-    write!(out, "DOMAIN {} MANAGER {}", domain.name.as_str(), domain.manager.as_str())?;
+    write!(
+        out,
+        "DOMAIN {} MANAGER {}",
+        domain.name.as_str(),
+        domain.manager.as_str()
+    )?;
     write_parent(out, &domain.parent)?;
     write!(out, " END\n")
 }

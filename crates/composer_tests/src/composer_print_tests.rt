@@ -11,7 +11,10 @@ const TEXTS: [(&str, &str); 25] = [
     ("", ""),
     ("# none\n\n", ""),
     ("$OPTIONS", ""),
-    ("$OPTIONS STARTOFDAY 0600 TIMEZONE \"UTC\" ENCARRYFORWARD YES", ""),
+    (
+        "$OPTIONS STARTOFDAY 0600 TIMEZONE \"UTC\" ENCARRYFORWARD YES",
+        "",
+    ),
     (
         "$options startofday 0000 timezone \"x\" encarryforward all",
         "$OPTIONS\nSTARTOFDAY 0000 TIMEZONE \"x\" ENCARRYFORWARD ALL\n",
@@ -35,7 +38,10 @@ const TEXTS: [(&str, &str); 25] = [
         "cpuname a os unix node \"b\" domain d for maestro type manager fullstatus on autolink off end",
         "CPUNAME A OS UNIX NODE \"b\" DOMAIN D FOR MAESTRO TYPE MANAGER AUTOLINK OFF FULLSTATUS ON END\n",
     ),
-    ("domain d description \"x\" * manager m parent e end", "DOMAIN D MANAGER M PARENT E END\n"),
+    (
+        "domain d description \"x\" * manager m parent e end",
+        "DOMAIN D MANAGER M PARENT E END\n",
+    ),
     (
         "$calendar a \"\" 01/01/1970 12/31/9999 b $calendar c 02/28/2000 02/29/2000 03/01/2000 02/28/2000",
         "$CALENDAR\nA \"\" 01/01/1970 12/31/9999\nB\nC 02/28/2000 02/29/2000 03/01/2000 02/28/2000\n",
@@ -44,7 +50,10 @@ const TEXTS: [(&str, &str); 25] = [
         "$prompt p \"a\\b \\\"c\\\" \\\\\" Q \":\"",
         "$PROMPT\nP \"a\\\\b \\\"c\\\" \\\\\"\nQ \":\"\n",
     ),
-    ("$resource m#a 0 m#b 99999999999 \"\"", "$RESOURCE\nM#A 0\nM#B 4294967295 \"\"\n"),
+    (
+        "$resource m#a 0 m#b 99999999999 \"\"",
+        "$RESOURCE\nM#A 0\nM#B 4294967295 \"\"\n",
+    ),
     (
         "$jobs m#a docommand \"\" streamlogon \"\" m#b scriptname f recovery stop m#c docommand \"x\" \
          recovery rerun tasktype unix rccondsucc \"RC = 0\" description \"d\" m#d docommand \"y\" \

@@ -117,6 +117,20 @@ behind : (f : Clause → List ℕ) (xs ys : List Clause) (a b : List ℕ) → fl
     → flat_map f (xs ++ ys) ≡ a ++ b
 behind f xs ys a b p q = flat_map-append f xs ys ∙ (λ i. p i ++ q i)
 
+-- ten lists, put together from the left
+from_left : (a b c d e f g h i j : List ℕ)
+    → a ++ (b ++ (c ++ (d ++ (e ++ (f ++ (g ++ (h ++ (i ++ j))))))))
+    ≡ ((((((((a ++ b) ++ c) ++ d) ++ e) ++ f) ++ g) ++ h) ++ i) ++ j
+from_left a b c d e f g h i j =
+    sym (append_assoc a b (c ++ (d ++ (e ++ (f ++ (g ++ (h ++ (i ++ j))))))))
+    ∙ sym (append_assoc (a ++ b) c (d ++ (e ++ (f ++ (g ++ (h ++ (i ++ j)))))))
+    ∙ sym (append_assoc ((a ++ b) ++ c) d (e ++ (f ++ (g ++ (h ++ (i ++ j))))))
+    ∙ sym (append_assoc (((a ++ b) ++ c) ++ d) e (f ++ (g ++ (h ++ (i ++ j)))))
+    ∙ sym (append_assoc ((((a ++ b) ++ c) ++ d) ++ e) f (g ++ (h ++ (i ++ j))))
+    ∙ sym (append_assoc (((((a ++ b) ++ c) ++ d) ++ e) ++ f) g (h ++ (i ++ j)))
+    ∙ sym (append_assoc ((((((a ++ b) ++ c) ++ d) ++ e) ++ f) ++ g) h (i ++ j))
+    ∙ sym (append_assoc (((((((a ++ b) ++ c) ++ d) ++ e) ++ f) ++ g) ++ h) i j)
+
 -- the clauses of the normal form are all that is written
 pub all_is_normal : (names : List (List ℕ)) (home own : Option (List ℕ)) (cs : List (Lined Clause))
     → clauses_text (normal_clauses names home own (items cs)) ≡ all_text names home own cs
@@ -135,15 +149,31 @@ all_is_normal names home own cs =
     let from_four = those once.Priority all ++ from_five in
     let from_three = those once.Deadline all ++ from_four in
     let from_two = those once.Until all ++ from_three in
-    behind clause_text (those once.At all) from_two _ _ (kind_is once.At cs)
-    (behind clause_text (those once.Until all) from_three _ _ (kind_is once.Until cs)
-    (behind clause_text (those once.Deadline all) from_four _ _ (kind_is once.Deadline cs)
-    (behind clause_text (those once.Priority all) from_five _ _ (kind_is once.Priority cs)
-    (behind clause_text (those once.Limit all) from_six _ _ (kind_is once.Limit cs)
-    (behind clause_text (those once.CarryForward all) from_seven _ _ (kind_is once.CarryForward cs)
-    (behind clause_text seven from_eight _ _ (joined_follows names home own cs)
-    (behind clause_text eight from_nine _ _ (joined_needs names home own cs)
-    (behind clause_text nine ten _ _ (joined_prompts names home own cs) (joined_opens names home own cs)))))))))
+    let j = joined_text joined.Opens names home own cs in
+    let i = joined_text joined.Prompt names home own cs in
+    let h = joined_text joined.Needs names home own cs in
+    let g = joined_text joined.Follows names home own cs in
+    let f = flat_map (kind_text once.CarryForward) cs in
+    let e = flat_map (kind_text once.Limit) cs in
+    let d = flat_map (kind_text once.Priority) cs in
+    let c = flat_map (kind_text once.Deadline) cs in
+    let b = flat_map (kind_text once.Until) cs in
+    let a = flat_map (kind_text once.At) cs in
+    behind clause_text (those once.At all) from_two a (b ++ (c ++ (d ++ (e ++ (f ++ (g ++ (h ++ (i ++ j))))))))
+    (kind_is once.At cs)
+    (behind clause_text (those once.Until all) from_three b (c ++ (d ++ (e ++ (f ++ (g ++ (h ++ (i ++ j)))))))
+    (kind_is once.Until cs)
+    (behind clause_text (those once.Deadline all) from_four c (d ++ (e ++ (f ++ (g ++ (h ++ (i ++ j))))))
+    (kind_is once.Deadline cs)
+    (behind clause_text (those once.Priority all) from_five d (e ++ (f ++ (g ++ (h ++ (i ++ j)))))
+    (kind_is once.Priority cs)
+    (behind clause_text (those once.Limit all) from_six e (f ++ (g ++ (h ++ (i ++ j)))) (kind_is once.Limit cs)
+    (behind clause_text (those once.CarryForward all) from_seven f (g ++ (h ++ (i ++ j)))
+    (kind_is once.CarryForward cs)
+    (behind clause_text seven from_eight g (h ++ (i ++ j)) (joined_follows names home own cs)
+    (behind clause_text eight from_nine h (i ++ j) (joined_needs names home own cs)
+    (behind clause_text nine ten i j (joined_prompts names home own cs) (joined_opens names home own cs)))))))))
+    ∙ from_left a b c d e f g h i j
 
 -- the same of a list without lines
 pub all_is_printed : (names : List (List ℕ)) (home own : Option (List ℕ)) (cs : List (Lined Clause))

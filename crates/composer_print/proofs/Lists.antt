@@ -9,9 +9,9 @@ pub from_joined : (separator beginning : List ℕ) (begun : Bool) (xs ys : List 
     ≡ texts_from separator beginning begun xs ++ texts_from separator beginning (begun_after begun xs) ys
 from_joined s b begun [] ys = refl
 from_joined s b begun (x ∷ xs) ys =
-    ap (λ t. lead s b begun ++ x ++ t) (from_joined s b true xs ys)
-    ∙ ap (λ t. lead s b begun ++ t) (sym (append_assoc x (texts_from s b true xs) (texts_from s b (begun_after true xs) ys)))
-    ∙ sym (append_assoc (lead s b begun) (x ++ texts_from s b true xs) (texts_from s b (begun_after true xs) ys))
+    ap (λ t. (lead s b begun ++ x) ++ t) (from_joined s b true xs ys)
+    ∙ sym
+    (append_assoc (lead s b begun ++ x) (texts_from s b true xs) (texts_from s b (begun_after true xs) ys))
 
 pub begun_joined : (begun : Bool) (xs ys : List (List ℕ)) → begun_after begun (xs ++ ys) ≡ begun_after (begun_after begun xs) ys
 begun_joined begun [] ys = refl
@@ -39,6 +39,5 @@ options_parts start zone carry b c e first second third =
     begun_joined false S (Z ++ C) ∙ ap (λ k. begun_after k (Z ++ C)) (sym first)
     ∙ begun_joined b Z C ∙ ap (λ k. begun_after k C) (sym second) ∙ sym third
     in
-    ap (λ k. text (S ++ (Z ++ C)) false ++ ended k) all ∙ ap (λ t. t ++ ended e) cut
-    ∙ append_assoc (text S false) (text Z b ++ text C c) (ended e)
-    ∙ ap (λ t. text S false ++ t) (append_assoc (text Z b) (text C c) (ended e))
+    ap (λ k. text (S ++ (Z ++ C)) false ++ ended k) all
+    ∙ ap (λ t. t ++ ended e) (cut ∙ sym (append_assoc (text S false) (text Z b) (text C c)))

@@ -6,7 +6,7 @@
 //!
 //! What each workstation tells in its own list is that of `owner_rows`, which `kept` hands out. Beside it `Owners` keeps
 //! where the documents of the catalogue stand, and the members of the plan, each by its number.
-#![tactic(auto, unfolding(model::specs::History::list_of, model::specs::Facts::commands))]
+#![tactic(auto)]
 
 mod catalogue;
 mod dependencies;

@@ -7,7 +7,6 @@
 #![tactic(auto)]
 
 mod answers;
-mod bodies;
 mod counts;
 mod deps;
 mod job_facts;
@@ -16,6 +15,8 @@ mod kept;
 mod launches;
 mod object_facts;
 mod objects;
+mod places;
+mod replies;
 mod sayings;
 mod starts;
 mod station_facts;
@@ -26,7 +27,6 @@ mod subjects;
 mod tables;
 mod told;
 mod totals;
-mod walks;
 mod work_tables;
 
 pub use kept::Kept;

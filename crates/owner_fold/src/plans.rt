@@ -35,6 +35,10 @@ pub(crate) struct Plan {
     /// Those among them that the catalogue has.
     pub(crate) members: StreamNos,
     pub(crate) index: Index,
+    /// The greatest number of a stream in the catalogue, 0 where it is empty.
+    pub(crate) last_stream: u32,
+    /// The greatest number of a job in the catalogue, 0 where it has none.
+    pub(crate) last_job: u32,
 }
 
 impl Plan {
@@ -47,6 +51,8 @@ impl Plan {
             named: None,
             members: Items::new(alloc),
             index: Index::new(alloc),
+            last_stream: 0,
+            last_job: 0,
         }
     }
 
@@ -100,11 +106,15 @@ impl Plan {
         let named = self.named_with(&e.body)?;
         let members = self.members_among(&named, &spots)?;
         let index = self.index.of(&spots, &members)?;
+        let last_stream = spots.last_stream();
+        let last_job = spots.last_job();
         Ok(Plan {
             spots,
             named,
             members,
             index,
+            last_stream,
+            last_job,
         })
     }
 }

@@ -2,7 +2,7 @@
 ghost use Rattle.std.specs.Prelude.{◌≡◌, ◌++◌, [], ◌∷◌, List, Some, map, flat_map, option_map, slice_get, IfOk, OnOk};
 ghost use Rattle.std.specs.Option.{option_copied};
 ghost use Rattle.model.specs.Types.{Entry as Taken, StreamDoc as Doc, Events};
-ghost use Rattle.model.specs.Words.{has};
+ghost use Rattle.model.specs.Words.{greatest, has};
 ghost use Rattle.model.specs.History.{list_of};
 ghost use Rattle.model.specs.Catalogue.{docs_in, jobs_in, StreamJob};
 ghost use Rattle.owner_fold.specs.Spots.{doc_at, job_at, stream_job, AreSpotsOf, AreJobSpots, first_jobs_among};
@@ -133,6 +133,32 @@ impl Spots {
             }
         }
         false
+    }
+
+    /// The greatest number of a stream, 0 where there is none.
+    pub(crate) fn last_stream(&self) -> u32
+        ensures { result ≡ greatest (map (λ p. p.number) self.now.streams) }
+    {
+        let mut last = 0;
+        for spot in self.streams.as_slice() {
+            if spot.number > last {
+                last = spot.number;
+            }
+        }
+        last
+    }
+
+    /// The greatest number of a job, 0 where there is none.
+    pub(crate) fn last_job(&self) -> u32
+        ensures { result ≡ greatest (map (λ p. p.number) self.now.jobs) }
+    {
+        let mut last = 0;
+        for spot in self.jobs.as_slice() {
+            if spot.number > last {
+                last = spot.number;
+            }
+        }
+        last
     }
 
     /// Adds a job, where its number is not there.

@@ -1,5 +1,6 @@
 //! Where numbers stand in a list, found by one look-up.
 ghost use Rattle.std.specs.Prelude.{◌≡◌, ◌++◌, ◌==◌, [], ◌∷◌, List, ℕ, IfOk, OnOk, length, map, nat_eq};
+ghost use Rattle.model.specs.Words.{has};
 ghost use Rattle.owner_fold.specs.Numbers.{ArePlaces, IsIndexOf, place_of};
 
 use crate::spots::Spots;
@@ -37,8 +38,16 @@ impl Numbers {
         self.places.get(&number).copied()
     }
 
+    /// Whether a number is there.
+    #[tactic(auto, using(crate::proofs::Finding::placed))]
+    pub(crate) fn has(&self, number: u32) -> bool
+        ensures { (numbers : List ℕ) → ArePlaces numbers self.now → result ≡ has numbers number }
+    {
+        self.place(number).is_some()
+    }
+
     /// Adds a number, which stands at this place behind the others.
-    fn add(&mut self, number: u32, place: usize) -> Result<(), NoMemory>
+    pub(crate) fn add(&mut self, number: u32, place: usize) -> Result<(), NoMemory>
         ensures { OnOk result ((numbers : List ℕ) → length numbers ≡ place → ArePlaces numbers self.old
             → ArePlaces (numbers ++ number ∷ []) self.new) }
     {
@@ -52,7 +61,7 @@ impl Numbers {
     }
 
     /// The places of the catalogue's streams.
-    fn of_streams(&self, spots: &Spots) -> Result<Numbers, NoMemory>
+    pub(crate) fn of_streams(&self, spots: &Spots) -> Result<Numbers, NoMemory>
         ensures { IfOk result (λ p. ArePlaces (map (λ s. s.number) spots.now.streams) p) }
     {
         let mut numbers = self.empty();
@@ -63,7 +72,7 @@ impl Numbers {
     }
 
     /// The places of its jobs.
-    fn of_jobs(&self, spots: &Spots) -> Result<Numbers, NoMemory>
+    pub(crate) fn of_jobs(&self, spots: &Spots) -> Result<Numbers, NoMemory>
         ensures { IfOk result (λ p. ArePlaces (map (λ s. s.number) spots.now.jobs) p) }
     {
         let mut numbers = self.empty();
@@ -74,7 +83,7 @@ impl Numbers {
     }
 
     /// The places of members.
-    fn of_members(&self, members: &StreamNos) -> Result<Numbers, NoMemory>
+    pub(crate) fn of_members(&self, members: &StreamNos) -> Result<Numbers, NoMemory>
         ensures { IfOk result (λ p. ArePlaces members.now p) }
     {
         let mut numbers = self.empty();
@@ -103,17 +112,5 @@ impl Index {
             jobs: Numbers::new(alloc),
             members: Numbers::new(alloc),
         }
-    }
-
-    /// That of these spots and members.
-    pub(crate) fn of(&self, spots: &Spots, members: &StreamNos) -> Result<Index, NoMemory>
-        ensures { IfOk result (λ x. IsIndexOf (map (λ s. s.number) spots.now.streams)
-            (map (λ s. s.number) spots.now.jobs) members.now x) }
-    {
-        Ok(Index {
-            streams: self.streams.of_streams(spots)?,
-            jobs: self.streams.of_jobs(spots)?,
-            members: self.streams.of_members(members)?,
-        })
     }
 }

@@ -5,7 +5,7 @@
 //! its owner. A fact of an object that the catalogue lacks is 0, false or None. No fact takes memory.
 //!
 //! What each workstation tells in its own list is that of `owner_rows`, which `kept` hands out. Beside it `Owners` keeps
-//! where the documents of the catalogue stand, and the members of the plan, each by its number.
+//! where the documents of the catalogue stand, and the members of the plan, each by its number, and the greatest numbers.
 #![tactic(auto)]
 
 mod catalogue;

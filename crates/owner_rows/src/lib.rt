@@ -4,6 +4,8 @@
 //! in the list of one feed. No fact takes memory. Beside the entries there is a row for each job, stream, workstation,
 //! dependency and so on, which each entry changes at one place (`specs::Told`): a fact is one look-up, or two. An entry
 //! takes its memory first, by blank rows that tell nothing, so that an entry for which there is none changes nothing.
+//! A body, and a dependency that was added, is found by a row that tells where among the entries it stands
+//! (`specs::Standing`).
 #![tactic(auto)]
 
 mod answers;

@@ -1,0 +1,9 @@
+pub mod Holding
+pub mod Restored
+pub mod Causes
+pub mod Linking
+pub mod Keeping
+pub mod Owning
+pub mod Planning
+pub mod Mailing
+pub mod Turning

@@ -1,0 +1,111 @@
+//! Mail from a neighbour.
+ghost use Rattle.std.specs.Prelude.{◌≡◌, ◌≤◌, ◌∷◌, ◌++◌, ◌+◌, [], IfOk, None, Some, length, nat_lt};
+ghost use Rattle.std.specs.List.{list_all};
+ghost use Rattle.model.specs.Types as types;
+ghost use Rattle.model.specs.Network.{node_count};
+ghost use Rattle.model.specs.History.{list_of};
+ghost use Rattle.model.specs.Workstations.{ws_in_body, ws_in_feed};
+ghost use Rattle.agent_core.specs.Nodes.{present_in};
+ghost use Rattle.agent_core.specs.Sending.{answer_to};
+ghost use Rattle.agent_core.specs.Steps.{IsFault, IsStep, Makes};
+
+use crate::agents::Agent;
+use crate::faults::{Step, StepFault};
+use base_types::{Copied, Entry, Growing, NoMemory, Out, Ws};
+use entry_sizes::entry_size;
+use mailman_core::{accepts, acknowledgement};
+use named_workstations::is_entry_inside;
+
+impl Agent {
+    /// Whether the node itself, the sender and the workstations that an entry names are in the network.
+    fn has_mail(&self, from: Ws, e: &Entry) -> bool
+        ensures { result ≡ list_all (λ w. nat_lt w (node_count (present_in self.now)))
+            (self.now.me ∷ from ∷ (ws_in_feed e.now.feed ++ ws_in_body e.now.body)) }
+    {
+        let count = self.net().count();
+        self.me.0 < count && from.0 < count && is_entry_inside(count, e)
+    }
+
+    /// Puts what goes back for mail, where the link is up, at the end of a list with room for it.
+    fn put_answer(&self, from: Ws, e: &Entry, outs: &mut Growing<Out>)
+        requires { 1 ≤ outs.old.spare }
+        ensures { outs.new.items ≡ outs.old.items ++ answer_to self.now from e.now }
+    {
+        if self.mail.is_up(from) {
+            outs.put(Out::Send(from, acknowledgement(&self.owners, e)));
+        }
+    }
+
+    /// An empty list with room for one.
+    fn room_for_answer(&self) -> Result<Growing<Out>, NoMemory>
+        ensures items { IfOk result (λ outs. outs.items ≡ []) }
+        ensures room { IfOk result (λ outs. 1 ≤ outs.spare) }
+    {
+        let mut outs = Growing::new(self.alloc);
+        outs.reserve(1)?;
+        Ok(outs)
+    }
+
+    /// The fault of mail, if it has one.
+    fn mail_fault(&self, from: Ws, e: &Entry) -> Option<StepFault>
+        ensures { IsFault self.now (types.Input.Mail from e.now) result }
+    {
+        if !self.has_mail(from, e) {
+            return Some(StepFault::NotInNetwork);
+        }
+        if self.is_itself(from) {
+            return Some(StepFault::NotNeighbour);
+        }
+        if !accepts(&self.owners, self.me, e) {
+            return None;
+        }
+        if entry_size(e).is_none() {
+            return Some(StepFault::TooLong);
+        }
+        None
+    }
+
+    /// Mail that is not kept: a repeat, one beyond a gap, or one of the node's own.
+    fn passed(&mut self, from: Ws, e: &Entry) -> Result<Step, StepFault>
+        requires { Makes self.old (types.Input.Mail from e.now) None }
+        ensures { IsStep self.old (types.Input.Mail from e.now) result self.new }
+    {
+        let mut outs = self.room_for_answer()?;
+        self.put_answer(from, e, &mut outs);
+        Ok(Step {
+            kept: None,
+            outs: outs.into_items(),
+        })
+    }
+
+    /// Mail that is kept.
+    fn accepted(&mut self, from: Ws, e: &Entry) -> Result<Step, StepFault>
+        requires made { Makes self.old (types.Input.Mail from e.now) (Some e.now) }
+        requires next { e.now.place ≡ length (list_of self.old.kept e.now.feed) + 1 }
+        ensures { IsStep self.old (types.Input.Mail from e.now) result self.new }
+    {
+        let mut outs = self.room_for_answer()?;
+        let kept = e.copy()?;
+        self.hold(e)?;
+        self.put_answer(from, e, &mut outs);
+        Ok(Step {
+            kept: Some(kept),
+            outs: outs.into_items(),
+        })
+    }
+
+    /// A neighbour sent an entry.
+    pub(crate) fn mailed(&mut self, from: Ws, e: &Entry) -> Result<Step, StepFault>
+        ensures { IsStep self.old (types.Input.Mail from e.now) result self.new }
+    {
+        match self.mail_fault(from, e) {
+            Some(fault) => return Err(fault),
+            None => {}
+        }
+        if accepts(&self.owners, self.me, e) {
+            self.accepted(from, e)
+        } else {
+            self.passed(from, e)
+        }
+    }
+}

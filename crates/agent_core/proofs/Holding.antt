@@ -9,6 +9,8 @@ use Rattle.model.specs.Equalities.{feed_eq}
 use Rattle.model.specs.Network.{node_count}
 use Rattle.model.specs.History.{View, list_of, view_of, view_with}
 use Rattle.model.specs.PresentNet.{net_by, present_net}
+use Rattle.ready_index.specs.declared.index.Index.{Index}
+use Rattle.agent_core.specs.Standing.{IsStanding, Tracks}
 use Rattle.model_laws.proofs.Feeds.{feed_cases, pushed_cases}
 use Rattle.model_laws.proofs.PresentNets.{by_one, one_count}
 
@@ -48,3 +50,18 @@ pub view_later : (kept : List Entry) (made : Option Entry)
     → view_of (kept ++ option_to_list made) ≡ view_with (view_of kept) made
 view_later kept None = ap view_of (append-nil kept) ∙ same_none (view_of kept)
 view_later kept (Some e) = view_next kept e
+
+-- what a node keeps beside its entries, one entry further
+pub standing_next : (net present next : Net) (me : ℕ) (kept later : List Entry) (e : Entry) (index after : Option Index)
+    (switched : Option Net) → IsStanding net present me kept index → later ≡ kept ++ e ∷ []
+    → ((defined : Net) (V : View) → present ≡ present_net defined V
+    → unwrap_or switched present ≡ present_net defined (view_with V (Some e)))
+    → next ≡ unwrap_or switched present → Tracks after later me → IsStanding net next me later after
+standing_next net present next me kept later e index after switched h k s n t =
+    record {
+      inside = h.inside;
+      here =
+          n ∙ s net (view_of kept) h.here
+          ∙ ap (present_net net) (sym (ap view_of k ∙ view_next kept e));
+      tracks = t;
+    }

@@ -2,7 +2,7 @@ pub mod Holding
 pub mod Restored
 pub mod Causes
 pub mod Linking
-pub mod Keeping
+pub mod OwnEntries
 pub mod Owning
 pub mod Planning
 pub mod Mailing

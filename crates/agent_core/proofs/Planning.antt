@@ -21,7 +21,7 @@ use Rattle.agent_core.specs.declared.faults.Step.{Step}
 use Rattle.agent_core.specs.declared.faults.StepFault.{StepFault}
 use Rattle.agent_core.specs.declared.faults.StepFault.TheVariants.{Carry, NoMemory}
 use Rattle.agent_core.proofs.Causes.{Passes, inside, no_plan, own_kept, place_spent}
-use Rattle.agent_core.proofs.Keeping.{GivesNothing, keeping_taken, with_live}
+use Rattle.agent_core.proofs.OwnEntries.{GivesNothing, keeping_taken, with_live}
 
 abbrev pub plan : List StreamDraft → Input
 plan drafts = types.Input.Local (types.Next drafts)

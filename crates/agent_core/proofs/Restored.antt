@@ -1,6 +1,6 @@
 -- What restoring answers.
 use Rattle.std.proofs.Common.{◌≡◌, ◌∷◌, ◌<◌, ◌+◌, ◌++◌, ◌∙◌, [], ℕ, Bool, List, None, Option, Some, ap, arith, cond, false}
-use Rattle.std.proofs.Common.{length, option_map, refl, sym, true}
+use Rattle.std.proofs.Common.{drop, length, option_map, refl, subst, sym, take, true}
 use Rattle.std.specs.Prelude.{nat_lt}
 use Rattle.model.specs.Types.{Entry, Net}
 use Rattle.model.specs.Network.{node_count}
@@ -9,6 +9,8 @@ use Rattle.model.specs.PresentNet.{net_by, present_net}
 use Rattle.model.specs.Facts.{commands}
 use Rattle.model.specs.Restore as model
 use Rattle.model.specs.Restore.{first_wrong, first_wrong_from, follows_on, restore_fault}
+use Rattle.ready_index.specs.declared.index.Index.{Index}
+use Rattle.agent_core.specs.Standing.{IsStanding, Tracks}
 use Rattle.agent_core.specs.Nodes.{NodeState}
 use Rattle.agent_core.specs.Restoring.{IsEntryDue, IsNew, IsRestoreDue}
 use Rattle.agent_core.specs.Steps.{HoldsOneMore}
@@ -63,3 +65,13 @@ pub wrong_here : (net : Net) (before : List Entry) (i : ℕ) (e : Entry) (left :
     → follows_on net before e ≡ false → first_wrong_from net before i (e ∷ left) ≡ Some i
 wrong_here net before i e left h =
     ap (λ (b : Bool). cond b (first_wrong_from net (before ++ e ∷ []) (i + 1) left) (Some i)) h
+
+-- a blank node stands for no entries
+pub blank_stands : (net present : Net) (me : ℕ) (index : Option Index) → me < node_count net → present ≡ net
+    → index ≡ None → IsStanding net present me [] index
+blank_stands net present me index h p i =
+    record {
+      inside = h;
+      here = p ∙ sym (nothing_switched net);
+      tracks = subst (λ (x : Option Index). Tracks x [] me) (sym i) tt;
+    }

@@ -91,6 +91,7 @@ impl Readiness for Tracker {
 
     /// Never refuses.
     fn took(&mut self, net: &Network, o: &Owners, w: Ws, e: &Entry) -> Result<(), NoMemory>
+        requires { w < node_count net.now }
         ensures taken { IsOk result }
         ensures stands { (before : List Taken) → o.now ≡ before ++ e.now ∷ [] → Tracks self.old.index before w
             → Tracks self.new.index o.now w }

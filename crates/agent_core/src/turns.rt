@@ -1,5 +1,5 @@
 //! A turn.
-ghost use Rattle.std.specs.Prelude.{◌≡◌, ◌<◌, ◌≤◌, ◌*◌, ◌+◌, ◌++◌, [], IfOk, None, Some};
+ghost use Rattle.std.specs.Prelude.{◌≡◌, ◌<◌, ◌≤◌, ◌*◌, ◌+◌, ◌++◌, ◌∷◌, [], IfOk, None, Some};
 ghost use Rattle.std.specs.Option.{option_to_list};
 ghost use Rattle.model.specs.Types as types;
 ghost use Rattle.model.specs.Words.{below};
@@ -99,27 +99,47 @@ impl Agent {
         self.net().neighbours(self.me(), m) && self.mail.is_up(m)
     }
 
-    /// Puts what goes to one neighbour at the end of a list with room for eight.
+    /// Puts what goes to a workstation, where that is a neighbour whose link is up, at the end of a list with room for
+    /// eight.
     fn put_sends_to(&self, m: Ws, outs: &mut Growing<Out>)
+        requires inside { m < node_count (present_in self.now) }
+        requires room { 8 ≤ outs.old.spare }
+        ensures items { outs.new.items ≡ outs.old.items ++ sends_among self.now (m ∷ []) }
+        ensures room { outs.old.spare ≤ outs.new.spare + 8 }
+    {
+        if !self.is_reached(m) {
+            return;
+        }
+        self.put_batch(m, outs);
+    }
+
+    /// Puts what a neighbour has not acknowledged, up to eight entries, at the end of a list with room for them.
+    fn put_batch(&self, m: Ws, outs: &mut Growing<Out>)
         requires inside { m < node_count (present_in self.now) }
         requires room { 8 ≤ outs.old.spare }
         ensures items { outs.new.items ≡ outs.old.items ++ sends_to self.now m }
         ensures room { outs.old.spare ≤ outs.new.spare + 8 }
     {
         self.mail
-            .put_sends(self.net(), &self.owners, self.me, m, outs);
+            .put_sends(&self.present, &self.owners, self.me, m, outs);
     }
 
     /// Puts what goes to the neighbours whose links are up at the end of a list with room for eight to each.
     fn put_sends(&self, outs: &mut Growing<Out>)
-        requires { node_count (present_in self.now) * 8 ≤ outs.old.spare }
+        requires { node_count self.now.net * 8 ≤ outs.old.spare }
         ensures { outs.new.items ≡ outs.old.items ++ sends_among self.now (below (node_count (present_in self.now))) }
     {
         for m in 0..self.net().count() {
-            if self.is_reached(Ws(m)) {
-                self.put_sends_to(Ws(m), outs);
-            }
+            self.put_sends_to(Ws(m), outs);
         }
+    }
+
+    /// The most sends of a turn.
+    fn most_sends(&self) -> u32
+        ensures value { result ≡ node_count self.now.net * 8 }
+        ensures few { result ≤ 2048 }
+    {
+        u32::from(self.net.count()) * 8
     }
 
     /// An empty list with room for a launch or a kill, and for all sends.
@@ -128,7 +148,7 @@ impl Agent {
         ensures room { IfOk result (λ outs. node_count self.now.net * 8 + 2 ≤ outs.spare) }
     {
         let mut outs = Growing::new(self.alloc);
-        outs.reserve(u32::from(self.net.count()) * 8 + 2)?;
+        outs.reserve(self.most_sends() + 2)?;
         Ok(outs)
     }
 
@@ -137,6 +157,7 @@ impl Agent {
         requires { None ≡ spec.turn_body (present_in self.old) (view_in self.old) self.old.me self.old.live t }
         ensures { IsStep self.old (types.Input.Local (types.Turn t)) result self.new }
     {
+        let _net = self.net();
         let mut outs = self.room_for_turn()?;
         self.put_sends(&mut outs);
         Ok(Step {
@@ -156,7 +177,8 @@ impl Agent {
         self.hold(&entry)?;
         self.set_live(live);
         put(&mut outs, launch);
-        put(&mut outs, self.kill(&entry.body));
+        let kill = self.kill(&entry.body);
+        put(&mut outs, kill);
         self.put_sends(&mut outs);
         Ok(Step {
             kept: Some(entry),

@@ -1,5 +1,5 @@
 use Rattle.std.proofs.Common.{refl, sym}
-use Rattle.agent_core.proofs.Keeping.{end_kept, end_lacks}
+use Rattle.agent_core.proofs.OwnEntries.{end_kept, end_lacks}
 use Rattle.agent_core.proofs.agents.Agent.end_entry.Goals as goal
 
 pub returns-in_default : goal.returns-in_default

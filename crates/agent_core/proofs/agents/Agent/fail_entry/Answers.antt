@@ -1,5 +1,5 @@
 use Rattle.std.proofs.Common.{refl, sym}
-use Rattle.agent_core.proofs.Keeping.{fail_kept, fail_lacks, fail_told}
+use Rattle.agent_core.proofs.OwnEntries.{fail_kept, fail_lacks, fail_told}
 use Rattle.agent_core.proofs.agents.Agent.fail_entry.Goals as goal
 
 pub returns-in_default : goal.returns-in_default

@@ -1,7 +1,7 @@
 use Rattle.std.proofs.Common.{◌∙◌, ◌<◌, subst, sym}
 use Rattle.model.specs.Types.{Net}
 use Rattle.model.specs.Network.{node_count}
-use Rattle.agent_core.proofs.Keeping.{file_kept, file_lacks}
+use Rattle.agent_core.proofs.OwnEntries.{file_kept, file_lacks}
 use Rattle.agent_core.proofs.agents.Agent.file_entry.Goals as goal
 
 pub returns-then-lacks_dep : goal.returns-then-lacks_dep

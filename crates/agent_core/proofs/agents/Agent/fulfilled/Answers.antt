@@ -1,5 +1,5 @@
 use Rattle.std.proofs.Common.{refl}
-use Rattle.agent_core.proofs.Keeping.{file_step}
+use Rattle.agent_core.proofs.OwnEntries.{file_step}
 use Rattle.agent_core.proofs.agents.Agent.fulfilled.Goals as goal
 
 pub returns-in-Ok : goal.returns-in-Ok

@@ -1,5 +1,5 @@
 use Rattle.std.proofs.Common.{◌∙◌, sym}
-use Rattle.agent_core.proofs.Keeping.{not_outside, not_own, seen_already}
+use Rattle.agent_core.proofs.OwnEntries.{not_outside, not_own, seen_already}
 use Rattle.agent_core.proofs.agents.Agent.lacks_dep.Goals as goal
 
 pub returns-then-not-is_own : goal.returns-then-not-is_own

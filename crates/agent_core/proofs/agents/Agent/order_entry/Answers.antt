@@ -1,6 +1,6 @@
 use Rattle.std.proofs.Common.{◌∙◌, sym}
 use Rattle.agent_core.proofs.Causes.{outside_net}
-use Rattle.agent_core.proofs.Keeping.{order, order_kept}
+use Rattle.agent_core.proofs.OwnEntries.{order, order_kept}
 use Rattle.agent_core.proofs.agents.Agent.order_entry.Goals as goal
 
 pub returns-then-not-has_command : goal.returns-then-not-has_command

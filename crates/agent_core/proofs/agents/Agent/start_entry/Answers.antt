@@ -1,5 +1,5 @@
 use Rattle.std.proofs.Common.{refl, sym}
-use Rattle.agent_core.proofs.Keeping.{start_kept, start_lacks, start_told}
+use Rattle.agent_core.proofs.OwnEntries.{start_kept, start_lacks, start_told}
 use Rattle.agent_core.proofs.agents.Agent.start_entry.Goals as goal
 
 pub returns-in_default : goal.returns-in_default

@@ -1,0 +1,23 @@
+use Rattle.std.proofs.Common.{◌∙◌}
+use Rattle.std.specs.Option.{option_to_list}
+use Rattle.model.specs.Words.{below}
+use Rattle.model.specs.Network.{node_count}
+use Rattle.agent_core.specs.Nodes.{present_in}
+use Rattle.agent_core.specs.Sending.{sends_among}
+use Rattle.agent_core.proofs.Turning.{three, turn_taken}
+use Rattle.agent_core.proofs.agents.Agent.turn_with.Goals as goal
+
+pub hold-requires : goal.hold-requires
+hold-requires c = c.requires.next
+
+pub returns : goal.returns
+returns c =
+    let new = c.set_live.new.self in
+    turn_taken c.args.self.now c.hold.new.self new c.args.t c.args.entry c.in_ok-live.live
+    (option_to_list c.in_ok-launch.launch) (option_to_list c.kill-kill.result) c.into_items.result c.requires
+    c.in_ok-hold.ensures.ok c.set_live.ensures c.in_ok-live.ensures c.in_ok-launch.ensures c.kill-kill.ensures
+    (c.into_items.ensures
+    ∙ three c.in_ok-outs.outs.items c.put.new.outs.items c.put-2.new.outs.items c.put_sends.new.outs.items
+    (option_to_list c.in_ok-launch.launch) (option_to_list c.kill-kill.result)
+    (sends_among new (below (node_count (present_in new)))) c.in_ok-outs.ensures.items c.put.ensures.items
+    c.put-2.ensures.items c.put_sends.ensures)

@@ -21,6 +21,11 @@ count_same net V = one_count net (present_net net V) (by_one net (V (Events 0)))
 pub present_inside : (net : Net) (V : View) (me : ℕ) → me < node_count net → me < node_count (present_net net V)
 present_inside net V me h = subst (λ (n : ℕ). me < n) (sym (count_same net V)) h
 
+pub standing_inside : (net present : Net) (me : ℕ) (kept : List Entry) (index : Option Index)
+    → IsStanding net present me kept index → me < node_count present
+standing_inside net present me kept index h =
+    subst (λ (n : Net). me < node_count n) (sym h.here) (present_inside net (view_of kept) me h.inside)
+
 -- the list of a feed with one entry more
 pub list_next : (kept : List Entry) (e : Entry) (f : Feed)
     → list_of (kept ++ e ∷ []) f ≡ view_with (view_of kept) (Some e) f

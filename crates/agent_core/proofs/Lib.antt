@@ -7,3 +7,4 @@ pub mod Owning
 pub mod Planning
 pub mod Mailing
 pub mod Turning
+pub mod Splitting

@@ -7,7 +7,7 @@ use Rattle.std.specs.Bool.{then_some}
 use Rattle.std.specs.Option.{option_to_list}
 use Rattle.std.specs.Prelude.{◌++◌, ◌==◌, nat_lt}
 use Rattle.model.specs.Types as types
-use Rattle.model.specs.Types.{Entry, Input, Out}
+use Rattle.model.specs.Types.{Entry, Input, Out, Packet}
 use Rattle.model.specs.History.{View}
 use Rattle.model.specs.Sessions.{Session, next_session}
 use Rattle.model.specs.NewEntry.{accepts, makes}
@@ -111,3 +111,13 @@ accepted_taken old new from e kept outs h same one is =
 -- an empty list with what was put at its end
 pub only : {X : Type 0} (begun outs put : List X) → begun ≡ [] → outs ≡ begun ++ put → outs ≡ put
 only {X} begun outs put h k = k ∙ ap (λ (l : List X). l ++ put) h
+
+pub no_answer : (n : NodeState) (from : ℕ) (e : Entry) (outs : List Out) → is_up n.mail from ≡ false
+    → outs ≡ outs ++ answer_to n from e
+no_answer n from e outs h = rw h (sym (append-nil outs))
+
+pub one_answer : (n : NodeState) (from : ℕ) (e : Entry) (outs after : List Out) (p : Packet)
+    → is_up n.mail from ≡ true → p ≡ types.Ack e.feed (length (view_in n e.feed))
+    → after ≡ outs ++ types.Send from p ∷ [] → after ≡ outs ++ answer_to n from e
+one_answer n from e outs after p h k a =
+    rw h (a ∙ ap (λ (q : Packet). outs ++ types.Send from q ∷ []) k)

@@ -1,6 +1,9 @@
 -- What restoring answers.
 use Rattle.std.proofs.Common.{◌≡◌, ◌∷◌, ◌<◌, ◌+◌, ◌++◌, ◌∙◌, [], ℕ, Bool, List, None, Option, Some, ap, arith, cond, false}
-use Rattle.std.proofs.Common.{drop, length, option_map, refl, subst, sym, take, true}
+use Rattle.std.proofs.Common.{drop, drop-cons, get_or, length, option_map, refl, subst, suc, sym, take, take_all}
+use Rattle.std.proofs.Common.{◌≤◌, true}
+use Rattle.std.proofs.lemmas.Grind.{take_at_read}
+use Rattle.std.proofs.lemmas.List.{drop_all}
 use Rattle.std.specs.Prelude.{nat_lt}
 use Rattle.model.specs.Types.{Entry, Net}
 use Rattle.model.specs.Network.{node_count}
@@ -9,9 +12,11 @@ use Rattle.model.specs.PresentNet.{net_by, present_net}
 use Rattle.model.specs.Facts.{commands}
 use Rattle.model.specs.Restore as model
 use Rattle.model.specs.Restore.{first_wrong, first_wrong_from, follows_on, restore_fault}
+use Rattle.model.specs.Sessions.{restarted}
+use Rattle.mailman_core.specs.Mails.{acked_by, is_up}
 use Rattle.ready_index.specs.declared.index.Index.{Index}
 use Rattle.agent_core.specs.Standing.{IsStanding, Tracks}
-use Rattle.agent_core.specs.Nodes.{NodeState}
+use Rattle.agent_core.specs.Nodes.{NodeState, session_in}
 use Rattle.agent_core.specs.Restoring.{IsEntryDue, IsNew, IsRestoreDue}
 use Rattle.agent_core.specs.Steps.{HoldsOneMore}
 
@@ -75,3 +80,73 @@ blank_stands net present me index h p i =
       here = p ∙ sym (nothing_switched net);
       tracks = subst (λ (x : Option Index). Tracks x [] me) (sym i) tt;
     }
+
+-- a walk over the entries
+take_more : (kept : List Entry) (i : ℕ) (e : Entry) → i < length kept → e ≡ get_or kept i e
+    → take (i + 1) kept ≡ take i kept ++ e ∷ []
+take_more kept i e h is =
+    (take_at_read kept i e h).1 ∙ ap (λ (d : Entry). take i kept ++ d ∷ []) (sym is)
+
+drop_here : (kept : List Entry) (i : ℕ) (e : Entry) → i < length kept → e ≡ get_or kept i e
+    → drop i kept ≡ e ∷ drop (i + 1) kept
+drop_here kept i e h is =
+    drop-cons kept i e h ∙ ap (λ (d : Entry). d ∷ drop (suc i) kept) (sym is)
+    ∙ ap (λ (k : ℕ). e ∷ drop k kept) (more i)
+  where
+    more : (k : ℕ) → suc k ≡ k + 1
+    more k = omega arith
+
+pub walk_new : (net : Net) (me : ℕ) (kept : List Entry) (i : ℕ) (e : Entry) (old new : NodeState) → i < length kept
+    → e ≡ get_or kept i e → IsNew net me (take i kept) old → HoldsOneMore old e new
+    → IsNew net me (take (i + 1) kept) new
+walk_new net me kept i e old new h is k one =
+    subst (λ (l : List Entry). IsNew net me l new) (sym (take_more kept i e h is))
+    (new_next net me (take i kept) e old new k one)
+
+-- what the node says of the entry, said of the list
+follows_here : (net : Net) (me : ℕ) (kept : List Entry) (i : ℕ) (e : Entry) (old : NodeState) (b : Bool)
+    → IsNew net me (take i kept) old → b ≡ follows_on old.net old.kept e → follows_on net (take i kept) e ≡ b
+follows_here net me kept i e old b k f =
+    sym
+    (f ∙ ap (λ (n : Net). follows_on n old.kept e) k.net_
+    ∙ ap (λ (l : List Entry). follows_on net l e) k.kept_)
+
+abbrev pub LeftFrom : Net → List Entry → ℕ → Type 0
+LeftFrom net kept i = first_wrong net kept ≡ first_wrong_from net (take i kept) i (drop i kept)
+
+pub walk_left : (net : Net) (me : ℕ) (kept : List Entry) (i : ℕ) (e : Entry) (old : NodeState) (b : Bool)
+    → i < length kept → e ≡ get_or kept i e → IsNew net me (take i kept) old → b ≡ follows_on old.net old.kept e
+    → b ≡ true → LeftFrom net kept i → LeftFrom net kept (i + 1)
+walk_left net me kept i e old b h is k f t left =
+    left ∙ ap (first_wrong_from net (take i kept) i) (drop_here kept i e h is)
+    ∙ wrong_later net (take i kept) i e (drop (i + 1) kept) (follows_here net me kept i e old b k f ∙ t)
+    ∙ ap (λ (l : List Entry). first_wrong_from net l (i + 1) (drop (i + 1) kept)) (sym (take_more kept i e h is))
+
+pub walk_wrong : (net : Net) (me : ℕ) (kept : List Entry) (i : ℕ) (e : Entry) (old : NodeState) (b : Bool)
+    (f : Option model.RestoreFault) → i < length kept → e ≡ get_or kept i e → IsNew net me (take i kept) old
+    → b ≡ follows_on old.net old.kept e → b ≡ false → LeftFrom net kept i → IsEntryDue (Some i) f
+    → IsEntryDue (first_wrong net kept) f
+walk_wrong net me kept i e old b f h is k n t left due =
+    subst (λ (o : Option ℕ). IsEntryDue o f)
+    (sym
+    (left ∙ ap (first_wrong_from net (take i kept) i) (drop_here kept i e h is)
+    ∙ wrong_here net (take i kept) i e (drop (i + 1) kept) (follows_here net me kept i e old b k n ∙ t))) due
+
+pub walk_end : (net : Net) (kept : List Entry) (i : ℕ) → length kept ≤ i → LeftFrom net kept i
+    → first_wrong net kept ≡ None
+walk_end net kept i h left =
+    left ∙ ap (first_wrong_from net (take i kept) i) (drop_all i kept h)
+
+pub walk_all : (net : Net) (me : ℕ) (kept : List Entry) (i : ℕ) (node : NodeState) → length kept ≤ i
+    → IsNew net me (take i kept) node → IsNew net me kept node
+walk_all net me kept i node h k = subst (λ (l : List Entry). IsNew net me l node) (take_all i kept h) k
+
+pub walk_begins : (net : Net) (kept : List Entry) → LeftFrom net kept 0
+unfolding first_wrong
+walk_begins net kept = refl
+
+-- a new node's session
+pub new_session : (net : Net) (me : ℕ) (kept : List Entry) (node : NodeState) → IsNew net me kept node
+    → session_in node ≡ restarted
+new_session net me kept node h =
+    λ i. record { acked = acked_by (h.mail_ i); links = is_up (h.mail_ i); live = h.live_ i }

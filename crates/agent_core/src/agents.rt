@@ -14,7 +14,6 @@ use std::alloc::Global;
 use std::marker::Model;
 
 /// A node of a network.
-#[derive(Drop)]
 pub struct Agent {
     pub(crate) alloc: Global,
     pub(crate) net: Network,
@@ -38,14 +37,36 @@ impl Model for Agent {
     ghost invariant = { λ a. IsStanding a.net a.present a.me a.owners a.tracker.index };
 }
 
+/// Written out, so that dropping one is a call for whoever owns it.
+impl Drop for Agent {
+    fn drop(self) {
+        let Agent {
+            alloc: _alloc,
+            net: _net,
+            present: _present,
+            me: _me,
+            owners: _owners,
+            tracker: _tracker,
+            mail: _mail,
+            live: _live,
+        } = self;
+    }
+}
+
 impl Agent {
     /// The network as it stands for the node: the defined one, after the switches of managers that it knows of.
-    #[tactic(auto, using(crate::proofs::Holding::present_inside))]
     pub fn net(&self) -> &Network
         ensures value { result.now ≡ present_in self.now }
         ensures inside { self.now.me < node_count result.now }
     {
         &self.present
+    }
+
+    /// The network as it was defined.
+    pub fn defined(&self) -> &Network
+        ensures { result.now ≡ self.now.net }
+    {
+        &self.net
     }
 
     /// The workstation.

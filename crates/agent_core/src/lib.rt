@@ -27,3 +27,4 @@ mod turns;
 pub use agents::Agent;
 pub use faults::{Step, StepFault};
 pub use restores::RestoreFault;
+pub use shown::equal_events_show_equal_plans;

@@ -22,7 +22,7 @@ impl Agent {
             ≡ list_all (λ w. nat_lt w (node_count (present_in self.now))) (self.now.me ∷ x ∷ []) }
     {
         let count = self.net().count();
-        self.me.0 < count && x.0 < count
+        self.me().0 < count && x.0 < count
     }
 
     /// Whether the node itself, x and the workstations of a feed are in the network.
@@ -32,8 +32,8 @@ impl Agent {
     {
         let count = self.net().count();
         match feed {
-            Feed::Events(w) => self.me.0 < count && x.0 < count && w.0 < count,
-            Feed::Orders(a, w) => self.me.0 < count && x.0 < count && a.0 < count && w.0 < count,
+            Feed::Events(w) => self.me().0 < count && x.0 < count && w.0 < count,
+            Feed::Orders(a, w) => self.me().0 < count && x.0 < count && a.0 < count && w.0 < count,
         }
     }
 
@@ -41,7 +41,14 @@ impl Agent {
     pub(crate) fn is_itself(&self, x: Ws) -> bool
         ensures { result ≡ (x == self.now.me) }
     {
-        x.0 == self.me.0
+        x.0 == self.me().0
+    }
+
+    /// Whether the own end of the link to x is up.
+    pub(crate) fn is_linked(&self, x: Ws) -> bool
+        ensures { result ≡ is_up self.now.mail x }
+    {
+        self.mail.is_up(x)
     }
 
     /// A step that keeps nothing and gives nothing out.

@@ -11,7 +11,7 @@ ghost use Rattle.agent_core.specs.Steps.{IsFault, IsStep, Makes};
 
 use crate::agents::Agent;
 use crate::faults::{Step, StepFault};
-use base_types::{Copied, Entry, Growing, NoMemory, Out, Ws};
+use base_types::{Copied, Entry, Growing, NoMemory, Out, Packet, Ws};
 use entry_sizes::entry_size;
 use mailman_core::{accepts, acknowledgement};
 use named_workstations::is_entry_inside;
@@ -26,14 +26,22 @@ impl Agent {
         self.me.0 < count && from.0 < count && is_entry_inside(count, e)
     }
 
+    /// How many entries of a feed of mail the node holds, told as an acknowledgement.
+    fn acknowledged(&self, e: &Entry) -> Packet
+        ensures { result ≡ types.Ack e.now.feed (length (view_in self.now e.now.feed)) }
+    {
+        acknowledgement(self.owners(), e)
+    }
+
     /// Puts what goes back for mail, where the link is up, at the end of a list with room for it.
     fn put_answer(&self, from: Ws, e: &Entry, outs: &mut Growing<Out>)
         requires { 1 ≤ outs.old.spare }
         ensures { outs.new.items ≡ outs.old.items ++ answer_to self.now from e.now }
     {
-        if self.mail.is_up(from) {
-            outs.put(Out::Send(from, acknowledgement(&self.owners, e)));
+        if !self.is_linked(from) {
+            return;
         }
+        outs.put(Out::Send(from, self.acknowledged(e)));
     }
 
     /// An empty list with room for one.

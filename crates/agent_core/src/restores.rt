@@ -6,6 +6,7 @@ ghost use Rattle.model.specs.Sessions.{restarted};
 ghost use Rattle.model.specs.Restore.{first_wrong, follows_on, restore_fault};
 ghost use Rattle.agent_core.specs.Nodes.{session_in};
 ghost use Rattle.agent_core.specs.Restoring.{IsEntryDue, IsNew, IsRestoreDue, restore_fault_of};
+ghost use Rattle.agent_core.specs.declared.restores.RestoreFault.TheVariants.{NoMemory as NoRoom};
 
 use crate::agents::Agent;
 use crate::trackers::Tracker;
@@ -25,6 +26,14 @@ pub enum RestoreFault {
     NotNext(u32),
     /// Memory ran out, or that index is above 4,294,967,295.
     NoMemory,
+}
+
+impl From<NoMemory> for RestoreFault {
+    ghost from_gives = { λ _ fault. fault ≡ NoRoom };
+
+    fn from(_error: NoMemory) -> RestoreFault {
+        RestoreFault::NoMemory
+    }
 }
 
 /// Whether a workstation is in a network.
@@ -84,9 +93,7 @@ impl Agent {
             if !self.is_next(entry) {
                 return Err(not_next(i));
             }
-            if self.hold(entry).is_err() {
-                return Err(RestoreFault::NoMemory);
-            }
+            self.hold(entry)?;
         }
         Ok(())
     }
@@ -108,17 +115,13 @@ impl Agent {
         if !is_inside(&net, me) {
             return Err(RestoreFault::NotInNetwork);
         }
-        let mut agent = match Agent::blank(alloc, net, me) {
-            Ok(agent) => agent,
-            Err(_) => return Err(RestoreFault::NoMemory),
-        };
+        let mut agent = Agent::blank(alloc, net, me)?;
         match agent.take_all(kept.as_slice()) {
-            Ok(()) => {}
-            Err(fault) => return Err(fault),
-        }
-        match agent.renew() {
-            Ok(()) => Ok(agent),
-            Err(_) => Err(RestoreFault::NoMemory),
+            Ok(()) => {
+                agent.renew()?;
+                Ok(agent)
+            }
+            Err(fault) => Err(fault),
         }
     }
 }

@@ -1,9 +1,12 @@
 //! A turn.
 ghost use Rattle.std.specs.Prelude.{◌≡◌, ◌<◌, ◌≤◌, ◌*◌, ◌+◌, ◌++◌, ◌∷◌, [], IfOk, None, Some};
-ghost use Rattle.std.specs.Option.{option_to_list};
+ghost use Rattle.std.specs.Option.{option_map_or, option_to_list};
 ghost use Rattle.model.specs.Types as types;
+ghost use Rattle.model.specs.Types.{Events};
 ghost use Rattle.model.specs.Words.{below};
 ghost use Rattle.model.specs.Network.{node_count};
+ghost use Rattle.model.specs.Catalogue.{StreamJob, job};
+ghost use Rattle.model.specs.Facts.{open_launch};
 ghost use Rattle.model.specs.Turn as spec;
 ghost use Rattle.agent_core.specs.Nodes.{present_in, view_in};
 ghost use Rattle.agent_core.specs.Sending.{is_reached, kill_by, launch_by, live_with, sends_among, sends_to};
@@ -11,7 +14,9 @@ ghost use Rattle.agent_core.specs.Steps.{IsKept, IsStep, IsTurnBody, Keeps};
 
 use crate::agents::Agent;
 use crate::faults::{Step, StepFault};
-use base_types::{Body, Cmd, Copied, Entry, Growing, Live, LiveJob, Moment, NoMemory, Out, Ws};
+use base_types::{
+    Body, Cmd, Copied, Entry, Growing, JobNo, Live, LiveJob, Moment, NoMemory, Out, Ws,
+};
 use batchman_core::turn_body;
 
 /// Puts what is there at the end of a list with room for it.
@@ -48,14 +53,22 @@ impl Agent {
     fn launch(&self, body: &Body) -> Result<Option<Out>, NoMemory>
         ensures { IfOk result (λ out. option_to_list out ≡ launch_by (view_in self.now) body.now) }
     {
-        let Body::Launched(j, number, _) = body else {
-            return Ok(None);
-        };
-        match self.owners().planned_job(*j) {
+        match body {
+            Body::Launched(j, number, _) => self.launch_of(*j, *number),
+            _ => Ok(None),
+        }
+    }
+
+    /// The launch of a job of the catalogue, with its work.
+    fn launch_of(&self, j: JobNo, number: u32) -> Result<Option<Out>, NoMemory>
+        ensures { IfOk result (λ out. option_to_list out
+            ≡ option_map_or (λ (p : StreamJob). types.Launch j number p.doc.work ∷ []) (job (view_in self.now) j) []) }
+    {
+        match self.owners().planned_job(j) {
             None => Ok(None),
             Some((_parent, doc)) => {
                 let work = doc.work.copy()?;
-                Ok(Some(Out::Launch(*j, *number, work)))
+                Ok(Some(Out::Launch(j, number, work)))
             }
         }
     }
@@ -64,12 +77,20 @@ impl Agent {
     fn kill(&self, body: &Body) -> Option<Out>
         ensures { option_to_list result ≡ kill_by self.now.me (view_in self.now) body.now }
     {
-        let Body::Obeyed(_, _, Cmd::Kill(j)) = body else {
-            return None;
-        };
-        match self.owners().kept().open_launch_at(self.me(), *j) {
+        match body {
+            Body::Obeyed(_, _, Cmd::Kill(j)) => self.open_kill(*j),
+            _ => None,
+        }
+    }
+
+    /// The kill of the open launch of a job.
+    fn open_kill(&self, j: JobNo) -> Option<Out>
+        ensures { option_to_list result
+            ≡ option_map_or (λ n. types.Out.Kill j n ∷ []) (open_launch j (view_in self.now (Events self.now.me))) [] }
+    {
+        match self.owners().kept().open_launch_at(self.me(), j) {
             None => None,
-            Some(number) => Some(Out::Kill(*j, number)),
+            Some(number) => Some(Out::Kill(j, number)),
         }
     }
 
@@ -96,7 +117,7 @@ impl Agent {
         requires { m < node_count (present_in self.now) }
         ensures { result ≡ is_reached self.now m }
     {
-        self.net().neighbours(self.me(), m) && self.mail.is_up(m)
+        self.net().neighbours(self.me(), m) && self.is_linked(m)
     }
 
     /// Puts what goes to a workstation, where that is a neighbour whose link is up, at the end of a list with room for

@@ -1,13 +1,15 @@
 //! Mail from a neighbour.
-ghost use Rattle.std.specs.Prelude.{◌≡◌, ◌≤◌, ◌∷◌, ◌++◌, ◌+◌, [], IfOk, None, Some, length, nat_lt};
+ghost use Rattle.std.specs.Prelude.{◌≡◌, ◌≤◌, ◌∷◌, ◌++◌, ◌+◌, [], IfOk, None, Ok, Some, length, nat_lt, true};
 ghost use Rattle.std.specs.List.{list_all};
 ghost use Rattle.model.specs.Types as types;
 ghost use Rattle.model.specs.Network.{node_count};
 ghost use Rattle.model.specs.History.{list_of};
 ghost use Rattle.model.specs.Workstations.{ws_in_body, ws_in_feed};
-ghost use Rattle.agent_core.specs.Nodes.{present_in};
+ghost use Rattle.model.specs.NewEntry as entries;
+ghost use Rattle.model.specs.StepFaults as faults;
+ghost use Rattle.agent_core.specs.Nodes.{present_in, view_in};
 ghost use Rattle.agent_core.specs.Sending.{answer_to};
-ghost use Rattle.agent_core.specs.Steps.{IsFault, IsStep, Makes};
+ghost use Rattle.agent_core.specs.Steps.{IsFault, IsStep, Makes, due, step_at};
 
 use crate::agents::Agent;
 use crate::faults::{Step, StepFault};
@@ -16,6 +18,16 @@ use entry_sizes::entry_size;
 use mailman_core::{accepts, acknowledgement};
 use named_workstations::is_entry_inside;
 
+/// Whether an entry has more bytes than a record may have.
+#[tactic(auto, unfolding(model::specs::Sizes::entry_size))]
+fn is_too_long(e: &Entry) -> bool
+    ensures value { result ≡ faults.is_too_long (Some e.now) }
+    ensures place { e.now.place ≤ 4294967295 }
+{
+    let _place = e.place;
+    entry_size(e).is_none()
+}
+
 impl Agent {
     /// Whether the node itself, the sender and the workstations that an entry names are in the network.
     fn has_mail(&self, from: Ws, e: &Entry) -> bool
@@ -23,10 +35,19 @@ impl Agent {
             (self.now.me ∷ from ∷ (ws_in_feed e.now.feed ++ ws_in_body e.now.body)) }
     {
         let count = self.net().count();
-        self.me.0 < count && from.0 < count && is_entry_inside(count, e)
+        self.me().0 < count && from.0 < count && is_entry_inside(count, e)
     }
 
-    /// How many entries of a feed of mail the node holds, told as an acknowledgement.
+    /// Whether mail is the next of its feed, and not of this node's making.
+    #[tactic(auto, unfolding(model::specs::NewEntry::accepts))]
+    fn accepts(&self, e: &Entry) -> bool
+        ensures value { result ≡ entries.accepts self.now.me (view_in self.now) e.now }
+        ensures next { result ≡ true → e.now.place ≡ length (list_of self.now.kept e.now.feed) + 1 }
+    {
+        accepts(self.owners(), self.me(), e)
+    }
+
+    /// How many entries of the feed of mail the node holds, told as an acknowledgement.
     fn acknowledged(&self, e: &Entry) -> Packet
         ensures { result ≡ types.Ack e.now.feed (length (view_in self.now e.now.feed)) }
     {
@@ -64,10 +85,10 @@ impl Agent {
         if self.is_itself(from) {
             return Some(StepFault::NotNeighbour);
         }
-        if !accepts(&self.owners, self.me, e) {
+        if !self.accepts(e) {
             return None;
         }
-        if entry_size(e).is_none() {
+        if is_too_long(e) {
             return Some(StepFault::TooLong);
         }
         None
@@ -102,18 +123,25 @@ impl Agent {
         })
     }
 
+    /// Mail without a fault.
+    fn answered(&mut self, from: Ws, e: &Entry) -> Result<Step, StepFault>
+        requires { step_at self.old (types.Input.Mail from e.now) ≡ Ok (due self.old (types.Input.Mail from e.now)) }
+        ensures { IsStep self.old (types.Input.Mail from e.now) result self.new }
+    {
+        if self.accepts(e) {
+            self.accepted(from, e)
+        } else {
+            self.passed(from, e)
+        }
+    }
+
     /// A neighbour sent an entry.
     pub(crate) fn mailed(&mut self, from: Ws, e: &Entry) -> Result<Step, StepFault>
         ensures { IsStep self.old (types.Input.Mail from e.now) result self.new }
     {
         match self.mail_fault(from, e) {
-            Some(fault) => return Err(fault),
-            None => {}
-        }
-        if accepts(&self.owners, self.me, e) {
-            self.accepted(from, e)
-        } else {
-            self.passed(from, e)
+            Some(fault) => Err(fault),
+            None => self.answered(from, e),
         }
     }
 }

@@ -2,10 +2,11 @@
 ghost use Rattle.std.specs.Prelude.{◌≡◌, ◌∷◌, nat_lt};
 ghost use Rattle.std.specs.List.{list_all};
 ghost use Rattle.model.specs.Types as types;
+ghost use Rattle.model.specs.Types.{Orders};
 ghost use Rattle.model.specs.Network.{node_count};
 ghost use Rattle.model.specs.Workstations.{ws_in_cmd};
-ghost use Rattle.agent_core.specs.Nodes.{present_in};
-ghost use Rattle.agent_core.specs.Steps.{IsKept, IsStep};
+ghost use Rattle.agent_core.specs.Nodes.{present_in, view_in};
+ghost use Rattle.agent_core.specs.Steps.{IsKept, IsOwnEntry, IsStep};
 
 use crate::agents::Agent;
 use crate::faults::{Step, StepFault};
@@ -19,7 +20,15 @@ impl Agent {
             (self.now.me ∷ to ∷ ws_in_cmd cmd.now) }
     {
         let count = self.net().count();
-        self.me.0 < count && to.0 < count && is_cmd_inside(count, cmd)
+        self.me().0 < count && to.0 < count && is_cmd_inside(count, cmd)
+    }
+
+    /// The next of the node's own orders to a workstation. It takes no memory.
+    fn own_order(&self, to: Ws, body: Body) -> Result<Entry, StepFault>
+        ensures { IsOwnEntry (view_in self.now) (Orders self.now.me to) body result }
+    {
+        let feed = Feed::Orders(self.me(), to);
+        self.own_entry(&feed, body)
     }
 
     /// The entry that a typed command makes.
@@ -29,22 +38,19 @@ impl Agent {
         if !self.has_command(to, cmd) {
             return Err(StepFault::NotInNetwork);
         }
-        let order = match cmd.copy() {
-            Ok(order) => order,
-            Err(_) => return Err(StepFault::NoMemory),
-        };
-        let feed = Feed::Orders(self.me, to);
-        self.own_entry(&feed, Body::Order(order))
+        match cmd.copy() {
+            Ok(order) => self.own_order(to, Body::Order(order)),
+            Err(_) => Err(StepFault::NoMemory),
+        }
     }
 
     /// A command for a workstation was typed.
     pub(crate) fn typed(&mut self, to: Ws, cmd: &Cmd) -> Result<Step, StepFault>
         ensures { IsStep self.old (types.Input.Local (types.Typed to cmd.now)) result self.new }
     {
-        let entry = match self.order_entry(to, cmd) {
-            Ok(entry) => entry,
-            Err(fault) => return Err(fault),
-        };
-        self.keep_alone(entry)
+        match self.order_entry(to, cmd) {
+            Ok(entry) => self.keep_alone(entry),
+            Err(fault) => Err(fault),
+        }
     }
 }

@@ -1,17 +1,16 @@
 //! The plan of a new day.
-ghost use Rattle.std.specs.Prelude.{◌≡◌, ◌∷◌, ◌+◌, flat_map, length, nat_lt};
+ghost use Rattle.std.specs.Prelude.{◌≡◌, ◌==◌, ◌∷◌, ◌+◌, flat_map, length, nat_lt};
 ghost use Rattle.std.specs.List.{list_all};
 ghost use Rattle.model.specs.Types as types;
 ghost use Rattle.model.specs.Types.{Events};
 ghost use Rattle.model.specs.Network.{node_count};
-ghost use Rattle.model.specs.History.{list_of};
 ghost use Rattle.model.specs.Workstations.{ws_in_draft};
-ghost use Rattle.agent_core.specs.Nodes.{present_in};
-ghost use Rattle.agent_core.specs.Steps.{IsCarried, IsKept, IsStep};
+ghost use Rattle.agent_core.specs.Nodes.{present_in, view_in};
+ghost use Rattle.agent_core.specs.Steps.{IsCarried, IsDayPlan, IsKept, IsStep};
 
 use crate::agents::Agent;
 use crate::faults::{Step, StepFault};
-use base_types::{Entry, Feed, StreamDrafts};
+use base_types::{Body, Entry, Feed, StreamDrafts};
 use carry_forward::{CarryFault, next_plan};
 use named_workstations::are_drafts_inside;
 
@@ -21,7 +20,9 @@ fn no_plan(fault: CarryFault) -> StepFault
 {
     match fault {
         CarryFault::NoMemory => StepFault::NoMemory,
-        _ => StepFault::Carry(fault),
+        CarryFault::RunsSpent => StepFault::Carry(CarryFault::RunsSpent),
+        CarryFault::NumbersSpent => StepFault::Carry(CarryFault::NumbersSpent),
+        CarryFault::PlanFull(most) => StepFault::Carry(CarryFault::PlanFull(most)),
     }
 }
 
@@ -32,14 +33,28 @@ impl Agent {
             (self.now.me ∷ flat_map ws_in_draft drafts.now) }
     {
         let count = self.net().count();
-        self.me.0 < count && are_drafts_inside(count, drafts)
+        self.me().0 < count && are_drafts_inside(count, drafts)
+    }
+
+    /// Whether the node is the master.
+    fn is_master(&self) -> bool
+        ensures { result ≡ (self.now.me == 0) }
+    {
+        self.me().0 == 0
     }
 
     /// Whether the node's own events have no place more.
     fn is_spent(&self) -> bool
-        ensures { result ≡ nat_lt 4294967295 (1 + length (list_of self.now.kept (Events self.now.me))) }
+        ensures { result ≡ nat_lt 4294967295 (1 + length (view_in self.now (Events self.now.me))) }
     {
-        self.owners.count(Feed::Events(self.me)) == u32::MAX
+        self.holds(Feed::Events(self.me())) == u32::MAX
+    }
+
+    /// The plan of the next day.
+    fn day_plan(&self, drafts: &StreamDrafts) -> Result<Body, CarryFault>
+        ensures { IsDayPlan self.now drafts.now result }
+    {
+        next_plan(self.alloc, self.net(), self.owners(), drafts)
     }
 
     /// The entry that the end of the day makes.
@@ -49,27 +64,25 @@ impl Agent {
         if !self.has_drafts(drafts) {
             return Err(StepFault::NotInNetwork);
         }
-        if self.me.0 != 0 {
+        if !self.is_master() {
             return Err(StepFault::NotMaster);
         }
         if self.is_spent() {
             return Err(StepFault::PlaceSpent);
         }
-        let body = match next_plan(self.alloc, self.net(), &self.owners, drafts) {
-            Ok(body) => body,
-            Err(fault) => return Err(no_plan(fault)),
-        };
-        self.own_event(body)
+        match self.day_plan(drafts) {
+            Ok(body) => self.own_event(body),
+            Err(fault) => Err(no_plan(fault)),
+        }
     }
 
     /// The plan of the next day is made of drafts.
     pub(crate) fn planned(&mut self, drafts: &StreamDrafts) -> Result<Step, StepFault>
         ensures { IsStep self.old (types.Input.Local (types.Next drafts.now)) result self.new }
     {
-        let entry = match self.plan_entry(drafts) {
-            Ok(entry) => entry,
-            Err(fault) => return Err(fault),
-        };
-        self.keep_alone(entry)
+        match self.plan_entry(drafts) {
+            Ok(entry) => self.keep_alone(entry),
+            Err(fault) => Err(fault),
+        }
     }
 }

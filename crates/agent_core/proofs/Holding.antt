@@ -48,7 +48,7 @@ view_next kept e = λ i f. list_next kept e f i
 
 same_none : (V : View) → V ≡ view_with V None
 unfolding view_with
-same_none V = refl
+same_none V = λ i f. V f
 
 -- whether an entry is kept or not
 pub view_later : (kept : List Entry) (made : Option Entry)
@@ -70,3 +70,8 @@ standing_next net present next me kept later e index after switched h k s n t =
           ∙ ap (present_net net) (sym (ap view_of k ∙ view_next kept e));
       tracks = t;
     }
+
+-- with another index of the same entries
+pub standing_anew : (net present : Net) (me : ℕ) (kept : List Entry) (index after : Option Index)
+    → IsStanding net present me kept index → Tracks after kept me → IsStanding net present me kept after
+standing_anew net present me kept index after h t = record { inside = h.inside; here = h.here; tracks = t }

@@ -273,15 +273,25 @@ none_left i n h = omega (arith, h)
 abbrev pub sends_from : NodeState → ℕ → List Out
 sends_from n i = sends_among n (numbers_from i (node_count (present_in n) - i))
 
+one_more : {X : Type 0} (f : ℕ → List X) (q : ℕ → Bool) (i : ℕ) (rest : List ℕ)
+    → flat_map f (filter q (i ∷ rest)) ≡ flat_map f (filter q (i ∷ [])) ++ flat_map f (filter q rest)
+one_more {X} f q i rest = go (q i)
+  where
+    go : (b : Bool)
+        → flat_map f (cond b (i ∷ filter q rest) (filter q rest))
+        ≡ flat_map f (cond b (i ∷ []) []) ++ flat_map f (filter q rest)
+    go true = ap (λ (l : List X). l ++ flat_map f (filter q rest)) (sym (append-nil (f i)))
+    go false = refl
+
+one_such : {X : Type 0} (f : ℕ → List X) (q : ℕ → Bool) (i : ℕ) → q i ≡ true → f i ≡ flat_map f (filter q (i ∷ []))
+one_such f q i h = sym (ap (λ (b : Bool). flat_map f (cond b (i ∷ []) [])) h ∙ append-nil (f i))
+
+none_such : {X : Type 0} (f : ℕ → List X) (q : ℕ → Bool) (i : ℕ) → q i ≡ false → [] ≡ flat_map f (filter q (i ∷ []))
+none_such f q i h = sym (ap (λ (b : Bool). flat_map f (cond b (i ∷ []) [])) h)
+
 one_then : (n : NodeState) (i k : ℕ)
     → sends_among n (numbers_from i (suc k)) ≡ sends_among n (i ∷ []) ++ sends_among n (numbers_from (i + 1) k)
-one_then n i k = go (is_reached n i) refl
-  where
-    go : (b : Bool) → is_reached n i ≡ b
-        → sends_among n (numbers_from i (suc k)) ≡ sends_among n (i ∷ []) ++ sends_among n (numbers_from (i + 1) k)
-    go true h =
-        rw h (ap (λ (l : List Out). l ++ sends_among n (numbers_from (i + 1) k)) (sym (append-nil (sends_to n i))))
-    go false h = rw h refl
+one_then n i k = one_more (sends_to n) (is_reached n) i (numbers_from (i + 1) k)
 
 pub sends_next : (n : NodeState) (i : ℕ) (outs after all : List Out) → i < node_count (present_in n)
     → after ≡ outs ++ sends_among n (i ∷ []) → outs ++ sends_from n i ≡ all → after ++ sends_from n (i + 1) ≡ all
@@ -296,12 +306,12 @@ sends_next n i outs after all h a o =
 -- one workstation
 pub one_reached : (n : NodeState) (i : ℕ) (outs after : List Out) → is_reached n i ≡ true
     → after ≡ outs ++ sends_to n i → after ≡ outs ++ sends_among n (i ∷ [])
-one_reached n i outs after h a =
-    a ∙ ap (λ (l : List Out). outs ++ l) (rw h (sym (append-nil (sends_to n i))))
+one_reached n i outs after h a = a ∙ ap (λ (l : List Out). outs ++ l) (one_such (sends_to n) (is_reached n) i h)
 
 pub one_passed : (n : NodeState) (i : ℕ) (outs : List Out) → is_reached n i ≡ false
     → outs ≡ outs ++ sends_among n (i ∷ [])
-one_passed n i outs h = rw h (sym (append-nil outs))
+one_passed n i outs h =
+    sym (append-nil outs) ∙ ap (λ (l : List Out). outs ++ l) (none_such (sends_to n) (is_reached n) i h)
 
 -- a walk over the network that was defined stays in the present one
 pub still_inside : (n : NodeState) (i count : ℕ) (net : Net) → i < count → count ≡ node_count net → net ≡ present_in n

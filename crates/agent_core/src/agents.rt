@@ -117,7 +117,8 @@ impl Agent {
         if !self.tracker.is_missing() {
             return Ok(());
         }
-        self.tracker = Tracker::of(self.alloc, &self.net, &self.owners, self.me)?;
+        let tracker = Tracker::of(self.alloc, &self.net, &self.owners, self.me)?;
+        self.tracker = tracker;
         Ok(())
     }
 }

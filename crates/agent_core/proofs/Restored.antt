@@ -72,13 +72,13 @@ wrong_here net before i e left h =
     ap (λ (b : Bool). cond b (first_wrong_from net (before ++ e ∷ []) (i + 1) left) (Some i)) h
 
 -- a blank node stands for no entries
-pub blank_stands : (net present : Net) (me : ℕ) (index : Option Index) → me < node_count net → present ≡ net
-    → index ≡ None → IsStanding net present me [] index
-blank_stands net present me index h p i =
+pub blank_stands : (net present : Net) (me : ℕ) (kept : List Entry) (index : Option Index) → me < node_count net
+    → present ≡ net → kept ≡ [] → index ≡ None → IsStanding net present me kept index
+blank_stands net present me kept index h p k i =
     record {
       inside = h;
-      here = p ∙ sym (nothing_switched net);
-      tracks = subst (λ (x : Option Index). Tracks x [] me) (sym i) tt;
+      here = p ∙ sym (ap (λ (l : List Entry). present_net net (view_of l)) k ∙ nothing_switched net);
+      tracks = subst (λ (x : Option Index). Tracks x kept me) (sym i) tt;
     }
 
 -- a walk over the entries

@@ -60,15 +60,19 @@ impl Agent {
         ensures { IfOk result (λ a. IsNew net me [] a) }
     {
         let present = net.copy()?;
+        let owners = Owners::new(alloc);
+        let tracker = Tracker::new();
+        let mail = Mail::new(alloc);
+        let live = Items::new(alloc);
         Ok(Agent {
             alloc,
             net,
             present,
             me,
-            owners: Owners::new(alloc),
-            tracker: Tracker::new(),
-            mail: Mail::new(alloc),
-            live: Items::new(alloc),
+            owners,
+            tracker,
+            mail,
+            live,
         })
     }
 

@@ -25,8 +25,9 @@ fn put(outs: &mut Growing<Out>, out: Option<Out>)
     ensures items { outs.new.items ≡ outs.old.items ++ option_to_list out }
     ensures room { outs.old.spare ≤ outs.new.spare + 1 }
 {
-    if let Some(out) = out {
-        outs.put(out);
+    match out {
+        None => {}
+        Some(out) => outs.put(out),
     }
 }
 

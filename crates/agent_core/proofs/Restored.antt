@@ -150,3 +150,36 @@ pub new_session : (net : Net) (me : ℕ) (kept : List Entry) (node : NodeState) 
     → session_in node ≡ restarted
 new_session net me kept node h =
     λ i. record { acked = acked_by (h.mail_ i); links = is_up (h.mail_ i); live = h.live_ i }
+
+-- a new node is one over its own network
+pub self_new : (net : Net) (me : ℕ) (kept : List Entry) (node : NodeState) → IsNew net me kept node
+    → IsNew node.net node.me kept node
+self_new net me kept node h =
+    record { net_ = refl; me_ = refl; kept_ = h.kept_; mail_ = h.mail_; live_ = h.live_ }
+
+-- what is restored
+pub restored : (net : Net) (me : ℕ) (kept list : List Entry) (begun taken last : NodeState)
+    → nat_lt me (node_count net) ≡ true → list ≡ kept → IsNew net me [] begun
+    → IsNew begun.net begun.me list taken → first_wrong begun.net list ≡ None → last ≡ taken
+    → IsNew net me kept last × (restore_fault net me kept ≡ None)
+restored net me kept list begun taken last inside is h k none same =
+    (
+      record {
+        net_ = (λ i. (same i).net) ∙ k.net_ ∙ h.net_;
+        me_ = (λ i. (same i).me) ∙ k.me_ ∙ h.me_;
+        kept_ = (λ i. (same i).kept) ∙ k.kept_ ∙ is;
+        mail_ = (λ i. (same i).mail) ∙ k.mail_;
+        live_ = (λ i. (same i).live) ∙ k.live_;
+      },
+      restore_accepted net me kept inside
+          (sym (ap (λ (n : Net). first_wrong n kept) h.net_)
+          ∙ sym (ap (first_wrong begun.net) is) ∙ none),
+    )
+
+pub not_restored : (net : Net) (me : ℕ) (kept list : List Entry) (begun : NodeState) (f : Option model.RestoreFault)
+    → nat_lt me (node_count net) ≡ true → list ≡ kept → IsNew net me [] begun
+    → IsEntryDue (first_wrong begun.net list) f → IsRestoreDue net me kept f
+not_restored net me kept list begun f inside is h due =
+    restore_refused net me kept f inside
+    (subst (λ (o : Option ℕ). IsEntryDue o f)
+    (ap (first_wrong begun.net) is ∙ ap (λ (n : Net). first_wrong n kept) h.net_) due)

@@ -161,7 +161,7 @@ impl Agent {
         ensures value { result ≡ node_count self.now.net * 8 }
         ensures few { result ≤ 2048 }
     {
-        u32::from(self.net.count()) * 8
+        u32::from(self.defined().count()) * 8
     }
 
     /// An empty list with room for a launch or a kill, and for all sends.

@@ -8,6 +8,9 @@ use Rattle.agent_core.proofs.agents.Agent.started.Goals as goal
 pub returns-in-Err : goal.returns-in-Err
 returns-in-Err c = (c.in-Err.ensures, refl)
 
+pub keep-requires : goal.keep-requires
+keep-requires c = c.in-Ok.ensures.next
+
 pub returns : goal.returns
 returns c =
     start_step c.args.self.now c.keep.new.self c.args.j c.in-Ok.entry c.in_ok-live.live c.keep.result

@@ -1,4 +1,5 @@
-use Rattle.std.proofs.Common.{◌∙◌}
+use Rattle.std.proofs.Common.{◌*◌, ◌∙◌, ◌≤◌, arith, subst, sym}
+use Rattle.model.specs.Types.{Net}
 use Rattle.std.specs.Option.{option_to_list}
 use Rattle.model.specs.Words.{below}
 use Rattle.model.specs.Network.{node_count}
@@ -9,6 +10,18 @@ use Rattle.agent_core.proofs.agents.Agent.turn_with.Goals as goal
 
 pub hold-requires : goal.hold-requires
 hold-requires c = c.requires.next
+
+pub put-requires : goal.put-requires
+put-requires c = omega (arith, c.in_ok-outs.ensures.room)
+
+pub put-requires-2 : goal.put-requires-2
+put-requires-2 c = omega (arith, c.in_ok-outs.ensures.room, c.put.ensures.room)
+
+pub put_sends-requires : goal.put_sends-requires
+put_sends-requires c =
+    subst (λ (net : Net). node_count net * 8 ≤ c.put-2.new.outs.spare)
+    (sym (c.set_live.ensures.net_ ∙ c.in_ok-hold.ensures.ok.net_))
+    (omega (arith, c.in_ok-outs.ensures.room, c.put.ensures.room, c.put-2.ensures.room))
 
 pub returns : goal.returns
 returns c =

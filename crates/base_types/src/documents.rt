@@ -51,7 +51,7 @@ pub enum PromptRef {
 }
 
 /// What a job or a stream depends on.
-#[derive(Debug, Drop)]
+#[derive(Debug)]
 pub enum Dep {
     FollowsJob(JobNo),
     FollowsStream(StreamNo),
@@ -66,13 +66,37 @@ pub enum Dep {
     Deadline(Moment),
 }
 
+impl Drop for Dep {
+    fn drop(self) {
+        match self {
+            Dep::FollowsJob(_a) => {}
+            Dep::FollowsStream(_a) => {}
+            Dep::Needs(_a, _b) => {}
+            Dep::Prompt(_a) => {}
+            Dep::At(_a) => {}
+            Dep::Until(_a, _b) => {}
+            Dep::Outside(_a) => {}
+            Dep::Deadline(_a) => {}
+        }
+    }
+}
+
 /// What a draft depends on.
-#[derive(Debug, Drop)]
+#[derive(Debug)]
 pub enum DraftDep {
     /// A stream by its workstation and name, or a job of it by its name.
     Follows(Ws, Text, Option<Text>),
     /// A dependency that names no stream and no job.
     Plain(Dep),
+}
+
+impl Drop for DraftDep {
+    fn drop(self) {
+        match self {
+            DraftDep::Follows(_a, _b, _c) => {}
+            DraftDep::Plain(_a) => {}
+        }
+    }
 }
 
 /// What a job runs.
@@ -112,7 +136,7 @@ pub enum CondOp {
 }
 
 /// A job of a plan.
-#[derive(Debug, Drop)]
+#[derive(Debug)]
 pub struct JobDoc {
     /// From 1, over the life of the network.
     pub no: JobNo,
@@ -129,8 +153,24 @@ pub struct JobDoc {
     pub deps: Deps,
 }
 
+impl Drop for JobDoc {
+    fn drop(self) {
+        let JobDoc {
+            no: _no,
+            ws: _ws,
+            name: _name,
+            priority: _priority,
+            work: _work,
+            logon: _logon,
+            cond: _cond,
+            recovery: _recovery,
+            deps: _deps,
+        } = self;
+    }
+}
+
 /// A job stream of a plan.
-#[derive(Debug, Drop)]
+#[derive(Debug)]
 pub struct StreamDoc {
     /// From 1, over the life of the network.
     pub no: StreamNo,
@@ -146,8 +186,23 @@ pub struct StreamDoc {
     pub jobs: Jobs,
 }
 
+impl Drop for StreamDoc {
+    fn drop(self) {
+        let StreamDoc {
+            no: _no,
+            ws: _ws,
+            name: _name,
+            priority: _priority,
+            limit: _limit,
+            carry: _carry,
+            deps: _deps,
+            jobs: _jobs,
+        } = self;
+    }
+}
+
 /// A job before it is planned.
-#[derive(Debug, Drop)]
+#[derive(Debug)]
 pub struct JobDraft {
     pub ws: Ws,
     pub name: Text,
@@ -162,8 +217,23 @@ pub struct JobDraft {
     pub deps: DraftDeps,
 }
 
+impl Drop for JobDraft {
+    fn drop(self) {
+        let JobDraft {
+            ws: _ws,
+            name: _name,
+            priority: _priority,
+            work: _work,
+            logon: _logon,
+            cond: _cond,
+            recovery: _recovery,
+            deps: _deps,
+        } = self;
+    }
+}
+
 /// A job stream before it is planned.
-#[derive(Debug, Drop)]
+#[derive(Debug)]
 pub struct StreamDraft {
     pub ws: Ws,
     pub name: Text,
@@ -175,4 +245,18 @@ pub struct StreamDraft {
     pub carry: bool,
     pub deps: DraftDeps,
     pub jobs: JobDrafts,
+}
+
+impl Drop for StreamDraft {
+    fn drop(self) {
+        let StreamDraft {
+            ws: _ws,
+            name: _name,
+            priority: _priority,
+            limit: _limit,
+            carry: _carry,
+            deps: _deps,
+            jobs: _jobs,
+        } = self;
+    }
 }

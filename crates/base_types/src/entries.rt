@@ -17,7 +17,7 @@ pub enum Feed {
 }
 
 /// What an entry says. The number of a launch counts from 1 for each job.
-#[derive(Debug, Drop)]
+#[derive(Debug)]
 pub enum Body {
     /// The run, what the master knew, the carried streams and the fresh ones.
     NewPlan(u32, Seen, StreamNos, StreamDocs),
@@ -48,13 +48,46 @@ pub enum Body {
     Late(Obj, u16),
 }
 
+impl Drop for Body {
+    fn drop(self) {
+        match self {
+            Body::NewPlan(_a, _b, _c, _d) => {}
+            Body::Added(_a, _b, _c) => {}
+            Body::Clock(_a) => {}
+            Body::Released(_a, _b) => {}
+            Body::StreamEnded(_a, _b) => {}
+            Body::UntilPassed(_a, _b, _c) => {}
+            Body::Launched(_a, _b, _c) => {}
+            Body::Started(_a, _b) => {}
+            Body::Failed(_a, _b) => {}
+            Body::Ended(_a, _b, _c, _d) => {}
+            Body::Lost(_a, _b) => {}
+            Body::Fulfilled(_a, _b) => {}
+            Body::Obeyed(_a, _b, _c) => {}
+            Body::Declined(_a, _b, _c) => {}
+            Body::Order(_a) => {}
+            Body::Late(_a, _b) => {}
+        }
+    }
+}
+
 /// An entry of a feed.
-#[derive(Debug, Drop)]
+#[derive(Debug)]
 pub struct Entry {
     pub feed: Feed,
     /// From 1, in its feed.
     pub place: u32,
     pub body: Body,
+}
+
+impl Drop for Entry {
+    fn drop(self) {
+        let Entry {
+            feed: _feed,
+            place: _place,
+            body: _body,
+        } = self;
+    }
 }
 
 /// What one workstation sends to its neighbour.

@@ -62,10 +62,20 @@ pub enum Carry {
 }
 
 /// A network as it is defined.
-#[derive(Drop)]
 pub struct Net {
     pub nodes: Nodes,
     pub resources: Resources,
     pub prompts: PromptDefs,
     pub carry: Carry,
+}
+
+impl Drop for Net {
+    fn drop(self) {
+        let Net {
+            nodes: _nodes,
+            resources: _resources,
+            prompts: _prompts,
+            carry: _carry,
+        } = self;
+    }
 }

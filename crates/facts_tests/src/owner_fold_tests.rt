@@ -1,4 +1,5 @@
 //! The entries of worked histories, and what they say of each object.
+mod feeds;
 mod launches;
 mod orders;
 mod plans;

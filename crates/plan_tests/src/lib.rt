@@ -7,3 +7,5 @@
 mod calendars_tests;
 #[cfg(test)]
 mod plan_times_tests;
+#[cfg(test)]
+mod time_zones_tests;

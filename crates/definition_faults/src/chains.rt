@@ -1,0 +1,86 @@
+//! Chains of domains, from each to its parent.
+ghost use Rattle.std.specs.Prelude.{◌≡◌, ◌+◌, ◌<◌, IfOk, length, map};
+ghost use Rattle.model.specs.Words.{below};
+ghost use Rattle.definition_faults.specs.Chains as spec;
+
+use base_types::NoMemory;
+use definition_names::Names;
+use std::alloc::Global;
+
+/// Whether the chain of each domain ends at one without a parent.
+pub(crate) fn chain_ends<'a>(alloc: Global, names: &Names<'a>) -> Result<Vec<bool>, NoMemory>
+    ensures { IfOk result (λ v. v.items ≡ spec.all_ends names.now) }
+{
+    let places = climbed(alloc, names)?;
+    let mut ends = Vec::new(alloc);
+    for place in places.as_slice() {
+        ends.push(is_top(names, *place))?;
+    }
+    Ok(ends)
+}
+
+/// Where the chain of each domain has come after at least as many steps as there are domains.
+fn climbed<'a>(alloc: Global, names: &Names<'a>) -> Result<Vec<usize>, NoMemory>
+    ensures { IfOk result (λ v. v.items ≡ spec.all_climbed names.now) }
+{
+    let count = names.defs().domains.len();
+    let mut places = parents(alloc, names)?;
+    let mut steps: usize = 1;
+    for _round in 0..64 {
+        if steps >= count {
+            break;
+        }
+        places = twice(alloc, places.as_slice())?;
+        steps = steps.saturating_mul(2);
+    }
+    Ok(places)
+}
+
+/// The place of the parent of each domain; its own place where it has none, or none that is defined.
+fn parents<'a>(alloc: Global, names: &Names<'a>) -> Result<Vec<usize>, NoMemory>
+    ensures { IfOk result (λ v. v.items ≡ map (spec.parent_of names.now) (below (length names.now.domains))) }
+{
+    let mut places = Vec::new(alloc);
+    for i in 0..names.defs().domains.len() {
+        places.push(parent_of(names, i))?;
+    }
+    Ok(places)
+}
+
+fn parent_of<'a>(names: &Names<'a>, i: usize) -> usize
+    ensures { result ≡ spec.parent_of names.now i }
+{
+    match names.defs().domains.get(i) {
+        None => i,
+        Some(domain) => match &domain.item.parent {
+            None => i,
+            Some(parent) => match names.domain(parent) {
+                Some(place) => place,
+                None => i,
+            },
+        },
+    }
+}
+
+/// What the places have at their places: twice as many steps up.
+fn twice(alloc: Global, places: &[usize]) -> Result<Vec<usize>, NoMemory>
+    ensures { IfOk result (λ v. v.items ≡ map (spec.place_in places.now) places.now) }
+{
+    let mut further = Vec::new(alloc);
+    for place in places {
+        match places.get(*place) {
+            Some(next) => further.push(*next)?,
+            None => further.push(*place)?,
+        }
+    }
+    Ok(further)
+}
+
+fn is_top<'a>(names: &Names<'a>, i: usize) -> bool
+    ensures { result ≡ spec.is_top names.now i }
+{
+    match names.defs().domains.get(i) {
+        Some(domain) => domain.item.parent.is_none(),
+        None => false,
+    }
+}

@@ -4,10 +4,14 @@
 #![tactic(auto)]
 
 #[cfg(test)]
+mod definition_faults_tests;
+#[cfg(test)]
+mod follow_circles_tests;
+#[cfg(test)]
+mod run_cycles_tests;
+#[cfg(test)]
 mod run_rules_tests;
 #[cfg(test)]
 mod time_zones_tests;
 #[cfg(test)]
-mod follow_circles_tests;
-#[cfg(test)]
-mod definition_faults_tests;
+mod workload_defs_tests;

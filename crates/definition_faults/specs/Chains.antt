@@ -1,9 +1,9 @@
 -- Chains of domains, from each to its parent.
 use Rattle.std.specs.Prelude.{ℕ, zero, suc, Bool, false, List, length, map, is_none, slice_get, slice_index_or, unwrap_or, option_and_then}
 use Rattle.std.specs.Option.{option_map_or}
-use Rattle.composer_parser.specs.declared.definitions.Lined.{Lined}
-use Rattle.composer_parser.specs.declared.definitions.Defs.{Defs}
-use Rattle.composer_parser.specs.declared.definitions.DomainDef.{DomainDef}
+use Rattle.composer_parser.specs.declared.Lined.{Lined}
+use Rattle.composer_parser.specs.declared.Defs.{Defs}
+use Rattle.composer_parser.specs.declared.DomainDef.{DomainDef}
 use Rattle.model.specs.Words.{below}
 use Rattle.definition_names.specs.Names.{domain_at}
 

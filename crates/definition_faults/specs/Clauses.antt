@@ -1,13 +1,13 @@
 -- The faults of the clauses of a stream or of an entry.
-use Rattle.std.specs.Prelude.{ℕ, ◌+◌, Bool, true, false, ◌&&◌, ◌||◌, not, nat_lt, nat_le, List, [], ◌∷◌, take, flat_map, Option, Some, None}
-use Rattle.std.specs.List.{enumerate_from, list_any, sum_by}
+use Rattle.std.specs.Prelude.{ℕ, ◌+◌, Bool, true, false, ◌&&◌, ◌||◌, not, nat_lt, nat_le, List, [], ◌∷◌, take, flat_map, sum_by, Option, Some, None}
+use Rattle.std.specs.List.{enumerate_from, list_any}
 use Rattle.std.specs.Str.{bytes_eq}
-use Rattle.composer_parser.specs.declared.definitions.Lined.{Lined}
-use Rattle.composer_parser.specs.declared.definitions.Defs.{Defs}
-use Rattle.composer_parser.specs.declared.clauses.Clause.{Clause}
-use Rattle.composer_parser.specs.declared.clauses.Clause.TheVariants.{At, Until, Deadline, Priority, Limit, CarryForward}
-use Rattle.composer_parser.specs.declared.clauses.Clause.TheVariants.{Follows, Needs, Prompt, Opens}
-use Rattle.composer_parser.specs.declared.clauses.Need.{Need}
+use Rattle.composer_parser.specs.declared.Lined.{Lined}
+use Rattle.composer_parser.specs.declared.Defs.{Defs}
+use Rattle.composer_parser.specs.declared.Clause.{Clause}
+use Rattle.composer_parser.specs.declared.Clause.TheVariants.{At, Until, Deadline, Priority, Limit, CarryForward}
+use Rattle.composer_parser.specs.declared.Clause.TheVariants.{Follows, Needs, Prompt, Opens}
+use Rattle.composer_parser.specs.declared.Need.{Need}
 use Rattle.definition_faults.specs.Orders.{faults_at}
 use Rattle.definition_faults.specs.Ranges.{is_out_of_range, dependency_count}
 use Rattle.definition_faults.specs.Unknown.{has_unknown}

@@ -3,12 +3,12 @@ use Rattle.std.specs.Prelude.{◌≡◌, ◌⊎◌, ℕ, ◌≤◌, nat_le, List
 use Rattle.std.specs.List.{filter_map}
 use Rattle.model.specs.Types.{CondOp}
 use Rattle.rc_conditions.specs.Answers.{IsCondition}
-use Rattle.composer_parser.specs.declared.definitions.Lined.{Lined}
-use Rattle.composer_parser.specs.declared.definitions.Defs.{Defs}
-use Rattle.composer_parser.specs.declared.definitions.WorkDef.{WorkDef}
-use Rattle.composer_parser.specs.declared.definitions.JobDef.{JobDef}
-use Rattle.composer_parser.specs.declared.schedules.EntryDef.{EntryDef}
-use Rattle.composer_parser.specs.declared.schedules.ScheduleDef.{ScheduleDef}
+use Rattle.composer_parser.specs.declared.Lined.{Lined}
+use Rattle.composer_parser.specs.declared.Defs.{Defs}
+use Rattle.composer_parser.specs.declared.WorkDef.{WorkDef}
+use Rattle.composer_parser.specs.declared.JobDef.{JobDef}
+use Rattle.composer_parser.specs.declared.EntryDef.{EntryDef}
+use Rattle.composer_parser.specs.declared.ScheduleDef.{ScheduleDef}
 
 -- the text is no condition of at most 64 operations
 abbrev pub IsRefused : List ℕ → Type 0

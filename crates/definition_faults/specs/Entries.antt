@@ -2,10 +2,10 @@
 use Rattle.std.specs.Prelude.{ℕ, Bool, true, ◌&&◌, ◌||◌, List, [], ◌∷◌, ◌++◌, is_none, flat_map}
 use Rattle.std.specs.List.{enumerate_from}
 use Rattle.std.specs.Option.{option_map_or}
-use Rattle.composer_parser.specs.declared.definitions.Lined.{Lined}
-use Rattle.composer_parser.specs.declared.definitions.Defs.{Defs}
-use Rattle.composer_parser.specs.declared.schedules.EntryDef.{EntryDef}
-use Rattle.composer_parser.specs.declared.schedules.ScheduleDef.{ScheduleDef}
+use Rattle.composer_parser.specs.declared.Lined.{Lined}
+use Rattle.composer_parser.specs.declared.Defs.{Defs}
+use Rattle.composer_parser.specs.declared.EntryDef.{EntryDef}
+use Rattle.composer_parser.specs.declared.ScheduleDef.{ScheduleDef}
 use Rattle.definition_names.specs.Names.{job_at}
 use Rattle.definition_names.specs.Stations.{ws_of_entry}
 use Rattle.definition_names.specs.Streams.{entry_of}

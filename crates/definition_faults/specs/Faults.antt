@@ -1,6 +1,6 @@
 -- The faults of definitions, and the first of them.
 use Rattle.std.specs.Prelude.{◌≡◌, ◌⊎◌, ℕ, List, ◌++◌, Contains, Option, Some, None}
-use Rattle.composer_parser.specs.declared.definitions.Defs.{Defs}
+use Rattle.composer_parser.specs.declared.Defs.{Defs}
 use Rattle.follow_circles.specs.Circles.{IsOnCircle, line_of}
 use Rattle.definition_faults.specs.Orders.{fault, IsNoLater, earlier_of}
 use Rattle.definition_faults.specs.Items.{cpu_faults, domain_faults, calendar_faults, prompt_faults, resource_faults, job_faults}

@@ -1,18 +1,18 @@
 -- Streams and entries with what they follow, as objects of one list in the order of the text.
-use Rattle.std.specs.Prelude.{ℕ, ◌+◌, Bool, true, false, List, [], ◌∷◌, length, map, take, flat_map, Option, slice_index, option_map}
-use Rattle.std.specs.List.{enumerate_from, filter_map, sum_by}
-use Rattle.composer_parser.specs.declared.definitions.Lined.{Lined}
-use Rattle.composer_parser.specs.declared.definitions.Defs.{Defs}
-use Rattle.composer_parser.specs.declared.clauses.Clause.{Clause}
-use Rattle.composer_parser.specs.declared.clauses.Clause.TheVariants.{At, Until, Deadline, Priority, Limit, CarryForward}
-use Rattle.composer_parser.specs.declared.clauses.Clause.TheVariants.{Follows, Needs, Prompt, Opens}
-use Rattle.composer_parser.specs.declared.clauses.Pred.{Pred}
-use Rattle.composer_parser.specs.declared.schedules.EntryDef.{EntryDef}
-use Rattle.composer_parser.specs.declared.schedules.ScheduleDef.{ScheduleDef}
+use Rattle.std.specs.Prelude.{ℕ, ◌+◌, Bool, true, false, List, [], ◌∷◌, length, map, take, flat_map, sum_by, Option, slice_index, option_map}
+use Rattle.std.specs.List.{enumerate_from, filter_map}
+use Rattle.composer_parser.specs.declared.Lined.{Lined}
+use Rattle.composer_parser.specs.declared.Defs.{Defs}
+use Rattle.composer_parser.specs.declared.Clause.{Clause}
+use Rattle.composer_parser.specs.declared.Clause.TheVariants.{At, Until, Deadline, Priority, Limit, CarryForward}
+use Rattle.composer_parser.specs.declared.Clause.TheVariants.{Follows, Needs, Prompt, Opens}
+use Rattle.composer_parser.specs.declared.Pred.{Pred}
+use Rattle.composer_parser.specs.declared.EntryDef.{EntryDef}
+use Rattle.composer_parser.specs.declared.ScheduleDef.{ScheduleDef}
 use Rattle.definition_names.specs.Targets.{target_of}
-use Rattle.definition_names.specs.declared.targets.Target.{Target}
-use Rattle.definition_names.specs.declared.targets.Target.TheVariants.{Stream, Job}
-use Rattle.follow_circles.specs.declared.circles.Follower.{Follower}
+use Rattle.definition_names.specs.declared.Target.{Target}
+use Rattle.definition_names.specs.declared.Target.TheVariants.{Stream, Job}
+use Rattle.follow_circles.specs.declared.Follower.{Follower}
 
 -- the place behind a stream and its entries
 abbrev pub behind : ℕ → ScheduleDef → ℕ

@@ -4,14 +4,14 @@ use Rattle.std.specs.Prelude.{ℕ, Bool, false, ◌&&◌, ◌||◌, not, ◌==�
 use Rattle.std.specs.Prelude.{flat_map}
 use Rattle.std.specs.List.{enumerate_from, list_any}
 use Rattle.std.specs.Option.{option_map_or}
-use Rattle.base_types.specs.declared.network.PromptDef.{PromptDef}
-use Rattle.composer_parser.specs.declared.definitions.Lined.{Lined}
-use Rattle.composer_parser.specs.declared.definitions.Defs.{Defs}
-use Rattle.composer_parser.specs.declared.definitions.CpuDef.{CpuDef}
-use Rattle.composer_parser.specs.declared.definitions.DomainDef.{DomainDef}
-use Rattle.composer_parser.specs.declared.definitions.CalendarDef.{CalendarDef}
-use Rattle.composer_parser.specs.declared.definitions.ResourceDef.{ResourceDef}
-use Rattle.composer_parser.specs.declared.definitions.JobDef.{JobDef}
+use Rattle.base_types.specs.declared.PromptDef.{PromptDef}
+use Rattle.composer_parser.specs.declared.Lined.{Lined}
+use Rattle.composer_parser.specs.declared.Defs.{Defs}
+use Rattle.composer_parser.specs.declared.CpuDef.{CpuDef}
+use Rattle.composer_parser.specs.declared.DomainDef.{DomainDef}
+use Rattle.composer_parser.specs.declared.CalendarDef.{CalendarDef}
+use Rattle.composer_parser.specs.declared.ResourceDef.{ResourceDef}
+use Rattle.composer_parser.specs.declared.JobDef.{JobDef}
 use Rattle.model.specs.Words.{below, some_is}
 use Rattle.definition_names.specs.Names.{cpu_at, domain_at, calendar_at, prompt_at, resource_at, job_at}
 use Rattle.definition_faults.specs.Orders.{faults_at}

@@ -3,10 +3,10 @@ use Rattle.std.specs.Prelude.{ℕ, Bool, not, min, List, [], ◌∷◌, Option, 
 use Rattle.std.specs.List.{filter_map}
 use Rattle.std.specs.Str.{bytes_eq}
 use Rattle.std.specs.Prelude.{option_map}
-use Rattle.composer_parser.specs.declared.definitions.Lined.{Lined}
-use Rattle.composer_parser.specs.declared.definitions.Defs.{Defs}
-use Rattle.composer_parser.specs.declared.definitions.CpuDef.{CpuDef}
-use Rattle.composer_parser.specs.declared.definitions.DomainDef.{DomainDef}
+use Rattle.composer_parser.specs.declared.Lined.{Lined}
+use Rattle.composer_parser.specs.declared.Defs.{Defs}
+use Rattle.composer_parser.specs.declared.CpuDef.{CpuDef}
+use Rattle.composer_parser.specs.declared.DomainDef.{DomainDef}
 use Rattle.definition_names.specs.Names.{cpu_at}
 use Rattle.definition_names.specs.Stations.{top_domains}
 use Rattle.definition_faults.specs.Orders.{fault}

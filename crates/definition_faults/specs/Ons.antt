@@ -2,14 +2,14 @@
 use Rattle.std.specs.Prelude.{ℕ, Bool, false, ◌||◌, not, nat_lt, List, [], ◌∷◌, is_some, flat_map, Option, Some, None}
 use Rattle.std.specs.List.{list_any}
 use Rattle.std.specs.Option.{option_map_or}
-use Rattle.composer_parser.specs.declared.definitions.Lined.{Lined}
-use Rattle.composer_parser.specs.declared.definitions.Defs.{Defs}
-use Rattle.composer_parser.specs.declared.schedules.CycleDef.{CycleDef}
-use Rattle.composer_parser.specs.declared.schedules.Offset.{Offset}
-use Rattle.composer_parser.specs.declared.schedules.OnDef.{OnDef}
-use Rattle.composer_parser.specs.declared.schedules.OnItem.{OnItem}
-use Rattle.composer_parser.specs.declared.schedules.OnItem.TheVariants.{Weekday, EveryDay, Weekdays, Workdays, FreeDays}
-use Rattle.composer_parser.specs.declared.schedules.OnItem.TheVariants.{Request, Date, Rule, Calendar}
+use Rattle.composer_parser.specs.declared.Lined.{Lined}
+use Rattle.composer_parser.specs.declared.Defs.{Defs}
+use Rattle.composer_parser.specs.declared.CycleDef.{CycleDef}
+use Rattle.composer_parser.specs.declared.Offset.{Offset}
+use Rattle.composer_parser.specs.declared.OnDef.{OnDef}
+use Rattle.composer_parser.specs.declared.OnItem.{OnItem}
+use Rattle.composer_parser.specs.declared.OnItem.TheVariants.{Weekday, EveryDay, Weekdays, Workdays, FreeDays}
+use Rattle.composer_parser.specs.declared.OnItem.TheVariants.{Request, Date, Rule, Calendar}
 use Rattle.run_rules.specs.Ranges.{is_in_range}
 use Rattle.definition_faults.specs.Orders.{faults_at}
 use Rattle.definition_faults.specs.Unknown.{is_unknown_calendar}

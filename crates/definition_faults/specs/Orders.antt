@@ -4,19 +4,19 @@ use Rattle.std.specs.Prelude.{Option, Some, None, if◌then◌else◌}
 use Rattle.std.specs.Bool.{then_some}
 use Rattle.std.specs.List.{filter_map}
 use Rattle.definition_faults.specs.declared.kinds.Kind.{Kind}
-use Rattle.definition_faults.specs.declared.kinds.Kind.TheVariants as kind
+use Rattle.definition_faults.specs.declared.kinds.Kind.TheVariants as kinds
 use Rattle.definition_faults.specs.declared.kinds.Fault.{Fault}
 use Rattle.definition_faults.specs.declared.faults.DefFault.{DefFault}
 use Rattle.definition_faults.specs.declared.faults.DefFault.TheVariants as told_as
 
 -- the order of the kinds
 abbrev pub rank : Kind → ℕ
-rank kind.Duplicate = 0
-rank kind.UnknownName = 1
-rank kind.OutOfRange = 2
-rank kind.ForeignResource = 3
-rank kind.FollowsCycle = 4
-rank kind.Tree = 5
+rank kinds.Duplicate = 0
+rank kinds.UnknownName = 1
+rank kinds.OutOfRange = 2
+rank kinds.ForeignResource = 3
+rank kinds.FollowsCycle = 4
+rank kinds.Tree = 5
 
 -- a fault of a kind at a line
 abbrev pub fault : ℕ → Kind → Fault
@@ -28,12 +28,12 @@ faults_at line rows = filter_map (λ (row : Bool × Kind). then_some row.0 (faul
 
 -- how a fault is told
 abbrev pub told_kind : ℕ → Kind → DefFault
-told_kind line kind.Duplicate = told_as.Duplicate line
-told_kind line kind.UnknownName = told_as.UnknownName line
-told_kind line kind.OutOfRange = told_as.OutOfRange line
-told_kind line kind.ForeignResource = told_as.ForeignResource line
-told_kind line kind.FollowsCycle = told_as.FollowsCycle line
-told_kind line kind.Tree = told_as.Tree line
+told_kind line kinds.Duplicate = told_as.Duplicate line
+told_kind line kinds.UnknownName = told_as.UnknownName line
+told_kind line kinds.OutOfRange = told_as.OutOfRange line
+told_kind line kinds.ForeignResource = told_as.ForeignResource line
+told_kind line kinds.FollowsCycle = told_as.FollowsCycle line
+told_kind line kinds.Tree = told_as.Tree line
 
 abbrev pub told : Fault → DefFault
 told f = told_kind f.line f.kind

@@ -2,12 +2,12 @@
 use Rattle.std.specs.Prelude.{ℕ, Bool, false, ◌||◌, ◌==◌, nat_lt, List, [], ◌∷◌, length, is_none, Option, Some, None, if◌then◌else◌}
 use Rattle.std.specs.List.{list_any}
 use Rattle.std.specs.Option.{option_map_or}
-use Rattle.composer_parser.specs.declared.definitions.Lined.{Lined}
-use Rattle.composer_parser.specs.declared.definitions.Defs.{Defs}
-use Rattle.composer_parser.specs.declared.clauses.Clause.{Clause}
-use Rattle.composer_parser.specs.declared.clauses.Clause.TheVariants.{At, Until, Deadline, Priority, Limit, CarryForward}
-use Rattle.composer_parser.specs.declared.clauses.Clause.TheVariants.{Follows, Needs, Prompt, Opens}
-use Rattle.composer_parser.specs.declared.clauses.Need.{Need}
+use Rattle.composer_parser.specs.declared.Lined.{Lined}
+use Rattle.composer_parser.specs.declared.Defs.{Defs}
+use Rattle.composer_parser.specs.declared.Clause.{Clause}
+use Rattle.composer_parser.specs.declared.Clause.TheVariants.{At, Until, Deadline, Priority, Limit, CarryForward}
+use Rattle.composer_parser.specs.declared.Clause.TheVariants.{Follows, Needs, Prompt, Opens}
+use Rattle.composer_parser.specs.declared.Need.{Need}
 use Rattle.time_zones.specs.Zones.{east_of}
 use Rattle.definition_faults.specs.Orders.{fault}
 use Rattle.definition_faults.specs.declared.kinds.Kind.TheVariants.{OutOfRange}

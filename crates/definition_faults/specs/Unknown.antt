@@ -3,14 +3,14 @@ use Rattle.std.specs.Prelude.{ℕ, Bool, true, false, ◌&&◌, ◌||◌, not, L
 use Rattle.std.specs.List.{list_any}
 use Rattle.std.specs.Option.{option_or, option_map_or}
 use Rattle.std.specs.Str.{bytes_eq}
-use Rattle.composer_parser.specs.declared.definitions.Defs.{Defs}
-use Rattle.composer_parser.specs.declared.clauses.Clause.{Clause}
-use Rattle.composer_parser.specs.declared.clauses.Clause.TheVariants.{At, Until, Deadline, Priority, Limit, CarryForward}
-use Rattle.composer_parser.specs.declared.clauses.Clause.TheVariants.{Follows, Needs, Prompt, Opens}
-use Rattle.composer_parser.specs.declared.clauses.Need.{Need}
-use Rattle.composer_parser.specs.declared.clauses.Pred.{Pred}
-use Rattle.composer_parser.specs.declared.clauses.PromptItem.{PromptItem}
-use Rattle.composer_parser.specs.declared.clauses.PromptItem.TheVariants as ask
+use Rattle.composer_parser.specs.declared.Defs.{Defs}
+use Rattle.composer_parser.specs.declared.Clause.{Clause}
+use Rattle.composer_parser.specs.declared.Clause.TheVariants.{At, Until, Deadline, Priority, Limit, CarryForward}
+use Rattle.composer_parser.specs.declared.Clause.TheVariants.{Follows, Needs, Prompt, Opens}
+use Rattle.composer_parser.specs.declared.Need.{Need}
+use Rattle.composer_parser.specs.declared.Pred.{Pred}
+use Rattle.composer_parser.specs.declared.PromptItem.{PromptItem}
+use Rattle.composer_parser.specs.declared.PromptItem.TheVariants as ask
 use Rattle.definition_names.specs.Names.{cpu_at, calendar_at, prompt_at, resource_at}
 use Rattle.definition_names.specs.Targets.{target_of}
 

@@ -3,9 +3,9 @@ use Rattle.std.specs.Prelude.{◌≡◌, ℕ, Bool, ◌&&◌, ◌==◌, List, Op
 use Rattle.std.specs.Borrow.{Bor}
 use Rattle.std.specs.Map.{lookup}
 use Rattle.std.specs.Str.{bytes_eq}
-use Rattle.composer_parser.specs.declared.definitions.Lined.{Lined}
-use Rattle.composer_parser.specs.declared.definitions.Defs.{Defs}
-use Rattle.composer_parser.specs.declared.schedules.ScheduleDef.{ScheduleDef}
+use Rattle.composer_parser.specs.declared.Lined.{Lined}
+use Rattle.composer_parser.specs.declared.Defs.{Defs}
+use Rattle.composer_parser.specs.declared.ScheduleDef.{ScheduleDef}
 use Rattle.definition_names.specs.Names.{first_of, first_on, cpu_names, domain_names, calendar_names, prompt_names}
 use Rattle.definition_names.specs.Names.{resource_names, job_names}
 use Rattle.definition_names.specs.Stations.{master_of}

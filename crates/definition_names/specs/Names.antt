@@ -2,14 +2,14 @@
 -- definition of that name, counted from 0.
 use Rattle.std.specs.Prelude.{ℕ, Bool, ◌&&◌, List, Option, position, map}
 use Rattle.std.specs.Str.{bytes_eq}
-use Rattle.base_types.specs.declared.network.PromptDef.{PromptDef}
-use Rattle.composer_parser.specs.declared.definitions.Lined.{Lined}
-use Rattle.composer_parser.specs.declared.definitions.Defs.{Defs}
-use Rattle.composer_parser.specs.declared.definitions.CpuDef.{CpuDef}
-use Rattle.composer_parser.specs.declared.definitions.DomainDef.{DomainDef}
-use Rattle.composer_parser.specs.declared.definitions.CalendarDef.{CalendarDef}
-use Rattle.composer_parser.specs.declared.definitions.ResourceDef.{ResourceDef}
-use Rattle.composer_parser.specs.declared.definitions.JobDef.{JobDef}
+use Rattle.base_types.specs.declared.PromptDef.{PromptDef}
+use Rattle.composer_parser.specs.declared.Lined.{Lined}
+use Rattle.composer_parser.specs.declared.Defs.{Defs}
+use Rattle.composer_parser.specs.declared.CpuDef.{CpuDef}
+use Rattle.composer_parser.specs.declared.DomainDef.{DomainDef}
+use Rattle.composer_parser.specs.declared.CalendarDef.{CalendarDef}
+use Rattle.composer_parser.specs.declared.ResourceDef.{ResourceDef}
+use Rattle.composer_parser.specs.declared.JobDef.{JobDef}
 
 -- the place of the first of these names that is this one
 abbrev pub first_of : List (List ℕ) → List ℕ → Option ℕ

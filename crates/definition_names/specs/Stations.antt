@@ -1,11 +1,11 @@
 -- On which workstation a stream and an entry are.
 use Rattle.std.specs.Prelude.{ℕ, List, [], ◌∷◌, filter, map, is_none, Option, Some, None}
 use Rattle.std.specs.Option.{option_or}
-use Rattle.composer_parser.specs.declared.definitions.Lined.{Lined}
-use Rattle.composer_parser.specs.declared.definitions.Defs.{Defs}
-use Rattle.composer_parser.specs.declared.definitions.DomainDef.{DomainDef}
-use Rattle.composer_parser.specs.declared.schedules.EntryDef.{EntryDef}
-use Rattle.composer_parser.specs.declared.schedules.ScheduleDef.{ScheduleDef}
+use Rattle.composer_parser.specs.declared.Lined.{Lined}
+use Rattle.composer_parser.specs.declared.Defs.{Defs}
+use Rattle.composer_parser.specs.declared.DomainDef.{DomainDef}
+use Rattle.composer_parser.specs.declared.EntryDef.{EntryDef}
+use Rattle.composer_parser.specs.declared.ScheduleDef.{ScheduleDef}
 
 -- the domains without a parent, which are marked ISMASTER
 abbrev pub top_domains : List (Lined DomainDef) → List (Lined DomainDef)

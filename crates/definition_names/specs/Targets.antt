@@ -2,12 +2,12 @@
 use Rattle.std.specs.Prelude.{ℕ, Bool, true, false, ◌&&◌, List, slice_get, is_none, option_map, option_and_then}
 use Rattle.std.specs.Prelude.{Option, Some, None, if◌then◌else◌}
 use Rattle.std.specs.Option.{option_or, option_map_or}
-use Rattle.composer_parser.specs.declared.definitions.Lined.{Lined}
-use Rattle.composer_parser.specs.declared.definitions.Defs.{Defs}
-use Rattle.composer_parser.specs.declared.clauses.Pred.{Pred}
-use Rattle.composer_parser.specs.declared.clauses.PredPart.{PredPart}
-use Rattle.composer_parser.specs.declared.clauses.PredPart.TheVariants as part
-use Rattle.composer_parser.specs.declared.schedules.ScheduleDef.{ScheduleDef}
+use Rattle.composer_parser.specs.declared.Lined.{Lined}
+use Rattle.composer_parser.specs.declared.Defs.{Defs}
+use Rattle.composer_parser.specs.declared.Pred.{Pred}
+use Rattle.composer_parser.specs.declared.PredPart.{PredPart}
+use Rattle.composer_parser.specs.declared.PredPart.TheVariants as part
+use Rattle.composer_parser.specs.declared.ScheduleDef.{ScheduleDef}
 use Rattle.definition_names.specs.Stations.{master_of, ws_of_stream}
 use Rattle.definition_names.specs.Streams.{stream_at, entry_of}
 use Rattle.definition_names.specs.declared.targets.Target.{Target}

@@ -8,9 +8,9 @@
 
 mod firsts;
 mod keys;
-mod names;
+mod name_tables;
 mod streams;
 mod targets;
 
-pub use names::Names;
+pub use name_tables::Names;
 pub use targets::Target;

@@ -2,8 +2,8 @@
 ghost use Rattle.std.specs.Prelude.{◌≡◌, ◌==◌, ◌&&◌, ℕ, false, List, Option, IfOk, OnOk, if◌then◌else◌};
 ghost use Rattle.std.specs.Option.{option_copied, option_or};
 ghost use Rattle.std.specs.Str.{bytes_eq};
-ghost use Rattle.composer_parser.specs.declared.definitions.Lined.{Lined as LinedOf};
-ghost use Rattle.composer_parser.specs.declared.schedules.ScheduleDef.{ScheduleDef as Schedule};
+ghost use Rattle.composer_parser.specs.declared.Lined.{Lined as LinedOf};
+ghost use Rattle.composer_parser.specs.declared.ScheduleDef.{ScheduleDef as Schedule};
 ghost use Rattle.definition_names.specs.Streams.{stream_among, entry_at, is_one_ws};
 ghost use Rattle.definition_names.specs.Indexes.{IsStreamIndex, IsEntryIndex, entry_in, stream_in};
 

@@ -8,6 +8,8 @@ mod definition_faults_tests;
 #[cfg(test)]
 mod follow_circles_tests;
 #[cfg(test)]
+mod plan_builder_tests;
+#[cfg(test)]
 mod run_cycles_tests;
 #[cfg(test)]
 mod run_rules_tests;

@@ -36,7 +36,7 @@ const AUTUMN: [(&str, &[u32]); 34] = [
     ("ON FREEDAYS", &[12_356, 12_357, 12_358, 12_364, 12_365, 12_371, 12_372]),
     ("ON REQUEST", &[]),
     ("ON SA", &[12_357, 12_364, 12_371]),
-    ("ON SU FDNEXT", &[12_359, 12_366]),
+    ("ON SU FDNEXT", &[12_352, 12_359, 12_366]),
     ("ON MO ON TU", &[12_352, 12_353, 12_359, 12_360, 12_366, 12_367]),
     (
         "ON WORKDAYS EXCEPT MO,TU,WE",
@@ -63,7 +63,7 @@ const AUTUMN: [(&str, &[u32]); 34] = [
     ),
     (
         "ON RUNCYCLE R VALIDFROM 10/30/2003 VALIDTO 11/05/2003 \"FREQ=DAILY;INTERVAL=3\" EXCEPT SU",
-        &[12_355],
+        &[12_355, 12_361],
     ),
 ];
 

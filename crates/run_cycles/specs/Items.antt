@@ -5,18 +5,18 @@ use Rattle.std.specs.Option.{option_map_or}
 use Rattle.calendars.specs.Dates.{weekday}
 use Rattle.calendars.specs.Free.{is_free, is_workday}
 use Rattle.calendars.specs.Nth.{nth_day}
-use Rattle.calendars.specs.declared.free_days.FreeDays.{FreeDays as Free}
-use Rattle.calendars.specs.declared.nth_days.DayKind.{DayKind}
-use Rattle.calendars.specs.declared.nth_days.DayKind.TheVariants as day_kind
-use Rattle.composer_parser.specs.declared.definitions.Defs.{Defs}
-use Rattle.composer_parser.specs.declared.schedules.CycleDef.{CycleDef}
-use Rattle.composer_parser.specs.declared.schedules.Offset.{Offset}
-use Rattle.composer_parser.specs.declared.schedules.OffsetUnit.{OffsetUnit}
-use Rattle.composer_parser.specs.declared.schedules.OffsetUnit.TheVariants as unit
-use Rattle.composer_parser.specs.declared.schedules.OnDef.{OnDef}
-use Rattle.composer_parser.specs.declared.schedules.OnItem.{OnItem}
-use Rattle.composer_parser.specs.declared.schedules.OnItem.TheVariants.{Weekday, EveryDay, Weekdays, Workdays, FreeDays}
-use Rattle.composer_parser.specs.declared.schedules.OnItem.TheVariants.{Request, Date, Rule, Calendar}
+use Rattle.calendars.specs.declared.FreeDays.{FreeDays as Free}
+use Rattle.calendars.specs.declared.DayKind.{DayKind}
+use Rattle.calendars.specs.declared.DayKind.TheVariants as day_kind
+use Rattle.composer_parser.specs.declared.Defs.{Defs}
+use Rattle.composer_parser.specs.declared.CycleDef.{CycleDef}
+use Rattle.composer_parser.specs.declared.Offset.{Offset}
+use Rattle.composer_parser.specs.declared.OffsetUnit.{OffsetUnit}
+use Rattle.composer_parser.specs.declared.OffsetUnit.TheVariants as unit
+use Rattle.composer_parser.specs.declared.OnDef.{OnDef}
+use Rattle.composer_parser.specs.declared.OnItem.{OnItem}
+use Rattle.composer_parser.specs.declared.OnItem.TheVariants.{Weekday, EveryDay, Weekdays, Workdays, FreeDays}
+use Rattle.composer_parser.specs.declared.OnItem.TheVariants.{Request, Date, Rule, Calendar}
 use Rattle.model.specs.Words.{some_is}
 use Rattle.run_rules.specs.Days.{rule_has}
 use Rattle.workload_defs.specs.Days.{days_of}

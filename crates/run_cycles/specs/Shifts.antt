@@ -4,12 +4,12 @@ use Rattle.std.specs.List.{list_any}
 use Rattle.calendars.specs.Dates.{last_day}
 use Rattle.calendars.specs.Free.{is_free}
 use Rattle.calendars.specs.Nth.{nth_day, below}
-use Rattle.calendars.specs.declared.free_days.FreeDays.{FreeDays}
-use Rattle.calendars.specs.declared.nth_days.DayKind.TheVariants.{Workdays}
-use Rattle.composer_parser.specs.declared.definitions.Defs.{Defs}
-use Rattle.composer_parser.specs.declared.schedules.OnDef.{OnDef}
-use Rattle.composer_parser.specs.declared.schedules.Shift.{Shift}
-use Rattle.composer_parser.specs.declared.schedules.Shift.TheVariants.{Ignore, Next, Prev}
+use Rattle.calendars.specs.declared.FreeDays.{FreeDays}
+use Rattle.calendars.specs.declared.DayKind.TheVariants.{Workdays}
+use Rattle.composer_parser.specs.declared.Defs.{Defs}
+use Rattle.composer_parser.specs.declared.OnDef.{OnDef}
+use Rattle.composer_parser.specs.declared.Shift.{Shift}
+use Rattle.composer_parser.specs.declared.Shift.TheVariants.{Ignore, Next, Prev}
 use Rattle.model.specs.Words.{some_is}
 use Rattle.run_cycles.specs.Items.{is_dated}
 

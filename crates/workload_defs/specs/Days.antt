@@ -3,12 +3,12 @@ use Rattle.std.specs.Prelude.{◌≡◌, ℕ, ◌+◌, ◌*◌, Bool, true, not,
 use Rattle.std.specs.Prelude.{Option, Some, None, if◌then◌else◌}
 use Rattle.std.specs.Option.{option_map_or}
 use Rattle.std.specs.Str.{bytes_eq}
-use Rattle.calendars.specs.declared.free_days.FreeDays.{FreeDays}
-use Rattle.composer_parser.specs.declared.definitions.Lined.{Lined}
-use Rattle.composer_parser.specs.declared.definitions.Defs.{Defs}
-use Rattle.composer_parser.specs.declared.definitions.CalendarDef.{CalendarDef}
-use Rattle.composer_parser.specs.declared.schedules.FreeDef.{FreeDef}
-use Rattle.composer_parser.specs.declared.schedules.ScheduleDef.{ScheduleDef}
+use Rattle.calendars.specs.declared.FreeDays.{FreeDays}
+use Rattle.composer_parser.specs.declared.Lined.{Lined}
+use Rattle.composer_parser.specs.declared.Defs.{Defs}
+use Rattle.composer_parser.specs.declared.CalendarDef.{CalendarDef}
+use Rattle.composer_parser.specs.declared.FreeDef.{FreeDef}
+use Rattle.composer_parser.specs.declared.ScheduleDef.{ScheduleDef}
 use Rattle.model.specs.Words.{ascending}
 use Rattle.definition_names.specs.Names.{calendar_at}
 use Rattle.workload_defs.specs.declared.days.FreeKind.{FreeKind}

@@ -4,18 +4,18 @@ use Rattle.std.specs.Prelude.{Option, IfSome, if◌then◌else◌}
 use Rattle.std.specs.List.{enumerate_from, list_any}
 use Rattle.std.specs.Option.{option_map_or}
 use Rattle.std.specs.Str.{bytes_eq}
-use Rattle.base_types.specs.declared.network.Carry.{Carry}
-use Rattle.base_types.specs.declared.network.Carry.TheVariants.{Yes}
-use Rattle.base_types.specs.declared.network.Net.{Net}
-use Rattle.base_types.specs.declared.network.Node.{Node}
-use Rattle.base_types.specs.declared.network.Peer.{Peer}
-use Rattle.base_types.specs.declared.network.PromptDef.{PromptDef}
-use Rattle.base_types.specs.declared.network.Resource.{Resource}
-use Rattle.composer_parser.specs.declared.definitions.Lined.{Lined}
-use Rattle.composer_parser.specs.declared.definitions.Defs.{Defs}
-use Rattle.composer_parser.specs.declared.definitions.CpuDef.{CpuDef}
-use Rattle.composer_parser.specs.declared.definitions.DomainDef.{DomainDef}
-use Rattle.composer_parser.specs.declared.definitions.ResourceDef.{ResourceDef}
+use Rattle.base_types.specs.declared.Carry.{Carry}
+use Rattle.base_types.specs.declared.Carry.TheVariants.{Yes}
+use Rattle.base_types.specs.declared.Net.{Net}
+use Rattle.base_types.specs.declared.Node.{Node}
+use Rattle.base_types.specs.declared.Peer.{Peer}
+use Rattle.base_types.specs.declared.PromptDef.{PromptDef}
+use Rattle.base_types.specs.declared.Resource.{Resource}
+use Rattle.composer_parser.specs.declared.Lined.{Lined}
+use Rattle.composer_parser.specs.declared.Defs.{Defs}
+use Rattle.composer_parser.specs.declared.CpuDef.{CpuDef}
+use Rattle.composer_parser.specs.declared.DomainDef.{DomainDef}
+use Rattle.composer_parser.specs.declared.ResourceDef.{ResourceDef}
 use Rattle.definition_names.specs.Names.{domain_at}
 use Rattle.workload_defs.specs.Stations.{stations, number_of, number_among}
 

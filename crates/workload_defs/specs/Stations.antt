@@ -1,9 +1,9 @@
 -- The workstations of definitions by their numbers: the master is 0, and the others follow in order of definition.
 use Rattle.std.specs.Prelude.{ℕ, Bool, not, List, ◌++◌, filter, map, position, Option, Some}
 use Rattle.std.specs.Str.{bytes_eq}
-use Rattle.composer_parser.specs.declared.definitions.Lined.{Lined}
-use Rattle.composer_parser.specs.declared.definitions.Defs.{Defs}
-use Rattle.composer_parser.specs.declared.definitions.CpuDef.{CpuDef}
+use Rattle.composer_parser.specs.declared.Lined.{Lined}
+use Rattle.composer_parser.specs.declared.Defs.{Defs}
+use Rattle.composer_parser.specs.declared.CpuDef.{CpuDef}
 use Rattle.definition_names.specs.Stations.{master_of}
 use Rattle.definition_names.specs.Streams.{is_one_ws}
 

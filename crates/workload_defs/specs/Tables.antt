@@ -3,12 +3,12 @@ use Rattle.std.specs.Prelude.{◌≡◌, ℕ, ◌<◌, ◌^◌, List, length, ma
 use Rattle.std.specs.Borrow.{Bor}
 use Rattle.std.specs.Map.{lookup}
 use Rattle.std.specs.Str.{bytes_eq}
-use Rattle.base_types.specs.declared.network.Net.{Net}
-use Rattle.base_types.specs.declared.network.Peer.{Peer}
-use Rattle.composer_parser.specs.declared.definitions.Lined.{Lined}
-use Rattle.composer_parser.specs.declared.definitions.Defs.{Defs}
-use Rattle.composer_parser.specs.declared.definitions.CalendarDef.{CalendarDef}
-use Rattle.composer_parser.specs.declared.definitions.CpuDef.{CpuDef}
+use Rattle.base_types.specs.declared.Net.{Net}
+use Rattle.base_types.specs.declared.Peer.{Peer}
+use Rattle.composer_parser.specs.declared.Lined.{Lined}
+use Rattle.composer_parser.specs.declared.Defs.{Defs}
+use Rattle.composer_parser.specs.declared.CalendarDef.{CalendarDef}
+use Rattle.composer_parser.specs.declared.CpuDef.{CpuDef}
 use Rattle.definition_names.specs.Names.{first_of}
 use Rattle.definition_faults.specs.Faults.{IsFaultless}
 use Rattle.workload_defs.specs.Stations.{stations, number_among}

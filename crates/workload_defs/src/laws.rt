@@ -1,6 +1,6 @@
 //! What holds of all definitions without a fault.
 ghost use Rattle.std.specs.Prelude.{◌≡◌, None};
-ghost use Rattle.composer_parser.specs.declared.definitions.Defs.{Defs as Definitions};
+ghost use Rattle.composer_parser.specs.declared.Defs.{Defs as Definitions};
 ghost use Rattle.network_tree.specs.Faults.{net_fault};
 ghost use Rattle.definition_faults.specs.Faults.{IsFaultless};
 ghost use Rattle.workload_defs.specs.Nets.{net_of};

@@ -1,8 +1,8 @@
 //! The network of definitions, and the addresses of its workstations.
 ghost use Rattle.std.specs.Prelude.{◌≡◌, ◌≤◌, List, All, IfOk, length, map};
-ghost use Rattle.composer_parser.specs.declared.definitions.Lined.{Lined as LinedOf};
-ghost use Rattle.composer_parser.specs.declared.definitions.CpuDef.{CpuDef as Cpu};
-ghost use Rattle.composer_parser.specs.declared.definitions.ResourceDef.{ResourceDef as Res};
+ghost use Rattle.composer_parser.specs.declared.Lined.{Lined as LinedOf};
+ghost use Rattle.composer_parser.specs.declared.CpuDef.{CpuDef as Cpu};
+ghost use Rattle.composer_parser.specs.declared.ResourceDef.{ResourceDef as Res};
 ghost use Rattle.std.specs.Option.{option_copied};
 ghost use Rattle.definition_faults.specs.Faults.{IsFaultless};
 ghost use Rattle.workload_defs.specs.Nets as spec;

@@ -1,7 +1,7 @@
 //! Checked definitions.
 ghost use Rattle.std.specs.Prelude.{◌≡◌, ◌⊎◌, ◌<◌, ◌^◌, Err, IfOk, IsOk, length, Some};
-ghost use Rattle.definition_faults.specs.declared.kinds.Fault.{Fault};
-ghost use Rattle.definition_faults.specs.declared.faults.DefFault.TheVariants.{NoMemory as NoRoom};
+ghost use Rattle.definition_faults.specs.declared.Fault.{Fault};
+ghost use Rattle.definition_faults.specs.declared.DefFault.TheVariants.{NoMemory as NoRoom};
 ghost use Rattle.definition_faults.specs.Orders.{told};
 ghost use Rattle.definition_faults.specs.Faults.{IsFaultless, IsFirstFault};
 ghost use Rattle.workload_defs.specs.Nets as spec;
@@ -31,7 +31,7 @@ pub struct Workload {
 }
 
 impl Model for Workload {
-    ghost use Rattle.composer_parser.specs.declared.definitions.Defs.{Defs as Definitions};
+    ghost use Rattle.composer_parser.specs.declared.Defs.{Defs as Definitions};
     ghost use Rattle.workload_defs.specs.Tables.{IsWorkload};
 
     ghost Value = { Definitions };

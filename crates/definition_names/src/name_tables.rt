@@ -35,7 +35,7 @@ pub struct Names<'a> {
 
 impl<'a> Model for Names<'a> {
     ghost use Rattle.std.specs.Option.{option_copied};
-    ghost use Rattle.composer_parser.specs.declared.definitions.Defs.{Defs as Definitions};
+    ghost use Rattle.composer_parser.specs.declared.Defs.{Defs as Definitions};
     ghost use Rattle.definition_names.specs.Indexes.{AreTables};
 
     ghost Value = { Definitions };

@@ -1,5 +1,5 @@
 -- Conditions that are none.
-use Rattle.std.specs.Prelude.{◌≡◌, ◌⊎◌, ℕ, ◌≤◌, nat_le, List, ◌++◌, Contains, IfSome, flat_map, Option, Some, None, if◌then◌else◌, option_map, option_and_then}
+use Rattle.std.specs.Prelude.{◌≡◌, ◌⊎◌, ℕ, ◌≤◌, nat_le, List, ◌++◌, Contains, flat_map, Option, Some, None, if◌then◌else◌, option_map, option_and_then}
 use Rattle.std.specs.List.{filter_map}
 use Rattle.model.specs.Types.{CondOp}
 use Rattle.rc_conditions.specs.Answers.{IsCondition}

@@ -56,11 +56,14 @@ followed d n inside cs =
 abbrev pub object : ℕ → List ℕ → Follower
 object line follows = record { line = line; follows = follows }
 
+abbrev pub entry_object : Defs → ℕ → Lined EntryDef → Follower
+entry_object d n e = object e.line (followed d n true e.item.clauses)
+
 -- a stream, and behind it its entries
 abbrev pub stream_objects : Defs → ℕ × Lined ScheduleDef → List Follower
 stream_objects d p =
     object p.1.line (followed d p.0 false p.1.item.clauses)
-    ∷ map (λ (e : Lined EntryDef). object e.line (followed d p.0 true e.item.clauses)) p.1.item.entries
+    ∷ map (entry_object d p.0) p.1.item.entries
 
 -- all streams and entries
 unfoldable pub graph_of : Defs → List Follower

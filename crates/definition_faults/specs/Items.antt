@@ -1,6 +1,6 @@
 -- The faults of workstations, domains, calendars, prompts, resources and jobs. Each table has what an item is tested for,
 -- in the order of the kinds. A name that is defined twice is a fault of the later item, whose name stands for an earlier.
-use Rattle.std.specs.Prelude.{ℕ, Bool, false, ◌&&◌, ◌||◌, not, ◌==◌, nat_lt, List, [], ◌∷◌, length, map, is_none, Option, slice_index_or}
+use Rattle.std.specs.Prelude.{ℕ, Bool, false, ◌&&◌, ◌||◌, not, ◌==◌, nat_lt, List, [], ◌∷◌, length, map, is_none, Option}
 use Rattle.std.specs.Prelude.{flat_map}
 use Rattle.std.specs.List.{enumerate_from, list_any}
 use Rattle.std.specs.Option.{option_map_or}

@@ -1,5 +1,5 @@
 -- The master domain, and the managers of domains.
-use Rattle.std.specs.Prelude.{ℕ, Bool, not, min, List, [], ◌∷◌, Option, Some, None, slice_get, option_and_then, if◌then◌else◌}
+use Rattle.std.specs.Prelude.{ℕ, min, List, [], ◌∷◌, Option, Some, None, slice_get, option_and_then, if◌then◌else◌}
 use Rattle.std.specs.List.{filter_map}
 use Rattle.std.specs.Str.{bytes_eq}
 use Rattle.std.specs.Prelude.{option_map}
@@ -33,5 +33,8 @@ abbrev pub stray_line : Defs → Lined DomainDef → Option ℕ
 stray_line d x =
     option_and_then (line_where_other x) (option_and_then (slice_get d.cpus) (cpu_at d x.item.manager))
 
+abbrev pub stray_fault : Defs → Lined DomainDef → Option Fault
+stray_fault d x = option_map tree_at (stray_line d x)
+
 unfoldable pub manager_faults : Defs → List Fault
-manager_faults d = filter_map (λ (x : Lined DomainDef). option_map tree_at (stray_line d x)) d.domains
+manager_faults d = filter_map (stray_fault d) d.domains

@@ -1,5 +1,5 @@
 //! Chains of domains, from each to its parent.
-ghost use Rattle.std.specs.Prelude.{◌≡◌, ◌+◌, ◌<◌, IfOk, length, map};
+ghost use Rattle.std.specs.Prelude.{◌≡◌, IfOk, length, map};
 ghost use Rattle.model.specs.Words.{below};
 ghost use Rattle.definition_faults.specs.Chains as spec;
 
@@ -11,9 +11,10 @@ use std::alloc::Global;
 pub(crate) fn chain_ends<'a>(alloc: Global, names: &Names<'a>) -> Result<Vec<bool>, NoMemory>
     ensures { IfOk result (λ v. v.items ≡ spec.all_ends names.now) }
 {
-    let places = climbed(alloc, names)?;
+    let climbed = climbed(alloc, names)?;
+    let places = climbed.as_slice();
     let mut ends = Vec::new(alloc);
-    for place in places.as_slice() {
+    for place in places {
         ends.push(is_top(names, *place))?;
     }
     Ok(ends)
@@ -40,8 +41,9 @@ fn climbed<'a>(alloc: Global, names: &Names<'a>) -> Result<Vec<usize>, NoMemory>
 fn parents<'a>(alloc: Global, names: &Names<'a>) -> Result<Vec<usize>, NoMemory>
     ensures { IfOk result (λ v. v.items ≡ map (spec.parent_of names.now) (below (length names.now.domains))) }
 {
+    let count = names.defs().domains.len();
     let mut places = Vec::new(alloc);
-    for i in 0..names.defs().domains.len() {
+    for i in 0..count {
         places.push(parent_of(names, i))?;
     }
     Ok(places)
@@ -68,12 +70,19 @@ fn twice(alloc: Global, places: &[usize]) -> Result<Vec<usize>, NoMemory>
 {
     let mut further = Vec::new(alloc);
     for place in places {
-        match places.get(*place) {
-            Some(next) => further.push(*next)?,
-            None => further.push(*place)?,
-        }
+        further.push(place_in(places, *place))?;
     }
     Ok(further)
+}
+
+/// What the places have at a place, and the place itself past their end.
+fn place_in(places: &[usize], place: usize) -> usize
+    ensures { result ≡ spec.place_in places.now place }
+{
+    match places.get(place) {
+        Some(next) => *next,
+        None => place,
+    }
 }
 
 fn is_top<'a>(names: &Names<'a>, i: usize) -> bool

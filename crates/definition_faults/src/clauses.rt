@@ -1,5 +1,5 @@
 //! The clauses of a stream or of an entry.
-ghost use Rattle.std.specs.Prelude.{◌≡◌, Bool};
+ghost use Rattle.std.specs.Prelude.{◌≡◌, ◌+◌, ◌≤◌, min};
 ghost use Rattle.std.specs.List.{list_any};
 ghost use Rattle.std.specs.Option.{option_copied};
 ghost use Rattle.model.specs.Words.{first_of_these};
@@ -32,7 +32,7 @@ pub(crate) fn in_clauses<'a>(
     let mut first = None;
     let mut before: usize = 0;
     for clause in clauses {
-        let count = before.saturating_add(dependency_count(&clause.item));
+        let count = with_more(before, dependency_count(&clause.item));
         let passes = before <= MOST && count > MOST;
         first = noted(
             first,
@@ -42,6 +42,18 @@ pub(crate) fn in_clauses<'a>(
         before = count;
     }
     first
+}
+
+/// So many dependencies and more, counted up to 65.
+fn with_more(before: usize, more: usize) -> usize
+    requires { before ≤ 65 }
+    ensures { result ≡ min 65 (before + more) }
+{
+    if more > MOST + 1 - before {
+        MOST + 1
+    } else {
+        before + more
+    }
 }
 
 fn of_clause<'a>(
@@ -94,23 +106,21 @@ fn has_unknown_pred<'a>(
 ) -> bool
     ensures { result ≡ list_any (unknown.is_unknown_pred names.now stream inside) preds.now }
 {
-    for pred in preds {
-        if is_unknown_ws(names, &pred.ws) || names.target(stream, inside, pred).is_none() {
-            return true;
-        }
-    }
-    false
+    preds
+        .iter()
+        .any(|pred| is_unknown_pred(names, stream, inside, pred))
+}
+
+fn is_unknown_pred<'a>(names: &Names<'a>, stream: usize, inside: bool, pred: &'a Pred) -> bool
+    ensures { result ≡ unknown.is_unknown_pred names.now stream inside pred.now }
+{
+    is_unknown_ws(names, &pred.ws) || names.target(stream, inside, pred).is_none()
 }
 
 fn has_unknown_need<'a>(names: &Names<'a>, ws: Option<&'a Text>, needs: &'a [Need]) -> bool
     ensures { result ≡ list_any (unknown.is_unknown_need names.now (option_copied ws)) needs.now }
 {
-    for need in needs {
-        if is_unknown_need(names, ws, need) {
-            return true;
-        }
-    }
-    false
+    needs.iter().any(|need| is_unknown_need(names, ws, need))
 }
 
 fn is_unknown_need<'a>(names: &Names<'a>, ws: Option<&'a Text>, need: &'a Need) -> bool
@@ -128,12 +138,9 @@ fn is_unknown_need<'a>(names: &Names<'a>, ws: Option<&'a Text>, need: &'a Need) 
 fn has_unknown_prompt<'a>(names: &Names<'a>, prompts: &'a [PromptItem]) -> bool
     ensures { result ≡ list_any (unknown.is_unknown_prompt names.now) prompts.now }
 {
-    for prompt in prompts {
-        if is_unknown_prompt(names, prompt) {
-            return true;
-        }
-    }
-    false
+    prompts
+        .iter()
+        .any(|prompt| is_unknown_prompt(names, prompt))
 }
 
 fn is_unknown_prompt<'a>(names: &Names<'a>, prompt: &'a PromptItem) -> bool
@@ -158,12 +165,7 @@ fn has_foreign<'a>(ws: Option<&'a Text>, clause: &'a Clause) -> bool
 fn has_foreign_need<'a>(ws: Option<&'a Text>, needs: &'a [Need]) -> bool
     ensures { result ≡ list_any (spec.is_foreign (option_copied ws)) needs.now }
 {
-    for need in needs {
-        if is_foreign(ws, need) {
-            return true;
-        }
-    }
-    false
+    needs.iter().any(|need| is_foreign(ws, need))
 }
 
 fn is_foreign<'a>(ws: Option<&'a Text>, need: &'a Need) -> bool

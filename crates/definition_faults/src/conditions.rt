@@ -1,10 +1,10 @@
 //! Texts that are no conditions.
-ghost use Rattle.std.specs.Prelude.{◌≡◌, ◌↔◌, IfOk, IsTrue, Contains};
-ghost use Rattle.definition_faults.specs.Conditions.{IsRefused, IsBadWork, IsLeastBadLine, IsLeastBadLineOf};
+ghost use Rattle.std.specs.Prelude.{◌≡◌, ◌↔◌, IfOk, IsTrue, filter_map};
+ghost use Rattle.definition_faults.specs.Conditions.{HasBad, IsRefused, IsBadWork, IsLeastOf, IsLeastBadLine, IsLeastBadLineOf};
 ghost use Rattle.definition_faults.specs.Conditions as spec;
 
 use base_types::{NoMemory, Text};
-use composer_parser::{EntryDef, Lined, WorkDef};
+use composer_parser::{EntryDef, JobDef, Lined, WorkDef};
 use definition_names::Names;
 use rc_conditions::{CondFault, read_cond};
 use std::alloc::Global;
@@ -16,14 +16,23 @@ pub(crate) fn first_bad_condition<'a>(
 ) -> Result<Option<u32>, NoMemory>
     ensures { IfOk result (λ found. IsLeastBadLine names.now found) }
 {
+    let schedules = names.defs().schedules.as_slice();
+    let mut least = bad_job(alloc, names.defs().jobs.as_slice())?;
+    for schedule in schedules {
+        least = bad_entry(alloc, least, schedule.item.entries.as_slice())?;
+    }
+    Ok(least)
+}
+
+/// The lowest line of a job whose condition is none.
+fn bad_job(alloc: Global, jobs: &[Lined<JobDef>]) -> Result<Option<u32>, NoMemory>
+    ensures { IfOk result (λ found. IsLeastOf (HasBad (filter_map spec.condition_of_job jobs.now)) found) }
+{
     let mut least = None;
-    for job in names.defs().jobs.as_slice() {
+    for job in jobs {
         if is_bad_work(alloc, &job.item.work)? {
             least = lesser(least, job.line);
         }
-    }
-    for schedule in names.defs().schedules.as_slice() {
-        least = bad_entry(alloc, least, schedule.item.entries.as_slice())?;
     }
     Ok(least)
 }

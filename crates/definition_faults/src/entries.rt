@@ -1,6 +1,5 @@
 //! The entries of a stream.
-ghost use Rattle.std.specs.Prelude.{◌≡◌, Bool};
-ghost use Rattle.std.specs.Option.{option_copied};
+ghost use Rattle.std.specs.Prelude.{◌≡◌};
 ghost use Rattle.model.specs.Words.{first_of_these};
 ghost use Rattle.definition_faults.specs.Orders.{earliest};
 ghost use Rattle.definition_faults.specs.Entries as spec;
@@ -8,7 +7,7 @@ ghost use Rattle.definition_faults.specs.Entries as spec;
 use crate::clauses::in_clauses;
 use crate::kinds::{Fault, Kind, earlier, noted};
 use crate::stations::is_unknown_ws;
-use composer_parser::{EntryDef, ScheduleDef};
+use composer_parser::{EntryDef, Lined, ScheduleDef};
 use definition_names::Names;
 
 /// The first fault of the entries of the stream at a place, with their clauses. Their conditions are left out.
@@ -20,18 +19,32 @@ pub(crate) fn in_entries<'a>(
 ) -> Option<Fault>
     ensures { result ≡ earliest (spec.entry_faults names.now stream schedule.now) }
 {
+    let entries = schedule.entries.as_slice();
     let mut first = None;
-    for (i, entry) in schedule.entries.as_slice().iter().enumerate() {
-        let own = noted(
-            first,
-            entry.line,
-            of_entry(names, stream, i, schedule, &entry.item),
-        );
-        let ws = names.ws_of_entry(schedule, &entry.item);
-        let clauses = in_clauses(names, stream, true, ws, entry.item.clauses.as_slice());
-        first = earlier(own, clauses);
+    for (i, entry) in entries.iter().enumerate() {
+        first = earlier(first, in_entry(names, stream, i, schedule, entry));
     }
     first
+}
+
+/// The first fault of the entry at a place of the stream at a place.
+fn in_entry<'a>(
+    names: &Names<'a>,
+    stream: usize,
+    i: usize,
+    schedule: &'a ScheduleDef,
+    entry: &'a Lined<EntryDef>,
+) -> Option<Fault>
+    ensures { result ≡ earliest (spec.faults_of_entry names.now stream schedule.now (i, entry.now)) }
+{
+    let own = noted(
+        None,
+        entry.line,
+        of_entry(names, stream, i, schedule, &entry.item),
+    );
+    let ws = names.ws_of_entry(schedule, &entry.item);
+    let clauses = in_clauses(names, stream, true, ws, entry.item.clauses.as_slice());
+    earlier(own, clauses)
 }
 
 fn of_entry<'a>(

@@ -4,7 +4,7 @@ ghost use Rattle.model.specs.Words.{below};
 ghost use Rattle.definition_faults.specs.Graphs as spec;
 
 use base_types::{Items, NoMemory};
-use composer_parser::{Clause, Lined, Pred, ScheduleDef};
+use composer_parser::{Clause, EntryDef, Lined, Pred, ScheduleDef};
 use definition_names::{Names, Target};
 use follow_circles::Follower;
 use std::alloc::Global;
@@ -15,8 +15,9 @@ pub(crate) fn followers<'a>(alloc: Global, names: &Names<'a>) -> Result<Vec<Foll
     ensures { IfOk result (λ v. v.items ≡ spec.graph_of names.now) }
 {
     let begins = begins(alloc, names)?;
+    let schedules = names.defs().schedules.as_slice();
     let mut objects = Vec::new(alloc);
-    for (n, schedule) in names.defs().schedules.as_slice().iter().enumerate() {
+    for (n, schedule) in schedules.iter().enumerate() {
         put_stream(alloc, &mut objects, names, begins.as_slice(), n, schedule)?;
     }
     Ok(objects)
@@ -26,9 +27,10 @@ pub(crate) fn followers<'a>(alloc: Global, names: &Names<'a>) -> Result<Vec<Foll
 fn begins<'a>(alloc: Global, names: &Names<'a>) -> Result<Vec<usize>, NoMemory>
     ensures { IfOk result (λ v. v.items ≡ map (spec.begin_of names.now) (below (length names.now.schedules))) }
 {
+    let schedules = names.defs().schedules.as_slice();
     let mut begins = Vec::new(alloc);
     let mut next: usize = 0;
-    for schedule in names.defs().schedules.as_slice() {
+    for schedule in schedules {
         begins.push(next)?;
         next = place_behind(next, &schedule.item)?;
     }
@@ -65,7 +67,21 @@ fn put_stream<'a>(
         line: schedule.line,
         follows,
     })?;
-    for entry in stream.entries.as_slice() {
+    put_entries(alloc, objects, names, begins, n, stream.entries.as_slice())
+}
+
+fn put_entries<'a>(
+    alloc: Global,
+    objects: &mut Vec<Follower>,
+    names: &Names<'a>,
+    begins: &[usize],
+    n: usize,
+    entries: &'a [Lined<EntryDef>],
+) -> Result<(), NoMemory>
+    requires { begins.now ≡ map (spec.begin_of names.now) (below (length names.now.schedules)) }
+    ensures { OnOk result (objects.new.items ≡ objects.old.items ++ map (spec.entry_object names.now n) entries.now) }
+{
+    for entry in entries {
         let follows = followed(alloc, names, begins, n, true, entry.item.clauses.as_slice())?;
         objects.push(Follower {
             line: entry.line,
@@ -89,11 +105,19 @@ fn followed<'a>(
 {
     let mut places = Items::new(alloc);
     for clause in clauses {
-        if let Clause::Follows(preds) = &clause.item {
-            put_preds(&mut places, names, begins, n, inside, preds.as_slice())?;
-        }
+        put_preds(&mut places, names, begins, n, inside, preds_of(&clause.item))?;
     }
     Ok(places)
+}
+
+/// What a clause follows.
+fn preds_of(clause: &Clause) -> &[Pred]
+    ensures { result.now ≡ spec.preds_of clause.now }
+{
+    match clause {
+        Clause::Follows(preds) => preds.as_slice(),
+        _ => &[],
+    }
 }
 
 fn put_preds<'a>(

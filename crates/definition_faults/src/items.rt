@@ -1,12 +1,12 @@
 //! Workstations, domains, calendars, prompts, resources and jobs.
-ghost use Rattle.std.specs.Prelude.{◌≡◌, ◌==◌, Bool, length, slice_index_or, map, true, false};
+ghost use Rattle.std.specs.Prelude.{◌≡◌, slice_index_or, false};
 ghost use Rattle.model.specs.Words.{first_of_these};
 ghost use Rattle.definition_faults.specs.Orders.{earliest};
 ghost use Rattle.definition_faults.specs.Items as spec;
 
 use crate::kinds::{Fault, Kind, noted};
 use base_types::PromptDef;
-use composer_parser::{CpuDef, DomainDef, JobDef, ResourceDef};
+use composer_parser::{CalendarDef, CpuDef, DomainDef, JobDef, ResourceDef};
 use definition_names::Names;
 
 /// The place of the first workstation that is too many.
@@ -20,8 +20,9 @@ const MOST_NAMED: usize = 65_535;
 pub(crate) fn in_cpus<'a>(names: &Names<'a>) -> Option<Fault>
     ensures { result ≡ earliest (spec.cpu_faults names.now) }
 {
+    let cpus = names.defs().cpus.as_slice();
     let mut first = None;
-    for (i, cpu) in names.defs().cpus.as_slice().iter().enumerate() {
+    for (i, cpu) in cpus.iter().enumerate() {
         first = noted(first, cpu.line, of_cpu(names, i, &cpu.item));
     }
     first
@@ -58,8 +59,9 @@ pub(crate) fn in_domains<'a>(names: &Names<'a>, ends: &[bool]) -> Option<Fault>
     ensures { result ≡ earliest (spec.domain_faults names.now) }
 {
     let has_top = has_top(names);
+    let domains = names.defs().domains.as_slice();
     let mut first = None;
-    for (i, domain) in names.defs().domains.as_slice().iter().enumerate() {
+    for (i, domain) in domains.iter().enumerate() {
         let strays = has_top && !ends_at(ends, i);
         first = noted(
             first,
@@ -126,13 +128,21 @@ fn lacks_parent<'a>(names: &Names<'a>, domain: &'a DomainDef) -> bool
 pub(crate) fn in_calendars<'a>(names: &Names<'a>) -> Option<Fault>
     ensures { result ≡ earliest (spec.calendar_faults names.now) }
 {
+    let calendars = names.defs().calendars.as_slice();
     let mut first = None;
-    for (i, calendar) in names.defs().calendars.as_slice().iter().enumerate() {
-        if names.calendar(&calendar.item.name) != Some(i) {
-            first = noted(first, calendar.line, Some(Kind::Duplicate));
-        }
+    for (i, calendar) in calendars.iter().enumerate() {
+        first = noted(first, calendar.line, of_calendar(names, i, &calendar.item));
     }
     first
+}
+
+fn of_calendar<'a>(names: &Names<'a>, i: usize, calendar: &'a CalendarDef) -> Option<Kind>
+    ensures { result ≡ first_of_these (spec.calendar_rows names.now i calendar.now) }
+{
+    if names.calendar(&calendar.name) != Some(i) {
+        return Some(Kind::Duplicate);
+    }
+    None
 }
 
 /// The first fault of the prompts.
@@ -140,8 +150,9 @@ pub(crate) fn in_calendars<'a>(names: &Names<'a>) -> Option<Fault>
 pub(crate) fn in_prompts<'a>(names: &Names<'a>) -> Option<Fault>
     ensures { result ≡ earliest (spec.prompt_faults names.now) }
 {
+    let prompts = names.defs().prompts.as_slice();
     let mut first = None;
-    for (i, prompt) in names.defs().prompts.as_slice().iter().enumerate() {
+    for (i, prompt) in prompts.iter().enumerate() {
         first = noted(first, prompt.line, of_prompt(names, i, &prompt.item));
     }
     first
@@ -164,8 +175,9 @@ fn of_prompt<'a>(names: &Names<'a>, i: usize, prompt: &'a PromptDef) -> Option<K
 pub(crate) fn in_resources<'a>(names: &Names<'a>) -> Option<Fault>
     ensures { result ≡ earliest (spec.resource_faults names.now) }
 {
+    let resources = names.defs().resources.as_slice();
     let mut first = None;
-    for (i, resource) in names.defs().resources.as_slice().iter().enumerate() {
+    for (i, resource) in resources.iter().enumerate() {
         first = noted(first, resource.line, of_resource(names, i, &resource.item));
     }
     first
@@ -191,8 +203,9 @@ fn of_resource<'a>(names: &Names<'a>, i: usize, resource: &'a ResourceDef) -> Op
 pub(crate) fn in_jobs<'a>(names: &Names<'a>) -> Option<Fault>
     ensures { result ≡ earliest (spec.job_faults names.now) }
 {
+    let jobs = names.defs().jobs.as_slice();
     let mut first = None;
-    for (i, job) in names.defs().jobs.as_slice().iter().enumerate() {
+    for (i, job) in jobs.iter().enumerate() {
         first = noted(first, job.line, of_job(names, i, &job.item));
     }
     first

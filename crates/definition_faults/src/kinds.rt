@@ -1,5 +1,5 @@
 //! The kinds of fault, and which of two faults comes first.
-ghost use Rattle.std.specs.Prelude.{◌≡◌, Some};
+ghost use Rattle.std.specs.Prelude.{◌≡◌};
 ghost use Rattle.definition_faults.specs.Orders as spec;
 
 /// The kinds of fault, in the order in which they are told on one line.

@@ -3,7 +3,7 @@ ghost use Rattle.std.specs.Prelude.{◌≡◌};
 ghost use Rattle.definition_faults.specs.Orders.{earliest};
 ghost use Rattle.definition_faults.specs.Masters as spec;
 
-use crate::kinds::{Fault, Kind, noted};
+use crate::kinds::{Fault, Kind, earlier};
 use composer_parser::{Defs, DomainDef, Lined};
 use definition_names::Names;
 
@@ -13,8 +13,9 @@ use definition_names::Names;
 pub(crate) fn in_masters(defs: &Defs) -> Option<Fault>
     ensures { result ≡ earliest (spec.master_faults defs.now) }
 {
+    let domains = defs.domains.as_slice();
     let mut found: Option<u32> = None;
-    for domain in defs.domains.as_slice() {
+    for domain in domains {
         if domain.item.parent.is_none() {
             if let Some(line) = found {
                 return Some(tree_at(line));
@@ -42,13 +43,21 @@ fn tree_at(line: u32) -> Fault
 pub(crate) fn in_managers<'a>(names: &Names<'a>) -> Option<Fault>
     ensures { result ≡ earliest (spec.manager_faults names.now) }
 {
+    let domains = names.defs().domains.as_slice();
     let mut first = None;
-    for domain in names.defs().domains.as_slice() {
-        if let Some(line) = stray_line(names, domain) {
-            first = noted(first, line, Some(Kind::Tree));
-        }
+    for domain in domains {
+        first = earlier(first, stray_fault(names, domain));
     }
     first
+}
+
+fn stray_fault<'a>(names: &Names<'a>, domain: &'a Lined<DomainDef>) -> Option<Fault>
+    ensures { result ≡ spec.stray_fault names.now domain.now }
+{
+    match stray_line(names, domain) {
+        Some(line) => Some(tree_at(line)),
+        None => None,
+    }
 }
 
 /// The lower line of a domain and of its manager, where that is of another domain.

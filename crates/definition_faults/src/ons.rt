@@ -1,5 +1,5 @@
 //! The ON and EXCEPT statements of a stream.
-ghost use Rattle.std.specs.Prelude.{◌≡◌, Bool};
+ghost use Rattle.std.specs.Prelude.{◌≡◌};
 ghost use Rattle.std.specs.List.{list_any};
 ghost use Rattle.model.specs.Words.{first_of_these};
 ghost use Rattle.definition_faults.specs.Orders.{earliest};
@@ -38,14 +38,16 @@ fn of_on<'a>(names: &Names<'a>, on: &'a OnDef) -> Option<Kind>
 fn has_unknown<'a>(names: &Names<'a>, items: &'a [OnItem]) -> bool
     ensures { result ≡ list_any (spec.is_unknown_item names.now) items.now }
 {
-    for item in items {
-        if let OnItem::Calendar(name, _) = item {
-            if is_unknown_calendar(names, name) {
-                return true;
-            }
-        }
+    items.iter().any(|item| is_unknown_item(names, item))
+}
+
+fn is_unknown_item<'a>(names: &Names<'a>, item: &'a OnItem) -> bool
+    ensures { result ≡ spec.is_unknown_item names.now item.now }
+{
+    match item {
+        OnItem::Calendar(name, _) => is_unknown_calendar(names, name),
+        _ => false,
     }
-    false
 }
 
 /// Whether the statement has a VALIDFROM.
@@ -61,12 +63,7 @@ fn has_first(on: &OnDef) -> bool
 fn has_bad(has_first: bool, items: &[OnItem]) -> bool
     ensures { result ≡ list_any (spec.is_bad_item has_first) items.now }
 {
-    for item in items {
-        if is_bad_item(has_first, item) {
-            return true;
-        }
-    }
-    false
+    items.iter().any(|item| is_bad_item(has_first, item))
 }
 
 fn is_bad_item(has_first: bool, item: &OnItem) -> bool

@@ -1,5 +1,5 @@
 //! Streams, with their days, clauses and entries.
-ghost use Rattle.std.specs.Prelude.{◌≡◌, Bool};
+ghost use Rattle.std.specs.Prelude.{◌≡◌};
 ghost use Rattle.model.specs.Words.{first_of_these};
 ghost use Rattle.definition_faults.specs.Orders.{earliest};
 ghost use Rattle.definition_faults.specs.Streams as spec;
@@ -17,8 +17,9 @@ use definition_names::Names;
 pub(crate) fn in_streams<'a>(names: &Names<'a>) -> Option<Fault>
     ensures { result ≡ earliest (spec.all_stream_faults names.now) }
 {
+    let schedules = names.defs().schedules.as_slice();
     let mut first = None;
-    for (n, schedule) in names.defs().schedules.as_slice().iter().enumerate() {
+    for (n, schedule) in schedules.iter().enumerate() {
         first = earlier(first, in_stream(names, n, schedule));
     }
     first

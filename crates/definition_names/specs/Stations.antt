@@ -1,5 +1,5 @@
 -- On which workstation a stream and an entry are.
-use Rattle.std.specs.Prelude.{ℕ, List, [], ◌∷◌, filter, map, is_none, Option, Some, None}
+use Rattle.std.specs.Prelude.{ℕ, List, [], ◌∷◌, filter, is_none, Option, Some, None}
 use Rattle.std.specs.Option.{option_or}
 use Rattle.composer_parser.specs.declared.Lined.{Lined}
 use Rattle.composer_parser.specs.declared.Defs.{Defs}

@@ -1,6 +1,6 @@
 //! The names of definitions, looked up.
-ghost use Rattle.std.specs.Prelude.{◌≡◌, ◌<◌, ◌==◌, Bool, IfOk, IfSome, length, is_none, slice_get, option_and_then, option_map};
-ghost use Rattle.std.specs.Option.{option_copied, option_or};
+ghost use Rattle.std.specs.Prelude.{◌≡◌, IfOk};
+ghost use Rattle.std.specs.Option.{option_copied};
 ghost use Rattle.definition_names.specs.Stations as stations;
 ghost use Rattle.definition_names.specs.Names as spec;
 ghost use Rattle.definition_names.specs.Streams as streams;

@@ -1,5 +1,5 @@
 -- The objects that were reached, and their marks.
-use Rattle.std.specs.Prelude.{◌≡◌, ◌⊎◌, ◌↔◌, ℕ, ◌<◌, Bool, true, List, ◌++◌, length, Contains, Some, slice_get}
+use Rattle.std.specs.Prelude.{◌≡◌, ◌⊎◌, ◌↔◌, ℕ, ◌+◌, ◌<◌, true, List, ◌++◌, length, Contains, Some, slice_get}
 use Rattle.follow_circles.specs.declared.asking.Reached.{Reached}
 
 -- the place has a mark

@@ -1,7 +1,7 @@
 //! Whether one object reaches itself.
-ghost use Rattle.std.specs.Prelude.{◌≡◌, ◌<◌, ◌≤◌, ◌↔◌, ℕ, List, length, IfOk, OnOk, IsTrue, Contains, slice_get, Some};
-ghost use Rattle.follow_circles.specs.Circles.{IsOnCircle, follows_of};
-ghost use Rattle.follow_circles.specs.Reached.{IsMarked, MarksThese};
+ghost use Rattle.std.specs.Prelude.{◌<◌, ◌↔◌, ℕ, length, IfOk, OnOk, IsTrue};
+ghost use Rattle.follow_circles.specs.Circles.{IsOnCircle};
+ghost use Rattle.follow_circles.specs.Reached.{MarksThese};
 
 use crate::circles::Follower;
 use base_types::NoMemory;

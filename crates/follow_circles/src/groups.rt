@@ -1,7 +1,7 @@
 //! Groups of objects, as a test that no circle leaves its group.
-ghost use Rattle.std.specs.Prelude.{◌≡◌, ◌<◌, ◌==◌, Bool, ℕ, List, length, IsTrue, IfSome, IfNone, IsSome, nat_le, slice_index};
+ghost use Rattle.std.specs.Prelude.{◌≡◌, ◌<◌, ◌==◌, ℕ, length, IsTrue, IfSome, nat_le, slice_index};
 ghost use Rattle.std.specs.List.{list_any, list_all};
-ghost use Rattle.follow_circles.specs.Circles.{follows_of, line_of};
+ghost use Rattle.follow_circles.specs.Circles.{line_of};
 ghost use Rattle.follow_circles.specs.Groups as spec;
 ghost use Rattle.follow_circles.specs.Groups.{AreGroups, IsLeastWithin};
 

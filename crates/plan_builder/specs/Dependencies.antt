@@ -4,7 +4,7 @@ use Rattle.std.specs.Prelude.{ℕ, ◌+◌, Bool, nat_lt, min, List, [], ◌∷�
 use Rattle.std.specs.Prelude.{Option, Some, None, if◌then◌else◌}
 use Rattle.std.specs.List.{filter_map}
 use Rattle.std.specs.Option.{option_or, option_map_or}
-use Rattle.model.specs.Types.{Dep, DraftDep, Plain}
+use Rattle.model.specs.Types.{DraftDep, Plain}
 use Rattle.model.specs.Types as dep
 use Rattle.base_types.specs.declared.PromptRef.TheVariants as ref
 use Rattle.composer_parser.specs.declared.Lined.{Lined}
@@ -85,17 +85,20 @@ follows_at d (Job n i) =
 abbrev pub follows_of : Defs → ℕ → Bool → Pred → Option DraftDep
 follows_of d n inside p = option_and_then (follows_at d) (target_of d n inside p)
 
+abbrev pub preds_of : Clause → List Pred
+preds_of (Follows ps) = ps
+preds_of (At minute days) = []
+preds_of (Until minute days u) = []
+preds_of (Deadline minute days) = []
+preds_of (Priority m) = []
+preds_of (Limit m) = []
+preds_of CarryForward = []
+preds_of (Needs ns) = []
+preds_of (Prompt ps) = []
+preds_of (Opens paths) = []
+
 abbrev pub followed_in : Defs → ℕ → Bool → Clause → List DraftDep
-followed_in d n inside (Follows ps) = filter_map (follows_of d n inside) ps
-followed_in d n inside (At minute days) = []
-followed_in d n inside (Until minute days u) = []
-followed_in d n inside (Deadline minute days) = []
-followed_in d n inside (Priority m) = []
-followed_in d n inside (Limit m) = []
-followed_in d n inside CarryForward = []
-followed_in d n inside (Needs ns) = []
-followed_in d n inside (Prompt ps) = []
-followed_in d n inside (Opens paths) = []
+followed_in d n inside c = filter_map (follows_of d n inside) (preds_of c)
 
 -- the number, from 1 to 65535, of what stands at a place; 0 where there is none, which does not come in checked ones
 abbrev pub number_from_one : Option ℕ → ℕ
@@ -109,49 +112,58 @@ resource_of d own n = option_and_then (λ ws. resource_at d ws n.name) (option_o
 abbrev pub need_of : Defs → Option (List ℕ) → Need → DraftDep
 need_of d own n = Plain (dep.Needs (number_from_one (resource_of d own n)) (min (unwrap_or n.units 1) 1024))
 
+abbrev pub needs_of : Clause → List Need
+needs_of (Needs ns) = ns
+needs_of (At minute days) = []
+needs_of (Until minute days u) = []
+needs_of (Deadline minute days) = []
+needs_of (Priority m) = []
+needs_of (Limit m) = []
+needs_of CarryForward = []
+needs_of (Follows ps) = []
+needs_of (Prompt ps) = []
+needs_of (Opens paths) = []
+
 abbrev pub needed_in : Defs → Option (List ℕ) → Clause → List DraftDep
-needed_in d own (Needs ns) = map (need_of d own) ns
-needed_in d own (At minute days) = []
-needed_in d own (Until minute days u) = []
-needed_in d own (Deadline minute days) = []
-needed_in d own (Priority n) = []
-needed_in d own (Limit n) = []
-needed_in d own CarryForward = []
-needed_in d own (Follows ps) = []
-needed_in d own (Prompt ps) = []
-needed_in d own (Opens paths) = []
+needed_in d own c = map (need_of d own) (needs_of c)
 
 -- a prompt by its number, or a text of its own
 abbrev pub prompt_of : Defs → PromptItem → DraftDep
 prompt_of d (ask.Name name) = Plain (dep.Prompt (ref.Global (number_from_one (prompt_at d name))))
 prompt_of d (ask.Own text) = Plain (dep.Prompt (ref.Own text))
 
+abbrev pub prompts_of : Clause → List PromptItem
+prompts_of (Prompt ps) = ps
+prompts_of (At minute days) = []
+prompts_of (Until minute days u) = []
+prompts_of (Deadline minute days) = []
+prompts_of (Priority m) = []
+prompts_of (Limit m) = []
+prompts_of CarryForward = []
+prompts_of (Follows ps) = []
+prompts_of (Needs ns) = []
+prompts_of (Opens paths) = []
+
 abbrev pub asked_in : Defs → Clause → List DraftDep
-asked_in d (Prompt ps) = map (prompt_of d) ps
-asked_in d (At minute days) = []
-asked_in d (Until minute days u) = []
-asked_in d (Deadline minute days) = []
-asked_in d (Priority n) = []
-asked_in d (Limit n) = []
-asked_in d CarryForward = []
-asked_in d (Follows ps) = []
-asked_in d (Needs ns) = []
-asked_in d (Opens paths) = []
+asked_in d c = map (prompt_of d) (prompts_of c)
 
 abbrev pub file_of : List ℕ → DraftDep
 file_of path = Plain (dep.Outside path)
 
+abbrev pub paths_of : Clause → List (List ℕ)
+paths_of (Opens paths) = paths
+paths_of (At minute days) = []
+paths_of (Until minute days u) = []
+paths_of (Deadline minute days) = []
+paths_of (Priority m) = []
+paths_of (Limit m) = []
+paths_of CarryForward = []
+paths_of (Follows ps) = []
+paths_of (Needs ns) = []
+paths_of (Prompt ps) = []
+
 abbrev pub opened_in : Clause → List DraftDep
-opened_in (Opens paths) = map file_of paths
-opened_in (At minute days) = []
-opened_in (Until minute days u) = []
-opened_in (Deadline minute days) = []
-opened_in (Priority n) = []
-opened_in (Limit n) = []
-opened_in CarryForward = []
-opened_in (Follows ps) = []
-opened_in (Needs ns) = []
-opened_in (Prompt ps) = []
+opened_in c = map file_of (paths_of c)
 
 -- the same of a clause with its line
 abbrev pub at_in : PlanDay → Lined Clause → List DraftDep

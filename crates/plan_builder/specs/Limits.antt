@@ -1,6 +1,6 @@
 -- Which streams run on a day, and why a day has no drafts.
-use Rattle.std.specs.Prelude.{ℕ, Bool, nat_lt, nat_le, List, [], ◌∷◌, ◌++◌, length, filter, map, flat_map, slice_get, sum_by, option_map}
-use Rattle.std.specs.Prelude.{Option, Some, None, if◌then◌else◌}
+use Rattle.std.specs.Prelude.{ℕ, nat_lt, List, [], ◌∷◌, ◌++◌, length, filter, map, flat_map, slice_get, sum_by, option_map}
+use Rattle.std.specs.Prelude.{Option, Some, None}
 use Rattle.std.specs.Option.{option_map_or, option_or}
 use Rattle.composer_parser.specs.declared.Lined.{Lined}
 use Rattle.composer_parser.specs.declared.Defs.{Defs}
@@ -33,9 +33,12 @@ job_count d streams = sum_by (λ n. length (entries_of d n)) streams
 abbrev pub lines_in : PlanDay → List (Lined Clause) → List ℕ
 lines_in plan cs = map (λ (c : Lined Clause). c.line) (filter (λ (c : Lined Clause). is_timeless plan c.item) cs)
 
+abbrev pub lines_of_entries : PlanDay → List (Lined EntryDef) → List ℕ
+lines_of_entries plan es = flat_map (λ (e : Lined EntryDef). lines_in plan e.item.clauses) es
+
 abbrev pub lines_of_stream : Defs → PlanDay → ℕ → List ℕ
 lines_of_stream d plan n =
-    lines_in plan (header_of d n) ++ flat_map (λ (e : Lined EntryDef). lines_in plan e.item.clauses) (entries_of d n)
+    lines_in plan (header_of d n) ++ lines_of_entries plan (entries_of d n)
 
 unfoldable pub timeless_lines : Defs → PlanDay → List ℕ → List ℕ
 timeless_lines d plan streams = flat_map (lines_of_stream d plan) streams

@@ -9,12 +9,20 @@ pub(crate) fn priority_of(clauses: &[Lined<Clause>]) -> u8
     ensures { result ≡ spec.priority_of clauses.now }
 {
     for clause in clauses {
-        if let Clause::Priority(number) = &clause.item {
-            let priority = *number;
-            return priority.min(101) as u8;
+        if let Some(number) = priority_in(&clause.item) {
+            return number.min(101) as u8;
         }
     }
     10
+}
+
+fn priority_in(clause: &Clause) -> Option<u32>
+    ensures { result ≡ spec.priority_in clause.now }
+{
+    match clause {
+        Clause::Priority(number) => Some(*number),
+        _ => None,
+    }
 }
 
 /// The limit, where there is one.
@@ -22,22 +30,31 @@ pub(crate) fn limit_of(clauses: &[Lined<Clause>]) -> Option<u16>
     ensures { result ≡ spec.limit_of clauses.now }
 {
     for clause in clauses {
-        if let Clause::Limit(number) = &clause.item {
-            let limit = *number;
-            return Some(limit.min(1024) as u16);
+        if let Some(number) = limit_in(&clause.item) {
+            return Some(number.min(1024) as u16);
         }
     }
     None
+}
+
+fn limit_in(clause: &Clause) -> Option<u32>
+    ensures { result ≡ spec.limit_in clause.now }
+{
+    match clause {
+        Clause::Limit(number) => Some(*number),
+        _ => None,
+    }
 }
 
 /// Whether the stream is marked to be carried.
 pub(crate) fn is_carried(clauses: &[Lined<Clause>]) -> bool
     ensures { result ≡ spec.is_carried clauses.now }
 {
-    for clause in clauses {
-        if let Clause::CarryForward = &clause.item {
-            return true;
-        }
-    }
-    false
+    clauses.iter().any(|clause| is_carry(&clause.item))
+}
+
+fn is_carry(clause: &Clause) -> bool
+    ensures { result ≡ spec.is_carry clause.now }
+{
+    matches!(clause, Clause::CarryForward)
 }

@@ -1,5 +1,5 @@
 //! The drafts of a day.
-ghost use Rattle.std.specs.Prelude.{◌≡◌, ◌≢◌, ◌⊎◌, Some, None, Err, IfOk, IsOk, map};
+ghost use Rattle.std.specs.Prelude.{◌≡◌, ◌≢◌, ◌⊎◌, Some, None, Err, IfOk, IsOk};
 ghost use Rattle.calendars.specs.Dates.{IsDay};
 ghost use Rattle.plan_builder.specs.declared.faults.PlanFault.{PlanFault as Refusal};
 ghost use Rattle.plan_builder.specs.declared.faults.PlanFault.TheVariants.{NoMemory as NoRoom};

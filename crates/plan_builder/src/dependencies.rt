@@ -56,12 +56,21 @@ fn put_ats(deps: &mut DraftDeps, plan: &PlanDay, clauses: &[Lined<Clause>]) -> R
     ensures { OnOk result (deps.new ≡ deps.old ++ flat_map (spec.at_in plan.now) clauses.now) }
 {
     for clause in clauses {
-        if let Clause::At(minute, days) = &clause.item {
-            let time = moment_or_first(plan, *minute, *days);
-            deps.push(DraftDep::Plain(Dep::At(time)))?;
-        }
+        put_at(deps, plan, clause)?;
     }
     Ok(())
+}
+
+fn put_at(deps: &mut DraftDeps, plan: &PlanDay, clause: &Lined<Clause>) -> Result<(), NoMemory>
+    ensures { OnOk result (deps.new ≡ deps.old ++ spec.at_in plan.now clause.now) }
+{
+    match &clause.item {
+        Clause::At(minute, days) => {
+            let time = moment_or_first(plan, *minute, *days);
+            deps.push(DraftDep::Plain(Dep::At(time)))
+        }
+        _ => Ok(()),
+    }
 }
 
 fn put_untils(
@@ -72,12 +81,25 @@ fn put_untils(
     ensures { OnOk result (deps.new ≡ deps.old ++ flat_map (spec.until_in plan.now) clauses.now) }
 {
     for clause in clauses {
-        if let Clause::Until(minute, days, then) = &clause.item {
-            let time = moment_or_first(plan, *minute, *days);
-            deps.push(DraftDep::Plain(Dep::Until(time, *then)))?;
-        }
+        put_until(deps, plan, clause)?;
     }
     Ok(())
+}
+
+fn put_until(
+    deps: &mut DraftDeps,
+    plan: &PlanDay,
+    clause: &Lined<Clause>,
+) -> Result<(), NoMemory>
+    ensures { OnOk result (deps.new ≡ deps.old ++ spec.until_in plan.now clause.now) }
+{
+    match &clause.item {
+        Clause::Until(minute, days, then) => {
+            let time = moment_or_first(plan, *minute, *days);
+            deps.push(DraftDep::Plain(Dep::Until(time, *then)))
+        }
+        _ => Ok(()),
+    }
 }
 
 fn put_deadlines(
@@ -88,12 +110,25 @@ fn put_deadlines(
     ensures { OnOk result (deps.new ≡ deps.old ++ flat_map (spec.deadline_in plan.now) clauses.now) }
 {
     for clause in clauses {
-        if let Clause::Deadline(minute, days) = &clause.item {
-            let time = moment_or_first(plan, *minute, *days);
-            deps.push(DraftDep::Plain(Dep::Deadline(time)))?;
-        }
+        put_deadline(deps, plan, clause)?;
     }
     Ok(())
+}
+
+fn put_deadline(
+    deps: &mut DraftDeps,
+    plan: &PlanDay,
+    clause: &Lined<Clause>,
+) -> Result<(), NoMemory>
+    ensures { OnOk result (deps.new ≡ deps.old ++ spec.deadline_in plan.now clause.now) }
+{
+    match &clause.item {
+        Clause::Deadline(minute, days) => {
+            let time = moment_or_first(plan, *minute, *days);
+            deps.push(DraftDep::Plain(Dep::Deadline(time)))
+        }
+        _ => Ok(()),
+    }
 }
 
 /// FOLLOWS.
@@ -109,11 +144,19 @@ fn put_follows<'a>(
     ensures { OnOk result (deps.new ≡ deps.old ++ flat_map (spec.follows_in w.now n inside) clauses.now) }
 {
     for clause in clauses {
-        if let Clause::Follows(preds) = &clause.item {
-            put_preds(deps, w, names, n, inside, preds.as_slice())?;
-        }
+        put_preds(deps, w, names, n, inside, preds_of(&clause.item))?;
     }
     Ok(())
+}
+
+/// What a clause follows.
+fn preds_of(clause: &Clause) -> &[Pred]
+    ensures { result.now ≡ spec.preds_of clause.now }
+{
+    match clause {
+        Clause::Follows(preds) => preds.as_slice(),
+        _ => &[],
+    }
 }
 
 fn put_preds<'a>(
@@ -128,13 +171,28 @@ fn put_preds<'a>(
     ensures { OnOk result (deps.new ≡ deps.old ++ filter_map (spec.follows_of w.now n inside) preds.now) }
 {
     for pred in preds {
-        if let Some(target) = names.target(n, inside, pred) {
-            if let Some(dep) = follows(w, names, &target)? {
-                deps.push(dep)?;
-            }
+        if let Some(dep) = follows_of(w, names, n, inside, pred)? {
+            deps.push(dep)?;
         }
     }
     Ok(())
+}
+
+/// The dependency of a FOLLOWS, by the names of what it stands for.
+fn follows_of<'a>(
+    w: &Workload,
+    names: &Names<'a>,
+    n: usize,
+    inside: bool,
+    pred: &'a Pred,
+) -> Result<Option<DraftDep>, NoMemory>
+    requires { w.now ≡ names.now }
+    ensures { IfOk result (λ dep. dep ≡ spec.follows_of w.now n inside pred.now) }
+{
+    match names.target(n, inside, pred) {
+        Some(target) => follows(w, names, &target),
+        None => Ok(None),
+    }
 }
 
 /// A FOLLOWS of what stands at these places, by its names.
@@ -197,11 +255,19 @@ fn put_needs<'a>(
     ensures { OnOk result (deps.new ≡ deps.old ++ flat_map (spec.needs_in names.now (option_copied ws)) clauses.now) }
 {
     for clause in clauses {
-        if let Clause::Needs(needs) = &clause.item {
-            put_units(deps, names, ws, needs.as_slice())?;
-        }
+        put_units(deps, names, ws, needs_of(&clause.item))?;
     }
     Ok(())
+}
+
+/// What a clause needs.
+fn needs_of(clause: &Clause) -> &[Need]
+    ensures { result.now ≡ spec.needs_of clause.now }
+{
+    match clause {
+        Clause::Needs(needs) => needs.as_slice(),
+        _ => &[],
+    }
 }
 
 fn put_units<'a>(
@@ -213,11 +279,17 @@ fn put_units<'a>(
     ensures { OnOk result (deps.new ≡ deps.old ++ map (spec.need_of names.now (option_copied ws)) needs.now) }
 {
     for need in needs {
-        let resource = number_from_one(resource_at(names, ws, need));
-        let units = need.units.unwrap_or(1).min(1024) as u16;
-        deps.push(DraftDep::Plain(Dep::Needs(resource, units)))?;
+        deps.push(need_of(names, ws, need))?;
     }
     Ok(())
+}
+
+fn need_of<'a>(names: &Names<'a>, ws: Option<&'a Text>, need: &'a Need) -> DraftDep
+    ensures { result ≡ spec.need_of names.now (option_copied ws) need.now }
+{
+    let resource = number_from_one(resource_at(names, ws, need));
+    let units = need.units.unwrap_or(1).min(1024) as u16;
+    DraftDep::Plain(Dep::Needs(resource, units))
 }
 
 /// The place of the resource that is needed by an object on this workstation.
@@ -249,11 +321,19 @@ fn put_prompts<'a>(
     ensures { OnOk result (deps.new ≡ deps.old ++ flat_map (spec.prompts_in names.now) clauses.now) }
 {
     for clause in clauses {
-        if let Clause::Prompt(prompts) = &clause.item {
-            put_asks(deps, names, prompts.as_slice())?;
-        }
+        put_asks(deps, names, prompts_of(&clause.item))?;
     }
     Ok(())
+}
+
+/// What a clause asks.
+fn prompts_of(clause: &Clause) -> &[PromptItem]
+    ensures { result.now ≡ spec.prompts_of clause.now }
+{
+    match clause {
+        Clause::Prompt(prompts) => prompts.as_slice(),
+        _ => &[],
+    }
 }
 
 fn put_asks<'a>(
@@ -264,13 +344,21 @@ fn put_asks<'a>(
     ensures { OnOk result (deps.new ≡ deps.old ++ map (spec.prompt_of names.now) prompts.now) }
 {
     for prompt in prompts {
-        let asked = match prompt {
-            PromptItem::Name(name) => PromptRef::Global(number_from_one(names.prompt(name))),
-            PromptItem::Own(text) => PromptRef::Own(text.copy()?),
-        };
-        deps.push(DraftDep::Plain(Dep::Prompt(asked)))?;
+        deps.push(ask_of(names, prompt)?)?;
     }
     Ok(())
+}
+
+fn ask_of<'a>(names: &Names<'a>, prompt: &'a PromptItem) -> Result<DraftDep, NoMemory>
+    ensures { IfOk result (λ dep. dep ≡ spec.prompt_of names.now prompt.now) }
+{
+    match prompt {
+        PromptItem::Name(name) => {
+            let number = number_from_one(names.prompt(name));
+            Ok(DraftDep::Plain(Dep::Prompt(PromptRef::Global(number))))
+        }
+        PromptItem::Own(text) => Ok(DraftDep::Plain(Dep::Prompt(PromptRef::Own(text.copy()?)))),
+    }
 }
 
 /// OPENS.
@@ -278,11 +366,19 @@ fn put_files(deps: &mut DraftDeps, clauses: &[Lined<Clause>]) -> Result<(), NoMe
     ensures { OnOk result (deps.new ≡ deps.old ++ flat_map spec.files_in clauses.now) }
 {
     for clause in clauses {
-        if let Clause::Opens(paths) = &clause.item {
-            put_paths(deps, paths.as_slice())?;
-        }
+        put_paths(deps, paths_of(&clause.item))?;
     }
     Ok(())
+}
+
+/// The paths of a clause.
+fn paths_of(clause: &Clause) -> &[Text]
+    ensures { result.now ≡ spec.paths_of clause.now }
+{
+    match clause {
+        Clause::Opens(paths) => paths.as_slice(),
+        _ => &[],
+    }
 }
 
 fn put_paths(deps: &mut DraftDeps, paths: &[Text]) -> Result<(), NoMemory>

@@ -1,5 +1,5 @@
 //! How many streams and jobs a day has, and whether all its times have moments.
-ghost use Rattle.std.specs.Prelude.{◌≡◌, ◌<◌, ◌≤◌, ◌^◌, All, IfOk, length, map, nat_lt};
+ghost use Rattle.std.specs.Prelude.{◌≡◌, IfOk, nat_lt};
 ghost use Rattle.model.specs.Words.{least};
 ghost use Rattle.plan_builder.specs.Limits as spec;
 
@@ -21,8 +21,9 @@ pub(crate) const MOST_JOBS: u32 = 16_384;
 pub(crate) fn running(alloc: Global, w: &Workload, day: u32) -> Result<Vec<u32>, NoMemory>
     ensures { IfOk result (λ v. v.items ≡ spec.running w.now day) }
 {
+    let count = w.streams();
     let mut streams = Vec::new(alloc);
-    for n in 0..w.streams() {
+    for n in 0..count {
         if runs_on(w, n, day) {
             streams.push(n)?;
         }
@@ -36,9 +37,13 @@ pub(crate) fn has_too_many_jobs(defs: &Defs, streams: &[u32]) -> bool
 {
     let mut count: usize = 0;
     for n in streams {
-        count = count.saturating_add(entries_of(defs, *n).len());
+        let jobs = entries_of(defs, *n).len();
+        if jobs > MOST_JOBS as usize - count {
+            return true;
+        }
+        count += jobs;
     }
-    count > MOST_JOBS as usize
+    false
 }
 
 /// The entries of the stream at a place.
@@ -67,11 +72,19 @@ pub(crate) fn first_timeless(defs: &Defs, plan: &PlanDay, streams: &[u32]) -> Op
 fn in_stream(before: Option<u32>, defs: &Defs, plan: &PlanDay, n: u32) -> Option<u32>
     ensures { result ≡ spec.lower before (least (spec.lines_of_stream defs.now plan.now n)) }
 {
-    let mut first = match defs.schedules.get(n as usize) {
+    let header = match defs.schedules.get(n as usize) {
         Some(schedule) => in_clauses(before, plan, schedule.item.clauses.as_slice()),
         None => before,
     };
-    for entry in entries_of(defs, n) {
+    in_entries(header, plan, entries_of(defs, n))
+}
+
+/// The lower of a line and of those of these entries.
+fn in_entries(before: Option<u32>, plan: &PlanDay, entries: &[Lined<EntryDef>]) -> Option<u32>
+    ensures { result ≡ spec.lower before (least (spec.lines_of_entries plan.now entries.now)) }
+{
+    let mut first = before;
+    for entry in entries {
         first = in_clauses(first, plan, entry.item.clauses.as_slice());
     }
     first

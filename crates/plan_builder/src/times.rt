@@ -1,6 +1,5 @@
 //! The moments of the times of a day's plan.
-ghost use Rattle.std.specs.Prelude.{◌≡◌, is_none};
-ghost use Rattle.std.specs.Option.{option_map_or};
+ghost use Rattle.std.specs.Prelude.{◌≡◌};
 ghost use Rattle.plan_builder.specs.Times as spec;
 
 use base_types::Moment;

@@ -1,6 +1,6 @@
 //! What the jobs of a stream run.
-ghost use Rattle.std.specs.Prelude.{◌≡◌, ◌<◌, ◌^◌, IfOk, OnOk, length, option_map};
-ghost use Rattle.std.specs.Option.{option_copied, option_or};
+ghost use Rattle.std.specs.Prelude.{◌≡◌, ◌<◌, ◌^◌, IfOk, length};
+ghost use Rattle.std.specs.Option.{option_copied};
 ghost use Rattle.plan_builder.specs.Works as spec;
 ghost use Rattle.plan_builder.specs.Works.{IsCondOf, IsRunOf};
 

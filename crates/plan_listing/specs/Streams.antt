@@ -1,5 +1,5 @@
 -- The lines of streams and of their jobs: what differs from the defaults.
-use Rattle.std.specs.Prelude.{ℕ, Bool, ◌==◌, List, [], ◌∷◌, ◌++◌, length, codes, flat_map, Option, Some, None, if◌then◌else◌}
+use Rattle.std.specs.Prelude.{ℕ, Bool, ◌==◌, List, ◌++◌, length, codes, flat_map, Option, Some, None, if◌then◌else◌}
 use Rattle.std.specs.Fmt.{decimal}
 use Rattle.model.specs.Types.{Net, Work, Command, Script, Recovery, JobDraft, StreamDraft}
 use Rattle.base_types.specs.declared.Recovery.TheVariants.{Stop, Continue, Rerun}

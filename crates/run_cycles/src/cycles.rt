@@ -1,6 +1,5 @@
 //! The days of a stream.
-ghost use Rattle.std.specs.Prelude.{◌≡◌, ◌<◌, ◌&&◌, ℕ, nat_le, IfOk, length, slice_get, option_map};
-ghost use Rattle.std.specs.List.{list_any};
+ghost use Rattle.std.specs.Prelude.{◌≡◌, ◌<◌, ◌&&◌, ℕ, nat_le, IfOk, length};
 ghost use Rattle.calendars.specs.Sets.{has};
 ghost use Rattle.run_cycles.specs.Runs as spec;
 
@@ -31,12 +30,15 @@ pub fn runs_on(w: &Workload, stream: u32, day: u32) -> bool
 fn any_gives(w: &Workload, free: &FreeDays, ons: &[Lined<OnDef>], except: bool, day: u32) -> bool
     ensures { result ≡ spec.any_gives w.now free.now ons.now except day }
 {
-    for on in ons {
-        if on.item.except == except && gives(w, free, &on.item, day) {
-            return true;
-        }
-    }
-    false
+    ons.iter()
+        .any(|on| is_of(&on.item, except) && gives(w, free, &on.item, day))
+}
+
+/// Whether a statement is an EXCEPT, or else an ON.
+fn is_of(on: &OnDef, except: bool) -> bool
+    ensures { result ≡ spec.is_of except on.now }
+{
+    if except { on.except } else { !on.except }
 }
 
 /// The days from one to another, both included, on which a stream runs.
@@ -51,7 +53,8 @@ pub fn dates(
     ensures { IfOk result (λ set. (day : ℕ) → has set day ≡ (nat_le from day && (nat_le day to && spec.runs w.now stream day))) }
 {
     let mut days = Vec::new(alloc);
-    for day in from..to.min(LAST_DAY) + 1 {
+    let end = to.min(LAST_DAY) + 1;
+    for day in from..end {
         if runs_on(w, stream, day) {
             days.push(day)?;
         }

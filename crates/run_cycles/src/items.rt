@@ -1,7 +1,6 @@
 //! The days that an item of ON and EXCEPT gives, before they are shifted.
-ghost use Rattle.std.specs.Prelude.{◌≡◌, ◌==◌, Bool, nat_le};
+ghost use Rattle.std.specs.Prelude.{◌≡◌, ◌==◌};
 ghost use Rattle.std.specs.List.{list_any};
-ghost use Rattle.std.specs.Option.{option_map_or};
 ghost use Rattle.calendars.specs.Dates.{weekday};
 ghost use Rattle.run_cycles.specs.Items as spec;
 
@@ -62,12 +61,7 @@ fn gives_any(
 ) -> bool
     ensures { result ≡ list_any (spec.gives w.now free.now first day) items.now }
 {
-    for item in items {
-        if gives(w, free, first, item, day) {
-            return true;
-        }
-    }
-    false
+    items.iter().any(|item| gives(w, free, first, item, day))
 }
 
 /// Whether an item gives a day, where rules count from this first day on.
@@ -113,12 +107,13 @@ fn has(dates: &[u32], day: u32) -> bool
 fn gives_shifted(dates: &[u32], free: &FreeDays, offset: &Offset, day: u32) -> bool
     ensures { result ≡ list_any (spec.moves_to free.now offset.now day) dates.now }
 {
-    for date in dates {
-        if moved(free, offset, *date) == Some(day) {
-            return true;
-        }
-    }
-    false
+    dates.iter().any(|date| moves_to(free, offset, day, *date))
+}
+
+fn moves_to(free: &FreeDays, offset: &Offset, day: u32, date: u32) -> bool
+    ensures { result ≡ spec.moves_to free.now offset.now day date }
+{
+    moved(free, offset, date) == Some(day)
 }
 
 /// The nth day of a kind after a date, or before it.

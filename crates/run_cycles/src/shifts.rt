@@ -1,5 +1,5 @@
 //! Statements with their shifts.
-ghost use Rattle.std.specs.Prelude.{◌≡◌, ◌≤◌};
+ghost use Rattle.std.specs.Prelude.{◌≡◌};
 ghost use Rattle.std.specs.List.{list_any};
 ghost use Rattle.calendars.specs.Dates.{IsDay};
 ghost use Rattle.calendars.specs.Nth.{days_before, days_after};

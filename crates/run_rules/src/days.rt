@@ -1,9 +1,7 @@
 //! The days of a rule.
-ghost use Rattle.std.specs.Prelude.{◌≡◌, ◌+◌, ◌/◌, ◌==◌, ◌<◌, ◌^◌, unwrap_or};
+ghost use Rattle.std.specs.Prelude.{◌≡◌, ◌==◌, ◌<◌, ◌^◌};
 ghost use Rattle.std.specs.List.{list_any, slice_split};
-ghost use Rattle.calendars.specs.Dates.{IsDay, weekday};
-ghost use Rattle.run_rules.specs.declared.months.MonthPlace.{MonthPlace as Place};
-ghost use Rattle.run_rules.specs.Months.{is_kth as is_kth_of};
+ghost use Rattle.calendars.specs.Dates.{weekday};
 ghost use Rattle.run_rules.specs.Days as spec;
 
 use crate::months::{MonthPlace, is_kth, place_of};

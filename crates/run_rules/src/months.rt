@@ -1,6 +1,6 @@
 //! The month of a day, and days counted from its beginning or its end.
-ghost use Rattle.std.specs.Prelude.{◌≡◌, ◌<◌, ◌≤◌, ◌-ℤ◌, ◌==◌, ◌↔◌, pos, IfSome, IsNone};
-ghost use Rattle.calendars.specs.Dates.{IsDay, last_day};
+ghost use Rattle.std.specs.Prelude.{◌≡◌, ◌<◌, ◌≤◌, ◌↔◌, IfSome, IsNone};
+ghost use Rattle.calendars.specs.Dates.{last_day};
 ghost use Rattle.run_rules.specs.Months as spec;
 ghost use Rattle.run_rules.specs.Months.{IsPlaceOf};
 

@@ -1,6 +1,5 @@
 //! The parts of a rule, and what each is worth.
-ghost use Rattle.std.specs.Prelude.{◌≡◌, find, option_map, option_copied};
-ghost use Rattle.std.specs.Str.{bytes_eq};
+ghost use Rattle.std.specs.Prelude.{◌≡◌};
 ghost use Rattle.composer_parser.specs.Rules as rules;
 ghost use Rattle.composer_parser.specs.Words.{before, behind};
 ghost use Rattle.run_rules.specs.Parts as spec;

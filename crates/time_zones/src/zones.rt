@@ -1,5 +1,5 @@
 //! Offsets from UTC as they are written.
-ghost use Rattle.std.specs.Prelude.{◌≡◌, ◌<◌, IfSome, FitsSigned};
+ghost use Rattle.std.specs.Prelude.{◌≡◌, ◌<◌, IfSome};
 ghost use Rattle.time_zones.specs.Zones as spec;
 ghost use Rattle.time_zones.specs.Zones.{IsOffset};
 

@@ -1,5 +1,5 @@
 -- The workstations of definitions by their numbers: the master is 0, and the others follow in order of definition.
-use Rattle.std.specs.Prelude.{ℕ, Bool, not, List, ◌++◌, filter, map, position, Option, Some}
+use Rattle.std.specs.Prelude.{ℕ, Bool, true, false, not, List, ◌++◌, filter, map, position, Option, Some}
 use Rattle.std.specs.Str.{bytes_eq}
 use Rattle.composer_parser.specs.declared.Lined.{Lined}
 use Rattle.composer_parser.specs.declared.Defs.{Defs}
@@ -7,14 +7,19 @@ use Rattle.composer_parser.specs.declared.CpuDef.{CpuDef}
 use Rattle.definition_names.specs.Stations.{master_of}
 use Rattle.definition_names.specs.Streams.{is_one_ws}
 
-abbrev pub cpus : Defs → List CpuDef
-cpus d = map (λ (c : Lined CpuDef). c.item) d.cpus
-
 abbrev pub is_master : Defs → CpuDef → Bool
 is_master d c = is_one_ws (master_of d) (Some c.name)
 
+-- of the workstations those that are the master, or those that are not
+abbrev pub is_that : Defs → Bool → CpuDef → Bool
+is_that d true c = is_master d c
+is_that d false c = not (is_master d c)
+
+abbrev pub those : Defs → Bool → List (Lined CpuDef) → List CpuDef
+those d masters all = filter (is_that d masters) (map (λ (c : Lined CpuDef). c.item) all)
+
 unfoldable pub stations : Defs → List CpuDef
-stations d = filter (is_master d) (cpus d) ++ filter (λ (c : CpuDef). not (is_master d c)) (cpus d)
+stations d = those d true d.cpus ++ those d false d.cpus
 
 -- the number of the workstation of a name
 abbrev pub number_among : List CpuDef → List ℕ → Option ℕ

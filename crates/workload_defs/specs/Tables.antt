@@ -1,5 +1,5 @@
 -- What is kept of checked definitions.
-use Rattle.std.specs.Prelude.{◌≡◌, ℕ, ◌<◌, ◌^◌, List, length, map, slice_get, slice_index, Option, Some}
+use Rattle.std.specs.Prelude.{◌≡◌, ◌==◌, ℕ, ◌<◌, ◌^◌, List, length, map, slice_get, slice_index, Option}
 use Rattle.std.specs.Borrow.{Bor}
 use Rattle.std.specs.Map.{lookup}
 use Rattle.std.specs.Str.{bytes_eq}
@@ -30,6 +30,10 @@ IsStationTable table cpus = (name : List ℕ) → number_in table name ≡ numbe
 abbrev pub IsCalendarTable : List (List ℕ × ℕ) → List (Lined CalendarDef) → Type 0
 IsCalendarTable table calendars =
     (name : List ℕ) → number_in table name ≡ first_of (map (λ (c : Lined CalendarDef). c.item.name) calendars) name
+
+-- what an index of numbers has at one
+abbrev pub number_at : List (ℕ × ℕ) → ℕ → Option ℕ
+number_at index key = lookup (λ other. key == other) index
 
 -- at each place of a stream stands that of its free days
 pub record AreFreeDays (d : Defs) (table : FreeTable) : Type 0 where

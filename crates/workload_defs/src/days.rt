@@ -1,7 +1,7 @@
 //! Free days, and the calendars by their names.
-ghost use Rattle.std.specs.Prelude.{◌≡◌, ◌<◌, IfOk, Some, length, slice_get, slice_index};
+ghost use Rattle.std.specs.Prelude.{◌≡◌, ◌<◌, ◌==◌, ◌++◌, ◌∷◌, [], ℕ, IfOk, OnOk, Some, if◌then◌else◌, length, slice_get, slice_index};
 ghost use Rattle.workload_defs.specs.Days as spec;
-ghost use Rattle.workload_defs.specs.Tables.{IsCalendarTable, AreFreeDays};
+ghost use Rattle.workload_defs.specs.Tables.{IsCalendarTable, AreFreeDays, number_at};
 
 use base_types::{Copied, NoMemory, Text};
 use calendars::{DaySet, FreeDays};
@@ -147,24 +147,40 @@ impl FreeTable {
             kinds: Vec::new(alloc),
             places: Vec::new(alloc),
         };
-        for schedule in defs.schedules.as_slice() {
+        let schedules = defs.schedules.as_slice();
+        for schedule in schedules {
             let kind = kind_of(names, holidays, &schedule.item);
             let key = key_of(&kind)?;
             let place = match made.get(&key) {
                 Some(place) => *place,
-                None => {
-                    let place = table.kinds.len();
-                    table.kinds.push(free_days(alloc, defs, &kind)?)?;
-                    match made.insert(key, place) {
-                        Ok(_) => {}
-                        Err(_) => return Err(NoMemory),
-                    }
-                    place
-                }
+                None => table.add(alloc, defs, &kind, key, &mut made)?,
             };
             table.places.push(place)?;
         }
         Ok(table)
+    }
+
+    /// Adds the free days of a kind that has none yet, and answers their place.
+    fn add(
+        &mut self,
+        alloc: Global,
+        defs: &Defs,
+        kind: &FreeKind,
+        key: usize,
+        made: &mut IndexMap<usize, usize>,
+    ) -> Result<usize, NoMemory>
+        ensures places { self.new.places.items ≡ self.old.places.items }
+        ensures place { IfOk result (λ place. place ≡ length self.old.kinds.items) }
+        ensures kinds { OnOk result (self.new.kinds.items ≡ self.old.kinds.items ++ spec.free_of_kind defs.now kind.now ∷ []) }
+        ensures made { IfOk result (λ place. (other : ℕ) →
+            number_at made.new.entries other ≡ (if other == key then Some place else number_at made.old.entries other)) }
+    {
+        let place = self.kinds.len();
+        self.kinds.push(free_days(alloc, defs, kind)?)?;
+        match made.insert(key, place) {
+            Ok(_) => Ok(place),
+            Err(_) => Err(NoMemory),
+        }
     }
 
     /// Those of the stream at a place.

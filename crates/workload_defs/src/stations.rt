@@ -1,10 +1,10 @@
 //! The workstations in the order of their numbers.
-ghost use Rattle.std.specs.Prelude.{◌≡◌, ◌≤◌, IfOk, length};
+ghost use Rattle.std.specs.Prelude.{◌≡◌, ◌++◌, ◌≤◌, IfOk, OnOk, length};
 ghost use Rattle.workload_defs.specs.Stations as spec;
 ghost use Rattle.workload_defs.specs.Tables.{cpus_seen, IsStationTable};
 
 use base_types::{Copied, NoMemory, Text};
-use composer_parser::CpuDef;
+use composer_parser::{CpuDef, Lined};
 use definition_names::Names;
 use indexmap::IndexMap;
 use std::alloc::Global;
@@ -17,18 +17,29 @@ pub(crate) type StationTable = IndexMap<Text, u16>;
 pub(crate) fn stations<'a>(alloc: Global, names: &Names<'a>) -> Result<Vec<&'a CpuDef>, NoMemory>
     ensures { IfOk result (λ v. cpus_seen v.items ≡ spec.stations names.now) }
 {
+    let cpus = names.defs().cpus.as_slice();
     let mut stations = Vec::new(alloc);
-    for cpu in names.defs().cpus.as_slice() {
-        if is_master(names, &cpu.item) {
-            stations.push(&cpu.item)?;
-        }
-    }
-    for cpu in names.defs().cpus.as_slice() {
-        if !is_master(names, &cpu.item) {
-            stations.push(&cpu.item)?;
-        }
-    }
+    put_those(&mut stations, names, cpus, true)?;
+    put_those(&mut stations, names, cpus, false)?;
     Ok(stations)
+}
+
+/// Puts those of the workstations behind the others that are the master, or those that are not.
+fn put_those<'a>(
+    stations: &mut Vec<&'a CpuDef>,
+    names: &Names<'a>,
+    cpus: &'a [Lined<CpuDef>],
+    masters: bool,
+) -> Result<(), NoMemory>
+    ensures { OnOk result (cpus_seen stations.new.items
+        ≡ cpus_seen stations.old.items ++ spec.those names.now masters cpus.now) }
+{
+    for cpu in cpus {
+        if is_master(names, &cpu.item) == masters {
+            stations.push(&cpu.item)?;
+        }
+    }
+    Ok(())
 }
 
 fn is_master<'a>(names: &Names<'a>, cpu: &CpuDef) -> bool

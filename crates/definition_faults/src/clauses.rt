@@ -89,21 +89,14 @@ fn has_unknown<'a>(
     ensures { result ≡ unknown.has_unknown names.now stream inside (option_copied ws) clause.now }
 {
     match clause {
-        Clause::Follows(preds) => {
-            has_unknown_pred(names, stream, inside, preds.as_slice())
-        }
+        Clause::Follows(preds) => { has_unknown_pred(names, stream, inside, preds.as_slice()) }
         Clause::Needs(needs) => has_unknown_need(names, ws, needs.as_slice()),
         Clause::Prompt(prompts) => has_unknown_prompt(names, prompts.as_slice()),
         _ => false,
     }
 }
 
-fn has_unknown_pred<'a>(
-    names: &Names<'a>,
-    stream: usize,
-    inside: bool,
-    preds: &'a [Pred],
-) -> bool
+fn has_unknown_pred<'a>(names: &Names<'a>, stream: usize, inside: bool, preds: &'a [Pred]) -> bool
     ensures { result ≡ list_any (unknown.is_unknown_pred names.now stream inside) preds.now }
 {
     preds

@@ -22,11 +22,7 @@ pub fn first_fault<'a>(alloc: Global, names: &Names<'a>) -> Result<Option<Fault>
     ensures { IfOk result (λ found. IsFirst names.now found) }
 {
     let tested = first_tested(alloc, names)?;
-    let bad = with_line(
-        tested,
-        first_bad_condition(alloc, names)?,
-        Kind::OutOfRange,
-    );
+    let bad = with_line(tested, first_bad_condition(alloc, names)?, Kind::OutOfRange);
     let objects = followers(alloc, names)?;
     let circle = least_line(alloc, objects.as_slice())?;
     Ok(with_line(bad, circle, Kind::FollowsCycle))

@@ -105,7 +105,14 @@ fn followed<'a>(
 {
     let mut places = Items::new(alloc);
     for clause in clauses {
-        put_preds(&mut places, names, begins, n, inside, preds_of(&clause.item))?;
+        put_preds(
+            &mut places,
+            names,
+            begins,
+            n,
+            inside,
+            preds_of(&clause.item),
+        )?;
     }
     Ok(places)
 }

@@ -93,12 +93,7 @@ fn has_top<'a>(names: &Names<'a>) -> bool
         .any(|domain| domain.item.parent.is_none())
 }
 
-fn of_domain<'a>(
-    names: &Names<'a>,
-    i: usize,
-    strays: bool,
-    domain: &'a DomainDef,
-) -> Option<Kind>
+fn of_domain<'a>(names: &Names<'a>, i: usize, strays: bool, domain: &'a DomainDef) -> Option<Kind>
     ensures { result ≡ first_of_these (spec.domain_rows names.now i strays domain.now) }
 {
     if names.domain(&domain.name) != Some(i) {

@@ -24,10 +24,12 @@ pub(crate) fn domain_names<'a>(
 ) -> Result<Vec<&'a Text>, NoMemory>
     ensures { IfOk result (λ v. map seen v.items ≡ map (λ d. d.item.name) domains.now) }
 {
-    Ok(domains
-        .iter()
-        .map(|domain| &domain.item.name)
-        .collect(alloc)?)
+    Ok(
+        domains
+            .iter()
+            .map(|domain| &domain.item.name)
+            .collect(alloc)?,
+    )
 }
 
 pub(crate) fn calendar_names<'a>(
@@ -36,10 +38,12 @@ pub(crate) fn calendar_names<'a>(
 ) -> Result<Vec<&'a Text>, NoMemory>
     ensures { IfOk result (λ v. map seen v.items ≡ map (λ c. c.item.name) calendars.now) }
 {
-    Ok(calendars
-        .iter()
-        .map(|calendar| &calendar.item.name)
-        .collect(alloc)?)
+    Ok(
+        calendars
+            .iter()
+            .map(|calendar| &calendar.item.name)
+            .collect(alloc)?,
+    )
 }
 
 pub(crate) fn prompt_names<'a>(
@@ -48,10 +52,12 @@ pub(crate) fn prompt_names<'a>(
 ) -> Result<Vec<&'a Text>, NoMemory>
     ensures { IfOk result (λ v. map seen v.items ≡ map (λ p. p.item.name) prompts.now) }
 {
-    Ok(prompts
-        .iter()
-        .map(|prompt| &prompt.item.name)
-        .collect(alloc)?)
+    Ok(
+        prompts
+            .iter()
+            .map(|prompt| &prompt.item.name)
+            .collect(alloc)?,
+    )
 }
 
 pub(crate) fn resource_names<'a>(
@@ -60,10 +66,12 @@ pub(crate) fn resource_names<'a>(
 ) -> Result<Vec<Pair<'a>>, NoMemory>
     ensures { IfOk result (λ v. map seen_pair v.items ≡ map (λ r. (r.item.ws, r.item.name)) resources.now) }
 {
-    Ok(resources
-        .iter()
-        .map(|resource| (&resource.item.ws, &resource.item.name))
-        .collect(alloc)?)
+    Ok(
+        resources
+            .iter()
+            .map(|resource| (&resource.item.ws, &resource.item.name))
+            .collect(alloc)?,
+    )
 }
 
 pub(crate) fn job_names<'a>(
@@ -72,8 +80,9 @@ pub(crate) fn job_names<'a>(
 ) -> Result<Vec<Pair<'a>>, NoMemory>
     ensures { IfOk result (λ v. map seen_pair v.items ≡ map (λ j. (j.item.ws, j.item.name)) jobs.now) }
 {
-    Ok(jobs
-        .iter()
-        .map(|job| (&job.item.ws, &job.item.name))
-        .collect(alloc)?)
+    Ok(
+        jobs.iter()
+            .map(|job| (&job.item.ws, &job.item.name))
+            .collect(alloc)?,
+    )
 }

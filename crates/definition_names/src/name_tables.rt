@@ -159,11 +159,7 @@ impl<'a> Names<'a> {
     }
 
     /// The workstation of an entry of a stream: the one that is written, or that of the stream.
-    pub fn ws_of_entry(
-        &self,
-        schedule: &'a ScheduleDef,
-        entry: &'a EntryDef,
-    ) -> Option<&'a Text>
+    pub fn ws_of_entry(&self, schedule: &'a ScheduleDef, entry: &'a EntryDef) -> Option<&'a Text>
         ensures { option_copied result ≡ stations.ws_of_entry self.now schedule.now entry.now }
     {
         match &entry.ws {

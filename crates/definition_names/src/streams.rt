@@ -24,10 +24,7 @@ pub(crate) struct StreamIndex<'a> {
 pub(crate) type EntryIndex<'a> = IndexMap<(usize, &'a Text), usize>;
 
 /// The workstation of a stream: the one that is written, or the master.
-pub(crate) fn stream_ws<'a>(
-    schedule: &'a ScheduleDef,
-    master: Option<&'a Text>,
-) -> Option<&'a Text>
+pub(crate) fn stream_ws<'a>(schedule: &'a ScheduleDef, master: Option<&'a Text>) -> Option<&'a Text>
     ensures { option_copied result ≡ option_or schedule.now.ws (option_copied master) }
 {
     match &schedule.ws {

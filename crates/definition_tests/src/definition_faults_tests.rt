@@ -79,7 +79,10 @@ fn names_that_stand_twice(rt: HostRuntime) -> Result<(), Fail> {
         ),
         ("SCHEDULE S ON RUNCYCLE R MO ON RUNCYCLE R TU : END", None),
         // Of both kinds on one line the first of the order is told.
-        ("SCHEDULE S : END\nSCHEDULE S FREEDAYS F : END", duplicate(4)),
+        (
+            "SCHEDULE S : END\nSCHEDULE S FREEDAYS F : END",
+            duplicate(4),
+        ),
     ];
     for row in &rows {
         let found = fault_behind(rt.alloc(), row.0)?;
@@ -101,11 +104,17 @@ fn names_that_stand_for_nothing(rt: HostRuntime) -> Result<(), Fail> {
         ("SCHEDULE S FREEDAYS F :\nEND", unknown(3)),
         ("SCHEDULE S FREEDAYS HOLIDAYS :\nEND", None),
         ("SCHEDULE S\nON MO\nON TU, C :\nEND", unknown(5)),
-        ("SCHEDULE S ON EVERYDAY\nEXCEPT C +1 DAYS :\nEND", unknown(4)),
+        (
+            "SCHEDULE S ON EVERYDAY\nEXCEPT C +1 DAYS :\nEND",
+            unknown(4),
+        ),
         ("SCHEDULE S ON HOLIDAYS, HOLIDAYS +1 DAYS :\nEND", None),
         ("SCHEDULE S :\nX#J DOCOMMAND \"\"\nEND", unknown(4)),
         ("SCHEDULE S :\nJ\nEND", unknown(4)),
-        ("$JOBS MDM#J DOCOMMAND \"\"\nSCHEDULE S :\nJ MDM#K\nEND", unknown(5)),
+        (
+            "$JOBS MDM#J DOCOMMAND \"\"\nSCHEDULE S :\nJ MDM#K\nEND",
+            unknown(5),
+        ),
         (
             "SCHEDULE S :\nJ DOCOMMAND \"\"\nEND\nSCHEDULE T :\nJ\nEND",
             unknown(7),
@@ -113,7 +122,10 @@ fn names_that_stand_for_nothing(rt: HostRuntime) -> Result<(), Fail> {
         ("SCHEDULE S\nFOLLOWS T :\nEND", unknown(4)),
         ("SCHEDULE S\nFOLLOWS X#S :\nEND", unknown(4)),
         ("SCHEDULE S\nFOLLOWS T.@ :\nEND\nSCHEDULE T :\nEND", None),
-        ("SCHEDULE S\nFOLLOWS T.J :\nEND\nSCHEDULE T :\nEND", unknown(4)),
+        (
+            "SCHEDULE S\nFOLLOWS T.J :\nEND\nSCHEDULE T :\nEND",
+            unknown(4),
+        ),
         // A header's FOLLOWS of one name means a stream, an entry's a job of the same stream first.
         ("SCHEDULE S\nFOLLOWS J :\nJ DOCOMMAND \"\"\nEND", unknown(4)),
         (
@@ -168,8 +180,14 @@ fn numbers_outside_their_ranges(rt: HostRuntime) -> Result<(), Fail> {
         ("SCHEDULE S AT 0600\n+100 DAYS :\nEND", range(3)),
         ("SCHEDULE S\nUNTIL 0600 +100 DAYS :\nEND", range(4)),
         ("SCHEDULE S\nDEADLINE 0600 +100 DAYS :\nEND", range(4)),
-        ("$RESOURCE MDM#R 1\nSCHEDULE S\nNEEDS R, 1025 R :\nEND", range(5)),
-        ("$RESOURCE MDM#R 1\nSCHEDULE S\nNEEDS 0 R, 1024 R :\nEND", None),
+        (
+            "$RESOURCE MDM#R 1\nSCHEDULE S\nNEEDS R, 1025 R :\nEND",
+            range(5),
+        ),
+        (
+            "$RESOURCE MDM#R 1\nSCHEDULE S\nNEEDS 0 R, 1024 R :\nEND",
+            None,
+        ),
         ("SCHEDULE S\nOPENS \"a\", \"\" :\nEND", range(4)),
         ("SCHEDULE S\nOPENS \" \" :\nEND", None),
         ("SCHEDULE S ON HOLIDAYS +999 DAYS :\nEND", None),
@@ -184,7 +202,10 @@ fn numbers_outside_their_ranges(rt: HostRuntime) -> Result<(), Fail> {
             "SCHEDULE S\nON RUNCYCLE R VALIDFROM 01/01/2003 \"FREQ=DAILY;INTERVAL=2\" :\nEND",
             None,
         ),
-        ("SCHEDULE S\nON \"FREQ=MONTHLY;BYMONTHDAY=-0\" :\nEND", range(4)),
+        (
+            "SCHEDULE S\nON \"FREQ=MONTHLY;BYMONTHDAY=-0\" :\nEND",
+            range(4),
+        ),
         ("$JOBS\nMDM#J DOCOMMAND \"\" RCCONDSUCC \"RC\"", range(4)),
         ("$JOBS\nMDM#J DOCOMMAND \"\" RCCONDSUCC \"\"", range(4)),
         ("$JOBS\nMDM#J DOCOMMAND \"\" RCCONDSUCC \"rc >= -1\"", None),
@@ -192,7 +213,10 @@ fn numbers_outside_their_ranges(rt: HostRuntime) -> Result<(), Fail> {
             "SCHEDULE S :\nJ DOCOMMAND \"\"\nRCCONDSUCC \"RC = 1 OR\"\nEND",
             range(4),
         ),
-        ("SCHEDULE S :\nJ DOCOMMAND \"\"\nPRIORITY 102\nEND", range(5)),
+        (
+            "SCHEDULE S :\nJ DOCOMMAND \"\"\nPRIORITY 102\nEND",
+            range(5),
+        ),
         // VALIDTO before VALIDFROM is no fault.
         (
             "SCHEDULE S ON RUNCYCLE R VALIDFROM 01/02/2003 VALIDTO 01/01/2003 MO : END",
@@ -291,12 +315,21 @@ fn resources_of_other_workstations(rt: HostRuntime) -> Result<(), Fail> {
         ("SCHEDULE F#S\nNEEDS MDM#R :\nEND", unknown(7)),
         ("SCHEDULE S\nNEEDS F#Q :\nEND", unknown(7)),
         ("SCHEDULE S :\nF#J DOCOMMAND \"\"\nNEEDS R\nEND", None),
-        ("SCHEDULE F#S :\nMDM#J DOCOMMAND \"\"\nNEEDS F#R\nEND", foreign(8)),
-        ("SCHEDULE F#S :\nMDM#J DOCOMMAND \"\"\nNEEDS R\nEND", unknown(8)),
+        (
+            "SCHEDULE F#S :\nMDM#J DOCOMMAND \"\"\nNEEDS F#R\nEND",
+            foreign(8),
+        ),
+        (
+            "SCHEDULE F#S :\nMDM#J DOCOMMAND \"\"\nNEEDS R\nEND",
+            unknown(8),
+        ),
     ];
     for row in &rows {
-        let rest = format!(in rt.alloc(); "CPUNAME F OS U NODE n DOMAIN MASTERDM FOR MAESTRO TYPE FTA END\n\
-            $RESOURCE\nF#R 1\n{}", row.0)?;
+        let rest = format!(in rt.alloc();
+            "CPUNAME F OS U NODE n DOMAIN MASTERDM FOR MAESTRO TYPE FTA END\n\
+            $RESOURCE\nF#R 1\n{}",
+            row.0
+        )?;
         let found = fault_behind(rt.alloc(), rest.as_str())?;
         assert!(rt; found == row.1, "at {}", row.0);
     }
@@ -353,9 +386,7 @@ fn circles(rt: HostRuntime) -> Result<(), Fail> {
 
 /// A workstation of a domain.
 fn cpu(alloc: Global, name: &str, domain: &str) -> Result<String, Fail> {
-    Ok(
-        format!(in alloc; "CPUNAME {name} OS U NODE n DOMAIN {domain} FOR MAESTRO TYPE FTA END\n")?,
-    )
+    Ok(format!(in alloc; "CPUNAME {name} OS U NODE n DOMAIN {domain} FOR MAESTRO TYPE FTA END\n")?)
 }
 
 #[test]
@@ -429,7 +460,10 @@ fn definitions_without_a_master(rt: HostRuntime) -> Result<(), Fail> {
         ("# none\n\n", tree(2)),
         ("DOMAIN D MANAGER M ISMASTER END", unknown(1)),
         ("SCHEDULE S :\nEND\nSCHEDULE S :\nEND", duplicate(3)),
-        ("SCHEDULE S FOLLOWS T : END\nSCHEDULE T : END\n$PROMPT", tree(3)),
+        (
+            "SCHEDULE S FOLLOWS T : END\nSCHEDULE T : END\n$PROMPT",
+            tree(3),
+        ),
         ("SCHEDULE S :\nJ\nEND\n$PROMPT", unknown(2)),
         ("SCHEDULE S\nNEEDS R : END\n$PROMPT", unknown(2)),
         (

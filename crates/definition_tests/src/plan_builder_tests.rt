@@ -56,7 +56,8 @@ const BANK: &str =
 
 /// The plan of the bank for 12/26/2003, whose two moments are given.
 fn bank_listing(alloc: Global, at: u64, until: u64) -> Result<String, Fail> {
-    Ok(format!(in alloc; "$NETWORK\n\
+    Ok(format!(in alloc;
+        "$NETWORK\n\
         ws MDM\n\
         ws DMW MDM manager\n\
         ws FTA1 DMW\n\
@@ -80,7 +81,8 @@ fn bank_listing(alloc: Global, at: u64, until: u64) -> Result<String, Fail> {
         job MDM REPORT\n\
         script \"/opt/bank/report.sh\"\n\
         logon \"batch\"\n\
-        until {until} cont\n")?)
+        until {until} cont\n"
+    )?)
 }
 
 fn workload(alloc: Global, text: &str) -> Result<Workload, Fail> {
@@ -107,7 +109,8 @@ fn lists(alloc: Global, text: &str, date: &str, wanted: &str) -> Result<bool, Fa
 
 #[test]
 fn streams_that_run(rt: HostRuntime) -> Result<(), Fail> {
-    let monday = "$NETWORK\nws MDM\n$PLAN\nstream MDM T\njob MDM J\ndo \"true\"\nstream MDM V\njob MDM J\ndo \"true\"\n";
+    let monday =
+        "$NETWORK\nws MDM\n$PLAN\nstream MDM T\njob MDM J\ndo \"true\"\nstream MDM V\njob MDM J\ndo \"true\"\n";
     assert!(rt; lists(rt.alloc(), DAYS, "11/03/2003", monday)?);
     assert!(rt; lists(rt.alloc(), DAYS, "10/31/2003", "$NETWORK\nws MDM\n$PLAN\n")?);
     Ok(())
@@ -199,13 +202,48 @@ const HEAD: &str = "CPUNAME MDM OS UNIX NODE mdm DOMAIN MASTERDM FOR MAESTRO TYP
 type TimeRow = (&'static str, &'static str, &'static str, Option<u32>);
 
 const TIMES: [TimeRow; 13] = [
-    ("", "SCHEDULE S ON EVERYDAY\nAT 0600 : END", "12/31/9999", None),
-    ("", "SCHEDULE S ON EVERYDAY\nAT 0559 : END", "12/31/9999", Some(4)),
-    ("", "SCHEDULE S ON EVERYDAY\nAT 0600 +1 DAYS : END", "12/31/9999", Some(4)),
-    ("", "SCHEDULE S ON EVERYDAY\nUNTIL 0600 +1 DAYS : END", "12/31/9999", Some(4)),
-    ("", "SCHEDULE S ON EVERYDAY\nDEADLINE 0600 +1 DAYS : END", "12/31/9999", Some(4)),
-    ("", "SCHEDULE S ON EVERYDAY\nAT 0600 +99 DAYS : END", "09/23/9999", None),
-    ("", "SCHEDULE S ON EVERYDAY\nAT 0600 +99 DAYS : END", "09/24/9999", Some(4)),
+    (
+        "",
+        "SCHEDULE S ON EVERYDAY\nAT 0600 : END",
+        "12/31/9999",
+        None,
+    ),
+    (
+        "",
+        "SCHEDULE S ON EVERYDAY\nAT 0559 : END",
+        "12/31/9999",
+        Some(4),
+    ),
+    (
+        "",
+        "SCHEDULE S ON EVERYDAY\nAT 0600 +1 DAYS : END",
+        "12/31/9999",
+        Some(4),
+    ),
+    (
+        "",
+        "SCHEDULE S ON EVERYDAY\nUNTIL 0600 +1 DAYS : END",
+        "12/31/9999",
+        Some(4),
+    ),
+    (
+        "",
+        "SCHEDULE S ON EVERYDAY\nDEADLINE 0600 +1 DAYS : END",
+        "12/31/9999",
+        Some(4),
+    ),
+    (
+        "",
+        "SCHEDULE S ON EVERYDAY\nAT 0600 +99 DAYS : END",
+        "09/23/9999",
+        None,
+    ),
+    (
+        "",
+        "SCHEDULE S ON EVERYDAY\nAT 0600 +99 DAYS : END",
+        "09/24/9999",
+        Some(4),
+    ),
     ("", "SCHEDULE S AT 0500 : END", "12/31/9999", None),
     (
         "",

@@ -20,11 +20,36 @@ const DAYS: [Row; 40] = [
     ("FREQ=WEEKLY;BYDAY=TH", None, 0, true),
     ("FREQ=WEEKLY;BYDAY=FR", None, 2_932_896, true),
     // From Wednesday 11/05/2003: 11/05, 11/17 and 11/19, and not 11/03, 11/10 and 11/12.
-    ("FREQ=WEEKLY;INTERVAL=2;BYDAY=MO,WE", Some(12_361), 12_361, true),
-    ("FREQ=WEEKLY;INTERVAL=2;BYDAY=MO,WE", Some(12_361), 12_366, false),
-    ("FREQ=WEEKLY;INTERVAL=2;BYDAY=MO,WE", Some(12_361), 12_368, false),
-    ("FREQ=WEEKLY;INTERVAL=2;BYDAY=MO,WE", Some(12_361), 12_373, true),
-    ("FREQ=WEEKLY;INTERVAL=2;BYDAY=MO,WE", Some(12_361), 12_375, true),
+    (
+        "FREQ=WEEKLY;INTERVAL=2;BYDAY=MO,WE",
+        Some(12_361),
+        12_361,
+        true,
+    ),
+    (
+        "FREQ=WEEKLY;INTERVAL=2;BYDAY=MO,WE",
+        Some(12_361),
+        12_366,
+        false,
+    ),
+    (
+        "FREQ=WEEKLY;INTERVAL=2;BYDAY=MO,WE",
+        Some(12_361),
+        12_368,
+        false,
+    ),
+    (
+        "FREQ=WEEKLY;INTERVAL=2;BYDAY=MO,WE",
+        Some(12_361),
+        12_373,
+        true,
+    ),
+    (
+        "FREQ=WEEKLY;INTERVAL=2;BYDAY=MO,WE",
+        Some(12_361),
+        12_375,
+        true,
+    ),
     // The week of 01/01/1970 began on Monday, 12/29/1969: its Monday of two weeks later is 01/12.
     ("FREQ=WEEKLY;INTERVAL=2;BYDAY=MO", Some(0), 4, false),
     ("FREQ=WEEKLY;INTERVAL=2;BYDAY=MO", Some(0), 11, true),
@@ -44,12 +69,42 @@ const DAYS: [Row; 40] = [
     ("FREQ=MONTHLY;BYMONTHDAY=-1", None, 11_016, true),
     ("FREQ=MONTHLY;BYMONTHDAY=15,-1", None, 11_017, false),
     // Every third month from October 2003 on: 10/31/2003, 01/31/2004 and not 11/30/2003.
-    ("FREQ=MONTHLY;INTERVAL=3;BYMONTHDAY=-1", Some(12_330), 12_356, true),
-    ("FREQ=MONTHLY;INTERVAL=3;BYMONTHDAY=-1", Some(12_330), 12_386, false),
-    ("FREQ=MONTHLY;INTERVAL=3;BYMONTHDAY=-1", Some(12_330), 12_448, true),
-    ("FREQ=MONTHLY;INTERVAL=3;BYMONTHDAY=31", Some(12_330), 12_448, true),
-    ("FREQ=MONTHLY;INTERVAL=12;BYMONTHDAY=29", Some(789), 2_250, true),
-    ("FREQ=MONTHLY;INTERVAL=12;BYMONTHDAY=29", Some(789), 2_249, false),
+    (
+        "FREQ=MONTHLY;INTERVAL=3;BYMONTHDAY=-1",
+        Some(12_330),
+        12_356,
+        true,
+    ),
+    (
+        "FREQ=MONTHLY;INTERVAL=3;BYMONTHDAY=-1",
+        Some(12_330),
+        12_386,
+        false,
+    ),
+    (
+        "FREQ=MONTHLY;INTERVAL=3;BYMONTHDAY=-1",
+        Some(12_330),
+        12_448,
+        true,
+    ),
+    (
+        "FREQ=MONTHLY;INTERVAL=3;BYMONTHDAY=31",
+        Some(12_330),
+        12_448,
+        true,
+    ),
+    (
+        "FREQ=MONTHLY;INTERVAL=12;BYMONTHDAY=29",
+        Some(789),
+        2_250,
+        true,
+    ),
+    (
+        "FREQ=MONTHLY;INTERVAL=12;BYMONTHDAY=29",
+        Some(789),
+        2_249,
+        false,
+    ),
     ("FREQ=MONTHLY;BYMONTHDAY=1", None, 2_932_897, false),
 ];
 

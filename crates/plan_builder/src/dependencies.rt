@@ -5,9 +5,7 @@ ghost use Rattle.plan_builder.specs.Dependencies as spec;
 
 use crate::drafts::number_of;
 use crate::times::{PlanDay, moment_or_first};
-use base_types::{
-    Copied, Dep, DraftDep, DraftDeps, Items, NoMemory, PromptRef, Text,
-};
+use base_types::{Copied, Dep, DraftDep, DraftDeps, Items, NoMemory, PromptRef, Text};
 use composer_parser::{Clause, EntryDef, Lined, Need, Pred, PromptItem, ScheduleDef};
 use definition_names::{Names, Target};
 use std::alloc::Global;
@@ -86,11 +84,7 @@ fn put_untils(
     Ok(())
 }
 
-fn put_until(
-    deps: &mut DraftDeps,
-    plan: &PlanDay,
-    clause: &Lined<Clause>,
-) -> Result<(), NoMemory>
+fn put_until(deps: &mut DraftDeps, plan: &PlanDay, clause: &Lined<Clause>) -> Result<(), NoMemory>
     ensures { OnOk result (deps.new ≡ deps.old ++ spec.until_in plan.now clause.now) }
 {
     match &clause.item {

@@ -9,11 +9,7 @@ use report_text::name;
 use std::io::{self, Write};
 
 /// Writes a line for each dependency.
-pub(crate) fn write_dependencies(
-    out: &mut Vec<u8>,
-    net: &Net,
-    deps: &[DraftDep],
-) -> io::Result<()>
+pub(crate) fn write_dependencies(out: &mut Vec<u8>, net: &Net, deps: &[DraftDep]) -> io::Result<()>
     ensures { OnOk result (out.new.items ≡ out.old.items ++ flat_map (spec.draft_dep_line net.now) deps.now) }
 {
     for dep in deps {

@@ -66,12 +66,7 @@ fn carry_mark(carry: bool) -> &'static str
     if carry { " carry" } else { "" }
 }
 
-fn put_jobs(
-    alloc: Global,
-    out: &mut Vec<u8>,
-    net: &Net,
-    jobs: &[JobDraft],
-) -> Result<(), NoMemory>
+fn put_jobs(alloc: Global, out: &mut Vec<u8>, net: &Net, jobs: &[JobDraft]) -> Result<(), NoMemory>
     ensures { OnOk result (out.new.items ≡ out.old.items ++ flat_map (spec.job_text net.now) jobs.now) }
 {
     for job in jobs {

@@ -30,8 +30,7 @@ pub fn runs_on(w: &Workload, stream: u32, day: u32) -> bool
 fn any_gives(w: &Workload, free: &FreeDays, ons: &[Lined<OnDef>], except: bool, day: u32) -> bool
     ensures { result ≡ spec.any_gives w.now free.now ons.now except day }
 {
-    ons.iter()
-        .any(|on| is_of(&on.item, except) && gives(w, free, &on.item, day))
+    ons.iter().any(|on| is_of(&on.item, except) && gives(w, free, &on.item, day))
 }
 
 /// Whether a statement is an EXCEPT, or else an ON.

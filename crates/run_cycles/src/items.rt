@@ -52,13 +52,7 @@ fn first_of(cycle: &Option<CycleDef>) -> Option<u32>
     }
 }
 
-fn gives_any(
-    w: &Workload,
-    free: &FreeDays,
-    first: Option<u32>,
-    items: &[OnItem],
-    day: u32,
-) -> bool
+fn gives_any(w: &Workload, free: &FreeDays, first: Option<u32>, items: &[OnItem], day: u32) -> bool
     ensures { result ≡ list_any (spec.gives w.now free.now first day) items.now }
 {
     items.iter().any(|item| gives(w, free, first, item, day))

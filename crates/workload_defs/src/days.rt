@@ -58,11 +58,7 @@ struct FreeKind {
     su: bool,
 }
 
-fn kind_of<'a>(
-    names: &Names<'a>,
-    holidays: Option<usize>,
-    schedule: &'a ScheduleDef,
-) -> FreeKind
+fn kind_of<'a>(names: &Names<'a>, holidays: Option<usize>, schedule: &'a ScheduleDef) -> FreeKind
     requires { holidays ≡ spec.holidays names.now.calendars }
     ensures { spec.IsKindOf names.now schedule.now result }
 {

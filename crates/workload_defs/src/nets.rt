@@ -69,11 +69,7 @@ fn nodes<'a>(
     Ok(nodes)
 }
 
-fn node_of<'a>(
-    names: &Names<'a>,
-    cpu: &'a CpuDef,
-    table: &StationTable,
-) -> Result<Node, NoMemory>
+fn node_of<'a>(names: &Names<'a>, cpu: &'a CpuDef, table: &StationTable) -> Result<Node, NoMemory>
     requires { IsStationTable table.now.entries (stations_of names.now) }
     ensures { IfOk result (λ node. node ≡ spec.node_of names.now cpu.now) }
 {

@@ -52,10 +52,7 @@ fn is_master<'a>(names: &Names<'a>, cpu: &CpuDef) -> bool
 }
 
 /// The numbers of these workstations by their names.
-pub(crate) fn station_table(
-    alloc: Global,
-    stations: &[&CpuDef],
-) -> Result<StationTable, NoMemory>
+pub(crate) fn station_table(alloc: Global, stations: &[&CpuDef]) -> Result<StationTable, NoMemory>
     requires { length stations.now ≤ 256 }
     ensures { IfOk result (λ table. IsStationTable table.entries (cpus_seen stations.now)) }
 {

@@ -1,6 +1,7 @@
 -- What the names of workstations, domains, calendars, prompts, resources and jobs stand for: the place of the first
 -- definition of that name, counted from 0.
-use Rattle.std.specs.Prelude.{ℕ, Bool, ◌&&◌, List, Option, position, map}
+use Rattle.std.specs.Prelude.{ℕ, Bool, ◌&&◌, List, Option, map}
+use Rattle.std.specs.List.{position_from}
 use Rattle.std.specs.Str.{bytes_eq}
 use Rattle.base_types.specs.declared.PromptDef.{PromptDef}
 use Rattle.composer_parser.specs.declared.Lined.{Lined}
@@ -13,14 +14,14 @@ use Rattle.composer_parser.specs.declared.JobDef.{JobDef}
 
 -- the place of the first of these names that is this one
 abbrev pub first_of : List (List ℕ) → List ℕ → Option ℕ
-first_of names name = position (bytes_eq name) names
+first_of names name = position_from (bytes_eq name) 0 names
 
 -- and of these names on workstations
 abbrev pub is_pair : List ℕ → List ℕ → List ℕ × List ℕ → Bool
 is_pair ws name p = bytes_eq ws p.0 && bytes_eq name p.1
 
 abbrev pub first_on : List (List ℕ × List ℕ) → List ℕ → List ℕ → Option ℕ
-first_on names ws name = position (is_pair ws name) names
+first_on names ws name = position_from (is_pair ws name) 0 names
 
 -- the names of each kind, in the order of the text
 abbrev pub cpu_names : Defs → List (List ℕ)

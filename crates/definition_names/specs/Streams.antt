@@ -1,6 +1,7 @@
 -- What the names of streams and of their entries stand for: the first of its workstation and name, and the first of its
 -- name in a stream.
-use Rattle.std.specs.Prelude.{ℕ, Bool, true, false, ◌&&◌, List, position, map, slice_get, option_and_then, Option, Some, None}
+use Rattle.std.specs.Prelude.{ℕ, Bool, true, false, ◌&&◌, List, map, slice_get, option_and_then, Option, Some, None}
+use Rattle.std.specs.List.{position_from}
 use Rattle.std.specs.Option.{option_or}
 use Rattle.std.specs.Str.{bytes_eq}
 use Rattle.composer_parser.specs.declared.Lined.{Lined}
@@ -22,7 +23,7 @@ abbrev pub is_stream : Option (List ℕ) → Option (List ℕ) → List ℕ → 
 is_stream master ws name s = is_one_ws ws (option_or s.item.ws master) && bytes_eq name s.item.name
 
 abbrev pub stream_among : List (Lined ScheduleDef) → Option (List ℕ) → Option (List ℕ) → List ℕ → Option ℕ
-stream_among schedules master ws name = position (is_stream master ws name) schedules
+stream_among schedules master ws name = position_from (is_stream master ws name) 0 schedules
 
 -- the stream of a workstation and name
 abbrev pub stream_at : Defs → Option (List ℕ) → List ℕ → Option ℕ

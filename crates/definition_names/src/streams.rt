@@ -7,7 +7,7 @@ ghost use Rattle.composer_parser.specs.declared.ScheduleDef.{ScheduleDef as Sche
 ghost use Rattle.definition_names.specs.Streams.{stream_among, entry_at, is_one_ws};
 ghost use Rattle.definition_names.specs.Indexes.{IsStreamIndex, IsEntryIndex, entry_in, stream_in};
 
-use crate::keys::Pair;
+use crate::firsts::{NameIndex, PairIndex, put_name, put_pair};
 use base_types::{NoMemory, Text};
 use composer_parser::{Lined, ScheduleDef};
 use indexmap::IndexMap;
@@ -16,8 +16,8 @@ use std::alloc::Global;
 /// Streams by workstation and name. Those without a workstation are together on a nameless one.
 #[derive(Drop)]
 pub(crate) struct StreamIndex<'a> {
-    placed: IndexMap<Pair<'a>, usize>,
-    nameless: IndexMap<&'a Text, usize>,
+    placed: PairIndex<'a>,
+    nameless: NameIndex<'a>,
 }
 
 /// Entries by the number of their stream and their name.
@@ -61,14 +61,8 @@ impl<'a> StreamIndex<'a> {
             else stream_in self.old place_of n)) }
     {
         match ws {
-            Some(ws) => match self.placed.insert((ws, name), place) {
-                Ok(_) => Ok(()),
-                Err(_) => Err(NoMemory),
-            },
-            None => match self.nameless.insert(name, place) {
-                Ok(_) => Ok(()),
-                Err(_) => Err(NoMemory),
-            },
+            Some(ws) => put_pair(&mut self.placed, ws, name, place),
+            None => put_name(&mut self.nameless, name, place),
         }
     }
 
@@ -112,10 +106,23 @@ fn put_entries<'a>(
 {
     let entries = schedule.entries.as_slice();
     for i in (0..entries.len()).rev() {
-        match index.insert((n, &entries[i].item.name), i) {
-            Ok(_) => {}
-            Err(_) => return Err(NoMemory),
-        }
+        put_entry(index, n, &entries[i].item.name, i)?;
     }
     Ok(())
+}
+
+/// Puts an entry of the stream at a place before the others: it takes the place of one of its name.
+fn put_entry<'a>(
+    index: &mut EntryIndex<'a>,
+    n: usize,
+    name: &'a Text,
+    place: usize,
+) -> Result<(), NoMemory>
+    ensures { OnOk result ((m : ℕ) (other : List ℕ) → entry_in index.new.entries m other
+        ≡ (if (m == n) && bytes_eq other name.now then Some place else entry_in index.old.entries m other)) }
+{
+    match index.insert((n, name), place) {
+        Ok(_) => Ok(()),
+        Err(_) => Err(NoMemory),
+    }
 }

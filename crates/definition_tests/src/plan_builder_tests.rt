@@ -1,7 +1,11 @@
 //! The plans of worked days, as listings.
+use base_types::{Body, Copied};
 use calendars::{LAST_DAY, read_date};
+use carry_forward::next_plan;
 use composer_lexer::tokens;
 use composer_parser::parse;
+use network_tree::Network;
+use owner_fold::Owners;
 use plan_builder::{PlanFault, day_docs};
 use plan_listing::listing_of;
 use std::alloc::Global;
@@ -113,6 +117,32 @@ fn streams_that_run(rt: HostRuntime) -> Result<(), Fail> {
         "$NETWORK\nws MDM\n$PLAN\nstream MDM T\njob MDM J\ndo \"true\"\nstream MDM V\njob MDM J\ndo \"true\"\n";
     assert!(rt; lists(rt.alloc(), DAYS, "11/03/2003", monday)?);
     assert!(rt; lists(rt.alloc(), DAYS, "10/31/2003", "$NETWORK\nws MDM\n$PLAN\n")?);
+    Ok(())
+}
+
+// The first plan of the network has these drafts as its streams 1 and 2, with the jobs 1 and 2.
+#[test]
+fn the_first_plan(rt: HostRuntime) -> Result<(), Fail> {
+    let w = workload(rt.alloc(), DAYS)?;
+    let drafts = day_docs(rt.alloc(), &w, day("11/03/2003"))?;
+    let Ok(network) = Network::new(rt.alloc(), w.net().copy()?) else {
+        assert!(rt; false);
+        return Ok(());
+    };
+    let owners = Owners::new(rt.alloc());
+    match next_plan(rt.alloc(), &network, &owners, &drafts) {
+        Ok(Body::NewPlan(run, cut, carried, fresh)) => {
+            assert!(rt; run == 1 && cut.len() == 0 && carried.len() == 0);
+            match fresh.as_slice() {
+                [t, v] => {
+                    assert!(rt; t.no.0 == 1 && t.name.as_str() == "T" && t.jobs.len() == 1);
+                    assert!(rt; v.no.0 == 2 && v.name.as_str() == "V" && v.jobs.len() == 1);
+                }
+                _ => assert!(rt; false),
+            }
+        }
+        _ => assert!(rt; false),
+    }
     Ok(())
 }
 

@@ -164,3 +164,28 @@ fn networks_are_trees(rt: HostRuntime) -> Result<(), Fail> {
     assert!(rt; network.is_ok());
     Ok(())
 }
+
+/// One workstation in lower case, and its domain with the star and without.
+const SMALL: [&str; 2] = [
+    "cpuname mdm os unix node mdm.example domain masterdm for maestro type manager end\n\
+     domain masterdm manager mdm ismaster end",
+    "cpuname mdm os unix node mdm.example domain masterdm for maestro type manager end\n\
+     domain masterdm * manager mdm ismaster end",
+];
+
+#[test]
+fn small_definitions(rt: HostRuntime) -> Result<(), Fail> {
+    for text in SMALL {
+        let w = workload(rt.alloc(), text)?;
+        let alone = match w.net().nodes.as_slice() {
+            [node] => is_node(node, &("MDM", None, true, false)),
+            _ => false,
+        };
+        let reached = match w.peers().as_slice() {
+            [peer] => peer.host.as_str() == "mdm.example" && peer.port == 31_111,
+            _ => false,
+        };
+        assert!(rt; alone && reached && w.streams() == 0 && w.net().carry == Carry::Yes);
+    }
+    Ok(())
+}

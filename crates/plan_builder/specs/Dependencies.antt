@@ -4,8 +4,9 @@ use Rattle.std.specs.Prelude.{ℕ, ◌+◌, Bool, nat_lt, min, List, [], ◌∷�
 use Rattle.std.specs.Prelude.{Option, Some, None, if◌then◌else◌}
 use Rattle.std.specs.List.{filter_map}
 use Rattle.std.specs.Option.{option_or, option_map_or}
-use Rattle.model.specs.Types.{DraftDep, Plain}
-use Rattle.model.specs.Types as dep
+use Rattle.base_types.specs.declared.Dep.TheVariants as dep
+use Rattle.base_types.specs.declared.DraftDep.{DraftDep}
+use Rattle.base_types.specs.declared.DraftDep.TheVariants as draft
 use Rattle.base_types.specs.declared.PromptRef.TheVariants as ref
 use Rattle.composer_parser.specs.declared.Lined.{Lined}
 use Rattle.composer_parser.specs.declared.Defs.{Defs}
@@ -33,7 +34,7 @@ number_or_master d ws = unwrap_or (option_and_then (number_of d) ws) 0
 
 -- times
 abbrev pub at_of : PlanDay → Clause → List DraftDep
-at_of plan (At minute days) = Plain (dep.At (moment_or_first plan minute days)) ∷ []
+at_of plan (At minute days) = draft.Plain (dep.At (moment_or_first plan minute days)) ∷ []
 at_of plan (Until minute days u) = []
 at_of plan (Deadline minute days) = []
 at_of plan (Priority n) = []
@@ -45,7 +46,7 @@ at_of plan (Prompt ps) = []
 at_of plan (Opens paths) = []
 
 abbrev pub until_of : PlanDay → Clause → List DraftDep
-until_of plan (Until minute days then_) = Plain (dep.Until (moment_or_first plan minute days) then_) ∷ []
+until_of plan (Until minute days then_) = draft.Plain (dep.Until (moment_or_first plan minute days) then_) ∷ []
 until_of plan (At minute days) = []
 until_of plan (Deadline minute days) = []
 until_of plan (Priority n) = []
@@ -57,7 +58,7 @@ until_of plan (Prompt ps) = []
 until_of plan (Opens paths) = []
 
 abbrev pub deadline_of : PlanDay → Clause → List DraftDep
-deadline_of plan (Deadline minute days) = Plain (dep.Deadline (moment_or_first plan minute days)) ∷ []
+deadline_of plan (Deadline minute days) = draft.Plain (dep.Deadline (moment_or_first plan minute days)) ∷ []
 deadline_of plan (At minute days) = []
 deadline_of plan (Until minute days u) = []
 deadline_of plan (Priority n) = []
@@ -70,10 +71,10 @@ deadline_of plan (Opens paths) = []
 
 -- a FOLLOWS by the workstation and name of its stream, and the name of its job
 abbrev pub follows_stream : Defs → ScheduleDef → DraftDep
-follows_stream d s = dep.Follows (number_or_master d (ws_of_stream d s)) s.name None
+follows_stream d s = draft.Follows (number_or_master d (ws_of_stream d s)) s.name None
 
 abbrev pub follows_job : Defs → ScheduleDef → EntryDef → DraftDep
-follows_job d s e = dep.Follows (number_or_master d (ws_of_stream d s)) s.name (Some e.name)
+follows_job d s e = draft.Follows (number_or_master d (ws_of_stream d s)) s.name (Some e.name)
 
 abbrev pub follows_at : Defs → Target → Option DraftDep
 follows_at d (Stream n) = option_map (λ (s : Lined ScheduleDef). follows_stream d s.item) (slice_get d.schedules n)
@@ -110,7 +111,7 @@ resource_of d own n = option_and_then (λ ws. resource_at d ws n.name) (option_o
 
 -- 1 unit where none are given, and up to 1024
 abbrev pub need_of : Defs → Option (List ℕ) → Need → DraftDep
-need_of d own n = Plain (dep.Needs (number_from_one (resource_of d own n)) (min (unwrap_or n.units 1) 1024))
+need_of d own n = draft.Plain (dep.Needs (number_from_one (resource_of d own n)) (min (unwrap_or n.units 1) 1024))
 
 abbrev pub needs_of : Clause → List Need
 needs_of (Needs ns) = ns
@@ -129,8 +130,8 @@ needed_in d own c = map (need_of d own) (needs_of c)
 
 -- a prompt by its number, or a text of its own
 abbrev pub prompt_of : Defs → PromptItem → DraftDep
-prompt_of d (ask.Name name) = Plain (dep.Prompt (ref.Global (number_from_one (prompt_at d name))))
-prompt_of d (ask.Own text) = Plain (dep.Prompt (ref.Own text))
+prompt_of d (ask.Name name) = draft.Plain (dep.Prompt (ref.Global (number_from_one (prompt_at d name))))
+prompt_of d (ask.Own text) = draft.Plain (dep.Prompt (ref.Own text))
 
 abbrev pub prompts_of : Clause → List PromptItem
 prompts_of (Prompt ps) = ps
@@ -148,7 +149,7 @@ abbrev pub asked_in : Defs → Clause → List DraftDep
 asked_in d c = map (prompt_of d) (prompts_of c)
 
 abbrev pub file_of : List ℕ → DraftDep
-file_of path = Plain (dep.Outside path)
+file_of path = draft.Plain (dep.Outside path)
 
 abbrev pub paths_of : Clause → List (List ℕ)
 paths_of (Opens paths) = paths

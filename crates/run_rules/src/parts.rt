@@ -1,5 +1,5 @@
 //! The parts of a rule, and what each is worth.
-ghost use Rattle.std.specs.Prelude.{◌≡◌};
+ghost use Rattle.std.specs.Prelude.{◌≡◌, find, option_map};
 ghost use Rattle.composer_parser.specs.Rules as rules;
 ghost use Rattle.composer_parser.specs.Words.{before, behind};
 ghost use Rattle.run_rules.specs.Parts as spec;
@@ -19,13 +19,19 @@ pub enum Frequency {
 pub(crate) fn value_of<'a>(rule: &'a str, name: &str) -> &'a str
     ensures { result.now ≡ spec.value_of name.now rule.now }
 {
-    match without_last(rule)
-        .split(';')
-        .find(|part| is_named(part, name))
-    {
+    match part_of(rule, name) {
         Some(part) => behind_mark(part),
         None => "",
     }
+}
+
+/// The rule's first part of this name.
+fn part_of<'a>(rule: &'a str, name: &str) -> Option<&'a str>
+    ensures { option_map (λ p. p.now) result ≡ find (rules.is_named name.now) (rules.parts_of rule.now) }
+{
+    without_last(rule)
+        .split(';')
+        .find(|part| is_named(part, name))
 }
 
 /// The rule without the semicolon that may stand at its end.

@@ -1,6 +1,7 @@
 -- The days of calendars, and the free days of streams.
-use Rattle.std.specs.Prelude.{◌≡◌, ℕ, ◌+◌, ◌*◌, Bool, true, not, List, [], position, slice_get, option_map, option_and_then, codes}
+use Rattle.std.specs.Prelude.{◌≡◌, ℕ, ◌+◌, ◌*◌, Bool, true, not, List, [], slice_get, option_map, option_and_then, codes}
 use Rattle.std.specs.Prelude.{Option, if◌then◌else◌}
+use Rattle.std.specs.List.{position_from}
 use Rattle.std.specs.Option.{option_map_or}
 use Rattle.std.specs.Str.{bytes_eq}
 use Rattle.calendars.specs.declared.FreeDays.{FreeDays}
@@ -46,7 +47,7 @@ free_of d n = option_map (λ (s : Lined ScheduleDef). free_of_stream d s.item) (
 
 -- the place of the calendar HOLIDAYS
 abbrev pub holidays : List (Lined CalendarDef) → Option ℕ
-holidays calendars = position (λ (c : Lined CalendarDef). bytes_eq c.item.name (codes "HOLIDAYS")) calendars
+holidays calendars = position_from (λ (c : Lined CalendarDef). bytes_eq c.item.name (codes "HOLIDAYS")) 0 calendars
 
 -- which free days a stream has, and a number for each kind
 pub record IsKindOf (d : Defs) (s : ScheduleDef) (kind : FreeKind) : Type 0 where

@@ -1,5 +1,6 @@
 -- The workstations of definitions by their numbers: the master is 0, and the others follow in order of definition.
-use Rattle.std.specs.Prelude.{ℕ, Bool, true, false, not, List, ◌++◌, filter, map, position, Option, Some}
+use Rattle.std.specs.Prelude.{ℕ, Bool, true, false, not, List, ◌++◌, filter, map, Option, Some}
+use Rattle.std.specs.List.{position_from}
 use Rattle.std.specs.Str.{bytes_eq}
 use Rattle.composer_parser.specs.declared.Lined.{Lined}
 use Rattle.composer_parser.specs.declared.Defs.{Defs}
@@ -23,7 +24,7 @@ stations d = those d true d.cpus ++ those d false d.cpus
 
 -- the number of the workstation of a name
 abbrev pub number_among : List CpuDef → List ℕ → Option ℕ
-number_among all name = position (λ (c : CpuDef). bytes_eq name c.name) all
+number_among all name = position_from (λ (c : CpuDef). bytes_eq name c.name) 0 all
 
 abbrev pub number_of : Defs → List ℕ → Option ℕ
 number_of d name = number_among (stations d) name

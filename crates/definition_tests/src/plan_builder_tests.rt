@@ -130,9 +130,10 @@ fn the_first_plan(rt: HostRuntime) -> Result<(), Fail> {
         return Ok(());
     };
     let owners = Owners::new(rt.alloc());
-    match next_plan(rt.alloc(), &network, &owners, &drafts) {
+    let plan = next_plan(rt.alloc(), &network, &owners, &drafts);
+    match &plan {
         Ok(Body::NewPlan(run, cut, carried, fresh)) => {
-            assert!(rt; run == 1 && cut.len() == 0 && carried.len() == 0);
+            assert!(rt; *run == 1 && cut.len() == 0 && carried.len() == 0);
             match fresh.as_slice() {
                 [t, v] => {
                     assert!(rt; t.no.0 == 1 && t.name.as_str() == "T" && t.jobs.len() == 1);

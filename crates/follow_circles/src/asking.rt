@@ -1,5 +1,5 @@
 //! Whether one object reaches itself.
-ghost use Rattle.std.specs.Prelude.{◌<◌, ◌↔◌, ℕ, length, IfOk, OnOk, IsTrue};
+ghost use Rattle.std.specs.Prelude.{◌<◌, ◌↔◌, [], ◌∷◌, length, IfOk, OnOk, IsTrue};
 ghost use Rattle.follow_circles.specs.Circles.{IsOnCircle};
 ghost use Rattle.follow_circles.specs.Reached.{MarksThese};
 
@@ -45,7 +45,10 @@ fn put_all(reached: &mut Reached, places: &[usize]) -> Result<(), NoMemory>
     Ok(())
 }
 
-fn put(reached: &mut Reached, place: usize) -> Result<(), NoMemory> {
+/// Marks a place that has no mark yet. One past the end has none.
+fn put(reached: &mut Reached, place: usize) -> Result<(), NoMemory>
+    ensures { OnOk result (MarksThese reached.old reached.new (place ∷ [])) }
+{
     if place >= reached.marks.len() || reached.marks[place] {
         return Ok(());
     }

@@ -10,8 +10,7 @@ pub fn east_of(text: &str) -> Option<i16>
     ensures value { result ≡ spec.east_of text.now }
     ensures small { IfSome result IsOffset }
 {
-    let offset = text.strip_prefix("UTC")?;
-    match offset.as_bytes() {
+    match text.as_bytes().strip_prefix(b"UTC")? {
         [] => Some(0),
         [sign, digits @ ..] => signed(*sign, digits),
     }

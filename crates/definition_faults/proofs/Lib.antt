@@ -1,3 +1,4 @@
 pub mod Tops
 pub mod Earliest
 pub mod Loops
+pub mod Climbs

@@ -20,19 +20,32 @@ pub(crate) fn chain_ends<'a>(alloc: Global, names: &Names<'a>) -> Result<Vec<boo
     Ok(ends)
 }
 
-/// Where the chain of each domain has come after at least as many steps as there are domains.
+/// Where the chain of each domain has come after as many steps as there are domains.
 fn climbed<'a>(alloc: Global, names: &Names<'a>) -> Result<Vec<usize>, NoMemory>
     ensures { IfOk result (λ v. v.items ≡ spec.all_climbed names.now) }
 {
     let count = names.defs().domains.len();
-    let mut places = parents(alloc, names)?;
-    let mut steps: usize = 1;
-    for _round in 0..64 {
-        if steps >= count {
-            break;
+    let mut places = own_places(alloc, count)?;
+    // As many steps as the powers of 2 are that were looked at, of which the number of steps is a sum.
+    let mut powers = parents(alloc, names)?;
+    let mut left = count;
+    while left > 0 {
+        if left % 2 == 1 {
+            places = through(alloc, powers.as_slice(), places.as_slice())?;
         }
-        places = twice(alloc, places.as_slice())?;
-        steps = steps.saturating_mul(2);
+        powers = through(alloc, powers.as_slice(), powers.as_slice())?;
+        left /= 2;
+    }
+    Ok(places)
+}
+
+/// Each place, which no step leads away from.
+fn own_places(alloc: Global, count: usize) -> Result<Vec<usize>, NoMemory>
+    ensures { IfOk result (λ v. v.items ≡ below count) }
+{
+    let mut places = Vec::new(alloc);
+    for i in 0..count {
+        places.push(i)?;
     }
     Ok(places)
 }
@@ -64,13 +77,13 @@ fn parent_of<'a>(names: &Names<'a>, i: usize) -> usize
     }
 }
 
-/// What the places have at their places: twice as many steps up.
-fn twice(alloc: Global, places: &[usize]) -> Result<Vec<usize>, NoMemory>
-    ensures { IfOk result (λ v. v.items ≡ map (spec.place_in places.now) places.now) }
+/// Where steps lead from places.
+fn through(alloc: Global, steps: &[usize], places: &[usize]) -> Result<Vec<usize>, NoMemory>
+    ensures { IfOk result (λ v. v.items ≡ map (spec.place_in steps.now) places.now) }
 {
     let mut further = Vec::new(alloc);
     for place in places {
-        further.push(place_in(places, *place))?;
+        further.push(place_in(steps, *place))?;
     }
     Ok(further)
 }

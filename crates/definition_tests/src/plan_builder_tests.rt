@@ -332,11 +332,11 @@ fn days_that_are_added(rt: HostRuntime) -> Result<(), Fail> {
     Ok(())
 }
 
-/// So many streams that run each day, each with so many jobs.
+/// So many streams that run on Mondays and Tuesdays, each with so many jobs.
 fn many(alloc: Global, streams: u32, jobs: u32) -> Result<String, Fail> {
     let mut text = String::from_str(alloc, HEAD)?;
     for n in 0..streams {
-        write!(text, "SCHEDULE S{n} ON EVERYDAY :")?;
+        write!(text, "SCHEDULE S{n} ON MO,TU :")?;
         for i in 0..jobs {
             write!(text, " J{i} DOCOMMAND \"\"")?;
         }
@@ -345,31 +345,31 @@ fn many(alloc: Global, streams: u32, jobs: u32) -> Result<String, Fail> {
     Ok(text)
 }
 
-fn limit_of(alloc: Global, text: &str) -> Result<Option<u32>, Fail> {
-    let w = workload(alloc, text)?;
-    match day_docs(alloc, &w, 12_359) {
-        Ok(_) => Ok(None),
-        Err(PlanFault::Limit(limit)) => Ok(Some(limit)),
-        Err(_) => Ok(Some(0)),
+fn limit_on(alloc: Global, w: &Workload, date: &str) -> Option<u32> {
+    match day_docs(alloc, w, day(date)) {
+        Ok(_) => None,
+        Err(PlanFault::Limit(limit)) => Some(limit),
+        Err(_) => Some(0),
     }
 }
 
+// 11/03/2003 is a Monday.
 #[test]
 fn the_most_streams_of_a_plan(rt: HostRuntime) -> Result<(), Fail> {
     let most = many(rt.alloc(), 4096, 0)?;
-    let others = format!(in rt.alloc(); "{most}SCHEDULE S : END\nSCHEDULE T ON TU : END\n")?;
-    assert!(rt; limit_of(rt.alloc(), others.as_str())? == None);
-    let passed = format!(in rt.alloc(); "{most}SCHEDULE S ON MO : END\n")?;
-    assert!(rt; limit_of(rt.alloc(), passed.as_str())? == Some(4096));
+    let text = format!(in rt.alloc(); "{most}SCHEDULE S : END\nSCHEDULE T ON TU : END\n")?;
+    let w = workload(rt.alloc(), text.as_str())?;
+    assert!(rt; limit_on(rt.alloc(), &w, "11/03/2003") == None);
+    assert!(rt; limit_on(rt.alloc(), &w, "11/04/2003") == Some(4096));
     Ok(())
 }
 
 #[test]
 fn the_most_jobs_of_a_plan(rt: HostRuntime) -> Result<(), Fail> {
     let most = many(rt.alloc(), 2, 8192)?;
-    let others = format!(in rt.alloc(); "{most}SCHEDULE S : A DOCOMMAND \"\" END\n")?;
-    assert!(rt; limit_of(rt.alloc(), others.as_str())? == None);
-    let passed = format!(in rt.alloc(); "{most}SCHEDULE S ON MO : A DOCOMMAND \"\" END\n")?;
-    assert!(rt; limit_of(rt.alloc(), passed.as_str())? == Some(16_384));
+    let text = format!(in rt.alloc(); "{most}SCHEDULE S ON TU : A DOCOMMAND \"\" END\n")?;
+    let w = workload(rt.alloc(), text.as_str())?;
+    assert!(rt; limit_on(rt.alloc(), &w, "11/03/2003") == None);
+    assert!(rt; limit_on(rt.alloc(), &w, "11/04/2003") == Some(16_384));
     Ok(())
 }

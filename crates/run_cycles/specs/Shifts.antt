@@ -1,5 +1,5 @@
 -- The days of a statement, each of its dates shifted.
-use Rattle.std.specs.Prelude.{ℕ, ◌+◌, Bool, ◌&&◌, List, take_while, Option, Some, None, if◌then◌else◌, pos, negsuc}
+use Rattle.std.specs.Prelude.{ℕ, ◌+◌, Bool, ◌&&◌, List, [], ◌∷◌, Option, Some, None, if◌then◌else◌, pos, negsuc}
 use Rattle.std.specs.List.{list_any}
 use Rattle.calendars.specs.Dates.{last_day}
 use Rattle.calendars.specs.Free.{is_free}
@@ -34,4 +34,5 @@ gives d free day on = list_any (λ date. is_dated d free on date && some_is (shi
 
 -- the free days with which a list begins
 abbrev pub free_run : FreeDays → List ℕ → List ℕ
-free_run free days = take_while (is_free free) days
+free_run free [] = []
+free_run free (day ∷ days) = if is_free free day then day ∷ free_run free days else []

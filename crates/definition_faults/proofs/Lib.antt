@@ -1,4 +1,5 @@
 pub mod Tops
 pub mod Earliest
+pub mod Firsts
 pub mod Loops
 pub mod Climbs

@@ -32,7 +32,10 @@ shifted free (Some shift) date = if is_free free date then instead free shift da
 abbrev pub gives : Defs → FreeDays → ℕ → OnDef → Bool
 gives d free day on = list_any (λ date. is_dated d free on date && some_is (shifted free on.shift date) day) all_days
 
--- the free days with which a list begins
+-- the days with which a list begins that pass a test, and so the free ones
+abbrev pub run_of : (ℕ → Bool) → List ℕ → List ℕ
+run_of test [] = []
+run_of test (day ∷ days) = if test day then day ∷ run_of test days else []
+
 abbrev pub free_run : FreeDays → List ℕ → List ℕ
-free_run free [] = []
-free_run free (day ∷ days) = if is_free free day then day ∷ free_run free days else []
+free_run free days = run_of (is_free free) days

@@ -95,35 +95,48 @@ first_in : (x : Fault) (xs : List Fault) (f : Fault) → Contains (x ∷ xs) f �
 first_in x xs f (zero, less, is) = inl (sym is)
 first_in x xs f (suc k, less, is) = inr (k, omega (arith, less), is)
 
+module _ (x : Fault) (xs : List Fault) where
+  in_more : (f : Fault) → Contains xs f → Contains (x ∷ xs) f
+  in_more f (k, less, is) = (suc k, omega (arith, less), is)
+
+  at_front : Contains (x ∷ xs) x
+  at_front = (0, omega arith, refl)
+
+  alone : IsFirstOf (Contains xs) None → IsFirstOf (Contains (x ∷ xs)) (Some x)
+  alone h =
+      (at_front, λ g there.
+      elim (first_in x xs g there) [
+        | inl e ↦ subst (IsNoLater x) (sym e) (no_later_itself x)
+        | inr c ↦ absurd (h g c)
+      ])
+
+  before_other : (y : Fault) → comes_first x y ≡ true → IsFirstOf (Contains xs) (Some y)
+      → IsFirstOf (Contains (x ∷ xs)) (Some x)
+  before_other y q h =
+      (at_front, λ g there.
+      elim (first_in x xs g there) [
+        | inl e ↦ subst (IsNoLater x) (sym e) (no_later_itself x)
+        | inr c ↦ no_later_through x y g (no_later x y q) (h.1 g c)
+      ])
+
+  behind_other : (y : Fault) → comes_first x y ≡ false → IsFirstOf (Contains xs) (Some y)
+      → IsFirstOf (Contains (x ∷ xs)) (Some y)
+  behind_other y q h =
+      (in_more y h.0, λ g there.
+      elim (first_in x xs g there) [
+        | inl e ↦ subst (IsNoLater y) (sym e) (no_later_other x y q)
+        | inr c ↦ h.1 g c
+      ])
+
+  chosen : (y : Fault) (p : Bool) → comes_first x y ≡ p → IsFirstOf (Contains xs) (Some y)
+      → IsFirstOf (Contains (x ∷ xs)) (cond p (Some x) (Some y))
+  chosen y true q h = before_other y q h
+  chosen y false q h = behind_other y q h
+
+  with_more : (o : Option Fault) → IsFirstOf (Contains xs) o → IsFirstOf (Contains (x ∷ xs)) (earlier_of (Some x) o)
+  with_more None h = alone h
+  with_more (Some y) h = chosen y (comes_first x y) refl h
+
 pub of_list : (fs : List Fault) → IsFirstOf (Contains fs) (earliest fs)
 of_list [] = λ f there. absurd (omega (arith, there.1))
-of_list (x ∷ xs) = go (earliest xs) (of_list xs)
-  where
-    own : (f : Fault) → Contains xs f → Contains (x ∷ xs) f
-    own f (k, less, is) = (suc k, omega (arith, less), is)
-
-    here : Contains (x ∷ xs) x
-    here = (0, omega arith, refl)
-
-    go : (o : Option Fault) → IsFirstOf (Contains xs) o → IsFirstOf (Contains (x ∷ xs)) (earlier_of (Some x) o)
-    go None h =
-        (here, λ g there.
-        elim (first_in x xs g there) [
-          | inl e ↦ subst (IsNoLater x) (sym e) (no_later_itself x)
-          | inr c ↦ absurd (h g c)
-        ])
-    go (Some y) h = by (comes_first x y) refl
-      where
-        by : (p : Bool) → comes_first x y ≡ p → IsFirstOf (Contains (x ∷ xs)) (cond p (Some x) (Some y))
-        by true q =
-            (here, λ g there.
-            elim (first_in x xs g there) [
-              | inl e ↦ subst (IsNoLater x) (sym e) (no_later_itself x)
-              | inr c ↦ no_later_through x y g (no_later x y q) (h.1 g c)
-            ])
-        by false q =
-            (own y h.0, λ g there.
-            elim (first_in x xs g there) [
-              | inl e ↦ subst (IsNoLater y) (sym e) (no_later_other x y q)
-              | inr c ↦ h.1 g c
-            ])
+of_list (x ∷ xs) = with_more x xs (earliest xs) (of_list xs)

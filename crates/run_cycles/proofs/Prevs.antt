@@ -22,6 +22,14 @@ and_true : (b : Bool) → (b && true) ≡ b
 and_true true = refl
 and_true false = refl
 
+or_false : (b : Bool) → (b || false) ≡ b
+or_false true = refl
+or_false false = refl
+
+or_assoc : (x y z : Bool) → (x || (y || z)) ≡ ((x || y) || z)
+or_assoc true y z = refl
+or_assoc false y z = refl
+
 and_assoc : (a b c : Bool) → ((a && b) && c) ≡ (a && (b && c))
 and_assoc true b c = refl
 and_assoc false b c = refl
@@ -130,17 +138,9 @@ module _ (free : ℕ → Bool) where
         go : (b : Bool) → free a ≡ b
             → list_any dated (cond b (a ∷ []) []) ≡ ((b && true) && dated (a + 0))
         go true h = let here : a ≡ a + 0 = omega arith in or_false (dated a) ∙ ap dated here
-          where
-            or_false : (b : Bool) → (b || false) ≡ b
-            or_false true = refl
-            or_false false = refl
         go false h = refl
     any-last (suc k) a = go (free a) (any-last k (a + 1))
       where
-        or_assoc : (x y z : Bool) → (x || (y || z)) ≡ ((x || y) || z)
-        or_assoc true y z = refl
-        or_assoc false y z = refl
-
         go : (b : Bool)
             → list_any dated (run_of free (range_with_len (a + 1) (suc k)))
             ≡ (list_any dated (run_of free (range_with_len (a + 1) k)) || (all_free free (a + 1) (suc k) && dated (a + 1 + k)))

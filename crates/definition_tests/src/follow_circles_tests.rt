@@ -54,13 +54,14 @@ fn least_lines_of_circles(rt: HostRuntime) -> Result<(), Fail> {
 }
 
 /// A chain of so many objects, of which the last follows this place.
-fn chain(alloc: Global, count: usize, last: usize) -> Result<Vec<Follower>, Fail> {
+fn chain(alloc: Global, count: u32, last: usize) -> Result<Vec<Follower>, Fail> {
     let mut objects = Vec::new(alloc);
     for i in 0..count {
+        let next = i + 1;
         let mut follows = Items::new(alloc);
-        follows.push(if i + 1 == count { last } else { i + 1 })?;
+        follows.push(if next == count { last } else { next as usize })?;
         objects.push(Follower {
-            line: i as u32 + 1,
+            line: next,
             follows,
         })?;
     }

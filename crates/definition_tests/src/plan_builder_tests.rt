@@ -1,4 +1,6 @@
 //! The plans of worked days, as listings.
+ghost use Rattle.calendars.specs.Dates.{IsDay};
+
 use base_types::{Body, Copied};
 use calendars::{LAST_DAY, read_date};
 use carry_forward::next_plan;
@@ -96,7 +98,9 @@ fn workload(alloc: Global, text: &str) -> Result<Workload, Fail> {
 }
 
 /// The day of a date. The tests name none that does not exist.
-fn day(date: &str) -> u32 {
+fn day(date: &str) -> u32
+    ensures { IsDay result }
+{
     match read_date(date) {
         Some(day) if day <= LAST_DAY => day,
         _ => 0,

@@ -95,9 +95,9 @@ fn workload(alloc: Global, ons: &str) -> Result<Workload, Fail> {
     Ok(check(alloc, &defs)?)
 }
 
-/// Whether exactly these of the days from one to another are in the set.
-fn is_set(set: &DaySet, from: u32, to: u32, days: &[u32]) -> bool {
-    (from..to + 1).all(|day| set.has(day) == days.contains(&day))
+/// Whether exactly these of the days from 12340 to 12380 are in the set.
+fn is_set(set: &DaySet, days: &[u32]) -> bool {
+    (12_340..12_381).all(|day| set.has(day) == days.contains(&day))
 }
 
 #[test]
@@ -105,8 +105,10 @@ fn days_of_an_autumn(rt: HostRuntime) -> Result<(), Fail> {
     for row in &AUTUMN {
         let w = workload(rt.alloc(), row.0)?;
         assert!(rt; w.streams() == 1);
-        let set = dates(rt.alloc(), &w, 0, 12_352, 12_372)?;
-        assert!(rt; is_set(&set, 12_340, 12_380, row.1), "at {}", row.0);
+        if w.streams() > 0 {
+            let set = dates(rt.alloc(), &w, 0, 12_352, 12_372)?;
+            assert!(rt; is_set(&set, row.1), "at {}", row.0);
+        }
     }
     Ok(())
 }
@@ -151,7 +153,8 @@ fn days_at_the_edges(rt: HostRuntime) -> Result<(), Fail> {
     for row in &DAYS {
         let w = workload(rt.alloc(), row.0)?;
         assert!(rt; w.streams() == 1);
-        assert!(rt; runs_on(&w, 0, row.1) == row.2, "at {} of {}", row.1, row.0);
+        let runs = w.streams() > 0 && runs_on(&w, 0, row.1);
+        assert!(rt; runs == row.2, "at {} of {}", row.1, row.0);
     }
     Ok(())
 }
@@ -165,6 +168,13 @@ fn no_holidays(rt: HostRuntime) -> Result<(), Fail> {
     let defs = parse(rt.alloc(), text, &tokens)?;
     let w = check(rt.alloc(), &defs)?;
     assert!(rt; w.streams() == 1);
-    assert!(rt; runs_on(&w, 0, 12_412) && !runs_on(&w, 0, 12_413) && !runs_on(&w, 0, 12_414));
+    if w.streams() > 0 {
+        let runs = [
+            runs_on(&w, 0, 12_412),
+            runs_on(&w, 0, 12_413),
+            runs_on(&w, 0, 12_414),
+        ];
+        assert!(rt; runs == [true, false, false]);
+    }
     Ok(())
 }

@@ -138,9 +138,12 @@ fn free_days_of_streams(rt: HostRuntime) -> Result<(), Fail> {
 fn names_of_workstations_and_calendars(rt: HostRuntime) -> Result<(), Fail> {
     let w = workload(rt.alloc(), NETWORK)?;
     let net = w.net();
-    for (i, node) in net.nodes.as_slice().iter().enumerate() {
-        assert!(rt; w.station(&node.name) == Some(Ws(i as u16)));
+    let mut number: u16 = 0;
+    for node in net.nodes.as_slice() {
+        assert!(rt; w.station(&node.name) == Some(Ws(number)));
+        number = number.wrapping_add(1);
     }
+    assert!(rt; number == 5);
     for calendar in w.defs().calendars.as_slice() {
         let days = w.calendar_days(&calendar.item.name);
         assert!(rt; days == calendar.item.days.as_slice());

@@ -8,21 +8,21 @@ use Rattle.model.specs.Words.{some_is}
 use Rattle.run_cycles.specs.Shifts.{run_of}
 use Rattle.run_cycles.proofs.Walks.{below-suc, none, all_free}
 
-higher : (m n : ℕ) → n < m → eqb m n ≡ false
+pub higher : (m n : ℕ) → n < m → eqb m n ≡ false
 higher m n h = grind (arith, nat_tests)
 
-lower : (m n : ℕ) → m < n → eqb m n ≡ false
+pub lower : (m n : ℕ) → m < n → eqb m n ≡ false
 lower m n h = grind (arith, nat_tests)
 
-and_false : (b : Bool) → (b && false) ≡ false
+pub and_false : (b : Bool) → (b && false) ≡ false
 and_false true = refl
 and_false false = refl
 
-and_true : (b : Bool) → (b && true) ≡ b
+pub and_true : (b : Bool) → (b && true) ≡ b
 and_true true = refl
 and_true false = refl
 
-or_false : (b : Bool) → (b || false) ≡ b
+pub or_false : (b : Bool) → (b || false) ≡ b
 or_false true = refl
 or_false false = refl
 

@@ -1,6 +1,6 @@
 -- Walks down from a day, and runs of free days.
 use Rattle.std.proofs.Common.{◌≡◌, ◌⊎◌, ℕ, zero, suc, ◌+◌, ◌-◌, ◌<◌, ◌≤◌, ◌&&◌, ◌||◌, Bool, true, false, List, [], ◌∷◌}
-use Rattle.std.proofs.Common.{refl, ap, ◌∙◌, arith, eqb, inl, inr}
+use Rattle.std.proofs.Common.{refl, sym, ap, ◌∙◌, arith, eqb, inl, inr}
 use Rattle.std.proofs.lemmas.Bool.Decides.{eqb_tells}
 use Rattle.std.specs.List.{list_any}
 use Rattle.calendars.specs.Nth.{below}
@@ -19,6 +19,14 @@ none q zero h = below-zero q
 none q (suc n) h =
     below-suc q n
     ∙ (ap (λ b. b || list_any q (below n)) (h n (omega arith)) ∙ none q n (λ m low. h m (omega (arith, low))))
+
+-- tests that are the same of all the numbers below
+pub alike : (p q : ℕ → Bool) (n : ℕ) → ((m : ℕ) → m < n → p m ≡ q m) → list_any p (below n) ≡ list_any q (below n)
+alike p q zero h = below-zero p ∙ sym (below-zero q)
+alike p q (suc n) h =
+    below-suc p n
+    ∙ (ap (λ b. b || list_any p (below n)) (h n (omega arith))
+    ∙ (ap (λ b. q n || b) (alike p q n (λ m low. h m (omega (arith, low)))) ∙ sym (below-suc q n)))
 
 -- where none above a number passes, those below it and itself are left
 pub split : (q : ℕ → Bool) (n day : ℕ) → day < n → ((m : ℕ) → day < m → q m ≡ false)

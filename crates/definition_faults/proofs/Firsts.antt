@@ -62,12 +62,16 @@ module _ (A B : Fault → Type 0) where
   either (Some a) (Some b) h k = go (comes_first a b) refl
     where
       go : (p : Bool) → comes_first a b ≡ p → IsFirstOf (λ f. A f ⊎ B f) (cond p (Some a) (Some b))
-      go true q =
-          (inl h.0, λ g there.
-          elim there [ inl l ↦ h.1 g l | inr r ↦ no_later_through a b g (no_later a b q) (k.1 g r) ])
-      go false q =
-          (inr k.0, λ g there.
-          elim there [ inl l ↦ no_later_through b a g (no_later_other a b q) (h.1 g l) | inr r ↦ k.1 g r ])
+      go true q = (
+        inl h.0,
+        λ g there.
+            elim there [ inl l ↦ h.1 g l | inr r ↦ no_later_through a b g (no_later a b q) (k.1 g r) ],
+      )
+      go false q = (
+        inr k.0,
+        λ g there.
+            elim there [ inl l ↦ no_later_through b a g (no_later_other a b q) (h.1 g l) | inr r ↦ k.1 g r ],
+      )
 
 -- of one kind at these lines
 pub at_least : (Has : ℕ → Type 0) (k : Kind) (line : Option ℕ) → IsLeastOf Has line
@@ -103,30 +107,36 @@ module _ (x : Fault) (xs : List Fault) where
   at_front = (0, omega arith, refl)
 
   alone : IsFirstOf (Contains xs) None → IsFirstOf (Contains (x ∷ xs)) (Some x)
-  alone h =
-      (at_front, λ g there.
-      elim (first_in x xs g there) [
-        | inl e ↦ subst (IsNoLater x) (sym e) (no_later_itself x)
-        | inr c ↦ absurd (h g c)
-      ])
+  alone h = (
+    at_front,
+    λ g there.
+        elim (first_in x xs g there) [
+          | inl e ↦ subst (IsNoLater x) (sym e) (no_later_itself x)
+          | inr c ↦ absurd (h g c)
+        ],
+  )
 
   before_other : (y : Fault) → comes_first x y ≡ true → IsFirstOf (Contains xs) (Some y)
       → IsFirstOf (Contains (x ∷ xs)) (Some x)
-  before_other y q h =
-      (at_front, λ g there.
-      elim (first_in x xs g there) [
-        | inl e ↦ subst (IsNoLater x) (sym e) (no_later_itself x)
-        | inr c ↦ no_later_through x y g (no_later x y q) (h.1 g c)
-      ])
+  before_other y q h = (
+    at_front,
+    λ g there.
+        elim (first_in x xs g there) [
+          | inl e ↦ subst (IsNoLater x) (sym e) (no_later_itself x)
+          | inr c ↦ no_later_through x y g (no_later x y q) (h.1 g c)
+        ],
+  )
 
   behind_other : (y : Fault) → comes_first x y ≡ false → IsFirstOf (Contains xs) (Some y)
       → IsFirstOf (Contains (x ∷ xs)) (Some y)
-  behind_other y q h =
-      (in_more y h.0, λ g there.
-      elim (first_in x xs g there) [
-        | inl e ↦ subst (IsNoLater y) (sym e) (no_later_other x y q)
-        | inr c ↦ h.1 g c
-      ])
+  behind_other y q h = (
+    in_more y h.0,
+    λ g there.
+        elim (first_in x xs g there) [
+          | inl e ↦ subst (IsNoLater y) (sym e) (no_later_other x y q)
+          | inr c ↦ h.1 g c
+        ],
+  )
 
   chosen : (y : Fault) (p : Bool) → comes_first x y ≡ p → IsFirstOf (Contains xs) (Some y)
       → IsFirstOf (Contains (x ∷ xs)) (cond p (Some x) (Some y))

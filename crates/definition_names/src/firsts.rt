@@ -59,10 +59,7 @@ pub(crate) fn index<'a>(alloc: Global, names: &[&'a Text]) -> Result<NameIndex<'
 }
 
 /// The place of the first of each name on a workstation.
-pub(crate) fn pair_index<'a>(
-    alloc: Global,
-    names: &[Pair<'a>],
-) -> Result<PairIndex<'a>, NoMemory>
+pub(crate) fn pair_index<'a>(alloc: Global, names: &[Pair<'a>]) -> Result<PairIndex<'a>, NoMemory>
     ensures { IfOk result (λ index. IsPairIndex index.entries (map seen_pair names.now)) }
 {
     let mut index = IndexMap::new(alloc);

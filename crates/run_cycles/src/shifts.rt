@@ -41,8 +41,7 @@ fn gives_next(w: &Workload, free: &FreeDays, on: &OnDef, day: u32) -> bool
     ensures { result ≡ (is_work_day free.now day && (is_dated_of w.now free.now on.now day
         || list_any (is_dated_of w.now free.now on.now) (spec.free_run free.now (below day)))) }
 {
-    is_workday(free, day)
-        && (is_dated(w, free, on, day) || comes_from_before(w, free, on, day))
+    is_workday(free, day) && (is_dated(w, free, on, day) || comes_from_before(w, free, on, day))
 }
 
 /// Whether a day is a workday, and it or one of the free days directly behind it is a date of the statement.
@@ -51,8 +50,7 @@ fn gives_prev(w: &Workload, free: &FreeDays, on: &OnDef, day: u32) -> bool
     ensures { result ≡ (is_work_day free.now day && (is_dated_of w.now free.now on.now day
         || list_any (is_dated_of w.now free.now on.now) (spec.free_run free.now (days_after day)))) }
 {
-    is_workday(free, day)
-        && (is_dated(w, free, on, day) || comes_from_behind(w, free, on, day))
+    is_workday(free, day) && (is_dated(w, free, on, day) || comes_from_behind(w, free, on, day))
 }
 
 /// Whether a date of the statement is one of the free days directly before a day.

@@ -14,6 +14,4 @@ mod run_cycles_tests;
 #[cfg(test)]
 mod run_rules_tests;
 #[cfg(test)]
-mod time_zones_tests;
-#[cfg(test)]
 mod workload_defs_tests;

@@ -10,6 +10,8 @@ mod follow_circles_tests;
 #[cfg(test)]
 mod plan_builder_tests;
 #[cfg(test)]
+mod plan_listing_tests;
+#[cfg(test)]
 mod run_cycles_tests;
 #[cfg(test)]
 mod run_rules_tests;

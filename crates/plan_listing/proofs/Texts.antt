@@ -60,13 +60,11 @@ one_more (negated e) rest es =
     ap (λ l. expressions_of l es) (append_assoc (postfix e) (Not ∷ []) rest) ∙ one_more e (Not ∷ rest) es
 one_more (both e f) rest es =
     ap (λ l. expressions_of l es)
-    (append_assoc (postfix e) (postfix f ++ And ∷ []) rest
-    ∙ ap (λ l. postfix e ++ l) (append_assoc (postfix f) (And ∷ []) rest))
+    (append_assoc (postfix e ++ postfix f) (And ∷ []) rest ∙ append_assoc (postfix e) (postfix f) (And ∷ rest))
     ∙ (one_more e (postfix f ++ And ∷ rest) es ∙ one_more f (And ∷ rest) (e ∷ es))
 one_more (either e f) rest es =
     ap (λ l. expressions_of l es)
-    (append_assoc (postfix e) (postfix f ++ Or ∷ []) rest
-    ∙ ap (λ l. postfix e ++ l) (append_assoc (postfix f) (Or ∷ []) rest))
+    (append_assoc (postfix e ++ postfix f) (Or ∷ []) rest ∙ append_assoc (postfix e) (postfix f) (Or ∷ rest))
     ∙ (one_more e (postfix f ++ Or ∷ rest) es ∙ one_more f (Or ∷ rest) (e ∷ es))
 
 -- so they have its text
@@ -91,13 +89,13 @@ kept Not (a ∷ es) fs h =
 kept And [] fs h = cc
 kept And (b ∷ []) fs h = cc
 kept And (b ∷ a ∷ es) fs h =
-    append_assoc (spelled es ++ postfix a) (postfix b) (And ∷ [])
-    ∙ (append_assoc (spelled es) (postfix a) (postfix b ++ And ∷ []) ∙ ap spelled (same_some (both a b ∷ es) fs h))
+    ap (λ l. l ++ And ∷ []) (append_assoc (spelled es) (postfix a) (postfix b))
+    ∙ (append_assoc (spelled es) (postfix a ++ postfix b) (And ∷ []) ∙ ap spelled (same_some (both a b ∷ es) fs h))
 kept Or [] fs h = cc
 kept Or (b ∷ []) fs h = cc
 kept Or (b ∷ a ∷ es) fs h =
-    append_assoc (spelled es ++ postfix a) (postfix b) (Or ∷ [])
-    ∙ (append_assoc (spelled es) (postfix a) (postfix b ++ Or ∷ []) ∙ ap spelled (same_some (either a b ∷ es) fs h))
+    ap (λ l. l ++ Or ∷ []) (append_assoc (spelled es) (postfix a) (postfix b))
+    ∙ (append_assoc (spelled es) (postfix a ++ postfix b) (Or ∷ []) ∙ ap spelled (same_some (either a b ∷ es) fs h))
 
 -- what is left are the operations that were there
 pub all_kept : (ops : List CondOp) (es fs : List Expression) → expressions_of ops es ≡ Some fs

@@ -1,0 +1,1 @@
+-- The world as contracts see it, and the world of the definitions that it stands for.

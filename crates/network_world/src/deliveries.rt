@@ -1,11 +1,10 @@
 //! Packets that are delivered.
-ghost use Rattle.std.specs.Prelude.{◌≡◌, ◌<◌, IfErr, IfOk, None, OnErr, OnOk, Some, option_and_then};
+ghost use Rattle.std.specs.Prelude.{◌≡◌, ◌<◌, IfErr, IfOk, OnErr, OnOk, option_and_then};
 ghost use Rattle.std.specs.Option.{option_copied};
 ghost use Rattle.model.specs.Types as types;
 ghost use Rattle.model.specs.Words.{nth};
-ghost use Rattle.model.specs.History.{list_of};
 ghost use Rattle.model.specs.Network.{node_count};
-ghost use Rattle.network_world.specs.Deliveries.{IsBrought, IsInputOf, IsNotBrought};
+ghost use Rattle.network_world.specs.Deliveries.{IsBrought, IsHeld, IsInputOf, IsNotBrought, IsOpened};
 ghost use Rattle.network_world.specs.Standing.{IsRefusalDue, Steps};
 ghost use Rattle.network_world.specs.Stations.{Lane as Sent, lane_of};
 

@@ -121,7 +121,7 @@ impl Journal {
     /// Writes down a step of w that gave this out and made this entry of its own, or none. There is room for it.
     pub(crate) fn note_own(&mut self, w: Ws, outs: &[Out], made: Option<Entry>)
         requires { CanNote w outs.now made self.old }
-        ensures { HasNoted Origin.Own w outs.now made self.old self.new }
+        ensures { HasNoted Origin.Own w outs.now made (seen self.old) (seen self.new) }
     {
         self.note_outs(w, outs);
         self.kept += weight(&made);
@@ -134,7 +134,7 @@ impl Journal {
     /// it.
     pub(crate) fn note_mailed(&mut self, w: Ws, outs: &[Out], made: &Option<Entry>)
         requires { CanNote w outs.now made.now self.old }
-        ensures { HasNoted Origin.Mailed w outs.now made.now self.old self.new }
+        ensures { HasNoted Origin.Mailed w outs.now made.now (seen self.old) (seen self.new) }
     {
         self.note_outs(w, outs);
         self.kept += weight(made);

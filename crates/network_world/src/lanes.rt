@@ -3,7 +3,7 @@ ghost use Rattle.std.specs.Prelude.{◌≡◌, ◌+◌, ◌++◌, ◌∷◌, ◌
 ghost use Rattle.std.specs.Option.{option_copied};
 ghost use Rattle.model.specs.Words.{nth};
 ghost use Rattle.model.specs.World.{packets_to};
-ghost use Rattle.network_world.specs.Lanes.{GetsPacket, HaveMore, HaveRoom, HaveRoomFor, HasRoomMade, IsMarked, seen};
+ghost use Rattle.network_world.specs.Lanes.{GetsPacket, HaveMore, HaveRoom, HaveRoomFor, HasRoomAt, IsMarked, seen};
 ghost use Rattle.network_world.specs.declared.lanes.Lane.{Lane as Raw};
 
 use base_types::{Growing, Items, NoMemory, Out, Packet, Ws};
@@ -53,7 +53,8 @@ impl Lane {
 /// Makes room in one lane. The packets stay, whatever comes.
 fn make_room_at(lanes: &mut Items<Lane>, i: usize) -> Result<(), NoMemory>
     requires { i < length lanes.old }
-    ensures { (l : Raw) → slice_get lanes.old i ≡ Some l → HasRoomMade lanes.old i l result lanes.new }
+    ensures { (l : Raw) → slice_get lanes.old i ≡ Some l
+        → (m : Raw) × HasRoomAt lanes.old i l m lanes.new × OnOk result (8 ≤ m.packets.spare) }
 {
     match lanes.get_mut(i) {
         Some(lane) => lane.packets.reserve(ROOM),

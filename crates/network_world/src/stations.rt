@@ -1,9 +1,10 @@
 //! A node, and what it sent.
-ghost use Rattle.std.specs.Prelude.{◌≡◌, ◌<◌, IfErr, IfOk, OnErr, option_copied, option_map, slice_get};
+ghost use Rattle.std.specs.Prelude.{◌≡◌, ◌<◌, IfErr, IfOk, OnErr, false, length, option_map, slice_get, true};
 ghost use Rattle.std.specs.Option.{option_copied};
 ghost use Rattle.model.specs.Network.{node_count};
 ghost use Rattle.network_world.specs.Lanes as lanes;
-ghost use Rattle.network_world.specs.Moves.{HasRestarted, HasStopped, HasTaken, IsAgain, IsInputDue, IsMarkedTo, IsNew};
+ghost use Rattle.network_world.specs.Moves.{GoesOn, HasStopped, HasTaken, IsAgain, IsInputDue, IsMarkedTo, IsNew};
+ghost use Rattle.network_world.specs.Moves as moves;
 
 use crate::copies::copied_entries;
 use crate::lanes::{Lane, make_room, mark_lane, put_sends};
@@ -45,7 +46,7 @@ fn new_lanes(alloc: Global, count: u16) -> Result<Items<Lane>, NoMemory>
     ensures { IfOk result (λ made. lanes.AreNew count made) }
 {
     let mut made = Items::new(alloc);
-    for _ in 0..count {
+    for _lane in 0..count {
         made.push(Lane::new(alloc))?;
     }
     Ok(made)
@@ -100,7 +101,7 @@ impl Station {
 
     /// The node stops and begins again.
     pub(crate) fn restart(&mut self)
-        ensures { HasRestarted self.old self.new }
+        ensures { GoesOn moves.stop self.old self.new }
     {
         self.node.restart();
     }

@@ -8,7 +8,7 @@ ghost use Rattle.network_world.specs.Deliveries.{IsBrought, IsHeld, IsInputOf, I
 ghost use Rattle.network_world.specs.Standing.{IsRefusalDue, Steps};
 ghost use Rattle.network_world.specs.Stations.{Lane as Sent, lane_of};
 
-use crate::laws::{counts_are_small, lanes_get_few, packets_have_entries, steps_keep_all};
+use crate::laws::{counts_are_small, packets_have_entries, steps_keep_all};
 use crate::refusals::StepRefused;
 use crate::sites::{mark_at, take_at};
 use crate::worlds::World;
@@ -96,6 +96,7 @@ impl World {
         ensures refused { IfErr result (λ r. IsRefusalDue self.old (types.Deliver a b k) r) }
         ensures err { OnErr result (self.new ≡ self.old) }
     {
+        self.stands();
         steps_keep_all();
         counts_are_small();
         let input = self.brought(a, b, k)?;

@@ -5,7 +5,7 @@ ghost use Rattle.model.specs.Types as types;
 ghost use Rattle.model.specs.Network.{node_count};
 ghost use Rattle.network_world.specs.Standing.{IsRefusalDue, Steps, ws_in_step};
 
-use crate::laws::{counts_are_small, lanes_get_few, steps_keep_all};
+use crate::laws::{counts_are_small, steps_keep_all};
 use crate::refusals::StepRefused;
 use crate::sites::take_at;
 use crate::worlds::World;
@@ -20,6 +20,7 @@ impl World {
         ensures refused { IfErr result (λ r. IsRefusalDue self.old (types.Take w local.now) r) }
         ensures err { OnErr result (self.new ≡ self.old) }
     {
+        self.stands();
         steps_keep_all();
         counts_are_small();
         self.journal.check()?;

@@ -18,6 +18,7 @@ impl World {
         ensures refused { IfErr result (λ r. IsRefusalDue self.old (types.Crash w) r) }
         ensures err { OnErr result (self.new ≡ self.old) }
     {
+        self.stands();
         steps_keep_all();
         counts_are_small();
         self.journal.check()?;
@@ -40,6 +41,7 @@ impl World {
         ensures refused { IfErr result (λ r. IsRefusalDue self.old (types.CrashTake w local.now kept) r) }
         ensures err { OnErr result (self.new ≡ self.old) }
     {
+        self.stands();
         steps_keep_all();
         counts_are_small();
         self.journal.check()?;
@@ -65,6 +67,7 @@ impl World {
         ensures refused { IfErr result (λ r. IsRefusalDue self.old (types.CrashDeliver a b k kept) r) }
         ensures err { OnErr result (self.new ≡ self.old) }
     {
+        self.stands();
         steps_keep_all();
         counts_are_small();
         let input = self.brought(a, b, k)?;

@@ -1,5 +1,5 @@
 //! The world, and what it shows.
-ghost use Rattle.std.specs.Prelude.{◌≡◌, ◌<◌, IfOk, Some, length, option_map};
+ghost use Rattle.std.specs.Prelude.{◌≡◌, ◌<◌, ◌≤◌, IfOk, Some, length, option_map};
 ghost use Rattle.std.specs.Option.{option_copied};
 ghost use Rattle.model.specs.Network.{node_count};
 ghost use Rattle.model.specs.Sound.{IsSound};
@@ -101,11 +101,12 @@ impl World {
         self.journal.starts.as_slice()
     }
 
-    /// That there is a world of the definitions for which this one stands.
+    /// That there is a world of the definitions for which this one stands, and that it has few workstations.
     pub(crate) fn stands(&self)
-        ensures { IsWorld self.now }
+        ensures world { IsWorld self.now }
+        ensures few { node_count self.now.net ≤ 256 }
     {
-        let _ = &self.net;
+        let _count = self.net.count();
     }
 
     /// The history and the starts of this very world are sound, whatever steps made it. The call does nothing.

@@ -5,3 +5,5 @@
 
 #[cfg(test)]
 mod network_world_tests;
+#[cfg(test)]
+mod recovery_watch_tests;

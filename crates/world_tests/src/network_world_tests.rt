@@ -2,6 +2,7 @@
 mod limits;
 mod networks;
 mod nights;
+mod recoveries;
 mod refusals;
 mod rows;
 mod stops;

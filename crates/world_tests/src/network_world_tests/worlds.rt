@@ -1,7 +1,8 @@
 //! Worlds that take rows of steps.
 use super::rows::{Does, Here, is_inside, local};
-use base_types::{Bytes, WorldStep, Ws};
+use base_types::{Bytes, Cmd, Local, WorldStep, Ws};
 use network_world::{StepRefused, World};
+use recovery_watch::advice;
 use report_text::print_report;
 use std::alloc::Global;
 use std::test::Fail;
@@ -48,6 +49,25 @@ fn flow(world: &mut World, a: u16, b: u16) -> Result<(), Fail> {
     Ok(())
 }
 
+/// What a node advises itself.
+fn advised(world: &World, w: u16) -> Option<Cmd> {
+    if w >= world.net().count() {
+        return None;
+    }
+    let node = world.node(Ws(w));
+    advice(node.net(), node.owners(), Ws(w))
+}
+
+fn recover(world: &mut World, w: u16) -> Result<(), Fail> {
+    match advised(world, w) {
+        None => Ok(()),
+        Some(cmd) => {
+            let step = WorldStep::Take(Ws(w), Local::Typed(Ws(w), cmd));
+            take(world, &step)
+        }
+    }
+}
+
 fn at(alloc: Global, w: u16, here: &Here) -> Result<WorldStep, Fail> {
     Ok(WorldStep::Take(Ws(w), local(alloc, here)?))
 }
@@ -62,6 +82,7 @@ pub(crate) fn step(alloc: Global, row: &Does) -> Result<WorldStep, Fail> {
         Does::At(w, here) => at(alloc, *w, here),
         Does::Deliver(a, b, k) => Ok(WorldStep::Deliver(Ws(*a), Ws(*b), *k)),
         Does::Flow(_, _) => Err("no single step")?,
+        Does::Recover(_) => Err("no single step")?,
         Does::Crash(w) => Ok(WorldStep::Crash(Ws(*w))),
         Does::CrashAt(w, here, kept) => crash_at(alloc, *w, here, *kept),
         Does::CrashDeliver(a, b, k, kept) => {
@@ -73,6 +94,7 @@ pub(crate) fn step(alloc: Global, row: &Does) -> Result<WorldStep, Fail> {
 fn do_row(world: &mut World, alloc: Global, row: &Does) -> Result<(), Fail> {
     match row {
         Does::Flow(a, b) => flow(world, *a, *b),
+        Does::Recover(w) => recover(world, *w),
         _ => {
             let step = step(alloc, row)?;
             take(world, &step)

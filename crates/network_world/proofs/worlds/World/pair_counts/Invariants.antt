@@ -4,7 +4,7 @@ use Rattle.model.specs.Network.{node_count}
 use Rattle.model.specs.World.{World}
 use Rattle.network_world.specs.Parts.{pairs_from}
 use Rattle.network_world.specs.Standing.{StandsFor}
-use Rattle.network_world.proofs.pairs.World.pair_counts.Given as goal
+use Rattle.network_world.proofs.worlds.World.pair_counts.Given as goal
 
 abbrev pub invariant-loop-a : goal.invariant-loop-a
 invariant-loop-a l =

@@ -1,0 +1,2 @@
+-- What a node advises itself.
+pub mod Advice

@@ -153,8 +153,7 @@ here_goes_on net x st w o d t u made g =
       session_ = λ h. g.session_ ∙ sym (with_at_same w d.session x.sessions);
       count = g.lanes_.count;
       lanes_ = λ b m e.
-          let k = g.lanes_.each b m e in
-          (
+          let k = g.lanes_.each b m e in (
             k.0,
             k.1,
             λ h. record {
@@ -180,18 +179,17 @@ there_goes_on net x st w v o d t apart none =
           ∙ ap (λ (m : Option Entry). t.node.kept ++ option_to_list m) (sym none);
       session_ = λ h. h ∙ sym (with_at_other w v d.session x.sessions apart);
       count = refl;
-      lanes_ = λ b m e.
-          (
-            m,
-            e,
-            λ h. record {
-              packets_ =
-                  h.packets_
-                  ∙ ap (λ (f : ℕ → List Packet). f b)
-                  (sym (with_at_other w v (λ c. x.packets w c ++ packets_to c d.outs) x.packets apart));
-              reached_ = h.reached_;
-            },
-          );
+      lanes_ = λ b m e. (
+        m,
+        e,
+        λ h. record {
+          packets_ =
+              h.packets_
+              ∙ ap (λ (f : ℕ → List Packet). f b)
+              (sym (with_at_other w v (λ c. x.packets w c ++ packets_to c d.outs) x.packets apart));
+          reached_ = h.reached_;
+        },
+      );
     }
 
 -- each of them
@@ -207,9 +205,9 @@ each_goes_on net x st w o d old new t u made at_w is g = λ v a e.
         t,
         subst (λ (i : ℕ). slice_get old i ≡ Some t) (sym same.1) at_w,
         subst (λ (i : ℕ). StationGoesOn net x (apply_effect x w o d) st i t a) (sym same.1)
-        (subst (λ (b : Station). StationGoesOn net x (apply_effect x w o d) st w t b)
-        (set_there old w u a (subst (λ (i : ℕ). slice_get (slice_set old w u) i ≡ Some a) same.1 seen_at))
-        (here_goes_on net x st w o d t u (made w ∙ only_same w d.made) g)),
+            (subst (λ (b : Station). StationGoesOn net x (apply_effect x w o d) st w t b)
+            (set_there old w u a (subst (λ (i : ℕ). slice_get (slice_set old w u) i ≡ Some a) same.1 seen_at))
+            (here_goes_on net x st w o d t u (made w ∙ only_same w d.made) g)),
       )
       | inr other ↦ (
         a,
@@ -283,8 +281,8 @@ sender_goes_on net x y st a b k t u p l at_b mark g =
           elim (eqb_tells c b) [
             | inl same ↦ at_lane c m same.1 seen_at
             | inr other ↦
-              let q = g.lanes_ c m (sym (set_elsewhere u.lanes b c marked other.1) ∙ seen_at) in
-              (q.0, q.1, λ h. lane_beside y a b c k m other.1 (q.2 h))
+                let q = g.lanes_ c m (sym (set_elsewhere u.lanes b c marked other.1) ∙ seen_at) in
+                (q.0, q.1, λ h. lane_beside y a b c k m other.1 (q.2 h))
           ];
     }
   where
@@ -300,14 +298,13 @@ sender_goes_on net x y st a b k t u p l at_b mark g =
     at_lane c m same e =
         let q = g.lanes_ b l at_b in
         subst (λ (i : ℕ). (r : Lane) × (slice_get t.lanes i ≡ Some r)
-        × (LaneStandsFor x a i r → LaneStandsFor (mark_delivered y a b k) a i m)) (sym same)
-        (
+        × (LaneStandsFor x a i r → LaneStandsFor (mark_delivered y a b k) a i m)) (sym same) (
           q.0,
           q.1,
           λ h. subst (λ (n : Lane). LaneStandsFor (mark_delivered y a b k) a b n)
-            (set_there u.lanes b marked m
-            (subst (λ (i : ℕ). slice_get (slice_set u.lanes b marked) i ≡ Some m) same e))
-            (lane_marked x y a b k q.0 l q.2 h),
+              (set_there u.lanes b marked m
+              (subst (λ (i : ℕ). slice_get (slice_set u.lanes b marked) i ≡ Some m) same e))
+              (lane_marked x y a b k q.0 l q.2 h),
         )
 
 -- that of another one
@@ -336,8 +333,8 @@ each_marked net x y st a b k old mid new u p l at_a at_b is mark each = λ v r e
     elim (eqb_tells v a) [
       | inl same ↦ sender v r same.1 seen_at
       | inr other ↦
-        let q = each v r (sym (set_elsewhere mid a v p other.1) ∙ seen_at) in
-        (q.0, q.1, other_goes_on net x y st a b k v q.0 r other.1 q.2)
+          let q = each v r (sym (set_elsewhere mid a v p other.1) ∙ seen_at) in
+          (q.0, q.1, other_goes_on net x y st a b k v q.0 r other.1 q.2)
     ]
   where
     sender : (v : ℕ) (r : Station) → v ≡ a → slice_get (slice_set mid a p) v ≡ Some r
@@ -345,11 +342,10 @@ each_marked net x y st a b k old mid new u p l at_a at_b is mark each = λ v r e
     sender v r same e =
         let q = each a u at_a in
         subst (λ (i : ℕ). (t : Station) × (slice_get old i ≡ Some t)
-        × StationGoesOn net x (mark_delivered y a b k) st i t r) (sym same)
-        (
+        × StationGoesOn net x (mark_delivered y a b k) st i t r) (sym same) (
           q.0,
           q.1,
           subst (λ (n : Station). StationGoesOn net x (mark_delivered y a b k) st a q.0 n)
-          (set_there mid a p r (subst (λ (i : ℕ). slice_get (slice_set mid a p) i ≡ Some r) same e))
-          (sender_goes_on net x y st a b k q.0 u p l at_b mark q.2),
+              (set_there mid a p r (subst (λ (i : ℕ). slice_get (slice_set mid a p) i ≡ Some r) same e))
+              (sender_goes_on net x y st a b k q.0 u p l at_b mark q.2),
         )

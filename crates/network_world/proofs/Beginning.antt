@@ -45,8 +45,7 @@ lanes_begin made e =
 pub lanes_next : (i : ℕ) (made new : List raw.Lane) (l : raw.Lane) → lanes.AreNew i made
     → lanes.seen l ≡ record { packets = []; reached = 0 } → new ≡ made ++ l ∷ [] → lanes.AreNew (i + 1) new
 lanes_next i made new l h blank is =
-    subst (λ (ls : List raw.Lane). lanes.AreNew (i + 1) ls) (sym is)
-    (
+    subst (λ (ls : List raw.Lane). lanes.AreNew (i + 1) ls) (sym is) (
       omega (arith, h.0, length-append made (l ∷ [])),
       λ b m e.
           elim (push_cases made l b m e) [
@@ -70,14 +69,13 @@ pub stations_next : (net : Net) (w : ℕ) (stations new : List Station) (t : Sta
     → (length new ≡ w + 1) × ((v : ℕ) (u : Station) → slice_get new v ≡ Some u → IsNew net v u)
 stations_next net w stations new t count each here is =
     subst (λ (ts : List Station). (length ts ≡ w + 1)
-    × ((v : ℕ) (u : Station) → slice_get ts v ≡ Some u → IsNew net v u)) (sym is)
-    (
+    × ((v : ℕ) (u : Station) → slice_get ts v ≡ Some u → IsNew net v u)) (sym is) (
       omega (arith, count, length-append stations (t ∷ [])),
       λ v u e.
           elim (push_cases stations t v u e) [
             | inl k ↦ each v u k
             | inr k ↦ subst (λ (i : ℕ). IsNew net i u) (sym (k.0 ∙ count))
-              (subst (λ (s : Station). IsNew net w s) (sym k.1) here)
+                (subst (λ (s : Station). IsNew net w s) (sym k.1) here)
           ],
     )
 

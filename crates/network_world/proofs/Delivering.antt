@@ -53,8 +53,7 @@ pub lane_there : (s : WorldState) (x : model.World) (a b : ℕ) → StandsFor s 
 lane_there s x a b old in_a in_b =
     let t = there_is s.stations a (omega (arith, in_a, old.station_count)) in
     let from = old.stations_ a t.0 t.1 in
-    let l = there_is t.0.lanes b (omega (arith, in_b, from.lane_count)) in
-    (
+    let l = there_is t.0.lanes b (omega (arith, in_b, from.lane_count)) in (
       l.0,
       ap (λ (o : Option Station). option_and_then (λ (u : Station). slice_get u.lanes b) o) t.1 ∙ l.1,
       from.lanes_ b l.0 l.1,
@@ -116,8 +115,7 @@ unfolding packet_input
 there_input net x a (Ack f n) law reached backed = (Input.Ack a f n, refl)
 there_input net x a (Mail f k) law reached backed =
     let there : (b : Body) × (nth (list_of x.history f) k ≡ Some b) =
-    nth_there (list_of x.history f) k backed.0 (omega (arith, backed.1, law net x reached a f)) in
-    (
+    nth_there (list_of x.history f) k backed.0 (omega (arith, backed.1, law net x reached a f)) in (
       Input.Mail a (record { feed = f; place = k; body = there.0 }),
       ap (λ (o : Option Body). option_map (λ b. Input.Mail a (record { feed = f; place = k; body = b })) o) there.1,
     )
@@ -132,8 +130,7 @@ pub limit_brought : (s : WorldState) (a b k : ℕ) (p : Packet) (r : StepRefused
     → IsLimitDue s.journal.taken s.journal.sent s.journal.kept r → IsNotBrought s a b k r
 limit_brought s a b k p (refused.Limit l) backed within in_a in_b is due = λ x old.
     let e = packet_there s x a b k (Some p) old in_a in_b is in
-    let i = there_input s.net x a p within old.reached (packet_backed s.net x a b k p backed old.reached e) in
-    (
+    let i = there_input s.net x a p within old.reached (packet_backed s.net x a b k p backed old.reached e) in (
       i.0,
       ap (λ (o : Option Packet). option_map_or (packet_input x a) o None) e ∙ i.1,
       same_limit s x old ∙ due,
@@ -149,8 +146,7 @@ pub opened_brought : (s : WorldState) (a b k : ℕ) (p : Packet) (input : Input)
     → limit_at s.journal.taken s.journal.sent s.journal.kept ≡ None → IsOpened s a p (Ok input)
     → IsBrought s a b k input
 opened_brought s a b k p input backed in_a in_b is free opened = λ x old.
-    let e = packet_there s x a b k (Some p) old in_a in_b is in
-    (
+    let e = packet_there s x a b k (Some p) old in_a in_b is in (
       delivery_is x a b k p e (packet_backed s.net x a b k p backed old.reached e) ∙ opened x old,
       same_limit s x old ∙ free,
     )
@@ -182,9 +178,9 @@ lane_after s x a b d t u q mid old inside at_b is g at_a =
     ap (λ (l : List Station). slice_get l a) (sym is) ∙ at_a in
     elim (eqb_tells a b) [
       | inl same ↦ subst (λ (n : Station). b < length n.lanes)
-        (set_there s.stations b u q
-        (subst (λ (i : ℕ). slice_get (slice_set s.stations b u) i ≡ Some q) same.1 seen_at))
-        (omega (arith, inside, g.lanes_.count, (old.stations_ b t at_b).lane_count))
+          (set_there s.stations b u q
+          (subst (λ (i : ℕ). slice_get (slice_set s.stations b u) i ≡ Some q) same.1 seen_at))
+          (omega (arith, inside, g.lanes_.count, (old.stations_ b t at_b).lane_count))
       | inr other ↦ omega (
         arith,
         inside,
@@ -216,8 +212,7 @@ deliver_steps s a b k input sent mid stations j law in_a in_b count came taken m
     let q = there_is mid a (omega (arith, in_a, count, kept_count)) in
     let mark = marked q.0 q.1 in
     let l = there_is q.0.lanes b
-    (lane_after s x a b d at_b.0 got.0 q.0 mid old in_b at_b.1 got.1 got.2.goes q.1) in
-    (
+    (lane_after s x a b d at_b.0 got.0 q.0 mid old in_b at_b.1 got.1 got.2.goes q.1) in (
       mark_delivered y a b k,
       stepped,
       stands_after s x (mark_delivered y a b k) (Deliver a b k) stations j old stepped

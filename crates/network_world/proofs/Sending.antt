@@ -68,13 +68,12 @@ lanes_next outs i out old mid new h is first more =
       count = more.count ∙ first.count;
       each = λ b n e.
           let k = more.each b n e in
-          let g = first.each b k.0 k.1 in
-          (
+          let g = first.each b k.0 k.1 in (
             g.0,
             g.1,
             subst (λ (ps : List Packet). HasMore ps g.0 n)
-            (sym (ap (packets_to b) (take_more outs i out h is) ∙ packets_append b (take i outs) (out ∷ [])))
-            (more_both (packets_to b (take i outs)) (packets_to b (out ∷ [])) g.0 k.0 n g.2 k.2),
+                (sym (ap (packets_to b) (take_more outs i out h is) ∙ packets_append b (take i outs) (out ∷ [])))
+                (more_both (packets_to b (take i outs)) (packets_to b (out ∷ [])) g.0 k.0 n g.2 k.2),
           );
     }
 
@@ -142,10 +141,10 @@ packet_put lanes new to p there none = go (slice_get lanes to) refl
                   l,
                   subst (λ (c : ℕ). slice_get lanes c ≡ Some l) same.1 e,
                   subst (λ (c : ℕ). HasMore (packets_to c (Send to p ∷ [])) l n) same.1
-                  (subst (λ (ps : List Packet). HasMore ps l n) (sym (sent_there to p))
-                  (subst (λ (m : raw.Lane). HasMore (p ∷ []) l m)
-                  (set_there lanes to g.0 n
-                  (subst (λ (c : ℕ). slice_get (slice_set lanes to g.0) c ≡ Some n) (sym same.1) seen_at)) g.2)),
+                      (subst (λ (ps : List Packet). HasMore ps l n) (sym (sent_there to p))
+                      (subst (λ (m : raw.Lane). HasMore (p ∷ []) l m)
+                      (set_there lanes to g.0 n
+                      (subst (λ (c : ℕ). slice_get (slice_set lanes to g.0) c ≡ Some n) (sym same.1) seen_at)) g.2)),
                 )
                 | inr other ↦ (
                   n,
@@ -181,8 +180,7 @@ lanes_grow outs old new h =
       count = length-map new seen ∙ h.count ∙ sym (length-map old seen);
       each = λ b m e.
           let g = some_map seen (slice_get new b) m (sym (slice_get-map seen new b) ∙ e) in
-          let k = h.each b g.0 g.1 in
-          (
+          let k = h.each b g.0 g.1 in (
             seen k.0,
             slice_get-map seen old b ∙ ap (option_map seen) k.1,
             ap (λ (l : Lane). l.packets) (sym g.2) ∙ k.2.packets_,
@@ -205,7 +203,7 @@ room_next lanes new i l m room h more = λ b n below e.
     ap (λ (ls : List raw.Lane). slice_get ls b) (sym h.0) ∙ e in
     elim (eqb_tells b i) [
       | inl same ↦ subst (λ (k : raw.Lane). 8 ≤ k.packets.spare)
-        (set_there lanes i m n (subst (λ (c : ℕ). slice_get (slice_set lanes i m) c ≡ Some n) same.1 seen_at)) more
+          (set_there lanes i m n (subst (λ (c : ℕ). slice_get (slice_set lanes i m) c ≡ Some n) same.1 seen_at)) more
       | inr other ↦ room b n (omega (arith, below, other.1)) (sym (set_elsewhere lanes i b m other.1) ∙ seen_at)
     ]
 

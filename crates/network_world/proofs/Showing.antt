@@ -50,8 +50,7 @@ pub lane_shown : (s : WorldState) (x : model.World) (a b : ℕ) (r : raw.Lane) �
     → (r.packets.items ≡ x.packets a b) × (r.reached ≡ x.reached a b)
 lane_shown s x a b r old in_a in_b is =
     let l = lane_there s x a b old in_a in_b in
-    let same : lanes.seen r ≡ l.0 = same_some (lanes.seen r) l.0 (is ∙ l.1) in
-    (
+    let same : lanes.seen r ≡ l.0 = same_some (lanes.seen r) l.0 (is ∙ l.1) in (
       ap (λ (m : Lane). m.packets) same ∙ l.2.packets_,
       ap (λ (m : Lane). m.reached) same ∙ l.2.reached_,
     )
@@ -208,7 +207,7 @@ pub held_shown : (net : Net) (x : model.World) (w : ℕ) (node : NodeState)
     → held_by node (feeds node.net) ≡ held_at net x w
 held_shown net x w node within h =
     λ i. filter (λ (c : FeedCount). nat_lt 0 c.count)
-      (map (λ (f : Feed). record { feed = f; count = held_count net x w node within h f i }) (feeds (h.net_ i)))
+    (map (λ (f : Feed). record { feed = f; count = held_count net x w node within h f i }) (feeds (h.net_ i)))
 
 pub listing_shown : (net : Net) (x : model.World) (w : ℕ) (node : NodeState) → NodeStandsFor net x w node
     → listing_of node.net (view_in node) ≡ listing_of net (view_at x w)

@@ -74,8 +74,7 @@ pub crash_steps : (s : WorldState) (w : ℕ) (stations : List Station) (j : Jour
 crash_steps s w stations j law inside count free restarted wrote = λ x old.
     let at_w = there_is s.stations w (omega (arith, inside, count)) in
     let got = restarted at_w.0 at_w.1 in
-    let stepped = crash_ok s.net x w (same_limit s x old ∙ free) in
-    (
+    let stepped = crash_ok s.net x w (same_limit s x old ∙ free) in (
       apply_effect x w Origin.Own stop,
       stepped,
       stands_after s x (apply_effect x w Origin.Own stop) (Crash w) stations j old stepped
@@ -109,8 +108,7 @@ crash_take_steps s w l kept made stations j law inside count free stopped wrote 
     let done = effect_ok s.net x w (Input.Local l) d (same_limit s x old ∙ free)
     (taken_effect s x w at_w.0 (Input.Local l) d old at_w.1 got.2.due) in
     let stepped = crash_take_ok s.net x w l kept d done in
-    let y : model.World = apply_effect x w Origin.Own (cut_short kept d) in
-    (
+    let y : model.World = apply_effect x w Origin.Own (cut_short kept d) in (
       y,
       stepped,
       stands_after s x y (CrashTake w l kept) stations j old stepped
@@ -184,8 +182,7 @@ crash_deliver_steps s a b k input kept made mid stations j law in_a in_b count c
     let q = there_is mid a (omega (arith, in_a, count, kept_count)) in
     let mark = marked q.0 q.1 in
     let l = there_is q.0.lanes b
-    (lane_after s x a b (cut_short kept d) at_b.0 got.0 q.0 mid old in_b at_b.1 got.1 got.2.goes q.1) in
-    (
+    (lane_after s x a b (cut_short kept d) at_b.0 got.0 q.0 mid old in_b at_b.1 got.1 got.2.goes q.1) in (
       mark_delivered y a b k,
       stepped,
       stands_after s x (mark_delivered y a b k) (CrashDeliver a b k kept) stations j old stepped

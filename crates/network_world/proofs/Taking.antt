@@ -55,8 +55,7 @@ take_steps s w l sent stations j law inside count free taken wrote = λ x old.
     let d : Effect = effect_in sent got.0.node in
     let done = effect_ok s.net x w (Input.Local l) d (same_limit s x old ∙ free)
     (taken_effect s x w at_w.0 (Input.Local l) d old at_w.1 got.2.due) in
-    let stepped = take_ok s.net x w l d done in
-    (
+    let stepped = take_ok s.net x w l d done in (
       apply_effect x w Origin.Own d,
       stepped,
       stands_after s x (apply_effect x w Origin.Own d) (Take w l) stations j old stepped

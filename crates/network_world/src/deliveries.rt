@@ -15,12 +15,7 @@ use crate::worlds::World;
 use base_types::{Body, Copied, Entry, Feed, Input, Packet, Ws};
 
 /// Mail: an entry that a workstation holds, copied.
-fn mail(
-    from: Ws,
-    feed: &Feed,
-    place: u32,
-    held: Option<&Body>,
-) -> Result<Input, StepRefused>
+fn mail(from: Ws, feed: &Feed, place: u32, held: Option<&Body>) -> Result<Input, StepRefused>
     ensures { IsInputOf from (types.Mail feed.now place) (option_copied held) result }
 {
     match held {

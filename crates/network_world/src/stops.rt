@@ -30,12 +30,7 @@ impl World {
 
     /// The node of w stops in the step on what happens there, and begins again. The flag says whether its entry is
     /// kept.
-    pub(crate) fn crash_take(
-        &mut self,
-        w: Ws,
-        local: &Local,
-        kept: bool,
-    ) -> Result<(), StepRefused>
+    pub(crate) fn crash_take(&mut self, w: Ws, local: &Local, kept: bool) -> Result<(), StepRefused>
         requires { w < node_count self.old.net }
         ensures taken { OnOk result (Steps self.old (types.CrashTake w local.now kept) self.new) }
         ensures refused { IfErr result (λ r. IsRefusalDue self.old (types.CrashTake w local.now kept) r) }

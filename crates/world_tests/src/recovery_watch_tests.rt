@@ -164,7 +164,10 @@ const STREAM_CANCELLED: [Row; 4] = [
     RELEASED,
     LAUNCHED,
     ENDED_BADLY,
-    (M, Says::Obeyed(1, 1, Asks::Cancel(Obj::Stream(StreamNo(1))))),
+    (
+        M,
+        Says::Obeyed(1, 1, Asks::Cancel(Obj::Stream(StreamNo(1)))),
+    ),
 ];
 
 /// The second job ended badly before the first.
@@ -186,19 +189,31 @@ fn at_master(alloc: Global, recovery: Recovery, rows: &[Row]) -> Result<Told, Fa
 fn what_ended_badly_is_advised(rt: HostRuntime) -> Result<(), Fail> {
     let alloc = rt.alloc();
     assert_eq!(rt; at_master(alloc, Recovery::Rerun, &BADLY)?, Told::Rerun(1));
-    assert_eq!(rt; at_master(alloc, Recovery::Continue, &BADLY)?, Told::Confirm(1));
+    assert_eq!(rt;
+        at_master(alloc, Recovery::Continue, &BADLY)?,
+        Told::Confirm(1)
+    );
     assert_eq!(rt; at_master(alloc, Recovery::Stop, &BADLY)?, Told::Nothing);
-    assert_eq!(rt; at_master(alloc, Recovery::Rerun, &BOTH_BADLY)?, Told::Rerun(1));
+    assert_eq!(rt;
+        at_master(alloc, Recovery::Rerun, &BOTH_BADLY)?,
+        Told::Rerun(1)
+    );
     Ok(())
 }
 
 #[test]
 fn what_did_not_end_badly_is_not(rt: HostRuntime) -> Result<(), Fail> {
     let alloc = rt.alloc();
-    assert_eq!(rt; at_master(alloc, Recovery::Continue, &NOT_LAUNCHED)?, Told::Nothing);
+    assert_eq!(rt;
+        at_master(alloc, Recovery::Continue, &NOT_LAUNCHED)?,
+        Told::Nothing
+    );
     assert_eq!(rt; at_master(alloc, Recovery::Continue, &OPEN)?, Told::Nothing);
     assert_eq!(rt; at_master(alloc, Recovery::Continue, &WELL)?, Told::Nothing);
-    assert_eq!(rt; at_master(alloc, Recovery::Continue, &FAILED)?, Told::Nothing);
+    assert_eq!(rt;
+        at_master(alloc, Recovery::Continue, &FAILED)?,
+        Told::Nothing
+    );
     assert_eq!(rt; at_master(alloc, Recovery::Rerun, &LOST)?, Told::Nothing);
     Ok(())
 }
@@ -207,25 +222,46 @@ fn what_did_not_end_badly_is_not(rt: HostRuntime) -> Result<(), Fail> {
 fn nothing_is_advised_while_an_own_order_waits(rt: HostRuntime) -> Result<(), Fail> {
     let alloc = rt.alloc();
     assert_eq!(rt; at_master(alloc, Recovery::Rerun, &WAITING)?, Told::Nothing);
-    assert_eq!(rt; at_master(alloc, Recovery::Rerun, &OTHERS_WAITING)?, Told::Rerun(1));
+    assert_eq!(rt;
+        at_master(alloc, Recovery::Rerun, &OTHERS_WAITING)?,
+        Told::Rerun(1)
+    );
     Ok(())
 }
 
 #[test]
 fn a_job_is_advised_to_be_rerun_once(rt: HostRuntime) -> Result<(), Fail> {
     let alloc = rt.alloc();
-    assert_eq!(rt; at_master(alloc, Recovery::Rerun, &TO_RERUN)?, Told::Nothing);
-    assert_eq!(rt; at_master(alloc, Recovery::Rerun, &RERUN_BADLY)?, Told::Nothing);
-    assert_eq!(rt; at_master(alloc, Recovery::Continue, &RERUN_BADLY)?, Told::Confirm(1));
+    assert_eq!(rt;
+        at_master(alloc, Recovery::Rerun, &TO_RERUN)?,
+        Told::Nothing
+    );
+    assert_eq!(rt;
+        at_master(alloc, Recovery::Rerun, &RERUN_BADLY)?,
+        Told::Nothing
+    );
+    assert_eq!(rt;
+        at_master(alloc, Recovery::Continue, &RERUN_BADLY)?,
+        Told::Confirm(1)
+    );
     Ok(())
 }
 
 #[test]
 fn what_is_confirmed_or_cancelled_needs_no_advice(rt: HostRuntime) -> Result<(), Fail> {
     let alloc = rt.alloc();
-    assert_eq!(rt; at_master(alloc, Recovery::Continue, &CONFIRMED)?, Told::Nothing);
-    assert_eq!(rt; at_master(alloc, Recovery::Rerun, &CANCELLED)?, Told::Nothing);
-    assert_eq!(rt; at_master(alloc, Recovery::Rerun, &STREAM_CANCELLED)?, Told::Nothing);
+    assert_eq!(rt;
+        at_master(alloc, Recovery::Continue, &CONFIRMED)?,
+        Told::Nothing
+    );
+    assert_eq!(rt;
+        at_master(alloc, Recovery::Rerun, &CANCELLED)?,
+        Told::Nothing
+    );
+    assert_eq!(rt;
+        at_master(alloc, Recovery::Rerun, &STREAM_CANCELLED)?,
+        Told::Nothing
+    );
     Ok(())
 }
 
@@ -241,7 +277,10 @@ const CALLED_OFF: [Row; 4] = [
     RELEASED,
     (P, Says::Launched(1, 1, &[(0, 2)])),
     (P, Says::EndedAs(1, 1, 8, false)),
-    (M, Says::Obeyed(0, 1, Asks::Cancel(Obj::Stream(StreamNo(1))))),
+    (
+        M,
+        Says::Obeyed(0, 1, Asks::Cancel(Obj::Stream(StreamNo(1)))),
+    ),
 ];
 
 fn at(alloc: Global, net: &Network, me: u16, rows: &[Row]) -> Result<Told, Fail> {

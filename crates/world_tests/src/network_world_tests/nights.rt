@@ -1,7 +1,5 @@
 //! Nights of networks: what is delivered late, again, out of order or over several hops, and the end of a day.
-use super::networks::{
-    AGENTS, DOMAIN, NEXT, NEXT_DAY_1, NEXT_DAY_2, NEXT_OF_AGENTS, ONE_AGENT,
-};
+use super::networks::{AGENTS, DOMAIN, NEXT, NEXT_DAY_1, NEXT_DAY_2, NEXT_OF_AGENTS, ONE_AGENT};
 use super::rows::{Does, Here};
 use super::worlds::reports;
 use base_types::{JobNo, Obj};
@@ -80,7 +78,12 @@ fn what_the_manager_alone_knows_starts_nothing(rt: HostRuntime) -> Result<(), Fa
 }
 
 /// And then the end is passed on to P.
-const PASSED_ON: [Does; 4] = [Does::Flow(1, 0), Does::At(0, Here::Turn(100)), Does::Flow(0, 1), Does::At(1, Here::Turn(100))];
+const PASSED_ON: [Does; 4] = [
+    Does::Flow(1, 0),
+    Does::At(0, Here::Turn(100)),
+    Does::Flow(0, 1),
+    Does::At(1, Here::Turn(100)),
+];
 
 const PASSED_ON_REPORT: &str = "events 7
 M 1 newplan 1 cut - carried - fresh 1,2

@@ -29,7 +29,10 @@ const REFUSED: [Row; 16] = [
     (Does::Deliver(2, 1, 1), StepRefused::NoPacket),
     (Does::CrashDeliver(0, 2, 1, true), StepRefused::NoPacket),
     // A workstation outside, in a command too.
-    (Does::At(0, Here::Link(3)), StepRefused::Step(StepFault::NotInNetwork)),
+    (
+        Does::At(0, Here::Link(3)),
+        StepRefused::Step(StepFault::NotInNetwork),
+    ),
     (
         Does::At(1, Here::Type(3, Asks::Start)),
         StepRefused::Step(StepFault::NotInNetwork),
@@ -39,7 +42,10 @@ const REFUSED: [Row; 16] = [
         StepRefused::Step(StepFault::NotInNetwork),
     ),
     // A link to itself.
-    (Does::At(1, Here::Link(1)), StepRefused::Step(StepFault::NotNeighbour)),
+    (
+        Does::At(1, Here::Link(1)),
+        StepRefused::Step(StepFault::NotNeighbour),
+    ),
     (
         Does::CrashAt(1, Here::Link(1), false),
         StepRefused::Step(StepFault::NotNeighbour),

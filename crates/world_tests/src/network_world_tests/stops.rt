@@ -9,7 +9,11 @@ use std::test::Fail;
 use test_builders::Asks;
 
 /// The node stops in a launch, whose entry is kept.
-const LAUNCH_KEPT: [Does; 3] = [NEXT, Does::At(0, Here::Turn(100)), Does::CrashAt(0, Here::Turn(100), true)];
+const LAUNCH_KEPT: [Does; 3] = [
+    NEXT,
+    Does::At(0, Here::Turn(100)),
+    Does::CrashAt(0, Here::Turn(100), true),
+];
 
 const LAUNCH_KEPT_REPORT: &str = "events 3
 M 1 newplan 1 cut - carried - fresh 1
@@ -119,7 +123,12 @@ fn a_launch_that_was_lost_is_made_again(rt: HostRuntime) -> Result<(), Fail> {
 }
 
 /// The plan is sent to P.
-const PLAN_SENT: [Does; 4] = [NEXT_OF_AGENTS, Does::At(0, Here::Link(1)), Does::At(1, Here::Link(0)), Does::At(0, Here::Turn(100))];
+const PLAN_SENT: [Does; 4] = [
+    NEXT_OF_AGENTS,
+    Does::At(0, Here::Link(1)),
+    Does::At(1, Here::Link(0)),
+    Does::At(0, Here::Turn(100)),
+];
 
 /// How many packets went from M to P and were delivered, how many went back, and how many of M's entries P holds.
 fn at_p(world: &World) -> (u32, u32, u32, u32) {
@@ -142,7 +151,10 @@ fn held(world: &World) -> u32 {
 fn stopped(alloc: Global, kept: bool) -> Result<(u32, u32, u32, u32), Fail> {
     let mut world = begun(alloc, &AGENTS)?;
     do_rows(&mut world, alloc, &PLAN_SENT)?;
-    let then: [Does; 2] = [Does::CrashDeliver(0, 1, 1, kept), Does::At(1, Here::Turn(100))];
+    let then: [Does; 2] = [
+        Does::CrashDeliver(0, 1, 1, kept),
+        Does::At(1, Here::Turn(100)),
+    ];
     do_rows(&mut world, alloc, &then)?;
     Ok(at_p(&world))
 }

@@ -1,0 +1,10 @@
+pub mod Holding
+pub mod Restored
+pub mod Causes
+pub mod Linking
+pub mod OwnEntries
+pub mod Owning
+pub mod Planning
+pub mod Mailing
+pub mod Turning
+pub mod Splitting

@@ -1,0 +1,29 @@
+use Rattle.std.proofs.Common.{◌∙◌, Err, List, Ok, Result, ap}
+use Rattle.std.specs.Prelude.{OnErr}
+use Rattle.model.specs.Types.{Entry}
+use Rattle.agent_core.specs.Nodes.{NodeState}
+use Rattle.agent_core.proofs.Holding.{standing_next}
+use Rattle.agent_core.proofs.agents.Agent.hold.Goals as goal
+
+pub invariant_of-self : goal.invariant_of-self
+invariant_of-self c =
+    standing_next c.self.inside.net c.self.inside.present c.put_network.new.present _ c.self.inside.owners
+    c.take.new.self c.args.e.now c.self.inside.tracker.index c.follow.new.self.index c.in_ok-after.after
+    c.self.invariant c.in_ok-take.ensures.ok c.in_ok-after.ensures c.put_network.ensures
+    (c.follow.ensures c.self.inside.owners c.in_ok-take.ensures.ok c.self.invariant.tracks)
+
+on_err : {T E P : Type 0} (r : Result T E) → P → OnErr r P
+on_err (Ok x) p = tt
+on_err (Err x) p = p
+
+pub returns-in_err-take-clause-err : goal.returns-in_err-take-clause-err
+returns-in_err-take-clause-err c =
+    on_err _
+    (ap (λ (l : List Entry). record {
+      net = c.self.inside.net;
+      me = c.self.inside.me;
+      kept = l;
+      mail = c.self.inside.mail;
+      live = c.self.inside.live;
+    }) c.in_err-take.ensures.err
+    ∙ c.self.view_is)

@@ -16,7 +16,7 @@ use Rattle.model.specs.Step.{Effect, effect, node_step, outs_of}
 use Rattle.model.specs.StepFaults as model
 use Rattle.model.specs.StepFaults.{is_next, is_place_spent, is_too_long, lacks_dep, lacks_process, plan_fault, step_fault}
 use Rattle.agent_core.specs.Nodes.{NodeState, present_in, session_in, view_in}
-use Rattle.agent_core.specs.Steps.{HoldsOneMore, IsDue, IsKept, IsOwnEntry, IsRefused, IsTaken, Keeps, due, effect_in, fault_of}
+use Rattle.agent_core.specs.Steps.{HoldsOneMore, IsDue, IsKept, IsOwnEntry, IsRefused, IsTaken, Keeps, due, effect_in}
 use Rattle.agent_core.specs.Steps.{made_by, step_at}
 use Rattle.agent_core.specs.declared.faults.StepFault.{StepFault}
 use Rattle.agent_core.specs.declared.faults.StepFault.TheVariants.{Carry, NoDep, NoMemory, NoProcess, NotInNetwork}

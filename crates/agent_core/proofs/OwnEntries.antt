@@ -15,7 +15,7 @@ use Rattle.model.specs.StepFaults as model
 use Rattle.model.specs.StepFaults.{lacks_dep, lacks_process}
 use Rattle.mailman_core.specs.Mails.{acked_by, is_up}
 use Rattle.agent_core.specs.Nodes.{NodeState, present_in, session_in, view_in}
-use Rattle.agent_core.specs.Steps.{IsDue, IsKeeping, IsKept, IsOwnEntry, IsRefused, IsStep, IsTaken, Keeps, due, fault_of}
+use Rattle.agent_core.specs.Steps.{IsDue, IsKeeping, IsKept, IsOwnEntry, IsRefused, IsStep, IsTaken, Keeps, due}
 use Rattle.agent_core.specs.Steps.{made_by, step_at}
 use Rattle.agent_core.specs.declared.faults.Step.{Step}
 use Rattle.agent_core.specs.declared.faults.StepFault.{StepFault}

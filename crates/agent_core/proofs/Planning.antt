@@ -15,7 +15,7 @@ use Rattle.carry_forward.specs.Faults as carried
 use Rattle.carry_forward.specs.declared.faults.CarryFault.{CarryFault}
 use Rattle.carry_forward.specs.declared.faults.CarryFault.TheVariants as carry
 use Rattle.agent_core.specs.Nodes.{NodeState, present_in, session_in, view_in}
-use Rattle.agent_core.specs.Steps.{IsCarried, IsDayPlan, IsDue, IsKeeping, IsKept, IsOwnEntry, IsStep, Keeps, fault_of, made_by}
+use Rattle.agent_core.specs.Steps.{IsCarried, IsDayPlan, IsDue, IsKeeping, IsKept, IsOwnEntry, IsStep, Keeps, made_by}
 use Rattle.agent_core.specs.Steps.{step_at}
 use Rattle.agent_core.specs.declared.faults.Step.{Step}
 use Rattle.agent_core.specs.declared.faults.StepFault.{StepFault}
@@ -71,13 +71,13 @@ not_planned n drafts f e m l h =
     (ap (model.is_place_spent (view_in n)) (plan_makes n drafts) ∙ l)
     (fault_by_name (carry_fault (present_in n) (view_in n) drafts) f h)
 
-due_as : (n : NodeState) (i : Input) (f g : StepFault) → g ≡ f → IsDue n i (fault_of f) → IsDue n i (fault_of g)
-due_as n i f g e h = subst (λ (x : StepFault). IsDue n i (fault_of x)) (sym e) h
+due_as : (n : NodeState) (i : Input) (f g : StepFault) → g ≡ f → IsDue n i f → IsDue n i g
+due_as n i f g e h = subst (λ (x : StepFault). IsDue n i x) (sym e) h
 
 pub plan_refused : (n : NodeState) (drafts : List StreamDraft) (f : CarryFault) (s : StepFault)
     → inside n (plan drafts) ≡ true → (n.me == 0) ≡ true
     → nat_lt 4294967295 (1 + length (view_in n (Events n.me))) ≡ false
-    → IsDayPlan n drafts (Err f) → IsCarried f s → IsDue n (plan drafts) (fault_of s)
+    → IsDayPlan n drafts (Err f) → IsCarried f s → IsDue n (plan drafts) s
 plan_refused n drafts carry.NoMemory s e m l h k = due_as n (plan drafts) NoMemory s k tt
 plan_refused n drafts carry.RunsSpent s e m l h k =
     due_as n (plan drafts) (Carry carry.RunsSpent) s k

@@ -4,7 +4,7 @@ use Rattle.std.specs.Option.{option_to_list}
 use Rattle.std.specs.Prelude.{◌++◌, IfErr, IfOk, OnErr}
 use Rattle.model.specs.Types.{Input}
 use Rattle.agent_core.specs.Nodes.{NodeState}
-use Rattle.agent_core.specs.Steps.{IsDue, IsStep, effect_in, fault_of, step_at}
+use Rattle.agent_core.specs.Steps.{IsDue, IsStep, effect_in, step_at}
 use Rattle.agent_core.specs.declared.faults.Step.{Step}
 use Rattle.agent_core.specs.declared.faults.StepFault.{StepFault}
 
@@ -23,7 +23,7 @@ kept_of old new i (Ok s) h = h.kept
 kept_of old new i (Err f) h = tt
 
 refused_of : (old new : NodeState) (i : Input) (r : Result Step StepFault) → IsStep old i r new
-    → IfErr r (λ f. IsDue old i (fault_of f))
+    → IfErr r (λ f. IsDue old i f)
 refused_of old new i (Ok s) h = tt
 refused_of old new i (Err f) h = h.0
 
@@ -47,7 +47,7 @@ module _ (old mid new : NodeState) (i : Input) (r : Result Step StepFault) (e : 
   pub told_kept : IfOk r (λ s. new.kept ≡ old.kept ++ option_to_list s.kept)
   told_kept = kept_of old new i r (as_old old mid new i r e h)
 
-  pub told_refused : IfErr r (λ f. IsDue old i (fault_of f))
+  pub told_refused : IfErr r (λ f. IsDue old i f)
   told_refused = refused_of old new i r (as_old old mid new i r e h)
 
   pub told_same : OnErr r (new ≡ old)

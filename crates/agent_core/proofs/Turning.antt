@@ -25,7 +25,7 @@ use Rattle.model.specs.StepFaults as model
 use Rattle.mailman_core.specs.Mails.{acked_by, is_up}
 use Rattle.agent_core.specs.Nodes.{NodeState, present_in, session_in, view_in}
 use Rattle.agent_core.specs.Sending.{is_reached, kill_by, launch_by, live_with, sends_among, sends_to}
-use Rattle.agent_core.specs.Steps.{HoldsOneMore, IsDue, IsKept, IsOwnEntry, IsTaken, IsTurnBody, Keeps, LivesOn, due, fault_of}
+use Rattle.agent_core.specs.Steps.{HoldsOneMore, IsDue, IsKept, IsOwnEntry, IsTaken, IsTurnBody, Keeps, LivesOn, due}
 use Rattle.agent_core.specs.Steps.{made_by, step_at}
 use Rattle.agent_core.specs.declared.faults.StepFault.{StepFault}
 use Rattle.agent_core.specs.declared.faults.StepFault.TheVariants.{Carry, NoDep, NoMemory, NoProcess, NotInNetwork}
@@ -59,7 +59,7 @@ turn_entry n t b r h is own =
     own_kept n (turn t) (Events n.me) b r (turn_passes n t h) refl (makes_body n t (Some b) (sym is)) own
 
 -- want of memory alone withholds a body
-pub no_body : (n : NodeState) (t : ℕ) (f : StepFault) → IsTurnBody n t (Err f) → IsDue n (turn t) (fault_of f)
+pub no_body : (n : NodeState) (t : ℕ) (f : StepFault) → IsTurnBody n t (Err f) → IsDue n (turn t) f
 no_body n t NoMemory h = tt
 no_body n t NotInNetwork h = absurd h
 no_body n t NotNeighbour h = absurd h

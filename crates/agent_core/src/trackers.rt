@@ -1,5 +1,5 @@
 //! What keeps track of the best job at a node.
-ghost use Rattle.std.specs.Prelude.{◌≡◌, ◌<◌, ◌++◌, ◌∷◌, [], ℕ, IfOk, IfSome, IsOk, List, None};
+ghost use Rattle.std.specs.Prelude.{◌≡◌, ◌<◌, ◌++◌, ◌∷◌, [], ℕ, IfOk, IfSome, IsOk, List, None, is_none};
 ghost use Rattle.model.specs.Types.{Entry as Taken, PromptDef as Prompts, Resource as Resources};
 ghost use Rattle.model.specs.Network.{node_count};
 ghost use Rattle.model.specs.History.{view_of};
@@ -15,9 +15,15 @@ use ready_index::Index;
 use std::alloc::Global;
 
 /// An index, which is given up where it has no memory for an entry. Then each job is looked at, until it is made anew.
-#[derive(Drop)]
 pub(crate) struct Tracker {
     index: Option<Index>,
+}
+
+/// Written out, so that dropping one is a call for whoever owns it.
+impl Drop for Tracker {
+    fn drop(self) {
+        let Tracker { index: _index } = self;
+    }
 }
 
 /// The index after an entry that `o` has taken just before. None where it has no memory for it.
@@ -71,7 +77,9 @@ impl Tracker {
     }
 
     /// Whether the index is to be made anew.
-    pub(crate) fn is_missing(&self) -> bool {
+    pub(crate) fn is_missing(&self) -> bool
+        ensures { result ≡ is_none self.now.index }
+    {
         self.index.is_none()
     }
 

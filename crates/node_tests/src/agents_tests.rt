@@ -1,7 +1,8 @@
 //! One node among its neighbours: what each input keeps and gives out, and why it is refused.
 use crate::nodes::{Comes, Given, Gives, Turned, first_wrong, restored};
 use agent_core::{Agent, RestoreFault, StepFault};
-use base_types::{Feed, JobNo, Obj, Why, Ws};
+use base_types::{Cmd, Dep, Feed, Input, JobNo, Local, Obj, Text, Why, Ws};
+use carry_forward::CarryFault;
 use std::alloc::Global;
 use std::test::Fail;
 use test_builders::{
@@ -12,7 +13,7 @@ use test_nights::{M, network};
 
 const NOTHING: Comes = Comes::Gives(&[]);
 
-/// The manager D that holds two entries of the master, and one that skips a place.
+/// Mail that skips a place.
 const BEHIND: EntryRow = (M, 3, Says::Clock(3));
 
 /// P below the master M, beside Q. It kept the master's first entry.
@@ -286,6 +287,39 @@ fn declines(alloc: Global, nodes: &[NodeRow], w: u16, why: Why) -> Result<bool, 
 fn a_manager_and_an_agent_of_the_master_do_not_take_over(rt: HostRuntime) -> Result<(), Fail> {
     assert!(rt; declines(rt.alloc(), &DOMAIN, 1, Why::AlreadyThere)?);
     assert!(rt; declines(rt.alloc(), &TWO_AGENTS, 1, Why::OutOfRange)?);
+    Ok(())
+}
+
+const LAST_RUN: [EntryRow; 1] = [(M, 1, Says::NewPlan(u32::MAX, &[], &[], &[]))];
+
+const NO_RUN_LEFT: [Turned; 1] = [
+    (Given::Next(&[]), Comes::Refuses(StepFault::Carry(CarryFault::RunsSpent))),
+];
+
+#[test]
+fn a_day_without_a_plan(rt: HostRuntime) -> Result<(), Fail> {
+    let mut agent = restored(rt.alloc(), &TWO_AGENTS, 0, &LAST_RUN)?;
+    assert_eq!(rt; first_wrong(rt.alloc(), &mut agent, &NO_RUN_LEFT)?, None);
+    Ok(())
+}
+
+/// A command to wait for a file whose path has so many times 64 bytes.
+fn long_command(alloc: Global, pieces: u32) -> Result<Input, Fail> {
+    let mut path = String::new(alloc);
+    for _ in 0..pieces {
+        path.push_str("aaaaaaaaaaaaaaaaaaaaaaaaaaaaaaaaaaaaaaaaaaaaaaaaaaaaaaaaaaaaaaaa")?;
+    }
+    let waits = Dep::Outside(Text::of(alloc, path.as_str())?);
+    Ok(Input::Local(Local::Typed(Ws(0), Cmd::AddDep(JOB, waits))))
+}
+
+#[test]
+fn an_entry_that_is_too_long(rt: HostRuntime) -> Result<(), Fail> {
+    let mut agent = restored(rt.alloc(), &TWO_AGENTS, 0, &[])?;
+    let short = long_command(rt.alloc(), 65_535)?;
+    let long = long_command(rt.alloc(), 65_536)?;
+    assert_eq!(rt; agent.step(&long).err(), Some(StepFault::TooLong));
+    assert_eq!(rt; agent.step(&short).err(), None);
     Ok(())
 }
 

@@ -1,10 +1,10 @@
 -- Whether an object is among those of own members, by its number.
-use Rattle.std.proofs.Common.{◌≡◌, ◌∙◌, ◌∷◌, ◌||◌, [], ℕ, Bool, List, ap, cond, false, find, flat_map, map, refl, subst, sym}
+use Rattle.std.proofs.Common.{◌≡◌, ◌∙◌, ◌∷◌, ◌||◌, [], ℕ, Bool, List, ap, cond, false, find, flat_map, map, refl, sym}
 use Rattle.std.proofs.Common.{true}
 use Rattle.std.proofs.lemmas.Bool.{eqb-true}
 use Rattle.std.specs.Option.{option_map_or}
 use Rattle.std.specs.Prelude.{◌&&◌, ◌++◌, ◌==◌, filter}
-use Rattle.model.specs.Types.{Events, Job, JobDoc, Obj, Stream, StreamDoc}
+use Rattle.model.specs.Types.{Events, Job, Obj, Stream, StreamDoc}
 use Rattle.model.specs.Words.{firsts, has}
 use Rattle.model.specs.Equalities.{obj_among, obj_eq}
 use Rattle.model.specs.History.{View}

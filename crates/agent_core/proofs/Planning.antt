@@ -1,10 +1,10 @@
 -- The plan of the next day.
-use Rattle.std.proofs.Common.{◌≡◌, ◌∷◌, ◌∙◌, ◌+◌, [], ℕ, Bool, Err, List, None, Ok, Option, Result, Some, ap, false, length, refl}
+use Rattle.std.proofs.Common.{◌≡◌, ◌∙◌, ◌+◌, Err, List, None, Ok, Option, Result, Some, ap, false, length, refl}
 use Rattle.std.proofs.Common.{subst, sym, true}
-use Rattle.std.specs.Prelude.{◌&&◌, ◌==◌, ◌≢◌, IfOk, IsOk, nat_lt, not, option_map}
+use Rattle.std.specs.Prelude.{◌==◌, ◌≢◌, IfOk, IsOk, nat_lt, not, option_map}
 use Rattle.model.specs.Types as types
 use Rattle.model.specs.Types.{Body, Entry, Events, Input, Net, StreamDraft}
-use Rattle.model.specs.History.{View, view_of}
+use Rattle.model.specs.History.{view_of}
 use Rattle.model.specs.Sessions.{next_session}
 use Rattle.model.specs.NewPlan.{plan_of}
 use Rattle.model.specs.NewEntry.{event_of, makes, next_entry, own_entry}

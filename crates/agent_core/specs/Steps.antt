@@ -1,7 +1,7 @@
 -- What a step of a node owes.
 use Rattle.std.specs.Option.{option_to_list}
 use Rattle.std.specs.Prelude.{[], ℕ, ◌+◌, ◌++◌, ◌∷◌, ◌≡◌, Err, List, None, Ok, Option, Result, Some, false, length}
-use Rattle.std.specs.Prelude.{option_map, true}
+use Rattle.std.specs.Prelude.{true}
 use Rattle.model.specs.Types.{Body, Entry, Feed, Input, LiveJob, StreamDraft}
 use Rattle.model.specs.History.{View, list_of}
 use Rattle.model.specs.NewEntry.{makes, next_entry}

@@ -39,13 +39,7 @@ fn kept_up(mut index: Index, net: &Network, o: &Owners, w: Ws, e: &Entry) -> Opt
 }
 
 /// What becomes of an index by an entry that `o` has taken just before.
-fn followed(
-    before: Option<Index>,
-    net: &Network,
-    o: &Owners,
-    w: Ws,
-    e: &Entry,
-) -> Option<Index>
+fn followed(before: Option<Index>, net: &Network, o: &Owners, w: Ws, e: &Entry) -> Option<Index>
     requires { w < node_count net.now }
     ensures { (taken : List Taken) → o.now ≡ taken ++ e.now ∷ [] → Tracks before taken w → Tracks result o.now w }
 {
@@ -64,12 +58,7 @@ impl Tracker {
     }
 
     /// The index of the entries that `o` took.
-    pub(crate) fn of(
-        alloc: Global,
-        net: &Network,
-        o: &Owners,
-        w: Ws,
-    ) -> Result<Tracker, NoMemory>
+    pub(crate) fn of(alloc: Global, net: &Network, o: &Owners, w: Ws) -> Result<Tracker, NoMemory>
         ensures { IfOk result (λ t. Tracks t.index o.now w) }
     {
         let index = Index::of(alloc, net, o, w)?;

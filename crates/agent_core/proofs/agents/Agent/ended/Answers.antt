@@ -7,12 +7,11 @@ use Rattle.agent_core.proofs.OwnEntries.{end, end_step}
 use Rattle.agent_core.proofs.agents.Agent.ended.Goals as goal
 
 pub returns-in-Err : goal.returns-in-Err
-returns-in-Err c =
-    (
-      subst (λ rc. IsDue c.args.self.now (end c.args.j rc) c.in-Err.fault) (to_z-of_z w32 c.args.rc c.ranges.rc)
-          c.in-Err.ensures,
-      refl,
-    )
+returns-in-Err c = (
+  subst (λ rc. IsDue c.args.self.now (end c.args.j rc) c.in-Err.fault) (to_z-of_z w32 c.args.rc c.ranges.rc)
+      c.in-Err.ensures,
+  refl,
+)
 
 pub keep-requires : goal.keep-requires
 keep-requires c = c.in-Ok.ensures.next

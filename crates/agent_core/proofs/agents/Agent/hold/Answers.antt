@@ -1,7 +1,6 @@
 use Rattle.std.proofs.Common.{◌∙◌, Err, List, Ok, Result, ap, subst, sym}
 use Rattle.std.specs.Prelude.{OnErr}
 use Rattle.model.specs.Types.{Entry}
-use Rattle.agent_core.specs.Nodes.{NodeState}
 use Rattle.agent_core.specs.Standing.{IsStanding}
 use Rattle.agent_core.proofs.Holding.{standing_next}
 use Rattle.agent_core.proofs.agents.Agent.hold.Goals as goal

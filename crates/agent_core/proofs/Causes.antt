@@ -1,6 +1,6 @@
 -- The faults of a step, one behind the other, and its effect where none applies.
-use Rattle.std.proofs.Common.{◌≡◌, ◌∷◌, ◌∙◌, ◌+◌, ◌++◌, [], ℕ, Bool, Err, List, None, Ok, Option, Result, Some, ap, arith, false}
-use Rattle.std.proofs.Common.{length, refl, subst, sym, true}
+use Rattle.std.proofs.Common.{◌≡◌, ◌∷◌, ◌∙◌, ◌+◌, ◌++◌, ℕ, Bool, Err, List, None, Ok, Option, Result, Some, ap, arith, false}
+use Rattle.std.proofs.Common.{length, refl, sym, true}
 use Rattle.std.specs.List.{list_all}
 use Rattle.std.specs.Option.{option_to_list}
 use Rattle.std.specs.Prelude.{◌&&◌, ◌==◌, nat_lt, not}
@@ -11,12 +11,12 @@ use Rattle.model.specs.History.{View, list_of, view_of, view_with}
 use Rattle.model.specs.PresentNet.{present_net}
 use Rattle.model.specs.Workstations.{peer_of, ws_in}
 use Rattle.model.specs.Sessions.{Session, next_session}
-use Rattle.model.specs.NewEntry.{makes, next_entry}
+use Rattle.model.specs.NewEntry.{next_entry}
 use Rattle.model.specs.Step.{Effect, effect, node_step, outs_of}
 use Rattle.model.specs.StepFaults as model
 use Rattle.model.specs.StepFaults.{is_next, is_place_spent, is_too_long, lacks_dep, lacks_process, plan_fault, step_fault}
 use Rattle.agent_core.specs.Nodes.{NodeState, present_in, session_in, view_in}
-use Rattle.agent_core.specs.Steps.{HoldsOneMore, IsDue, IsKept, IsOwnEntry, IsRefused, IsTaken, Keeps, due, effect_in, fault_of}
+use Rattle.agent_core.specs.Steps.{IsKept, IsOwnEntry, IsTaken, due}
 use Rattle.agent_core.specs.Steps.{made_by, step_at}
 use Rattle.agent_core.specs.declared.faults.StepFault.{StepFault}
 use Rattle.agent_core.specs.declared.faults.StepFault.TheVariants.{Carry, NoDep, NoMemory, NoProcess, NotInNetwork}

@@ -1,14 +1,13 @@
 -- What a node sees with one entry more.
-use Rattle.std.proofs.Common.{◌≡◌, ◌<◌, ◌∷◌, ◌∙◌, ◌++◌, [], ℕ, Bool, List, None, Option, Some, ap, cond, false, refl, subst}
-use Rattle.std.proofs.Common.{sym, true}
+use Rattle.std.proofs.Common.{◌≡◌, ◌<◌, ◌∷◌, ◌∙◌, ◌++◌, [], ℕ, List, None, Option, Some, ap, refl, subst}
+use Rattle.std.proofs.Common.{inl, inr, sym}
 use Rattle.std.proofs.lemmas.List.{append-nil}
 use Rattle.std.specs.Option.{option_to_list}
 use Rattle.std.specs.Prelude.{unwrap_or}
-use Rattle.model.specs.Types.{Body, Entry, Events, Feed, Net}
-use Rattle.model.specs.Equalities.{feed_eq}
+use Rattle.model.specs.Types.{Entry, Events, Feed, Net}
 use Rattle.model.specs.Network.{node_count}
 use Rattle.model.specs.History.{View, list_of, view_of, view_with}
-use Rattle.model.specs.PresentNet.{net_by, present_net}
+use Rattle.model.specs.PresentNet.{present_net}
 use Rattle.ready_index.specs.declared.index.Index.{Index}
 use Rattle.agent_core.specs.Standing.{IsStanding, Tracks}
 use Rattle.model_laws.proofs.Feeds.{feed_cases, pushed_cases}

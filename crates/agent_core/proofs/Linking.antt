@@ -1,7 +1,7 @@
 -- Links that go up and down, and acknowledgements.
-use Rattle.std.proofs.Common.{◌≡◌, ◌∷◌, ◌∙◌, [], ℕ, Bool, List, None, Ok, Option, Some, ap, false, refl, sym, true}
+use Rattle.std.proofs.Common.{◌≡◌, ◌∙◌, [], ℕ, Bool, None, Ok, false, refl, sym, true}
 use Rattle.std.proofs.lemmas.List.{append-nil}
-use Rattle.std.specs.Prelude.{◌++◌, ◌==◌}
+use Rattle.std.specs.Prelude.{◌==◌}
 use Rattle.model.specs.Types as types
 use Rattle.model.specs.Types.{Feed, Input}
 use Rattle.model.specs.Words.{with_at}
@@ -12,7 +12,7 @@ use Rattle.model.specs.Step.{outs_of}
 use Rattle.mailman_core.specs.Mails.{acked_by, is_up}
 use Rattle.agent_core.specs.Nodes.{NodeState, session_in, view_in}
 use Rattle.agent_core.specs.Steps.{DiffersInMail, IsTaken, due, made_by, quiet, step_at}
-use Rattle.agent_core.proofs.Causes.{Passes, inside, no_fault, step_taken}
+use Rattle.agent_core.proofs.Causes.{inside, no_fault, step_taken}
 
 abbrev pub up : ℕ → Input
 up x = types.Input.Local (types.Linked x)

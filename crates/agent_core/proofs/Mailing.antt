@@ -1,15 +1,13 @@
 -- Mail from a neighbour.
-use Rattle.std.proofs.Common.{◌≡◌, ◌∷◌, ◌∙◌, ◌+◌, ◌≤◌, [], ℕ, Bool, Err, List, None, Ok, Option, Result, Some, ap, arith, false}
+use Rattle.std.proofs.Common.{◌≡◌, ◌∷◌, ◌∙◌, ◌≤◌, [], ℕ, Bool, Err, List, None, Ok, Option, Some, ap, arith, false}
 use Rattle.std.proofs.Common.{length, refl, subst, sym, true}
 use Rattle.std.proofs.lemmas.Bool.Decides.{nat_tests}
 use Rattle.std.proofs.lemmas.List.{append-nil}
 use Rattle.std.specs.Bool.{then_some}
-use Rattle.std.specs.Option.{option_to_list}
 use Rattle.std.specs.Prelude.{◌++◌, ◌==◌, nat_lt}
 use Rattle.model.specs.Types as types
 use Rattle.model.specs.Types.{Entry, Input, Out, Packet}
-use Rattle.model.specs.History.{View}
-use Rattle.model.specs.Sessions.{Session, next_session}
+use Rattle.model.specs.Sessions.{next_session}
 use Rattle.model.specs.NewEntry.{accepts, makes}
 use Rattle.model.specs.Step.{outs_of}
 use Rattle.model.specs.StepFaults as model

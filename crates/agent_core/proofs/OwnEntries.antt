@@ -1,13 +1,11 @@
 -- Inputs that keep an entry of the node's own, and give nothing out.
-use Rattle.std.proofs.Common.{◌≡◌, ◌∷◌, ◌∙◌, [], ℕ, Bool, Err, List, None, Ok, Option, Result, Some, ap, false, refl, subst, sym}
+use Rattle.std.proofs.Common.{◌≡◌, ◌∙◌, [], ℕ, Bool, Err, List, None, Ok, Option, Result, Some, ap, false, refl, subst, sym}
 use Rattle.std.proofs.Common.{true}
 use Rattle.std.proofs.lemmas.Bool.{lt-ltb}
-use Rattle.std.specs.Prelude.{◌&&◌, ◌++◌, ◌<◌, ℤ, map, nat_lt, not}
-use Rattle.std.specs.Option.{option_map_or}
+use Rattle.std.specs.Prelude.{◌&&◌, ◌<◌, ℤ, map, nat_lt, not}
 use Rattle.model.specs.Types as types
 use Rattle.model.specs.Types.{Body, Cmd, Entry, Events, Input, LiveJob, Local, Obj, Order, Orders, Out, StreamDraft}
 use Rattle.model.specs.Network.{node_count}
-use Rattle.model.specs.History.{View}
 use Rattle.model.specs.Sessions.{Session, live_launch, mark_started, next_session, without_job}
 use Rattle.model.specs.NewEntry.{ends_well, event_of, makes, next_entry, own_entry}
 use Rattle.model.specs.Step.{outs_of}
@@ -15,13 +13,13 @@ use Rattle.model.specs.StepFaults as model
 use Rattle.model.specs.StepFaults.{lacks_dep, lacks_process}
 use Rattle.mailman_core.specs.Mails.{acked_by, is_up}
 use Rattle.agent_core.specs.Nodes.{NodeState, present_in, session_in, view_in}
-use Rattle.agent_core.specs.Steps.{IsDue, IsKeeping, IsKept, IsOwnEntry, IsRefused, IsStep, IsTaken, Keeps, due, fault_of}
+use Rattle.agent_core.specs.Steps.{IsKeeping, IsKept, IsOwnEntry, IsStep, IsTaken, Keeps}
 use Rattle.agent_core.specs.Steps.{made_by, step_at}
 use Rattle.agent_core.specs.declared.faults.Step.{Step}
 use Rattle.agent_core.specs.declared.faults.StepFault.{StepFault}
 use Rattle.agent_core.specs.declared.faults.StepFault.TheVariants.{Carry, NoDep, NoMemory, NoProcess, NotInNetwork}
 use Rattle.agent_core.specs.declared.faults.StepFault.TheVariants.{NotMaster, NotNeighbour, PlaceSpent, TooLong}
-use Rattle.agent_core.proofs.Causes.{Passes, inside, not_running, not_waiting, own_kept, step_taken}
+use Rattle.agent_core.proofs.Causes.{inside, not_running, not_waiting, own_kept, step_taken}
 
 abbrev pub start : ℕ → Input
 start j = types.Input.Local (types.Local.Started j)

@@ -1,10 +1,10 @@
 -- Whether an object is among those of own members, by its number.
-use Rattle.std.proofs.Common.{◌≡◌, ◌∙◌, ◌∷◌, ◌||◌, [], ℕ, Bool, List, ap, cond, false, find, flat_map, map, refl, subst, sym}
+use Rattle.std.proofs.Common.{◌≡◌, ◌∙◌, ◌∷◌, ◌||◌, [], ℕ, Bool, List, ap, cond, false, find, flat_map, map, refl, sym}
 use Rattle.std.proofs.Common.{true}
 use Rattle.std.proofs.lemmas.Bool.{eqb-true}
 use Rattle.std.specs.Option.{option_map_or}
 use Rattle.std.specs.Prelude.{◌&&◌, ◌++◌, ◌==◌, filter}
-use Rattle.model.specs.Types.{Events, Job, JobDoc, Obj, Stream, StreamDoc}
+use Rattle.model.specs.Types.{Events, Job, Obj, Stream, StreamDoc}
 use Rattle.model.specs.Words.{firsts, has}
 use Rattle.model.specs.Equalities.{obj_among, obj_eq}
 use Rattle.model.specs.History.{View}
@@ -13,7 +13,7 @@ use Rattle.model.specs.OwnMembers.{own_jobs, own_objects, own_streams}
 use Rattle.agent_core.specs.Owning.{is_own_job, is_own_stream}
 
 -- one of them has this number and these properties
-any_such : {X : Type 0} → (X → ℕ) → (X → Bool) → (X → Bool) → ℕ → List X → Bool
+abbrev any_such : {X : Type 0} → (X → ℕ) → (X → Bool) → (X → Bool) → ℕ → List X → Bool
 any_such number a b j [] = false
 any_such number a b j (x ∷ xs) = ((number x == j) && (a x && b x)) || any_such number a b j xs
 
@@ -36,35 +36,42 @@ differ q = cc
 none_known : {X : Type 0} (number : X → ℕ) (a b : X → Bool) (j : ℕ) (known : List ℕ) (xs : List X)
     → has known j ≡ true → any_such number a b j (firsts number known xs) ≡ false
 none_known number a b j known [] h = refl
-none_known {X} number a b j known (x ∷ xs) h = go (has known (number x)) refl (number x == j) refl
+none_known {X} number a b j known (x ∷ xs) h =
+    go (none_known number a b j known xs h) (λ k. none_known number a b j (number x ∷ known) xs k)
+    (has known (number x)) refl (number x == j) refl
   where
-    go : (k : Bool) → has known (number x) ≡ k → (e : Bool) → (number x == j) ≡ e
+    go : any_such number a b j (firsts number known xs) ≡ false
+        → (has (number x ∷ known) j ≡ true → any_such number a b j (firsts number (number x ∷ known) xs) ≡ false)
+        → (k : Bool) → has known (number x) ≡ k → (e : Bool) → (number x == j) ≡ e
         → any_such number a b j (cond k (firsts number known xs) (x ∷ firsts number (number x ∷ known) xs)) ≡ false
-    go true i e m = none_known number a b j known xs h
-    go false i true m = absurd (differ (sym i ∙ ap (has known) (eqb-true (number x) j m) ∙ h))
-    go false i false m =
-        rw m (none_known number a b j (number x ∷ known) xs (rw m h))
+    go same next true i e m = same
+    go same next false i true m = absurd (differ (sym i ∙ ap (has known) (eqb-true (number x) j m) ∙ h))
+    go same next false i false m = rw m (next (rw m h))
 
 -- of those that count, the one of the number decides
 found_such : {X : Type 0} (number : X → ℕ) (a b : X → Bool) (j : ℕ) (known : List ℕ) (xs : List X)
     → any_such number a b j (firsts number known xs)
     ≡ option_map_or (λ (x : X). a x && b x) (find (λ (x : X). number x == j) (firsts number known xs)) false
 found_such number a b j known [] = refl
-found_such {X} number a b j known (x ∷ xs) = go (has known (number x)) (number x == j) refl
+found_such {X} number a b j known (x ∷ xs) =
+    go (found_such number a b j known xs) (found_such number a b j (number x ∷ known) xs) (has known (number x))
+    (number x == j) refl
   where
     right : List X → Bool
     right ys = option_map_or (λ (y : X). a y && b y) (find (λ (y : X). number y == j) ys) false
 
-    go : (k : Bool) (e : Bool) → (number x == j) ≡ e
+    go : any_such number a b j (firsts number known xs) ≡ right (firsts number known xs)
+        → any_such number a b j (firsts number (number x ∷ known) xs) ≡ right (firsts number (number x ∷ known) xs)
+        → (k : Bool) (e : Bool) → (number x == j) ≡ e
         → any_such number a b j (cond k (firsts number known xs) (x ∷ firsts number (number x ∷ known) xs))
         ≡ right (cond k (firsts number known xs) (x ∷ firsts number (number x ∷ known) xs))
-    go true e m = found_such number a b j known xs
-    go false true m =
+    go same next true e m = same
+    go same next false true m =
         rw m
         (ap (λ (c : Bool). (a x && b x) || c)
         (none_known number a b j (number x ∷ known) xs (rw m refl))
         ∙ or_false (a x && b x))
-    go false false m = rw m (found_such number a b j (number x ∷ known) xs)
+    go same next false false m = rw m next
 
 or_assoc : (p q r : Bool) → (p || (q || r)) ≡ ((p || q) || r)
 or_assoc true q r = refl
@@ -91,7 +98,7 @@ chosen : {X : Type 0} (number : X → ℕ) (obj : ℕ → Obj) (a b : X → Bool
     → ((n : ℕ) → obj_eq (obj n) (obj j) ≡ (n == j)) → (xs : List X)
     → obj_among (map (λ (x : X). obj (number x)) (filter b (filter a xs))) (obj j) ≡ any_such number a b j xs
 chosen number obj a b j same [] = refl
-chosen {X} number obj a b j same (x ∷ xs) = go (a x)
+chosen {X} number obj a b j same (x ∷ xs) = go (chosen number obj a b j same xs) (a x)
   where
     rest : Bool
     rest = any_such number a b j xs
@@ -99,19 +106,19 @@ chosen {X} number obj a b j same (x ∷ xs) = go (a x)
     left : List X → Bool
     left ys = obj_among (map (λ (y : X). obj (number y)) ys) (obj j)
 
-    within : (z : Bool)
+    within : left (filter b (filter a xs)) ≡ rest → (z : Bool)
         → left (cond z (x ∷ filter b (filter a xs)) (filter b (filter a xs))) ≡ (((number x == j) && z) || rest)
-    within true =
-        ap (λ (c : Bool). obj_eq (obj (number x)) (obj j) || c) (chosen number obj a b j same xs)
+    within known true =
+        ap (λ (c : Bool). obj_eq (obj (number x)) (obj j) || c) known
         ∙ ap (λ (c : Bool). c || rest) (same (number x) ∙ sym (and_true (number x == j)))
-    within false =
-        chosen number obj a b j same xs ∙ sym (ap (λ (c : Bool). c || rest) (and_false (number x == j)))
+    within known false =
+        known ∙ sym (ap (λ (c : Bool). c || rest) (and_false (number x == j)))
 
-    go : (z : Bool)
+    go : left (filter b (filter a xs)) ≡ rest → (z : Bool)
         → left (filter b (cond z (x ∷ filter a xs) (filter a xs))) ≡ (((number x == j) && (z && b x)) || rest)
-    go true = within (b x)
-    go false =
-        chosen number obj a b j same xs ∙ sym (ap (λ (c : Bool). c || rest) (and_false (number x == j)))
+    go known true = within known (b x)
+    go known false =
+        known ∙ sym (ap (λ (c : Bool). c || rest) (and_false (number x == j)))
 
 abbrev job_at_ws : ℕ → StreamJob → Bool
 job_at_ws w p = p.doc.ws == w

@@ -1,10 +1,10 @@
 -- The plan of the next day.
-use Rattle.std.proofs.Common.{◌≡◌, ◌∷◌, ◌∙◌, ◌+◌, [], ℕ, Bool, Err, List, None, Ok, Option, Result, Some, ap, false, length, refl}
+use Rattle.std.proofs.Common.{◌≡◌, ◌∙◌, ◌+◌, Err, List, None, Ok, Option, Result, Some, ap, false, length, refl}
 use Rattle.std.proofs.Common.{subst, sym, true}
-use Rattle.std.specs.Prelude.{◌&&◌, ◌==◌, ◌≢◌, IfOk, IsOk, nat_lt, not, option_map}
+use Rattle.std.specs.Prelude.{◌==◌, ◌≢◌, IfOk, IsOk, nat_lt, not, option_map}
 use Rattle.model.specs.Types as types
 use Rattle.model.specs.Types.{Body, Entry, Events, Input, Net, StreamDraft}
-use Rattle.model.specs.History.{View, view_of}
+use Rattle.model.specs.History.{view_of}
 use Rattle.model.specs.Sessions.{next_session}
 use Rattle.model.specs.NewPlan.{plan_of}
 use Rattle.model.specs.NewEntry.{event_of, makes, next_entry, own_entry}
@@ -15,7 +15,7 @@ use Rattle.carry_forward.specs.Faults as carried
 use Rattle.carry_forward.specs.declared.faults.CarryFault.{CarryFault}
 use Rattle.carry_forward.specs.declared.faults.CarryFault.TheVariants as carry
 use Rattle.agent_core.specs.Nodes.{NodeState, present_in, session_in, view_in}
-use Rattle.agent_core.specs.Steps.{IsCarried, IsDayPlan, IsDue, IsKeeping, IsKept, IsOwnEntry, IsStep, Keeps, fault_of, made_by}
+use Rattle.agent_core.specs.Steps.{IsCarried, IsDayPlan, IsDue, IsKeeping, IsKept, IsOwnEntry, IsStep, Keeps, made_by}
 use Rattle.agent_core.specs.Steps.{step_at}
 use Rattle.agent_core.specs.declared.faults.Step.{Step}
 use Rattle.agent_core.specs.declared.faults.StepFault.{StepFault}
@@ -71,13 +71,13 @@ not_planned n drafts f e m l h =
     (ap (model.is_place_spent (view_in n)) (plan_makes n drafts) ∙ l)
     (fault_by_name (carry_fault (present_in n) (view_in n) drafts) f h)
 
-due_as : (n : NodeState) (i : Input) (f g : StepFault) → g ≡ f → IsDue n i (fault_of f) → IsDue n i (fault_of g)
-due_as n i f g e h = subst (λ (x : StepFault). IsDue n i (fault_of x)) (sym e) h
+due_as : (n : NodeState) (i : Input) (f g : StepFault) → g ≡ f → IsDue n i f → IsDue n i g
+due_as n i f g e h = subst (λ (x : StepFault). IsDue n i x) (sym e) h
 
 pub plan_refused : (n : NodeState) (drafts : List StreamDraft) (f : CarryFault) (s : StepFault)
     → inside n (plan drafts) ≡ true → (n.me == 0) ≡ true
     → nat_lt 4294967295 (1 + length (view_in n (Events n.me))) ≡ false
-    → IsDayPlan n drafts (Err f) → IsCarried f s → IsDue n (plan drafts) (fault_of s)
+    → IsDayPlan n drafts (Err f) → IsCarried f s → IsDue n (plan drafts) s
 plan_refused n drafts carry.NoMemory s e m l h k = due_as n (plan drafts) NoMemory s k tt
 plan_refused n drafts carry.RunsSpent s e m l h k =
     due_as n (plan drafts) (Carry carry.RunsSpent) s k
@@ -105,7 +105,7 @@ told : (net : Net) (kept : List Entry) (drafts : List StreamDraft) (r : Result B
     → (IsOk r → carried.plan_fault net (view_of kept) drafts ≡ None)
     → ((f : CarryFault) → r ≡ Err f → f ≢ carry.NoMemory → carried.plan_fault net (view_of kept) drafts ≡ Some f)
     → Told net kept drafts r
-told net kept drafts (Ok b) v a k = (v, none_by_name (carry_fault net (view_of kept) drafts) (a tt))
+told net kept drafts (Ok b) v a k = (v, none_by_name (carry_fault net (view_of kept) drafts) (a refl))
 told net kept drafts (Err carry.NoMemory) v a k = tt
 told net kept drafts (Err carry.RunsSpent) v a k = k carry.RunsSpent refl (λ same. cc)
 told net kept drafts (Err carry.NumbersSpent) v a k = k carry.NumbersSpent refl (λ same. cc)

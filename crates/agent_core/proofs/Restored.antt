@@ -162,19 +162,18 @@ pub restored : (net : Net) (me : ℕ) (kept list : List Entry) (begun taken last
     → nat_lt me (node_count net) ≡ true → list ≡ kept → IsNew net me [] begun
     → IsNew begun.net begun.me list taken → first_wrong begun.net list ≡ None → last ≡ taken
     → IsNew net me kept last × (restore_fault net me kept ≡ None)
-restored net me kept list begun taken last inside is h k none same =
-    (
-      record {
-        net_ = (λ i. (same i).net) ∙ k.net_ ∙ h.net_;
-        me_ = (λ i. (same i).me) ∙ k.me_ ∙ h.me_;
-        kept_ = (λ i. (same i).kept) ∙ k.kept_ ∙ is;
-        mail_ = (λ i. (same i).mail) ∙ k.mail_;
-        live_ = (λ i. (same i).live) ∙ k.live_;
-      },
-      restore_accepted net me kept inside
-          (sym (ap (λ (n : Net). first_wrong n kept) h.net_)
-          ∙ sym (ap (first_wrong begun.net) is) ∙ none),
-    )
+restored net me kept list begun taken last inside is h k none same = (
+  record {
+    net_ = (λ i. (same i).net) ∙ k.net_ ∙ h.net_;
+    me_ = (λ i. (same i).me) ∙ k.me_ ∙ h.me_;
+    kept_ = (λ i. (same i).kept) ∙ k.kept_ ∙ is;
+    mail_ = (λ i. (same i).mail) ∙ k.mail_;
+    live_ = (λ i. (same i).live) ∙ k.live_;
+  },
+  restore_accepted net me kept inside
+      (sym (ap (λ (n : Net). first_wrong n kept) h.net_)
+      ∙ sym (ap (first_wrong begun.net) is) ∙ none),
+)
 
 pub not_restored : (net : Net) (me : ℕ) (kept list : List Entry) (begun : NodeState) (f : Option model.RestoreFault)
     → nat_lt me (node_count net) ≡ true → list ≡ kept → IsNew net me [] begun

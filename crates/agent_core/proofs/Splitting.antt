@@ -1,10 +1,10 @@
 -- A step by its clauses.
-use Rattle.std.proofs.Common.{◌≡◌, ◌∙◌, Err, Ok, Result, refl, subst, sym}
+use Rattle.std.proofs.Common.{◌≡◌, Err, Ok, Result, subst}
 use Rattle.std.specs.Option.{option_to_list}
 use Rattle.std.specs.Prelude.{◌++◌, IfErr, IfOk, OnErr}
 use Rattle.model.specs.Types.{Input}
 use Rattle.agent_core.specs.Nodes.{NodeState}
-use Rattle.agent_core.specs.Steps.{IsDue, IsStep, effect_in, fault_of, step_at}
+use Rattle.agent_core.specs.Steps.{IsDue, IsStep, effect_in, step_at}
 use Rattle.agent_core.specs.declared.faults.Step.{Step}
 use Rattle.agent_core.specs.declared.faults.StepFault.{StepFault}
 
@@ -23,7 +23,7 @@ kept_of old new i (Ok s) h = h.kept
 kept_of old new i (Err f) h = tt
 
 refused_of : (old new : NodeState) (i : Input) (r : Result Step StepFault) → IsStep old i r new
-    → IfErr r (λ f. IsDue old i (fault_of f))
+    → IfErr r (λ f. IsDue old i f)
 refused_of old new i (Ok s) h = tt
 refused_of old new i (Err f) h = h.0
 
@@ -40,21 +40,21 @@ me_of old new i (Ok s) h = h.me_
 me_of old new i (Err f) h = λ k. (h.1 k).me
 
 module _ (old mid new : NodeState) (i : Input) (r : Result Step StepFault) (e : mid ≡ old) (h : IsStep mid i r new)
-    where
-  pub told_taken : IfOk r (λ s. step_at old i ≡ Ok (effect_in s new))
-  told_taken = taken_of old new i r (as_old old mid new i r e h)
+  where
+    pub told_taken : IfOk r (λ s. step_at old i ≡ Ok (effect_in s new))
+    told_taken = taken_of old new i r (as_old old mid new i r e h)
 
-  pub told_kept : IfOk r (λ s. new.kept ≡ old.kept ++ option_to_list s.kept)
-  told_kept = kept_of old new i r (as_old old mid new i r e h)
+    pub told_kept : IfOk r (λ s. new.kept ≡ old.kept ++ option_to_list s.kept)
+    told_kept = kept_of old new i r (as_old old mid new i r e h)
 
-  pub told_refused : IfErr r (λ f. IsDue old i (fault_of f))
-  told_refused = refused_of old new i r (as_old old mid new i r e h)
+    pub told_refused : IfErr r (λ f. IsDue old i f)
+    told_refused = refused_of old new i r (as_old old mid new i r e h)
 
-  pub told_same : OnErr r (new ≡ old)
-  told_same = same_of old new i r (as_old old mid new i r e h)
+    pub told_same : OnErr r (new ≡ old)
+    told_same = same_of old new i r (as_old old mid new i r e h)
 
-  pub told_net : new.net ≡ old.net
-  told_net = net_of old new i r (as_old old mid new i r e h)
+    pub told_net : new.net ≡ old.net
+    told_net = net_of old new i r (as_old old mid new i r e h)
 
-  pub told_me : new.me ≡ old.me
-  told_me = me_of old new i r (as_old old mid new i r e h)
+    pub told_me : new.me ≡ old.me
+    told_me = me_of old new i r (as_old old mid new i r e h)

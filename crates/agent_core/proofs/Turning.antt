@@ -1,10 +1,10 @@
 -- A turn: what it keeps, and what it gives out.
-use Rattle.std.proofs.Common.{◌≡◌, ◌∷◌, ◌∙◌, ◌+◌, ◌-◌, ◌*◌, ◌<◌, ◌≤◌, [], ℕ, Bool, Err, List, None, Ok, Option, Result, Some}
-use Rattle.std.proofs.Common.{ap, append_assoc, arith, cond, false, flat_map, length, map, refl, subst, suc, sym, true, zero}
+use Rattle.std.proofs.Common.{◌≡◌, ◌∷◌, ◌∙◌, ◌+◌, ◌-◌, ◌*◌, ◌<◌, ◌≤◌, [], ℕ, Bool, Err, List, None, Option, Result, Some}
+use Rattle.std.proofs.Common.{ap, append_assoc, arith, cond, false, flat_map, refl, subst, suc, sym, true}
 use Rattle.std.proofs.lemmas.List.{append-nil}
 use Rattle.std.proofs.lemmas.Grind.{flat_map-append}
-use Rattle.std.specs.Option.{option_map_or, option_to_list}
-use Rattle.std.specs.Prelude.{◌++◌, ◌&&◌, filter, nat_lt, option_map}
+use Rattle.std.specs.Option.{option_map_or}
+use Rattle.std.specs.Prelude.{◌++◌, filter, option_map}
 use Rattle.model.specs.Types as types
 use Rattle.model.specs.Types.{AddDep, AltPri, Cancel, Confirm, DelDep, Fence, Limit, Release, ReplyGlobal, ReplyOwn, Rerun, Stop}
 use Rattle.model.specs.Types.{StreamLimit, Submit, SwitchMgr, Total}
@@ -13,11 +13,10 @@ use Rattle.model.specs.Types.{Launched, LiveJob, Lost, NewPlan, Obeyed, Order, O
 use Rattle.model.specs.Types.{StreamEnded, UntilPassed}
 use Rattle.model.specs.Words.{below, numbers_from}
 use Rattle.model.specs.Equalities.{feed_eq}
-use Rattle.model.specs.Network.{are_neighbours, node_count}
-use Rattle.model.specs.History.{View, list_of, view_of, view_with}
+use Rattle.model.specs.Network.{node_count}
+use Rattle.model.specs.History.{View, view_of, view_with}
 use Rattle.model.specs.Catalogue.{StreamJob, catalogue, docs_in, job, jobs}
-use Rattle.model.specs.Facts.{open_launch}
-use Rattle.model.specs.Sessions.{Session, new_live, next_session}
+use Rattle.model.specs.Sessions.{new_live, next_session}
 use Rattle.model.specs.Turn.{turn_body}
 use Rattle.model.specs.NewEntry.{event_of, makes, next_entry, own_entry}
 use Rattle.model.specs.Step.{outs_of, outs_of_body, sends}
@@ -25,13 +24,13 @@ use Rattle.model.specs.StepFaults as model
 use Rattle.mailman_core.specs.Mails.{acked_by, is_up}
 use Rattle.agent_core.specs.Nodes.{NodeState, present_in, session_in, view_in}
 use Rattle.agent_core.specs.Sending.{is_reached, kill_by, launch_by, live_with, sends_among, sends_to}
-use Rattle.agent_core.specs.Steps.{HoldsOneMore, IsDue, IsKept, IsOwnEntry, IsTaken, IsTurnBody, Keeps, LivesOn, due, fault_of}
-use Rattle.agent_core.specs.Steps.{made_by, step_at}
+use Rattle.agent_core.specs.Steps.{HoldsOneMore, IsDue, IsKept, IsOwnEntry, IsTaken, IsTurnBody, Keeps, LivesOn}
+use Rattle.agent_core.specs.Steps.{made_by}
 use Rattle.agent_core.specs.declared.faults.StepFault.{StepFault}
 use Rattle.agent_core.specs.declared.faults.StepFault.TheVariants.{Carry, NoDep, NoMemory, NoProcess, NotInNetwork}
 use Rattle.agent_core.specs.declared.faults.StepFault.TheVariants.{NotMaster, NotNeighbour, PlaceSpent, TooLong}
 use Rattle.agent_core.proofs.Holding.{count_same, view_next}
-use Rattle.agent_core.proofs.Causes.{Passes, inside, no_fault, own_kept, step_taken}
+use Rattle.agent_core.proofs.Causes.{Passes, no_fault, own_kept, step_taken}
 use Rattle.agent_core.proofs.OwnEntries.{in_range, with_live}
 
 abbrev pub turn : ℕ → Input
@@ -59,7 +58,7 @@ turn_entry n t b r h is own =
     own_kept n (turn t) (Events n.me) b r (turn_passes n t h) refl (makes_body n t (Some b) (sym is)) own
 
 -- want of memory alone withholds a body
-pub no_body : (n : NodeState) (t : ℕ) (f : StepFault) → IsTurnBody n t (Err f) → IsDue n (turn t) (fault_of f)
+pub no_body : (n : NodeState) (t : ℕ) (f : StepFault) → IsTurnBody n t (Err f) → IsDue n (turn t) f
 no_body n t NoMemory h = tt
 no_body n t NotInNetwork h = absurd h
 no_body n t NotNeighbour h = absurd h
@@ -241,8 +240,8 @@ turn_taken old held new t e live launch kill outs k one on is l x o =
     let lives : new.live ≡ old.live ++ new_live (Some e) =
     on.live_ ∙ is ∙ sym (live_later old.live e.feed e.place e.body) in
     let given : outs
-        ≡ (launch_by (view_in new) e.body ++ kill_by new.me (view_in new) e.body)
-        ++ sends_among new (below (node_count (present_in new))) =
+    ≡ (launch_by (view_in new) e.body ++ kill_by new.me (view_in new) e.body)
+    ++ sends_among new (below (node_count (present_in new))) =
     o
     ∙ ap (λ (m : List Out). (m ++ kill) ++ sends_among new (below (node_count (present_in new))))
     (l ∙ launch_at old new e kept)

@@ -1,7 +1,7 @@
 -- What a step of a node owes.
 use Rattle.std.specs.Option.{option_to_list}
 use Rattle.std.specs.Prelude.{[], ℕ, ◌+◌, ◌++◌, ◌∷◌, ◌≡◌, Err, List, None, Ok, Option, Result, Some, false, length}
-use Rattle.std.specs.Prelude.{option_map, true}
+use Rattle.std.specs.Prelude.{true}
 use Rattle.model.specs.Types.{Body, Entry, Feed, Input, LiveJob, StreamDraft}
 use Rattle.model.specs.History.{View, list_of}
 use Rattle.model.specs.NewEntry.{makes, next_entry}
@@ -19,25 +19,6 @@ use Rattle.agent_core.specs.declared.faults.StepFault.TheVariants.{Carry, NoDep,
 use Rattle.agent_core.specs.declared.faults.StepFault.TheVariants.{NotMaster, NotNeighbour, PlaceSpent, TooLong}
 use Rattle.agent_core.specs.declared.faults.Step.{Step}
 
--- why there is no plan, but for want of memory
-abbrev pub carry_of : CarryFault → Option model.CarryFault
-carry_of carry.RunsSpent = Some model.CarryFault.RunsSpent
-carry_of carry.NumbersSpent = Some model.CarryFault.NumbersSpent
-carry_of (carry.PlanFull n) = Some (model.CarryFault.PlanFull n)
-carry_of carry.NoMemory = None
-
--- the fault that an answer tells, but for want of memory
-abbrev pub fault_of : StepFault → Option model.StepFault
-fault_of NotInNetwork = Some model.StepFault.NotInNetwork
-fault_of NotNeighbour = Some model.StepFault.NotNeighbour
-fault_of NotMaster = Some model.StepFault.NotMaster
-fault_of NoProcess = Some model.StepFault.NoProcess
-fault_of NoDep = Some model.StepFault.NoDep
-fault_of PlaceSpent = Some model.StepFault.PlaceSpent
-fault_of (Carry f) = option_map model.StepFault.Carry (carry_of f)
-fault_of TooLong = Some model.StepFault.TooLong
-fault_of NoMemory = None
-
 -- what the definitions say of this node and input
 abbrev pub step_at : NodeState → Input → Result Effect model.StepFault
 step_at node input = node_step node.net node.me (view_in node) (session_in node) input
@@ -53,14 +34,24 @@ pub record IsTaken (old : NodeState) (input : Input) (s : Step) (new : NodeState
   pub net_ : new.net ≡ old.net
   pub me_ : new.me ≡ old.me
 
--- the fault is the due one, or memory ran out
-abbrev pub IsDue : NodeState → Input → Option model.StepFault → Type 0
-IsDue node input None = Unit {0}
-IsDue node input (Some f) = step_at node input ≡ Err f
+-- the fault is the due one, or memory ran out; a plan's want of memory is told as the step's, and in no other way
+abbrev pub IsDue : NodeState → Input → StepFault → Type 0
+IsDue n i NotInNetwork = step_at n i ≡ Err model.StepFault.NotInNetwork
+IsDue n i NotNeighbour = step_at n i ≡ Err model.StepFault.NotNeighbour
+IsDue n i NotMaster = step_at n i ≡ Err model.StepFault.NotMaster
+IsDue n i NoProcess = step_at n i ≡ Err model.StepFault.NoProcess
+IsDue n i NoDep = step_at n i ≡ Err model.StepFault.NoDep
+IsDue n i PlaceSpent = step_at n i ≡ Err model.StepFault.PlaceSpent
+IsDue n i (Carry carry.RunsSpent) = step_at n i ≡ Err (model.StepFault.Carry model.CarryFault.RunsSpent)
+IsDue n i (Carry carry.NumbersSpent) = step_at n i ≡ Err (model.StepFault.Carry model.CarryFault.NumbersSpent)
+IsDue n i (Carry (carry.PlanFull most)) = step_at n i ≡ Err (model.StepFault.Carry (model.CarryFault.PlanFull most))
+IsDue n i (Carry carry.NoMemory) = ⊥
+IsDue n i TooLong = step_at n i ≡ Err model.StepFault.TooLong
+IsDue n i NoMemory = Unit {0}
 
 -- a step that is refused: its fault is the due one, or memory ran out, and nothing changes
 abbrev pub IsRefused : NodeState → Input → StepFault → NodeState → Type 0
-IsRefused old input f new = IsDue old input (fault_of f) × (new ≡ old)
+IsRefused old input f new = IsDue old input f × (new ≡ old)
 
 -- what a step owes
 abbrev pub IsStep : NodeState → Input → Result Step StepFault → NodeState → Type 0
@@ -88,7 +79,7 @@ pub record Keeps (n : NodeState) (i : Input) (e : Entry) : Type 0 where
 -- the entry that an input keeps, or the fault that is due
 abbrev pub IsKept : NodeState → Input → Result Entry StepFault → Type 0
 IsKept n i (Ok e) = Keeps n i e
-IsKept n i (Err f) = IsDue n i (fault_of f)
+IsKept n i (Err f) = IsDue n i f
 
 -- no fault applies to an input, and it makes this
 pub record Makes (n : NodeState) (i : Input) (made : Option Entry) : Type 0 where
@@ -97,7 +88,7 @@ pub record Makes (n : NodeState) (i : Input) (made : Option Entry) : Type 0 wher
 
 -- the fault of an input, if it has one
 abbrev pub IsFault : NodeState → Input → Option StepFault → Type 0
-IsFault n i (Some f) = IsDue n i (fault_of f)
+IsFault n i (Some f) = IsDue n i f
 IsFault n i None = step_at n i ≡ Ok (due n i)
 
 -- the body of a turn, or want of memory alone

@@ -1,9 +1,9 @@
 //! What a step answers.
-use base_types::{Entry, NoMemory, Outs};
-use carry_forward::CarryFault;
-
 ghost use Rattle.std.specs.Prelude.{◌≡◌};
 ghost use Rattle.agent_core.specs.declared.faults.StepFault.TheVariants.{NoMemory as NoRoom};
+
+use base_types::{Entry, NoMemory, Outs};
+use carry_forward::CarryFault;
 
 /// What a node keeps and gives out.
 #[derive(Drop)]

@@ -3,7 +3,7 @@ ghost use Rattle.std.specs.Prelude.{◌≡◌, ◌++◌, IfOk, IfErr, Ok, OnErr}
 ghost use Rattle.std.specs.Option.{option_to_list};
 ghost use Rattle.model.specs.Types.{Local as Here};
 ghost use Rattle.model.specs.Types as types;
-ghost use Rattle.agent_core.specs.Steps.{IsDue, IsStep, effect_in, fault_of, step_at};
+ghost use Rattle.agent_core.specs.Steps.{IsDue, IsStep, effect_in, step_at};
 
 use crate::agents::Agent;
 use crate::faults::{Step, StepFault};
@@ -45,7 +45,7 @@ impl Agent {
     pub fn step(&mut self, input: &Input) -> Result<Step, StepFault>
         ensures taken { IfOk result (λ s. step_at self.old input.now ≡ Ok (effect_in s self.new)) }
         ensures kept { IfOk result (λ s. self.new.kept ≡ self.old.kept ++ option_to_list s.kept) }
-        ensures refused { IfErr result (λ f. IsDue self.old input.now (fault_of f)) }
+        ensures refused { IfErr result (λ f. IsDue self.old input.now f) }
         ensures err { OnErr result (self.new ≡ self.old) }
         ensures net { self.new.net ≡ self.old.net }
         ensures me { self.new.me ≡ self.old.me }

@@ -1,5 +1,5 @@
 //! What keeps track of the best job at a node.
-ghost use Rattle.std.specs.Prelude.{◌≡◌, ◌<◌, ◌++◌, ◌∷◌, [], ℕ, IfOk, IfSome, IsOk, List, None};
+ghost use Rattle.std.specs.Prelude.{◌≡◌, ◌<◌, ◌++◌, ◌∷◌, [], ℕ, IfOk, IfSome, IsOk, List, None, is_none};
 ghost use Rattle.model.specs.Types.{Entry as Taken, PromptDef as Prompts, Resource as Resources};
 ghost use Rattle.model.specs.Network.{node_count};
 ghost use Rattle.model.specs.History.{view_of};
@@ -15,9 +15,15 @@ use ready_index::Index;
 use std::alloc::Global;
 
 /// An index, which is given up where it has no memory for an entry. Then each job is looked at, until it is made anew.
-#[derive(Drop)]
 pub(crate) struct Tracker {
     index: Option<Index>,
+}
+
+/// Written out, so that dropping one is a call for whoever owns it.
+impl Drop for Tracker {
+    fn drop(self) {
+        let Tracker { index: _index } = self;
+    }
 }
 
 /// The index after an entry that `o` has taken just before. None where it has no memory for it.
@@ -33,13 +39,7 @@ fn kept_up(mut index: Index, net: &Network, o: &Owners, w: Ws, e: &Entry) -> Opt
 }
 
 /// What becomes of an index by an entry that `o` has taken just before.
-fn followed(
-    before: Option<Index>,
-    net: &Network,
-    o: &Owners,
-    w: Ws,
-    e: &Entry,
-) -> Option<Index>
+fn followed(before: Option<Index>, net: &Network, o: &Owners, w: Ws, e: &Entry) -> Option<Index>
     requires { w < node_count net.now }
     ensures { (taken : List Taken) → o.now ≡ taken ++ e.now ∷ [] → Tracks before taken w → Tracks result o.now w }
 {
@@ -58,12 +58,7 @@ impl Tracker {
     }
 
     /// The index of the entries that `o` took.
-    pub(crate) fn of(
-        alloc: Global,
-        net: &Network,
-        o: &Owners,
-        w: Ws,
-    ) -> Result<Tracker, NoMemory>
+    pub(crate) fn of(alloc: Global, net: &Network, o: &Owners, w: Ws) -> Result<Tracker, NoMemory>
         ensures { IfOk result (λ t. Tracks t.index o.now w) }
     {
         let index = Index::of(alloc, net, o, w)?;
@@ -71,7 +66,9 @@ impl Tracker {
     }
 
     /// Whether the index is to be made anew.
-    pub(crate) fn is_missing(&self) -> bool {
+    pub(crate) fn is_missing(&self) -> bool
+        ensures { result ≡ is_none self.now.index }
+    {
         self.index.is_none()
     }
 

@@ -6,6 +6,7 @@ pub mod Exactly
 pub mod Firsts
 pub mod Fronts
 pub mod Halts
+pub mod Leads
 pub mod Leaves
 pub mod Loops
 pub mod Parsings

@@ -1,4 +1,4 @@
-use Rattle.std.proofs.Common.{refl, sym}
+use Rattle.std.proofs.Common.{sym}
 use Rattle.agent_core.proofs.OwnEntries.{fail_kept, fail_lacks, fail_told}
 use Rattle.agent_core.proofs.agents.Agent.fail_entry.Goals as goal
 

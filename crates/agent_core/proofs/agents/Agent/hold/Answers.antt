@@ -1,12 +1,19 @@
-use Rattle.std.proofs.Common.{◌∙◌, Err, List, Ok, Result, ap}
+use Rattle.std.proofs.Common.{◌∙◌, Err, List, Ok, Result, ap, subst, sym}
 use Rattle.std.specs.Prelude.{OnErr}
 use Rattle.model.specs.Types.{Entry}
-use Rattle.agent_core.specs.Nodes.{NodeState}
+use Rattle.agent_core.specs.Standing.{IsStanding}
 use Rattle.agent_core.proofs.Holding.{standing_next}
 use Rattle.agent_core.proofs.agents.Agent.hold.Goals as goal
 
+-- the entry is not taken
 pub invariant_of-self : goal.invariant_of-self
 invariant_of-self c =
+    subst
+    (λ (l : List Entry). IsStanding c.self.inside.net c.self.inside.present c.self.inside.me l
+    c.self.inside.tracker.index) (sym c.in_err-take.ensures.err) c.self.invariant
+
+pub invariant_of-self-2 : goal.invariant_of-self-2
+invariant_of-self-2 c =
     standing_next c.self.inside.net c.self.inside.present c.put_network.new.present _ c.self.inside.owners
     c.take.new.self c.args.e.now c.self.inside.tracker.index c.follow.new.self.index c.in_ok-after.after
     c.self.invariant c.in_ok-take.ensures.ok c.in_ok-after.ensures c.put_network.ensures

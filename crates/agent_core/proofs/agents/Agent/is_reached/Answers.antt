@@ -1,4 +1,4 @@
-use Rattle.std.proofs.Common.{◌<◌, ◌∙◌, subst, sym}
+use Rattle.std.proofs.Common.{◌<◌, subst, sym}
 use Rattle.model.specs.Types.{Net}
 use Rattle.model.specs.Network.{node_count}
 use Rattle.agent_core.proofs.agents.Agent.is_reached.Goals as goal

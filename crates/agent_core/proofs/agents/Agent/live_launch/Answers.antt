@@ -5,4 +5,4 @@ use Rattle.agent_core.proofs.agents.Agent.live_launch.Goals as goal
 
 pub returns-clause-inside : goal.returns-clause-inside
 returns-clause-inside c =
-    subst (λ (net : Net). c.args.self.now.me < node_count net) c.net-_net.ensures.value c.net-_net.ensures.inside
+    subst (λ (net : Net). c.args.self.now.me < node_count net) c.net-net.ensures.value c.net-net.ensures.inside

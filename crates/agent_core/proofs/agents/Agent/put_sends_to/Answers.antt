@@ -1,4 +1,4 @@
-use Rattle.std.proofs.Common.{◌∙◌, arith, sym}
+use Rattle.std.proofs.Common.{◌∙◌, sym}
 use Rattle.agent_core.proofs.Turning.{one_passed, one_reached}
 use Rattle.agent_core.proofs.agents.Agent.put_sends_to.Goals as goal
 

@@ -1,7 +1,7 @@
 use Rattle.std.proofs.Common.{◌∙◌, sym}
 use Rattle.std.proofs.lemmas.Bool.{ltb-true}
 use Rattle.agent_core.specs.Restoring.{restore_fault_of}
-use Rattle.agent_core.proofs.Restored.{new_session, not_restored, restore_outside, restored, self_new}
+use Rattle.agent_core.proofs.Restored.{not_restored, restore_outside, restored, self_new}
 use Rattle.agent_core.proofs.agents.Agent.restore.Goals as goal
 
 pub returns-then-not-is_inside-clause-refused : goal.returns-then-not-is_inside-clause-refused
@@ -14,20 +14,11 @@ blank-requires c = ltb-true _ _ (sym c.is_inside.ensures ∙ c.if-not-is_inside.
 pub take_all-requires : goal.take_all-requires
 take_all-requires c = self_new _ _ _ _ c.in_ok-agent.ensures
 
-pub returns-in-Ok : goal.returns-in-Ok
-returns-in-Ok c =
-    let all =
-    restored c.args.net c.args.me c.args.kept.now c.as_slice.result.now c.in_ok-agent.agent c.take_all.new.self
+pub returns-in_ok-renew-in-Ok-clause-accepted : goal.returns-in_ok-renew-in-Ok-clause-accepted
+returns-in_ok-renew-in-Ok-clause-accepted c =
+    (restored c.args.net c.args.me c.args.kept.now c.as_slice.result.now c.in_ok-agent.agent c.take_all.new.self
     c.renew.new.self (sym c.is_inside.ensures ∙ c.if-not-is_inside.false) c.as_slice.ensures c.in_ok-agent.ensures
-    c.in-Ok.ensures.taken c.in-Ok.ensures.accepted c.renew.ensures in
-    record {
-      net = all.0.net_;
-      me = all.0.me_;
-      kept = all.0.kept_;
-      session = new_session c.args.net c.args.me c.args.kept.now c.renew.new.self all.0;
-      accepted = all.1;
-      refused = tt;
-    }
+    c.in-Ok.ensures.taken c.in-Ok.ensures.accepted c.renew.ensures).1
 
 pub returns-in-Err-clause-refused : goal.returns-in-Err-clause-refused
 returns-in-Err-clause-refused c =

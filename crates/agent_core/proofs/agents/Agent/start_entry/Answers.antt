@@ -1,4 +1,4 @@
-use Rattle.std.proofs.Common.{refl, sym}
+use Rattle.std.proofs.Common.{sym}
 use Rattle.agent_core.proofs.OwnEntries.{start_kept, start_lacks, start_told}
 use Rattle.agent_core.proofs.agents.Agent.start_entry.Goals as goal
 

@@ -1,7 +1,5 @@
 use Rattle.std.proofs.Common.{◌∙◌, ap, refl}
-use Rattle.std.specs.Prelude.{map}
-use Rattle.model.specs.Types.{LiveJob}
-use Rattle.model.specs.Sessions.{mark_started, without_job}
+use Rattle.model.specs.Sessions.{without_job}
 use Rattle.agent_core.proofs.OwnEntries.{fail_step}
 use Rattle.agent_core.proofs.agents.Agent.start_failed.Goals as goal
 

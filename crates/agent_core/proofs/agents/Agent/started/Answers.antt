@@ -1,7 +1,6 @@
 use Rattle.std.proofs.Common.{◌∙◌, ap, refl}
 use Rattle.std.specs.Prelude.{map}
-use Rattle.model.specs.Types.{LiveJob}
-use Rattle.model.specs.Sessions.{mark_started, without_job}
+use Rattle.model.specs.Sessions.{mark_started}
 use Rattle.agent_core.proofs.OwnEntries.{start_step}
 use Rattle.agent_core.proofs.agents.Agent.started.Goals as goal
 

@@ -1,4 +1,4 @@
-use Rattle.std.proofs.Common.{arith, refl}
+use Rattle.std.proofs.Common.{arith}
 use Rattle.agent_core.proofs.Restored.{walk_all, walk_begins, walk_end, walk_left, walk_new, walk_wrong}
 use Rattle.agent_core.proofs.agents.Agent.take_all.Goals as goal
 

@@ -8,12 +8,11 @@ pub returns-then-not-has_feed : goal.returns-then-not-has_feed
 returns-then-not-has_feed c = (outside_net c.args.self.now (ack c.args.x c.args.feed.now c.args.count) (sym c.has_feed.ensures ∙ c.if-not-has_feed.true), refl)
 
 pub returns-then-is_itself : goal.returns-then-is_itself
-returns-then-is_itself c =
-    (
-      not_near c.args.self.now (ack c.args.x c.args.feed.now c.args.count) (sym c.has_feed.ensures ∙ c.if-not-has_feed.false)
-          (sym c.is_itself.ensures ∙ c.if-is_itself.true),
-      refl,
-    )
+returns-then-is_itself c = (
+  not_near c.args.self.now (ack c.args.x c.args.feed.now c.args.count) (sym c.has_feed.ensures ∙ c.if-not-has_feed.false)
+      (sym c.is_itself.ensures ∙ c.if-is_itself.true),
+  refl,
+)
 
 pub returns : goal.returns
 returns c =

@@ -12,7 +12,7 @@ pub returns : goal.returns
 returns c =
     let n = c.args.self.now in
     quiet_taken n c.args.t c.into_items.result
-    (subst (λ (net : Net). n.me < node_count net) c.net-_net.ensures.value c.net-_net.ensures.inside) c.requires
+    (subst (λ (net : Net). n.me < node_count net) c.net-net.ensures.value c.net-net.ensures.inside) c.requires
     (c.into_items.ensures
     ∙ only c.in_ok-outs.outs.items c.put_sends.new.outs.items (sends_among n (below (node_count (present_in n))))
     c.in_ok-outs.ensures.items c.put_sends.ensures)

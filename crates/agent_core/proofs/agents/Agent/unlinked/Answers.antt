@@ -8,12 +8,11 @@ pub returns-then-not-has : goal.returns-then-not-has
 returns-then-not-has c = (outside_net c.args.self.now (down c.args.x) (sym c.has.ensures ∙ c.if-not-has.true), refl)
 
 pub returns-then-is_itself : goal.returns-then-is_itself
-returns-then-is_itself c =
-    (
-      not_near c.args.self.now (down c.args.x) (sym c.has.ensures ∙ c.if-not-has.false)
-          (sym c.is_itself.ensures ∙ c.if-is_itself.true),
-      refl,
-    )
+returns-then-is_itself c = (
+  not_near c.args.self.now (down c.args.x) (sym c.has.ensures ∙ c.if-not-has.false)
+      (sym c.is_itself.ensures ∙ c.if-is_itself.true),
+  refl,
+)
 
 pub returns : goal.returns
 returns c =

@@ -12,7 +12,7 @@ use Rattle.model.specs.Types.{Late}
 use Rattle.model.specs.Types.{Added, Body, Clock, Declined, Ended, Entry, Events, Failed, Feed, Fulfilled, Launched}
 use Rattle.model.specs.Types.{Lost, NewPlan, Obeyed, Order, Released, Started, StreamDoc, StreamEnded, UntilPassed}
 use Rattle.model.specs.Equalities.{feed_eq}
-use Rattle.model.specs.Words.{has}
+use Rattle.model.specs.Words.{greatest, has}
 use Rattle.model.specs.History.{list_of, view_of}
 use Rattle.model.specs.Catalogue.{catalogue, docs_in, members, members_with, named_members, stream}
 use Rattle.owner_fold.specs.Numbers.{IsIndexOf}
@@ -178,17 +178,28 @@ plan_without kept e plan h p =
           filter (λ s. is_some (find (λ (d : StreamDoc). d.no == s) (first_docs_among docs))) (unwrap_or names []))
           (sym (docs_without kept e h)) (sym (named_without kept e h));
       index = p.index;
+      last_stream = p.last_stream;
+      last_job = p.last_job;
     }
 
 -- the plan after a plan or an added stream
 pub plan_with : (kept : List Entry) (e : Entry) (plan : Plan) (spots : Spots) (named : Option (List ℕ))
-    (numbers : List ℕ) (index : Index) → is_planning e ≡ true → IsPlanOf kept plan
+    (numbers : List ℕ) (index : Index) (last_stream last_job : ℕ) → is_planning e ≡ true → IsPlanOf kept plan
     → AreSpotsOf (kept ++ e ∷ []) (flat_map docs_in (list_of kept (Events 0)) ++ docs_in e.body) spots
     → named ≡ members_with plan.named e.body
     → numbers ≡ filter (has (map (λ (p : StreamSpot). p.number) spots.streams)) (unwrap_or named [])
     → IsIndexOf (map (λ (p : StreamSpot). p.number) spots.streams) (map (λ (p : JobSpot). p.number) spots.jobs) numbers
-    index → IsPlanOf (kept ++ e ∷ []) (record { spots = spots; named = named; members = numbers; index = index })
-plan_with kept e plan spots named numbers index h p placed names found indexed =
+    index → last_stream ≡ greatest (map (λ (p : StreamSpot). p.number) spots.streams)
+    → last_job ≡ greatest (map (λ (p : JobSpot). p.number) spots.jobs)
+    → IsPlanOf (kept ++ e ∷ []) (record {
+      spots = spots;
+      named = named;
+      members = numbers;
+      index = index;
+      last_stream = last_stream;
+      last_job = last_job;
+    })
+plan_with kept e plan spots named numbers index last_stream last_job h p placed names found indexed stream_is job_is =
     let here : AreSpotsOf (kept ++ e ∷ []) (flat_map docs_in (list_of (kept ++ e ∷ []) (Events 0))) spots =
     subst (λ (docs : List StreamDoc). AreSpotsOf (kept ++ e ∷ []) docs spots) (sym (docs_with kept e h)) placed
     in
@@ -205,6 +216,8 @@ plan_with kept e plan spots named numbers index h p placed names found indexed =
           ∙ members_of_docs (kept ++ e ∷ []) (map (λ (p : StreamSpot). p.number) spots.streams)
           here.streams.1;
       index = indexed;
+      last_stream = stream_is;
+      last_job = job_is;
     }
 
 -- so with any such list
@@ -215,7 +228,14 @@ kept_without kept new e plan h grown other = rw grown (plan_without kept e plan 
 -- the plan of no entries
 pub plan_of_none : (spots : Spots) (numbers : List ℕ) (index : Index) → spots.streams ≡ [] → spots.jobs ≡ []
     → numbers ≡ [] → IsIndexOf [] [] [] index
-    → IsPlanOf [] (record { spots = spots; named = None; members = numbers; index = index })
+    → IsPlanOf [] (record {
+      spots = spots;
+      named = None;
+      members = numbers;
+      index = index;
+      last_stream = 0;
+      last_job = 0;
+    })
 unfolding list_of members named_members stream catalogue
 plan_of_none spots numbers index e f g h =
     record {
@@ -223,4 +243,6 @@ plan_of_none spots numbers index e f g h =
       named = refl;
       members = g;
       index = rw (e, f, g) h;
+      last_stream = rw e refl;
+      last_job = rw f refl;
     }

@@ -2,6 +2,7 @@
 use Rattle.std.specs.Prelude.{◌&&◌, ◌≡◌, Bool, List, false, flat_map, map, true}
 use Rattle.model.specs.Types.{Added, Body, Entry, Events, NewPlan}
 use Rattle.model.specs.Equalities.{feed_eq}
+use Rattle.model.specs.Words.{greatest}
 use Rattle.model.specs.History.{list_of, view_of}
 use Rattle.model.specs.Catalogue.{docs_in, members, named_members}
 use Rattle.owner_fold.specs.Numbers.{IsIndexOf}
@@ -27,3 +28,5 @@ pub record IsPlanOf (kept : List Entry) (plan : Plan) : Type 0 where
   pub members : plan.members ≡ members (view_of kept)
   pub index : IsIndexOf (map (λ (p : StreamSpot). p.number) plan.spots.streams)
       (map (λ (p : JobSpot). p.number) plan.spots.jobs) plan.members plan.index
+  pub last_stream : plan.last_stream ≡ greatest (map (λ (p : StreamSpot). p.number) plan.spots.streams)
+  pub last_job : plan.last_job ≡ greatest (map (λ (p : JobSpot). p.number) plan.spots.jobs)

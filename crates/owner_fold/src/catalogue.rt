@@ -6,7 +6,6 @@ ghost use Rattle.model.specs.Types.{Job, StreamDoc as Doc};
 ghost use Rattle.model.specs.History.{view_of};
 ghost use Rattle.model.specs.Catalogue.{StreamJob, catalogue, jobs, jobs_of_stream, members, stream, job};
 ghost use Rattle.model.specs.Catalogue.{is_member, stream_of, owner};
-ghost use Rattle.model.specs.NewPlan.{last_job, last_stream};
 ghost use Rattle.owner_fold.specs.Spots.{stream_job};
 ghost use Rattle.owner_fold.specs.Left.{jobs_left, stream_jobs_left, streams_left};
 
@@ -141,32 +140,6 @@ impl Owners {
             spots: self.job_spots(),
             stream: s,
         }
-    }
-
-    /// The greatest number of a stream in the catalogue, 0 where it is empty.
-    pub fn last_stream(&self) -> StreamNo
-        ensures { result ≡ last_stream (view_of self.now) }
-    {
-        let mut last = 0;
-        for doc in self.streams() {
-            if doc.no.0 > last {
-                last = doc.no.0;
-            }
-        }
-        StreamNo(last)
-    }
-
-    /// The greatest number of a job in the catalogue, 0 where it has none.
-    pub fn last_job(&self) -> JobNo
-        ensures { result ≡ last_job (view_of self.now) }
-    {
-        let mut last = 0;
-        for (_, doc) in self.jobs() {
-            if doc.no.0 > last {
-                last = doc.no.0;
-            }
-        }
-        JobNo(last)
     }
 
     /// The document of this number. None outside the catalogue.

@@ -1,5 +1,5 @@
 //! What a node holds: the entries that it took.
-ghost use Rattle.std.specs.Prelude.{◌≡◌, ◌+◌, ◌++◌, [], ◌∷◌, length, filter_map, OnOk, OnErr};
+ghost use Rattle.std.specs.Prelude.{◌≡◌, ◌+◌, ◌++◌, [], ◌∷◌, ℕ, false, length, filter_map, OnOk, OnErr};
 ghost use Rattle.std.specs.Prelude.{option_and_then};
 ghost use Rattle.std.specs.Option.{option_copied};
 ghost use Rattle.model.specs.Types.{Orders};
@@ -7,6 +7,8 @@ ghost use Rattle.model.specs.Words.{nth};
 ghost use Rattle.model.specs.History.{list_of, view_of};
 ghost use Rattle.model.specs.Turn.{ordered_command};
 ghost use Rattle.model.specs.Catalogue.{catalogue, has_plan, is_member, job, jobs, members, stream};
+ghost use Rattle.model.specs.NewPlan.{last_job, last_stream};
+ghost use Rattle.owner_rows.specs.Standing.{has_issued};
 ghost use Rattle.owner_fold.specs.Spots.{doc_at, job_at};
 
 use crate::plans::{Plan, is_planning};
@@ -69,6 +71,30 @@ impl Owners {
         }
         self.kept.take(e)?;
         Ok(())
+    }
+
+    /// Takes an entry whose place is the next of its feed. Where memory runs out nothing changes.
+    pub fn take_own(&mut self, e: Entry) -> Result<(), NoMemory>
+        requires { e.place ≡ length (list_of self.old e.feed) + 1 }
+        ensures ok { OnOk result (self.new ≡ self.old ++ e ∷ []) }
+        ensures err { OnErr result (self.new ≡ self.old) }
+    {
+        if is_planning(&e) {
+            let plan = self.plan.with(self.kept.entries(), &e)?;
+            self.kept.take_own(e)?;
+            self.plan = plan;
+            return Ok(());
+        }
+        self.kept.take_own(e)?;
+        Ok(())
+    }
+
+    /// Whether any orders that a workstation issued were taken.
+    pub fn has_issued(&self, a: Ws) -> bool
+        ensures issued { result ≡ has_issued self.now a }
+        ensures nothing { result ≡ false → (w : ℕ) → list_of self.now (Orders a w) ≡ [] }
+    {
+        self.kept().has_issued(a)
     }
 
     /// How many entries of a feed were taken.
@@ -154,6 +180,20 @@ impl Owners {
         ensures { result ≡ is_member (view_of self.now) s }
     {
         self.plan.index.members.place(s.0).is_some()
+    }
+
+    /// The greatest number of a stream in the catalogue, 0 where it is empty.
+    pub fn last_stream(&self) -> StreamNo
+        ensures { result ≡ last_stream (view_of self.now) }
+    {
+        StreamNo(self.plan.greatest_stream())
+    }
+
+    /// The greatest number of a job in the catalogue, 0 where it has none.
+    pub fn last_job(&self) -> JobNo
+        ensures { result ≡ last_job (view_of self.now) }
+    {
+        JobNo(self.plan.greatest_job())
     }
 
     /// Where the jobs of the catalogue stand.

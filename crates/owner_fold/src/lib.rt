@@ -5,8 +5,8 @@
 //! its owner. A fact of an object that the catalogue lacks is 0, false or None. No fact takes memory.
 //!
 //! What each workstation tells in its own list is that of `owner_rows`, which `kept` hands out. Beside it `Owners` keeps
-//! where the documents of the catalogue stand, and the members of the plan, each by its number.
-#![tactic(auto, unfolding(model::specs::History::list_of, model::specs::Facts::commands))]
+//! where the documents of the catalogue stand, and the members of the plan, each by its number, and the greatest numbers.
+#![tactic(auto)]
 
 mod catalogue;
 mod dependencies;

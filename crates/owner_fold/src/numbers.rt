@@ -1,5 +1,6 @@
 //! Where numbers stand in a list, found by one look-up.
 ghost use Rattle.std.specs.Prelude.{◌≡◌, ◌++◌, ◌==◌, [], ◌∷◌, List, ℕ, IfOk, OnOk, length, map, nat_eq};
+ghost use Rattle.model.specs.Words.{has};
 ghost use Rattle.owner_fold.specs.Numbers.{ArePlaces, IsIndexOf, place_of};
 
 use crate::spots::Spots;
@@ -8,9 +9,15 @@ use indexmap::IndexMap;
 use std::alloc::Global;
 
 /// The places, from 0, at which numbers stand first.
-#[derive(Drop)]
 pub(crate) struct Numbers {
     pub(crate) places: IndexMap<u32, usize>,
+}
+
+/// Written out, so that dropping one is a call for whoever owns it.
+impl Drop for Numbers {
+    fn drop(self) {
+        let Numbers { places: _places } = self;
+    }
 }
 
 impl Numbers {
@@ -37,8 +44,16 @@ impl Numbers {
         self.places.get(&number).copied()
     }
 
+    /// Whether a number is there.
+    #[tactic(auto, using(crate::proofs::Finding::placed))]
+    pub(crate) fn has(&self, number: u32) -> bool
+        ensures { (numbers : List ℕ) → ArePlaces numbers self.now → result ≡ has numbers number }
+    {
+        self.place(number).is_some()
+    }
+
     /// Adds a number, which stands at this place behind the others.
-    fn add(&mut self, number: u32, place: usize) -> Result<(), NoMemory>
+    pub(crate) fn add(&mut self, number: u32, place: usize) -> Result<(), NoMemory>
         ensures { OnOk result ((numbers : List ℕ) → length numbers ≡ place → ArePlaces numbers self.old
             → ArePlaces (numbers ++ number ∷ []) self.new) }
     {
@@ -52,7 +67,7 @@ impl Numbers {
     }
 
     /// The places of the catalogue's streams.
-    fn of_streams(&self, spots: &Spots) -> Result<Numbers, NoMemory>
+    pub(crate) fn of_streams(&self, spots: &Spots) -> Result<Numbers, NoMemory>
         ensures { IfOk result (λ p. ArePlaces (map (λ s. s.number) spots.now.streams) p) }
     {
         let mut numbers = self.empty();
@@ -63,7 +78,7 @@ impl Numbers {
     }
 
     /// The places of its jobs.
-    fn of_jobs(&self, spots: &Spots) -> Result<Numbers, NoMemory>
+    pub(crate) fn of_jobs(&self, spots: &Spots) -> Result<Numbers, NoMemory>
         ensures { IfOk result (λ p. ArePlaces (map (λ s. s.number) spots.now.jobs) p) }
     {
         let mut numbers = self.empty();
@@ -74,7 +89,7 @@ impl Numbers {
     }
 
     /// The places of members.
-    fn of_members(&self, members: &StreamNos) -> Result<Numbers, NoMemory>
+    pub(crate) fn of_members(&self, members: &StreamNos) -> Result<Numbers, NoMemory>
         ensures { IfOk result (λ p. ArePlaces members.now p) }
     {
         let mut numbers = self.empty();
@@ -86,11 +101,21 @@ impl Numbers {
 }
 
 /// Where the streams and jobs of the catalogue stand, and the members.
-#[derive(Drop)]
 pub(crate) struct Index {
     pub(crate) streams: Numbers,
     pub(crate) jobs: Numbers,
     pub(crate) members: Numbers,
+}
+
+/// Written out, so that dropping one is a call for whoever owns it.
+impl Drop for Index {
+    fn drop(self) {
+        let Index {
+            streams: _streams,
+            jobs: _jobs,
+            members: _members,
+        } = self;
+    }
 }
 
 impl Index {
@@ -103,17 +128,5 @@ impl Index {
             jobs: Numbers::new(alloc),
             members: Numbers::new(alloc),
         }
-    }
-
-    /// That of these spots and members.
-    pub(crate) fn of(&self, spots: &Spots, members: &StreamNos) -> Result<Index, NoMemory>
-        ensures { IfOk result (λ x. IsIndexOf (map (λ s. s.number) spots.now.streams)
-            (map (λ s. s.number) spots.now.jobs) members.now x) }
-    {
-        Ok(Index {
-            streams: self.streams.of_streams(spots)?,
-            jobs: self.streams.of_jobs(spots)?,
-            members: self.streams.of_members(members)?,
-        })
     }
 }

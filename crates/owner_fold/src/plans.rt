@@ -1,13 +1,14 @@
 //! The plan beside the entries: where its documents stand, and its members.
-ghost use Rattle.std.specs.Prelude.{◌≡◌, ◌++◌, [], ◌∷◌, None, filter, flat_map, map, true, unwrap_or, IfOk};
+ghost use Rattle.std.specs.Prelude.{◌≡◌, ◌++◌, [], ◌∷◌, List, None, ℕ, filter, flat_map, map, true, unwrap_or, IfOk};
 ghost use Rattle.model.specs.Types.{Events};
 ghost use Rattle.model.specs.Words.{has};
 ghost use Rattle.model.specs.History.{list_of};
 ghost use Rattle.model.specs.Catalogue.{docs_in, members_with};
+ghost use Rattle.owner_fold.specs.Numbers.{ArePlaces};
 ghost use Rattle.owner_fold.specs.Plans.{is_planning, IsPlanOf};
 ghost use Rattle.owner_fold.specs.Spots.{AreSpotsOf};
 
-use crate::numbers::Index;
+use crate::numbers::{Index, Numbers};
 use crate::spots::Spots;
 use base_types::{Body, Copied, Entry, Feed, Items, NoMemory, StreamNos};
 use std::alloc::Global;
@@ -27,7 +28,6 @@ pub(crate) fn is_planning(e: &Entry) -> bool
 }
 
 /// The plan that a list of entries makes.
-#[derive(Drop)]
 pub(crate) struct Plan {
     pub(crate) spots: Spots,
     /// What the last plan and the streams added to it name, None before the first plan.
@@ -35,6 +35,24 @@ pub(crate) struct Plan {
     /// Those among them that the catalogue has.
     pub(crate) members: StreamNos,
     pub(crate) index: Index,
+    /// The greatest number of a stream in the catalogue, 0 where it is empty.
+    pub(crate) last_stream: u32,
+    /// The greatest number of a job in the catalogue, 0 where it has none.
+    pub(crate) last_job: u32,
+}
+
+/// Written out, so that dropping one is a call for whoever owns it.
+impl Drop for Plan {
+    fn drop(self) {
+        let Plan {
+            spots: _spots,
+            named: _named,
+            members: _members,
+            index: _index,
+            last_stream: _last_stream,
+            last_job: _last_job,
+        } = self;
+    }
 }
 
 impl Plan {
@@ -47,7 +65,23 @@ impl Plan {
             named: None,
             members: Items::new(alloc),
             index: Index::new(alloc),
+            last_stream: 0,
+            last_job: 0,
         }
+    }
+
+    /// The greatest number of a stream.
+    pub(crate) fn greatest_stream(&self) -> u32
+        ensures { result ≡ self.now.last_stream }
+    {
+        self.last_stream
+    }
+
+    /// The greatest number of a job.
+    pub(crate) fn greatest_job(&self) -> u32
+        ensures { result ≡ self.now.last_job }
+    {
+        self.last_job
     }
 
     /// What a plan and the streams added to it name after one more body.
@@ -75,14 +109,18 @@ impl Plan {
     }
 
     /// The numbers that are there, of those that are named.
-    fn members_among(&self, named: &Option<StreamNos>, spots: &Spots) -> Result<StreamNos, NoMemory>
-        ensures { IfOk result (λ ms. ms ≡
-            filter (has (map (λ p. p.number) spots.now.streams)) (unwrap_or named.now [])) }
+    fn members_among(
+        &self,
+        named: &Option<StreamNos>,
+        streams: &Numbers,
+    ) -> Result<StreamNos, NoMemory>
+        ensures { IfOk result (λ ms. (numbers : List ℕ) → ArePlaces numbers streams.now
+            → ms ≡ filter (has numbers) (unwrap_or named.now [])) }
     {
         let mut members = self.members.empty();
-        if let Some(numbers) = named {
-            for number in numbers.as_slice() {
-                if spots.has_stream(number.0) {
+        if let Some(named) = named {
+            for number in named.as_slice() {
+                if streams.has(number.0) {
                     members.push(*number)?;
                 }
             }
@@ -96,15 +134,23 @@ impl Plan {
         requires plan { IsPlanOf entries.now self.now }
         ensures { IfOk result (λ p. IsPlanOf (entries.now ++ e.now ∷ []) p) }
     {
-        let spots = self.spots.with(entries, e)?;
+        let (spots, streams, jobs) = self.spots.with(&self.index.streams, entries, e)?;
         let named = self.named_with(&e.body)?;
-        let members = self.members_among(&named, &spots)?;
-        let index = self.index.of(&spots, &members)?;
+        let members = self.members_among(&named, &streams)?;
+        let places = self.index.members.of_members(&members)?;
+        let last_stream = spots.last_stream();
+        let last_job = spots.last_job();
         Ok(Plan {
             spots,
             named,
             members,
-            index,
+            index: Index {
+                streams,
+                jobs,
+                members: places,
+            },
+            last_stream,
+            last_job,
         })
     }
 }

@@ -2,11 +2,13 @@
 ghost use Rattle.std.specs.Prelude.{◌≡◌, ◌++◌, [], ◌∷◌, List, Some, map, flat_map, option_map, slice_get, IfOk, OnOk};
 ghost use Rattle.std.specs.Option.{option_copied};
 ghost use Rattle.model.specs.Types.{Entry as Taken, StreamDoc as Doc, Events};
-ghost use Rattle.model.specs.Words.{has};
+ghost use Rattle.model.specs.Words.{greatest};
 ghost use Rattle.model.specs.History.{list_of};
 ghost use Rattle.model.specs.Catalogue.{docs_in, jobs_in, StreamJob};
+ghost use Rattle.owner_fold.specs.Numbers.{ArePlaces};
 ghost use Rattle.owner_fold.specs.Spots.{doc_at, job_at, stream_job, AreSpotsOf, AreJobSpots, first_jobs_among};
 
+use crate::numbers::Numbers;
 use base_types::{Body, Copied, Entry, Items, JobDoc, NoMemory, StreamDoc};
 use std::alloc::Global;
 use std::slice::from_ref;
@@ -93,10 +95,20 @@ pub(crate) fn planned_job_at<'a>(
 }
 
 /// Where the streams and the jobs of the catalogue stand, in its order.
-#[derive(Debug, Drop)]
+#[derive(Debug)]
 pub(crate) struct Spots {
     pub(crate) streams: Items<StreamSpot>,
     pub(crate) jobs: Items<JobSpot>,
+}
+
+/// Written out, so that dropping one is a call for whoever owns it.
+impl Drop for Spots {
+    fn drop(self) {
+        let Spots {
+            streams: _streams,
+            jobs: _jobs,
+        } = self;
+    }
 }
 
 impl Spots {
@@ -111,39 +123,44 @@ impl Spots {
         }
     }
 
-    /// A stream of this number is there.
-    pub(crate) fn has_stream(&self, number: u32) -> bool
-        ensures { result ≡ has (map (λ p. p.number) self.now.streams) number }
+    /// The greatest number of a stream, 0 where there is none.
+    pub(crate) fn last_stream(&self) -> u32
+        ensures { result ≡ greatest (map (λ p. p.number) self.now.streams) }
     {
+        let mut last = 0;
         for spot in self.streams.as_slice() {
-            if spot.number == number {
-                return true;
+            if spot.number > last {
+                last = spot.number;
             }
         }
-        false
+        last
     }
 
-    /// A job of this number is there.
-    fn has_job(&self, number: u32) -> bool
-        ensures { result ≡ has (map (λ p. p.number) self.now.jobs) number }
+    /// The greatest number of a job, 0 where there is none.
+    pub(crate) fn last_job(&self) -> u32
+        ensures { result ≡ greatest (map (λ p. p.number) self.now.jobs) }
     {
+        let mut last = 0;
         for spot in self.jobs.as_slice() {
-            if spot.number == number {
-                return true;
+            if spot.number > last {
+                last = spot.number;
             }
         }
-        false
+        last
     }
 
     /// Adds a job, where its number is not there.
-    fn add_job(&mut self, spot: JobSpot) -> Result<(), NoMemory>
+    fn add_job(&mut self, numbers: &mut Numbers, spot: JobSpot) -> Result<(), NoMemory>
+        requires { ArePlaces (map (λ p. p.number) self.old.jobs) numbers.old }
         ensures streams { self.new.streams ≡ self.old.streams }
+        ensures known { OnOk result (ArePlaces (map (λ p. p.number) self.new.jobs) numbers.new) }
         ensures jobs { OnOk result ((kept : List Taken) (known : List StreamJob) (x : StreamJob) →
             job_at kept spot ≡ Some x → spot.number ≡ x.doc.no →
             AreJobSpots kept self.old.jobs (first_jobs_among known) →
             AreJobSpots kept self.new.jobs (first_jobs_among (known ++ x ∷ []))) }
     {
-        if !self.has_job(spot.number) {
+        if !numbers.has(spot.number) {
+            numbers.add(spot.number, self.jobs.len())?;
             self.jobs.push(spot)?;
             return Ok(());
         }
@@ -151,55 +168,96 @@ impl Spots {
     }
 
     /// Adds the jobs of a stream whose numbers are not there.
-    fn add_jobs(&mut self, spot: StreamSpot, doc: &StreamDoc) -> Result<(), NoMemory>
+    fn add_jobs(
+        &mut self,
+        numbers: &mut Numbers,
+        spot: StreamSpot,
+        doc: &StreamDoc,
+    ) -> Result<(), NoMemory>
+        requires { ArePlaces (map (λ p. p.number) self.old.jobs) numbers.old }
         ensures streams { self.new.streams ≡ self.old.streams }
+        ensures known { OnOk result (ArePlaces (map (λ p. p.number) self.new.jobs) numbers.new) }
         ensures jobs { OnOk result ((kept : List Taken) (known : List StreamJob) →
             doc_at kept spot ≡ Some doc.now →
             AreJobSpots kept self.old.jobs (first_jobs_among known) →
             AreJobSpots kept self.new.jobs (first_jobs_among (known ++ jobs_in doc.now))) }
     {
         for (i, job) in doc.jobs.as_slice().iter().enumerate() {
-            self.add_job(JobSpot {
-                number: job.no.0,
-                stream: spot,
-                job: i,
-            })?;
+            self.add_job(
+                numbers,
+                JobSpot {
+                    number: job.no.0,
+                    stream: spot,
+                    job: i,
+                },
+            )?;
         }
+        Ok(())
+    }
+
+    /// Adds a stream, whose number is not there.
+    fn add_stream(&mut self, numbers: &mut Numbers, spot: StreamSpot) -> Result<(), NoMemory>
+        requires { ArePlaces (map (λ p. p.number) self.old.streams) numbers.old }
+        ensures jobs { self.new.jobs ≡ self.old.jobs }
+        ensures known { OnOk result (ArePlaces (map (λ p. p.number) self.new.streams) numbers.new) }
+        ensures grown { OnOk result (self.new.streams ≡ self.old.streams ++ spot ∷ []) }
+    {
+        numbers.add(spot.number, self.streams.len())?;
+        self.streams.push(spot)?;
         Ok(())
     }
 
     /// Adds a stream and its jobs, where its number is not there.
-    fn add(&mut self, spot: StreamSpot, doc: &StreamDoc) -> Result<(), NoMemory>
-        requires { spot.number ≡ doc.now.no }
-        ensures { OnOk result ((kept : List Taken) (docs : List Doc) →
+    fn add(
+        &mut self,
+        streams: &mut Numbers,
+        jobs: &mut Numbers,
+        spot: StreamSpot,
+        doc: &StreamDoc,
+    ) -> Result<(), NoMemory>
+        requires number { spot.number ≡ doc.now.no }
+        requires streams { ArePlaces (map (λ p. p.number) self.old.streams) streams.old }
+        requires jobs { ArePlaces (map (λ p. p.number) self.old.jobs) jobs.old }
+        ensures streams { OnOk result (ArePlaces (map (λ p. p.number) self.new.streams) streams.new) }
+        ensures jobs { OnOk result (ArePlaces (map (λ p. p.number) self.new.jobs) jobs.new) }
+        ensures spots { OnOk result ((kept : List Taken) (docs : List Doc) →
             doc_at kept spot ≡ Some doc.now →
             AreSpotsOf kept docs self.old → AreSpotsOf kept (docs ++ doc.now ∷ []) self.new) }
     {
-        if !self.has_stream(spot.number) {
-            self.streams.push(spot)?;
-            self.add_jobs(spot, doc)?;
+        if !streams.has(spot.number) {
+            self.add_stream(streams, spot)?;
+            self.add_jobs(jobs, spot, doc)?;
         }
         Ok(())
     }
 
-    /// The spots where this entry comes after those.
-    pub(crate) fn with(&self, entries: &[Entry], e: &Entry) -> Result<Spots, NoMemory>
+    /// The spots where this entry comes after those, and where the numbers of the streams and of the jobs stand.
+    pub(crate) fn with(
+        &self,
+        numbers: &Numbers,
+        entries: &[Entry],
+        e: &Entry,
+    ) -> Result<(Spots, Numbers, Numbers), NoMemory>
         requires { AreSpotsOf entries.now (flat_map docs_in (list_of entries.now (Events 0))) self.now }
-        ensures { IfOk result (λ s. AreSpotsOf (entries.now ++ e.now ∷ [])
-            (flat_map docs_in (list_of entries.now (Events 0)) ++ docs_in e.now.body) s) }
+        ensures spots { IfOk result (λ s. AreSpotsOf (entries.now ++ e.now ∷ [])
+            (flat_map docs_in (list_of entries.now (Events 0)) ++ docs_in e.now.body) s.0) }
+        ensures streams { IfOk result (λ s. ArePlaces (map (λ p. p.number) s.0.streams) s.1) }
+        ensures jobs { IfOk result (λ s. ArePlaces (map (λ p. p.number) s.0.jobs) s.2) }
     {
         let mut spots = Spots {
             streams: self.streams.copy()?,
             jobs: self.jobs.copy()?,
         };
+        let mut streams = numbers.of_streams(&spots)?;
+        let mut jobs = numbers.of_jobs(&spots)?;
         for (i, doc) in docs_of(&e.body).iter().enumerate() {
             let spot = StreamSpot {
                 number: doc.no.0,
                 entry: entries.len(),
                 doc: i,
             };
-            spots.add(spot, doc)?;
+            spots.add(&mut streams, &mut jobs, spot, doc)?;
         }
-        Ok(spots)
+        Ok((spots, streams, jobs))
     }
 }

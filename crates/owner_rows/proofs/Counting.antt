@@ -11,7 +11,7 @@ use Rattle.owner_rows.proofs.Feeds.{feed_cases, list_with, list_without}
 use Rattle.owner_rows.proofs.Keys.{key_is_itself, key_tells}
 
 -- feeds with one key are one
-one_feed : (f g : Feed) → feed_key f ≡ feed_key g → f ≡ g
+pub one_feed : (f g : Feed) → feed_key f ≡ feed_key g → f ≡ g
 one_feed (Events w) (Events v) h = ap (λ (q : ℕ × ℕ). Events q.0) h
 one_feed (Orders a w) (Orders b v) h =
     let e : w ≡ v = ap (λ (q : ℕ × ℕ). q.0) h in
@@ -21,7 +21,7 @@ one_feed (Orders a w) (Orders b v) h =
 one_feed (Events w) (Orders b v) h = let f : 0 ≡ b + 1 = ap (λ (q : ℕ × ℕ). q.1) h in absurd (omega (arith, f))
 one_feed (Orders a w) (Events v) h = let f : a + 1 ≡ 0 = ap (λ (q : ℕ × ℕ). q.1) h in absurd (omega (arith, f))
 
-itself : (f : Feed) → feed_eq f f ≡ true
+pub itself : (f : Feed) → feed_eq f f ≡ true
 itself f = elim (feed_cases f f) [ inl c ↦ c.0 | inr c ↦ always f c ]
   where
     always : (f : Feed) → feed_eq f f ≡ false → feed_eq f f ≡ true
@@ -60,3 +60,8 @@ counts_with kept e old new row room h more put f = put (feed_key f) ∙ go (same
 pub counts_of_none : (t : Table ℕ) → ((q : ℕ × ℕ) → row_in t q ≡ 0) → AreCounts [] t
 unfolding list_of
 counts_of_none t h f = h (feed_key f)
+
+-- rows that are read as before
+pub counts_same : (kept : List Entry) (old new : Table ℕ) → ((q : ℕ × ℕ) → row_in new q ≡ row_in old q)
+    → AreCounts kept old → AreCounts kept new
+counts_same kept old new same h f = same (feed_key f) ∙ h f

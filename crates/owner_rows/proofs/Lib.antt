@@ -1,9 +1,9 @@
-pub mod Few
 pub mod Keys
 pub mod Feeds
 pub mod Further
 pub mod Rows
 pub mod Counting
+pub mod Standing
 pub mod JobTelling
 pub mod JobFacts
 pub mod StartTelling
@@ -11,6 +11,7 @@ pub mod StreamTelling
 pub mod StationTelling
 pub mod AnswerTelling
 pub mod TotalTelling
+pub mod ReplyTelling
 pub mod ObjectTelling
 pub mod DepTelling
 pub mod Nothing

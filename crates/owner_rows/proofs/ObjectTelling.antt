@@ -326,3 +326,8 @@ pub no_object : (events : List Body) (b : Body) (n : ℕ) (r : ObjectRow) → ob
     → object_number_in b ≡ Some n → IsRowOfObject (events ++ b ∷ []) n r
 no_object events b n r e h =
     let s : ◌≡◌ {A = Option ℕ} None (Some n) = sym (ap (option_map object_number) e) ∙ h in absurd (cc)
+
+-- no more dependencies are added than there are events
+pub few_additions : (o : Obj) (events : List Body)
+    → length (flat_map (deps_added_by o) (commands events)) ≤ length events
+few_additions o events = omega (arith, few_added o (commands events), few_commands events)

@@ -2,9 +2,10 @@ pub mod Answers
 pub mod Counts
 pub mod Deps
 pub mod Jobs
-pub mod Left
 pub mod Objects
 pub mod Outcomes
+pub mod Replies
+pub mod Standing
 pub mod Starts
 pub mod Stations
 pub mod Streams

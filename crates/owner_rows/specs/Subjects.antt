@@ -2,7 +2,7 @@
 use Rattle.std.specs.Bool.{then_some}
 use Rattle.std.specs.Prelude.{ℕ, ◌*◌, ◌+◌, Bool, None, Option, Some, false, option_map, true}
 use Rattle.model.specs.Types.{Added, Body, Clock, Cmd, Confirm, Declined, Ended, Entry, Events, Failed, Feed, Fence}
-use Rattle.model.specs.Types.{AddDep, AltPri, Cancel, DelDep, Fulfilled, Job, Late, Obj, Release, ReplyOwn, Stream}
+use Rattle.model.specs.Types.{AddDep, AltPri, Cancel, DelDep, Fulfilled, Job, Late, Obj, Release, ReplyGlobal, ReplyOwn, Stream}
 use Rattle.model.specs.Types.{Launched, Limit, Lost, NewPlan, Obeyed, Orders, Released, Rerun, Started, Stop}
 use Rattle.model.specs.Types.{StreamEnded, StreamLimit, Total, UntilPassed}
 
@@ -97,3 +97,17 @@ start_in _ = None
 abbrev pub resource_in : Body → Option ℕ
 resource_in (Obeyed a k (Total r n)) = Some r
 resource_in _ = None
+
+-- a body is a plan
+abbrev pub is_plan : Body → Bool
+is_plan (NewPlan run cut carried docs) = true
+is_plan _ = false
+
+-- a workstation has one count of plans, that of 0
+abbrev pub plan_in : Body → Option ℕ
+plan_in b = then_some (is_plan b) 0
+
+-- the prompt of the network to which a body has the reply
+abbrev pub prompt_in : Body → Option ℕ
+prompt_in (Obeyed a k (ReplyGlobal p yes_)) = Some p
+prompt_in _ = None

@@ -8,13 +8,16 @@ use Rattle.owner_rows.specs.Counts.{AreCounts, feed_key}
 use Rattle.owner_rows.specs.Deps.{IsRowOfDep}
 use Rattle.owner_rows.specs.Jobs.{IsJobRow}
 use Rattle.owner_rows.specs.Objects.{IsRowOfObject}
+use Rattle.owner_rows.specs.Replies.{IsPlanRow, IsReplyRow}
+use Rattle.owner_rows.specs.Standing.{ArePlaces}
 use Rattle.owner_rows.specs.Starts.{IsStartRow}
 use Rattle.owner_rows.specs.Stations.{IsStationRow}
 use Rattle.owner_rows.specs.Streams.{IsStreamRow}
 use Rattle.owner_rows.specs.Subjects.{dep_number_in, issuer_in, job_in, key_in, object_number_in, resource_in}
-use Rattle.owner_rows.specs.Subjects.{start_in, station_in, stream_in}
+use Rattle.owner_rows.specs.Subjects.{plan_in, prompt_in, start_in, station_in, stream_in}
 use Rattle.owner_rows.specs.Tables.{ArePairRows, AreRows, has_pair_row, has_row}
 use Rattle.owner_rows.specs.Totals.{IsTotalRow}
+use Rattle.owner_rows.specs.declared.places.Places.{Places}
 use Rattle.owner_rows.specs.declared.tables.PairTable.{PairTable}
 use Rattle.owner_rows.specs.declared.tables.Table.{Table}
 use Rattle.owner_rows.specs.declared.told.Told.{Told}
@@ -35,6 +38,8 @@ pub record AreStationsTold (kept : List Entry) (t : StationTables) : Type 0 wher
   pub stations : AreRows IsStationRow kept t.stations
   pub answers : AreRows IsAnswerRow kept t.answers
   pub totals : AreRows IsTotalRow kept t.totals
+  pub plans : AreRows IsPlanRow kept t.plans
+  pub replies : AreRows IsReplyRow kept t.replies
 
 -- all tables do
 pub record AreTold (kept : List Entry) (t : Told) : Type 0 where
@@ -61,6 +66,8 @@ pub record AreStationsReady (t : StationTables) (e : Entry) : Type 0 where
   pub stations : HasRowFor station_in t.stations e
   pub answers : HasRowFor issuer_in t.answers e
   pub totals : HasRowFor resource_in t.totals e
+  pub plans : HasRowFor plan_in t.plans e
+  pub replies : HasRowFor prompt_in t.replies e
 
 pub record AreReady (t : Told) (e : Entry) : Type 0 where
   pub work : IsWorkReady t.work e
@@ -71,6 +78,7 @@ abbrev pub AreShort : List Entry → Type 0
 AreShort kept = (f : Feed) → length (list_of kept f) < 2 ^ 32
 
 -- what holds of the entries and of the tables beside them
-pub record AreKept (kept : List Entry) (t : Told) : Type 0 where
+pub record AreKept (kept : List Entry) (t : Told) (p : Places) : Type 0 where
   pub short : AreShort kept
   pub told : AreTold kept t
+  pub places : ArePlaces kept p

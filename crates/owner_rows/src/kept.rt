@@ -1,26 +1,36 @@
 //! The entries that a node took.
-ghost use Rattle.std.specs.Prelude.{◌≡◌, ◌+◌, ◌++◌, ◌<◌, ◌^◌, [], ◌∷◌, length, OnOk, OnErr};
+ghost use Rattle.std.specs.Prelude.{◌≡◌, ◌+◌, ◌++◌, ◌<◌, ◌^◌, [], ◌∷◌, ℕ, false, length, OnOk, OnErr};
 ghost use Rattle.std.specs.Prelude.{option_and_then};
 ghost use Rattle.std.specs.Option.{option_copied};
-ghost use Rattle.model.specs.Types.{Events, Orders};
+ghost use Rattle.model.specs.Types.{Orders};
 ghost use Rattle.model.specs.Words.{nth};
 ghost use Rattle.model.specs.History.{list_of};
-ghost use Rattle.model.specs.Facts.{commands};
 ghost use Rattle.model.specs.Turn.{ordered_command};
-ghost use Rattle.owner_rows.specs.Left.{bodies_left, commands_left};
+ghost use Rattle.owner_rows.specs.Standing.{body_in, found_at, has_issued};
 ghost use Rattle.owner_rows.specs.Told.{AreShort};
 
-use crate::bodies::{Bodies, Commands};
+use crate::places::Places;
 use crate::told::Told;
-use base_types::{Body, Cmd, Copied, Entry, Feed, Items, NoMemory, Ws};
+use base_types::{Body, Cmd, Copied, Entry, Feed, Growing, NoMemory, Ws};
 use std::alloc::Global;
 use std::marker::Model;
 
 /// The entries that a node took. A contract sees them as a list, in the order in which they were taken.
-#[derive(Drop)]
 pub struct Kept {
-    pub(crate) entries: Items<Entry>,
+    pub(crate) entries: Growing<Entry>,
     pub(crate) told: Told,
+    pub(crate) places: Places,
+}
+
+/// Written out, so that dropping one is a call for whoever owns it.
+impl Drop for Kept {
+    fn drop(self) {
+        let Kept {
+            entries: _entries,
+            told: _told,
+            places: _places,
+        } = self;
+    }
 }
 
 impl Model for Kept {
@@ -30,9 +40,9 @@ impl Model for Kept {
 
     ghost Value = { List Taken };
 
-    ghost view = { λ k. k.entries };
+    ghost view = { λ k. k.entries.items };
 
-    ghost invariant = { λ k. AreKept k.entries k.told };
+    ghost invariant = { λ k. AreKept k.entries.items k.told k.places };
 }
 
 impl Kept {
@@ -41,8 +51,9 @@ impl Kept {
         ensures { result ≡ [] }
     {
         Kept {
-            entries: Items::new(alloc),
+            entries: Growing::new(alloc),
             told: Told::new(alloc),
+            places: Places::new(alloc),
         }
     }
 
@@ -52,11 +63,24 @@ impl Kept {
         ensures ok { OnOk result (self.new ≡ self.old ++ e.now ∷ []) }
         ensures err { OnErr result (self.new ≡ self.old) }
     {
+        self.take_own(e.copy()?)
+    }
+
+    /// Takes an entry whose place is the next of its feed. Where memory runs out nothing changes.
+    pub fn take_own(&mut self, e: Entry) -> Result<(), NoMemory>
+        requires { e.place ≡ length (list_of self.old e.feed) + 1 }
+        ensures ok { OnOk result (self.new ≡ self.old ++ e ∷ []) }
+        ensures err { OnErr result (self.new ≡ self.old) }
+    {
         // A place that can be told keeps the feed short.
         let _place = e.place;
-        self.told.prepare(e)?;
-        self.entries.push(e.copy()?)?;
-        self.told.tell(e);
+        let addition = self.told.addition_key(&e);
+        self.told.prepare(&e)?;
+        self.places.prepare(&e, addition)?;
+        self.entries.reserve(1)?;
+        self.told.tell(&e);
+        self.places.tell(&e, self.entries.len(), addition);
+        self.entries.put(e);
         Ok(())
     }
 
@@ -75,22 +99,35 @@ impl Kept {
         self.told.stations.count(f)
     }
 
+    /// The body that stands at a place among the entries, from 0.
+    fn body_at(&self, place: usize) -> Option<&Body>
+        ensures { option_copied result ≡ found_at body_in self.now place }
+    {
+        match self.entries.get(place) {
+            None => None,
+            Some(entry) => Some(&entry.body),
+        }
+    }
+
     /// The body at a place of a feed, counted from 1. None where the feed has no such place.
-    #[tactic(auto, unfolding(model::specs::History::list_of, model::specs::Facts::commands))]
     pub fn entry(&self, f: &Feed, place: u32) -> Option<&Body>
         ensures { option_copied result ≡ nth (list_of self.now f.now) place }
     {
         if place == 0 {
             return None;
         }
-        let mut left = place - 1;
-        for body in self.bodies(f) {
-            if left == 0 {
-                return Some(body);
-            }
-            left -= 1;
+        match self.places.entry(f, place - 1) {
+            None => None,
+            Some(spot) => self.body_at(spot),
         }
-        None
+    }
+
+    /// Whether any orders that a workstation issued were taken.
+    pub fn has_issued(&self, a: Ws) -> bool
+        ensures issued { result ≡ has_issued self.now a }
+        ensures nothing { result ≡ false → (w : ℕ) → list_of self.now (Orders a w) ≡ [] }
+    {
+        self.places.has_issued(a)
     }
 
     /// The command of the order at a place, counted from 1, of the orders from a to w. None where there is no order.
@@ -101,30 +138,6 @@ impl Kept {
         match self.entry(&orders, place) {
             Some(Body::Order(command)) => Some(command),
             _ => None,
-        }
-    }
-
-    /// The bodies of a feed.
-    #[tactic(auto, unfolding(model::specs::History::list_of, model::specs::Facts::commands))]
-    pub(crate) fn bodies(&self, feed: &Feed) -> Bodies<'_>
-        ensures few { length (bodies_left result) < 2 ^ 32 }
-        ensures left { bodies_left result ≡ list_of self.now feed.now }
-    {
-        Bodies {
-            entries: self.entries.as_slice(),
-            feed: *feed,
-        }
-    }
-
-    /// The commands that the events of a workstation obeyed.
-    #[tactic(auto, unfolding(model::specs::History::list_of, model::specs::Facts::commands))]
-    pub(crate) fn commands(&self, w: Ws) -> Commands<'_>
-        ensures few { length (commands_left result) < 2 ^ 32 }
-        ensures left { commands_left result ≡ commands (list_of self.now (Events w)) }
-    {
-        Commands {
-            entries: self.entries.as_slice(),
-            feed: Feed::Events(w),
         }
     }
 }

@@ -4,10 +4,11 @@
 //! in the list of one feed. No fact takes memory. Beside the entries there is a row for each job, stream, workstation,
 //! dependency and so on, which each entry changes at one place (`specs::Told`): a fact is one look-up, or two. An entry
 //! takes its memory first, by blank rows that tell nothing, so that an entry for which there is none changes nothing.
+//! A body, and a dependency that was added, is found by a row that tells where among the entries it stands
+//! (`specs::Standing`).
 #![tactic(auto)]
 
 mod answers;
-mod bodies;
 mod counts;
 mod deps;
 mod job_facts;
@@ -16,6 +17,8 @@ mod kept;
 mod launches;
 mod object_facts;
 mod objects;
+mod places;
+mod replies;
 mod sayings;
 mod starts;
 mod station_facts;
@@ -26,7 +29,6 @@ mod subjects;
 mod tables;
 mod told;
 mod totals;
-mod walks;
 mod work_tables;
 
 pub use kept::Kept;

@@ -1,5 +1,6 @@
 //! What the events of a workstation tell of objects and their dependencies. The catalogue plays no part here.
-ghost use Rattle.std.specs.Prelude.{◌≡◌, ◌<◌, ◌^◌, ◌||◌, ℕ, flat_map, length, unwrap_or};
+ghost use Rattle.std.specs.Prelude.{◌≡◌, ◌<◌, ◌^◌, ◌||◌, ℕ, flat_map, length, slice_get, unwrap_or};
+ghost use Rattle.std.specs.Option.{option_copied};
 ghost use Rattle.model.specs.Types.{Events};
 ghost use Rattle.model.specs.History.{list_of};
 ghost use Rattle.model.specs.Facts.{commands, is_cancelled, is_ever_late, is_fulfilled, is_late, is_until_recorded};
@@ -7,11 +8,12 @@ ghost use Rattle.model.specs.Facts.{own_reply, priority};
 ghost use Rattle.model.specs.Dependencies.{deps_added_by, is_waived_by};
 ghost use Rattle.owner_rows.specs.Deps.{IsDepRow};
 ghost use Rattle.owner_rows.specs.Objects.{IsObjectRow, is_behind};
+ghost use Rattle.owner_rows.specs.Standing.{added_by, dep_in, found_at};
 
 use crate::deps::DepRow;
 use crate::kept::Kept;
 use crate::objects::ObjectRow;
-use base_types::{Obj, Ws};
+use base_types::{Body, Cmd, Dep, Obj, Ws};
 
 /// A dependency was deleted, or stands before a release.
 fn waives(dep: DepRow, object: ObjectRow, i: u16, written: u128) -> bool
@@ -19,6 +21,16 @@ fn waives(dep: DepRow, object: ObjectRow, i: u16, written: u128) -> bool
     ensures { result ≡ (dep.deleted || is_behind i written object.freed) }
 {
     dep.deleted || object.is_behind(i, written)
+}
+
+/// The dependency that the body adds.
+fn dep_of(body: &Body) -> Option<&Dep>
+    ensures { option_copied result ≡ added_by body.now }
+{
+    match body {
+        Body::Obeyed(_, _, Cmd::AddDep(_, dep)) => Some(dep),
+        _ => None,
+    }
 }
 
 impl Kept {
@@ -100,5 +112,31 @@ impl Kept {
         ensures { result ≡ own_reply o.now i (list_of self.now (Events w)) }
     {
         self.dep_at(w, o, i).reply
+    }
+
+    /// The dependency that stands at a place among the entries, from 0.
+    fn dep_added_at(&self, place: usize) -> Option<&Dep>
+        ensures { option_copied result ≡ found_at dep_in self.now place }
+    {
+        match self.entries.get(place) {
+            None => None,
+            Some(entry) => dep_of(&entry.body),
+        }
+    }
+
+    /// A dependency that a command of w added to an object, counted from 0 among these.
+    pub fn added_dep_at(&self, w: Ws, o: &Obj, place: usize) -> Option<&Dep>
+        ensures { option_copied result ≡
+            slice_get (flat_map (deps_added_by o.now) (commands (list_of self.now (Events w)))) place }
+    {
+        // The entries of a feed are few, and so are its commands.
+        let _entries = self.entries();
+        if place >= 4294967296 {
+            return None;
+        }
+        match self.places.addition(w, o, place as u32) {
+            None => None,
+            Some(spot) => self.dep_added_at(spot),
+        }
     }
 }

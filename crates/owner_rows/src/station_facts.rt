@@ -2,7 +2,7 @@
 ghost use Rattle.std.specs.Prelude.{◌≡◌, ℕ, unwrap_or};
 ghost use Rattle.model.specs.Types.{Events};
 ghost use Rattle.model.specs.History.{list_of};
-ghost use Rattle.model.specs.Facts.{answered, fence, is_stopped, limit, now, total};
+ghost use Rattle.model.specs.Facts.{answered, fence, global_reply, is_stopped, limit, now, total};
 ghost use Rattle.model.specs.NewPlan.{last_run};
 ghost use Rattle.owner_rows.specs.Stations.{TellsStation};
 
@@ -66,5 +66,12 @@ impl Kept {
             unwrap_or result defined ≡ total resource defined (list_of self.now (Events w)) }
     {
         self.told.stations.total(w, resource)
+    }
+
+    /// The last reply to a prompt of the network since the last plan, if there is one.
+    pub fn global_reply(&self, prompt: u16) -> Option<bool>
+        ensures { result ≡ global_reply prompt (list_of self.now (Events 0)) }
+    {
+        self.told.stations.reply(Ws(0), prompt)
     }
 }

@@ -2,8 +2,8 @@
 ghost use Rattle.std.specs.Prelude.{◌≡◌, option_map};
 ghost use Rattle.std.specs.Option.{option_copied};
 ghost use Rattle.owner_rows.specs.Subjects as spec;
-ghost use Rattle.owner_rows.specs.Subjects.{dep_in, dep_number_in, is_of_station, issuer_in, job_in, key_in};
-ghost use Rattle.owner_rows.specs.Subjects.{object_in, object_number_in, resource_in, start_in, station_in, stream_in};
+ghost use Rattle.owner_rows.specs.Subjects.{dep_in, dep_number_in, is_of_station, is_plan, issuer_in, job_in, key_in};
+ghost use Rattle.owner_rows.specs.Subjects.{object_in, object_number_in, plan_in, prompt_in, resource_in, start_in, station_in, stream_in};
 
 use base_types::{Body, Cmd, Entry, Feed, Obj};
 
@@ -225,6 +225,55 @@ pub(crate) fn resource_key(e: &Entry) -> Option<(u16, u64)>
         Feed::Events(w) => match resource_in(&e.body) {
             None => None,
             Some(r) => Some((w.0, u64::from(r))),
+        },
+    }
+}
+
+/// The body is a plan.
+fn is_plan(body: &Body) -> bool
+    ensures { result ≡ is_plan body.now }
+{
+    match body {
+        Body::NewPlan(_, _, _, _) => true,
+        _ => false,
+    }
+}
+
+/// The workstation whose plans are one more by the entry.
+pub(crate) fn plan_key(e: &Entry) -> Option<(u16, u64)>
+    ensures { result ≡ key_in plan_in e.now }
+{
+    match &e.feed {
+        Feed::Orders(_, _) => None,
+        Feed::Events(w) => {
+            if is_plan(&e.body) {
+                Some((w.0, 0))
+            } else {
+                None
+            }
+        }
+    }
+}
+
+/// The prompt of the network to which the body has the reply.
+fn prompt_in(body: &Body) -> Option<u16>
+    ensures { result ≡ prompt_in body.now }
+{
+    match body {
+        Body::Obeyed(_, _, Cmd::ReplyGlobal(p, _)) => Some(*p),
+        _ => None,
+    }
+}
+
+/// The workstation and the prompt.
+pub(crate) fn prompt_key(e: &Entry) -> Option<(u16, u64)>
+    ensures { result ≡ key_in prompt_in e.now }
+{
+    match &e.feed {
+        Feed::Orders(_, _) => None,
+        Feed::Events(w) => match prompt_in(&e.body) {
+            None => None,
+            Some(p) => Some((w.0, u64::from(p))),
         },
     }
 }

@@ -7,10 +7,19 @@ use indexmap::IndexMap;
 use std::alloc::Global;
 
 /// Rows by workstation and number. Where no row was put, the blank one counts.
-#[derive(Drop)]
 pub(crate) struct Table<R> {
     pub(crate) rows: IndexMap<(u16, u64), R>,
     pub(crate) blank: R,
+}
+
+/// Written out, so that dropping one is a call for whoever owns it.
+impl<R: Drop> Drop for Table<R> {
+    fn drop(self) {
+        let Table {
+            rows: _rows,
+            blank: _blank,
+        } = self;
+    }
 }
 
 impl<R: Copy> Table<R> {
@@ -68,10 +77,19 @@ impl<R: Copy> Table<R> {
 }
 
 /// Rows by workstation and two numbers. Where no row was put, the blank one counts.
-#[derive(Drop)]
 pub(crate) struct PairTable<R> {
     pub(crate) rows: IndexMap<(u16, (u64, u32)), R>,
     pub(crate) blank: R,
+}
+
+/// Written out, so that dropping one is a call for whoever owns it.
+impl<R: Drop> Drop for PairTable<R> {
+    fn drop(self) {
+        let PairTable {
+            rows: _rows,
+            blank: _blank,
+        } = self;
+    }
 }
 
 impl<R: Copy> PairTable<R> {

@@ -2,18 +2,30 @@
 ghost use Rattle.std.specs.Prelude.{◌≡◌, ◌+◌, ◌<◌, ◌^◌, ◌++◌, [], ◌∷◌, List, OnOk, length};
 ghost use Rattle.model.specs.Types.{Entry as Taken};
 ghost use Rattle.model.specs.History.{list_of};
+ghost use Rattle.owner_rows.specs.Standing.{addition_in};
 ghost use Rattle.owner_rows.specs.Told.{AreReady, AreTold};
 
+use crate::places::added_to;
 use crate::station_tables::StationTables;
+use crate::subjects::object_number;
 use crate::work_tables::WorkTables;
-use base_types::{Entry, NoMemory};
+use base_types::{Entry, Feed, NoMemory};
 use std::alloc::Global;
 
 /// What the entries tell, in tables by workstation and number.
-#[derive(Drop)]
 pub(crate) struct Told {
     pub(crate) work: WorkTables,
     pub(crate) stations: StationTables,
+}
+
+/// Written out, so that dropping one is a call for whoever owns it.
+impl Drop for Told {
+    fn drop(self) {
+        let Told {
+            work: _work,
+            stations: _stations,
+        } = self;
+    }
 }
 
 impl Told {
@@ -24,6 +36,23 @@ impl Told {
         Told {
             work: WorkTables::new(alloc),
             stations: StationTables::new(alloc),
+        }
+    }
+
+    /// The key of the dependency that an entry adds, before the entry is told.
+    pub(crate) fn addition_key(&self, e: &Entry) -> Option<(u16, (u64, u32))>
+        ensures { (kept : List Taken) → AreTold kept self.now → result ≡ addition_in kept e.now }
+    {
+        match &e.feed {
+            Feed::Orders(_, _) => None,
+            Feed::Events(w) => match added_to(&e.body) {
+                None => None,
+                Some(o) => {
+                    let n = object_number(o);
+                    let row = self.work.objects.row(w.0, n);
+                    Some((w.0, (n, row.added)))
+                }
+            },
         }
     }
 

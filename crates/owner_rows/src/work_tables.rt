@@ -17,7 +17,6 @@ use base_types::{Entry, JobNo, NoMemory, Obj, StreamNo, Ws};
 use std::alloc::Global;
 
 /// What the entries tell of jobs, streams and their dependencies.
-#[derive(Drop)]
 pub(crate) struct WorkTables {
     pub(crate) jobs: Table<JobRow>,
     /// By workstation, job and launch.
@@ -26,6 +25,19 @@ pub(crate) struct WorkTables {
     pub(crate) objects: Table<ObjectRow>,
     /// By workstation, object and dependency.
     pub(crate) deps: PairTable<DepRow>,
+}
+
+/// Written out, so that dropping one is a call for whoever owns it.
+impl Drop for WorkTables {
+    fn drop(self) {
+        let WorkTables {
+            jobs: _jobs,
+            starts: _starts,
+            streams: _streams,
+            objects: _objects,
+            deps: _deps,
+        } = self;
+    }
 }
 
 impl WorkTables {

@@ -13,6 +13,7 @@ loop-i-preserved c =
     in
     record {
       streams = c.in_ok-add_job.ensures.streams ∙ c.loop-i.invariant.streams;
+      known = c.in_ok-add_job.ensures.known;
       jobs =
           λ kept known found placed.
           subst (λ (l : List StreamJob). AreJobSpots kept c.add_job.new.self.jobs (first_jobs_among l))

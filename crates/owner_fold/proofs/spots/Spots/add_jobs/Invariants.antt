@@ -1,6 +1,8 @@
 use Rattle.std.proofs.Common.{◌≡◌, ◌++◌, List, Some, map, take}
 use Rattle.model.specs.Types.{Entry}
 use Rattle.model.specs.Catalogue.{StreamJob}
+use Rattle.owner_fold.specs.Numbers.{ArePlaces}
+use Rattle.owner_fold.specs.declared.spots.JobSpot.{JobSpot}
 use Rattle.owner_fold.specs.Spots.{AreJobSpots, doc_at, first_jobs_among, stream_job}
 use Rattle.owner_fold.proofs.spots.Spots.add_jobs.Given as goal
 
@@ -8,6 +10,7 @@ abbrev pub invariant-loop-i : goal.invariant-loop-i
 invariant-loop-i l =
     record {
       streams : l.self.streams ≡ l.initial.self.streams;
+      known : ArePlaces (map (λ (p : JobSpot). p.number) l.self.jobs) l.numbers;
       jobs : (kept : List Entry) (known : List StreamJob) → doc_at kept l.spot ≡ Some l.doc
           → AreJobSpots kept l.initial.self.jobs (first_jobs_among known)
           → AreJobSpots kept l.self.jobs (first_jobs_among (known ++ map (stream_job l.doc) (take l.i l.job-items)));

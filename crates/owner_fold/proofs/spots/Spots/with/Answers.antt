@@ -9,9 +9,14 @@ use Rattle.owner_fold.proofs.spots.Spots.with.Goals as goal
 
 pub loop-i-init : goal.loop-i-init
 loop-i-init c =
-    spots_copied c.args.entries.now (c.args.e.now ∷ [])
-    (flat_map docs_in (list_of c.args.entries.now (Events 0))) c.args.self.now c.in_ok-copy.field-0
-    c.in_ok-copy-2.field-0 c.requires c.in_ok-copy.ensures c.in_ok-copy-2.ensures
+    record {
+      spots =
+          spots_copied c.args.entries.now (c.args.e.now ∷ [])
+          (flat_map docs_in (list_of c.args.entries.now (Events 0))) c.args.self.now c.in_ok-copy.field-0
+          c.in_ok-copy-2.field-0 c.requires c.in_ok-copy.ensures c.in_ok-copy-2.ensures;
+      streams = c.in_ok-streams.ensures;
+      jobs = c.in_ok-jobs.ensures;
+    }
 
 pub loop-i-preserved : goal.loop-i-preserved
 loop-i-preserved c =
@@ -20,11 +25,17 @@ loop-i-preserved c =
     ∙ item_at c.docs_of-doc-items.result.now c.loop-i.i c.doc-item.result c.loop-i-test.true c.doc-item.is
     in
     let before : List StreamDoc = flat_map docs_in (list_of c.args.entries.now (Events 0)) in
-    subst (λ (docs : List StreamDoc). AreSpotsOf (c.args.entries.now ++ c.args.e.now ∷ []) docs c.add.new.self)
-    (append_assoc before (take c.loop-i.i (docs_in c.args.e.now.body)) (c.doc-item.result ∷ [])
-    ∙ ap (λ (l : List StreamDoc). before ++ l)
-    (sym (take_further (docs_in c.args.e.now.body) c.loop-i.i c.doc-item.result item)))
-    (c.in_ok-add.ensures (c.args.entries.now ++ c.args.e.now ∷ [])
-    (before ++ take c.loop-i.i (docs_in c.args.e.now.body))
-    (last_doc c.args.entries.now c.args.e.now c.loop-i.i c.doc-item.result.no c.doc-item.result item)
-    c.loop-i.invariant)
+    record {
+      spots =
+          subst
+          (λ (docs : List StreamDoc). AreSpotsOf (c.args.entries.now ++ c.args.e.now ∷ []) docs c.add.new.self)
+          (append_assoc before (take c.loop-i.i (docs_in c.args.e.now.body)) (c.doc-item.result ∷ [])
+          ∙ ap (λ (l : List StreamDoc). before ++ l)
+          (sym (take_further (docs_in c.args.e.now.body) c.loop-i.i c.doc-item.result item)))
+          (c.in_ok-add.ensures.spots (c.args.entries.now ++ c.args.e.now ∷ [])
+          (before ++ take c.loop-i.i (docs_in c.args.e.now.body))
+          (last_doc c.args.entries.now c.args.e.now c.loop-i.i c.doc-item.result.no c.doc-item.result item)
+          c.loop-i.invariant.spots);
+      streams = c.in_ok-add.ensures.streams;
+      jobs = c.in_ok-add.ensures.jobs;
+    }

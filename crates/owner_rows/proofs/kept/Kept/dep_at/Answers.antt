@@ -8,5 +8,5 @@ use Rattle.owner_rows.proofs.kept.Kept.dep_at.Goals as goal
 pub returns : goal.returns
 returns c =
     subst (λ (l : List Entry). IsDepRow (list_of l (Events c.args.w)) c.args.o.now c.args.i c.dep.result) c.self.view_is
-    (subst (IsDepRow (list_of c.self.inside.entries (Events c.args.w)) c.args.o.now c.args.i) (sym c.dep.ensures)
+    (subst (IsDepRow (list_of c.self.inside.entries.items (Events c.args.w)) c.args.o.now c.args.i) (sym c.dep.ensures)
     (c.self.invariant.told.work.deps c.args.w (object_number c.args.o.now, c.args.i) c.args.o.now refl))

@@ -6,4 +6,6 @@ returns c kept room h = record {
   stations = c.tell_station.ensures kept room h.stations;
   answers = c.tell_answer.ensures kept room h.answers;
   totals = c.tell_total.ensures kept room h.totals;
+  plans = c.tell_plan.ensures kept room h.plans;
+  replies = c.tell_reply.ensures kept room h.plans h.replies;
 }

@@ -4,7 +4,7 @@ use Rattle.std.proofs.Common.{length-append, map, option_map, refl, subst, suc, 
 use Rattle.std.proofs.lemmas.Bool.{lt-ltb}
 use Rattle.std.proofs.lemmas.List.{length-map}
 use Rattle.std.proofs.lemmas.Option.{slice_get-map, slice_get_within}
-use Rattle.std.specs.Prelude.{◌⊎◌, nat_lt, slice_get}
+use Rattle.std.specs.Prelude.{◌⊎◌, IfOk, Result, nat_lt, slice_get}
 use Rattle.model.specs.Types.{Entry, Feed, Net}
 use Rattle.model.specs.Network.{node_count}
 use Rattle.model.specs.History.{list_of}
@@ -12,10 +12,12 @@ use Rattle.model.specs.Restore.{first_wrong, restore_fault}
 use Rattle.model.specs.World as model
 use Rattle.model.specs.World.{empty_world, run, view_at}
 use Rattle.model.specs.Kept.{HasKept}
+use Rattle.base_types.specs.declared.NoMemory.{NoMemory}
+use Rattle.agent_core.specs.Nodes.{NodeState}
 use Rattle.network_world.specs.Stations.{Journal, Lane, Station, WorldState}
 use Rattle.network_world.specs.Standing.{IsReached, IsWorld, JournalStandsFor, StandsFor, StationStandsFor}
 use Rattle.network_world.specs.Lanes as lanes
-use Rattle.network_world.specs.Moves.{AreNew, IsNew}
+use Rattle.network_world.specs.Moves.{AreNew, IsAgain, IsNew}
 use Rattle.network_world.specs.declared.lanes.Lane as raw
 use Rattle.network_world.proofs.Lists.{some_map}
 
@@ -145,3 +147,17 @@ pub new_is_world : (net : Net) (stations : List Station) (j : Journal) → AreNe
     → j ≡ record { history = []; starts = []; taken = 0; sent = 0; kept = 0 }
     → IsWorld (record { net = net; stations = stations; journal = j })
 new_is_world net stations j h is = record { world = empty_world; stands = new_world net stations j h is }
+
+pub lane_blank : (l : raw.Lane) → l.packets.items ≡ [] → l.reached ≡ 0
+    → lanes.seen l ≡ record { packets = []; reached = 0 }
+lane_blank l none zero_ = λ i. record { packets = none i; reached = zero_ i }
+
+-- a node that begins again from what another holds
+pub again_of : (n m : NodeState) (net : Net) (me : ℕ) (kept : List Entry) (r : Result NodeState NoMemory) → n ≡ m
+    → net ≡ n.net → me ≡ n.me → kept ≡ n.kept → IfOk r (λ a. IsAgain net me kept a)
+    → IfOk r (λ a. IsAgain m.net m.me m.kept a)
+again_of n m net me kept r same at_net at_me at_kept h =
+    subst (λ (k : NodeState). IfOk r (λ a. IsAgain k.net k.me k.kept a)) same
+    (subst (λ (l : List Entry). IfOk r (λ a. IsAgain n.net n.me l a)) at_kept
+    (subst (λ (w : ℕ). IfOk r (λ a. IsAgain n.net w kept a)) at_me
+    (subst (λ (t : Net). IfOk r (λ a. IsAgain t me kept a)) at_net h)))

@@ -19,7 +19,7 @@ use Rattle.agent_core.specs.declared.StepFault as node
 use Rattle.agent_core.specs.declared.StepFault.TheVariants as fault
 use Rattle.carry_forward.specs.declared.CarryFault.TheVariants as carry
 use Rattle.network_world.specs.Stations.{Journal, Station, WorldState, station_of}
-use Rattle.network_world.specs.Refusals.{Tells, limit_at}
+use Rattle.network_world.specs.Refusals.{Tells, limit_at, refused_by}
 use Rattle.network_world.specs.Standing.{IsReached, IsRefusalDue, IsRefusedFor, NodeStandsFor, StandsFor}
 use Rattle.network_world.specs.Moves.{IsInputDue, stop}
 use Rattle.network_world.specs.Journals.{IsLimitDue}
@@ -168,3 +168,15 @@ limit_refuses s st (refused.Limit l) by due = λ x old. by x l old (same_limit s
 limit_refuses s st refused.NoPacket by due = absurd due
 limit_refuses s st (refused.Step f) by due = absurd due
 limit_refuses s st refused.NoMemory by due = absurd due
+
+-- a fault that is no want of memory is told
+pub other_fault : (f : node.StepFault) → (f ≡ fault.NoMemory → ⊥) → refused_by f ≡ refused.Step f
+other_fault fault.NotInNetwork h = refl
+other_fault fault.NotNeighbour h = refl
+other_fault fault.NotMaster h = refl
+other_fault fault.NoProcess h = refl
+other_fault fault.NoDep h = refl
+other_fault fault.PlaceSpent h = refl
+other_fault (fault.Carry cause) h = refl
+other_fault fault.TooLong h = refl
+other_fault fault.NoMemory h = absurd (h refl)

@@ -2,6 +2,7 @@ pub mod Lists
 pub mod Sending
 pub mod Starting
 pub mod Noting
+pub mod Stopped
 pub mod After
 pub mod Effects
 pub mod Taking

@@ -7,7 +7,7 @@ use Rattle.std.proofs.lemmas.List.Elements.{filter_map-append}
 use Rattle.std.proofs.lemmas.List.Sums.{count_by-le-length, count_by_more_no, count_by_more_yes}
 use Rattle.std.specs.Option.{option_map_or, option_to_list}
 use Rattle.std.specs.Prelude.{count_by, filter_map, nat_le}
-use Rattle.model.specs.Types.{Entry, Input, LimitName, Net, Out, Start}
+use Rattle.model.specs.Types.{Entry, Input, Launch, LimitName, Net, Out, Packet, Send, Start}
 use Rattle.model.specs.Words.{first_of_these}
 use Rattle.model.specs.Network.{node_count}
 use Rattle.model.specs.Sizes.{entry_size}
@@ -24,11 +24,9 @@ use Rattle.network_world.proofs.Starting.{step_starts_one, step_weighs}
 
 -- one start more
 one_start : (w : ℕ) (out : Out) → filter_map (start_in w) (out ∷ []) ≡ option_to_list (start_in w out)
-one_start w out = go (start_in w out)
-  where
-    go : (o : Option Start) → elim o as (λ _. List Start) [ None ↦ [] | Some s ↦ s ∷ [] ] ≡ option_to_list o
-    go None = refl
-    go (Some s) = refl
+one_start w (Launch j n work) = refl
+one_start w (Out.Kill j n) = refl
+one_start w (Send to p) = refl
 
 pub starts_next : (w : ℕ) (outs : List Out) (i : ℕ) (out : Out) (old mid new : List Start) → i < length outs
     → out ≡ get_or outs i out → mid ≡ old ++ filter_map (start_in w) (take i outs)
@@ -198,3 +196,11 @@ mailed_noted w outs made old mid kept h weighed =
       sent_ = h.sent_;
       kept_ = weighed;
     }
+
+pub is_one_send : (out : Out) (to : ℕ) (p : Packet) → out ≡ Send to p → is_send out ≡ true
+is_one_send out to p e = ap is_send e
+
+pub is_no_send : (out : Out) → ((to : ℕ) (p : Packet) → out ≡ Send to p → ⊥) → is_send out ≡ false
+is_no_send (Launch j n work) h = refl
+is_no_send (Out.Kill j n) h = refl
+is_no_send (Send to p) h = absurd (h to p refl)

@@ -219,3 +219,10 @@ room_all lanes i h room = λ b l e. room b l (omega (arith, h, within lanes b l 
 pub room_enough : (outs : List Out) (lanes : List raw.Lane) → HaveRoom 8 lanes
     → ((to : ℕ) → length (packets_to to outs) ≤ 8) → HaveRoomFor outs lanes
 room_enough outs lanes room few = λ b l e. omega (arith, room b l e, few b)
+
+-- what is no send goes to nobody
+pub sends_nothing : (out : Out) → ((to : ℕ) (p : Packet) → out ≡ Send to p → ⊥) → (b : ℕ)
+    → packets_to b (out ∷ []) ≡ []
+sends_nothing (Launch j n work) h b = refl
+sends_nothing (Out.Kill j n) h b = refl
+sends_nothing (Send to p) h b = absurd (h to p refl)

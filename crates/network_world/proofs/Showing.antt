@@ -1,27 +1,30 @@
 -- What a world shows.
 use Rattle.std.proofs.Common.{◌≡◌, ◌≢◌, ◌∷◌, ◌<◌, ◌≤◌, ◌+◌, ◌*◌, ◌^◌, ◌++◌, ◌∙◌, [], ℕ, Bool, List, None, Option, Some, ap, append-nil}
-use Rattle.std.proofs.Common.{append_assoc, arith, cond, flat_map, length, map, option_map, refl, subst, suc, sym, take, true, zero}
+use Rattle.std.proofs.Common.{append_assoc, arith, cond, flat_map, get_or, length, map, option_map, refl, subst, suc, sym, take, true, zero}
 use Rattle.std.proofs.lemmas.Bool.{lt-ltb}
 use Rattle.std.proofs.lemmas.Grind.{flat_map-append}
 use Rattle.std.proofs.lemmas.List.{length-take-le, map-append}
 use Rattle.std.proofs.lemmas.List.Elements.{filter-append}
-use Rattle.std.specs.Prelude.{filter, nat_lt}
+use Rattle.std.proofs.lemmas.Option.{slice_get_read}
+use Rattle.std.specs.Prelude.{filter, nat_lt, slice_get}
 use Rattle.base_types.specs.declared.FeedCount.{FeedCount}
 use Rattle.base_types.specs.declared.NodePart.{NodePart}
 use Rattle.base_types.specs.declared.PairCount.{PairCount}
-use Rattle.model.specs.Types.{Events, Feed, Net, Orders, Packet}
+use Rattle.base_types.specs.declared.ReportParts.{ReportParts}
+use Rattle.model.specs.Types.{Entry, Events, Feed, Net, Orders, Packet, Start, WorldStep}
 use Rattle.model.specs.Words.{below, numbers_from}
 use Rattle.model.specs.Network.{node_count}
 use Rattle.model.specs.History.{list_of}
 use Rattle.model.specs.Forwarding.{feeds}
 use Rattle.model.specs.World as model
-use Rattle.model.specs.World.{view_at}
+use Rattle.model.specs.World.{empty_world, run, view_at}
+use Rattle.model.specs.Sound.{IsSound}
 use Rattle.symphony_view.specs.Listings.{listing_of}
 use Rattle.agent_core.specs.Nodes.{NodeState, view_in}
 use Rattle.network_world.specs.Stations.{Lane, Station, WorldState, lane_of, station_of}
 use Rattle.network_world.specs.Standing.{IsReached, IsWorld, NodeStandsFor, StandsFor}
 use Rattle.network_world.specs.Lanes as lanes
-use Rattle.network_world.specs.Parts.{held_at, held_by, node_part, pair, pairs_among, pairs_from}
+use Rattle.network_world.specs.Parts.{held_at, held_by, node_part, pair, pairs_among, pairs_from, parts_of}
 use Rattle.network_world.specs.declared.lanes.Lane as raw
 use Rattle.network_world.proofs.Lists.{same_some, there_is}
 use Rattle.network_world.proofs.Delivering.{lane_there}
@@ -86,21 +89,34 @@ pub node_shown : (s : WorldState) (x : model.World) (w : ℕ) (t : Station) → 
 node_shown s x w t old at_w = (old.stations_ w t at_w).node_
 
 -- pairs with packets
+abbrev pub pair_with : ℕ → ℕ → ℕ → PairCount
+pair_with a b n = record { from = a; to = b; count = n }
+
+abbrev pub feed_with : Feed → ℕ → FeedCount
+feed_with f n = record { feed = f; count = n }
+
+abbrev pub part_with : ℕ → List FeedCount → List ℕ → NodePart
+part_with w holds listing = record { ws = w; holds = holds; listing = listing }
+
+abbrev pub parts_with : List Entry → List Start → List PairCount → List NodePart → ReportParts
+parts_with events starts packets nodes =
+    record { events = events; starts = starts; packets = packets; nodes = nodes }
+
 pub pair_none : (x : model.World) (a b count : ℕ) → count ≡ length (x.packets a b) → count ≡ 0
     → pairs_from x a (b ∷ []) ≡ []
 pair_none x a b count is none =
-    ap (λ (n : ℕ). filter (λ (p : PairCount). nat_lt 0 p.count) (record { from = a; to = b; count = n } ∷ []))
+    ap (λ (n : ℕ). filter (λ (p : PairCount). nat_lt 0 p.count) (pair_with a b n ∷ []))
     (sym is ∙ none)
 
 one_pair : (p : PairCount) → 0 < p.count → filter (λ (q : PairCount). nat_lt 0 q.count) (p ∷ []) ≡ p ∷ []
 one_pair p h = rw (lt-ltb 0 p.count h) refl
 
 pub pair_some : (x : model.World) (a b count : ℕ) → count ≡ length (x.packets a b) → count ≢ 0
-    → pairs_from x a (b ∷ []) ≡ record { from = a; to = b; count = count } ∷ []
+    → pairs_from x a (b ∷ []) ≡ pair_with a b count ∷ []
 pair_some x a b count is some =
     let p : PairCount = pair x a b in
     one_pair p (omega (arith, is, some))
-    ∙ ap (λ (n : ℕ). record { from = a; to = b; count = n } ∷ []) (sym is)
+    ∙ ap (λ (n : ℕ). pair_with a b n ∷ []) (sym is)
 
 pairs_append : (x : model.World) (a : ℕ) (bs cs : List ℕ) → pairs_from x a (bs ++ cs) ≡ pairs_from x a bs ++ pairs_from x a cs
 pairs_append x a bs cs =
@@ -130,25 +146,25 @@ rows_next x n a mid new before now =
 pub feed_none : (node : NodeState) (f : Feed) (count : ℕ) → count ≡ length (list_of node.kept f) → count ≡ 0
     → held_by node (f ∷ []) ≡ []
 feed_none node f count is none =
-    ap (λ (n : ℕ). filter (λ (c : FeedCount). nat_lt 0 c.count) (record { feed = f; count = n } ∷ []))
+    ap (λ (n : ℕ). filter (λ (c : FeedCount). nat_lt 0 c.count) (feed_with f n ∷ []))
     (sym is ∙ none)
 
 one_feed : (c : FeedCount) → 0 < c.count → filter (λ (d : FeedCount). nat_lt 0 d.count) (c ∷ []) ≡ c ∷ []
 one_feed c h = rw (lt-ltb 0 c.count h) refl
 
 pub feed_some : (node : NodeState) (f : Feed) (count : ℕ) → count ≡ length (list_of node.kept f) → count ≢ 0
-    → held_by node (f ∷ []) ≡ record { feed = f; count = count } ∷ []
+    → held_by node (f ∷ []) ≡ feed_with f count ∷ []
 feed_some node f count is some =
-    let c : FeedCount = record { feed = f; count = length (list_of node.kept f) } in
-    one_feed c (omega (arith, is, some)) ∙ ap (λ (n : ℕ). record { feed = f; count = n } ∷ []) (sym is)
+    let c : FeedCount = feed_with f (length (list_of node.kept f)) in
+    one_feed c (omega (arith, is, some)) ∙ ap (λ (n : ℕ). feed_with f n ∷ []) (sym is)
 
 pub held_append : (node : NodeState) (fs gs : List Feed) → held_by node (fs ++ gs) ≡ held_by node fs ++ held_by node gs
 held_append node fs gs =
     ap (filter (λ (c : FeedCount). nat_lt 0 c.count))
-    (map-append (λ f. record { feed = f; count = length (list_of node.kept f) }) fs gs)
+    (map-append (λ f. feed_with f (length (list_of node.kept f))) fs gs)
     ∙ filter-append (λ (c : FeedCount). nat_lt 0 c.count)
-    (map (λ f. record { feed = f; count = length (list_of node.kept f) }) fs)
-    (map (λ f. record { feed = f; count = length (list_of node.kept f) }) gs)
+    (map (λ f. feed_with f (length (list_of node.kept f))) fs)
+    (map (λ f. feed_with f (length (list_of node.kept f))) gs)
 
 pub feeds_next : (node : NodeState) (fs gs : List Feed) (old mid new : List FeedCount) → mid ≡ old ++ held_by node fs
     → new ≡ mid ++ held_by node gs → new ≡ old ++ held_by node (fs ++ gs)
@@ -207,7 +223,7 @@ pub held_shown : (net : Net) (x : model.World) (w : ℕ) (node : NodeState)
     → held_by node (feeds node.net) ≡ held_at net x w
 held_shown net x w node within h =
     λ i. filter (λ (c : FeedCount). nat_lt 0 c.count)
-    (map (λ (f : Feed). record { feed = f; count = held_count net x w node within h f i }) (feeds (h.net_ i)))
+    (map (λ (f : Feed). feed_with f (held_count net x w node within h f i)) (feeds (h.net_ i)))
 
 pub listing_shown : (net : Net) (x : model.World) (w : ℕ) (node : NodeState) → NodeStandsFor net x w node
     → listing_of node.net (view_in node) ≡ listing_of net (view_at x w)
@@ -219,13 +235,9 @@ listing_shown net x w node h = λ i. listing_of (h.net_ i) (held i)
 pub part_shown : (net : Net) (x : model.World) (w : ℕ) (node : NodeState) (holds : List FeedCount) (listing : List ℕ)
     → ((v : ℕ) (f : Feed) → x.holdings v f ≤ length (list_of x.history f)) → NodeStandsFor net x w node
     → holds ≡ held_by node (feeds node.net) → listing ≡ listing_of node.net (view_in node)
-    → record { ws = w; holds = holds; listing = listing } ≡ node_part net x w
+    → part_with w holds listing ≡ node_part net x w
 part_shown net x w node holds listing within h is lists =
-    λ i. record {
-      ws = w;
-      holds = (is ∙ held_shown net x w node within h) i;
-      listing = (lists ∙ listing_shown net x w node h) i;
-    }
+    λ i. part_with w ((is ∙ held_shown net x w node within h) i) ((lists ∙ listing_shown net x w node h) i)
 
 pub parts_next : (net : Net) (x : model.World) (w : ℕ) (mid new : List NodePart) (part : NodePart)
     → mid ≡ map (node_part net x) (below w) → part ≡ node_part net x w → new ≡ mid ++ part ∷ []
@@ -235,3 +247,28 @@ parts_next net x w mid new part before here now =
     ∙ ap (λ (p : NodePart). map (node_part net x) (below w) ++ p ∷ []) here
     ∙ sym (map-append (node_part net x) (below w) (w ∷ []))
     ∙ ap (map (node_part net x)) (sym (below_more w))
+
+-- an item that was read at its place is there
+pub item_there : {X : Type 0} (xs : List X) (i : ℕ) (x : X) → i < length xs → x ≡ get_or xs i x → slice_get xs i ≡ Some x
+item_there xs i x h is = slice_get_read xs (length xs) i x refl h is
+
+-- the history of a world is sound
+pub sound_here : (s : WorldState) → IsWorld s
+    → ((net : Net) (steps : List WorldStep)
+    → IsSound net (run net steps empty_world).history (run net steps empty_world).starts)
+    → IsSound s.net s.journal.history s.journal.starts
+sound_here s is law =
+    let old = is.stands in
+    subst (λ (G : List Entry). IsSound s.net G s.journal.starts) (sym old.journal_.history_)
+    (subst (λ (l : List Start). IsSound s.net is.world.history l) (sym old.journal_.starts_)
+    (subst (λ (x : model.World). IsSound s.net x.history x.starts) (sym old.reached.by_them)
+    (law s.net old.reached.steps)))
+
+-- all parts
+pub all_parts : (s : WorldState) (x : model.World) (events : List Entry) (starts : List Start) (packets : List PairCount)
+    (nodes : List NodePart) → StandsFor s x → events ≡ s.journal.history → starts ≡ s.journal.starts
+    → packets ≡ pairs_among x (node_count s.net) → nodes ≡ map (node_part s.net x) (below (node_count s.net))
+    → parts_with events starts packets nodes ≡ parts_of s.net x
+all_parts s x events starts packets nodes old is_history are_starts are_packets are_nodes =
+    λ i. parts_with ((is_history ∙ old.journal_.history_) i) ((are_starts ∙ old.journal_.starts_) i) (are_packets i)
+      (are_nodes i)

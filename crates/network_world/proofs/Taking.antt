@@ -1,7 +1,7 @@
 -- A step of what happens at a node.
-use Rattle.std.proofs.Common.{◌≡◌, ◌<◌, ◌≤◌, ◌+◌, ◌*◌, ◌∙◌, ℕ, List, None, Ok, Option, Some, ap, arith, length, refl, sym}
+use Rattle.std.proofs.Common.{◌≡◌, ◌<◌, ◌≤◌, ◌+◌, ◌*◌, ◌∙◌, ℕ, List, None, Ok, Option, Some, ap, arith, length, refl, subst, sym}
 use Rattle.std.specs.Prelude.{◌==◌, slice_get}
-use Rattle.model.specs.Types.{Entry, Input, Local, Net, Take, WorldStep}
+use Rattle.model.specs.Types.{Entry, Input, Local, Net, Out, Take, WorldStep}
 use Rattle.model.specs.Network.{node_count}
 use Rattle.model.specs.Step.{Effect, node_step}
 use Rattle.model.specs.World as model
@@ -105,3 +105,23 @@ pub still_a_world : (s z : WorldState) (st : WorldStep) → IsWorld s → Steps 
 still_a_world s z st old go =
     let next = go old.world old.stands in
     record { world = next.0; stands = next.2 }
+
+-- what is the same as before stands for the same world
+pub same_world : (net : Net) (old new : List Station) (j k : Journal) → new ≡ old → k ≡ j
+    → IsWorld (record { net = net; stations = old; journal = j })
+    → IsWorld (record { net = net; stations = new; journal = k })
+same_world net old new j k same written is =
+    subst (λ (l : List Station). IsWorld (record { net = net; stations = l; journal = k })) (sym same)
+    (subst (λ (m : Journal). IsWorld (record { net = net; stations = old; journal = m })) (sym written) is)
+
+abbrev pub state : Net → List Station → Journal → WorldState
+state net stations j = record { net = net; stations = stations; journal = j }
+
+pub same_state : (net : Net) (old new : List Station) (j k : Journal) → new ≡ old → k ≡ j
+    → state net new k ≡ state net old j
+same_state net old new j k same written = λ i. state net (same i) (written i)
+
+-- what is written after room was made, over what was written before
+pub noted_over : (o : Origin) (w : ℕ) (outs : List Out) (made : Option Entry) (old mid new : Journal) → mid ≡ old
+    → HasNoted o w outs made mid new → HasNoted o w outs made old new
+noted_over o w outs made old mid new same h = subst (λ (j : Journal). HasNoted o w outs made j new) same h

@@ -95,8 +95,7 @@ impl World {
         steps_keep_all();
         counts_are_small();
         let input = self.brought(a, b, k)?;
-        self.journal.make_room()?;
-        let step = take_at(&mut self.stations, b, &input)?;
+        let step = take_at(&mut self.journal, &mut self.stations, b, &input)?;
         mark_at(&mut self.stations, a, b, k);
         self.journal
             .note_mailed(b, step.outs.as_slice(), &step.kept);

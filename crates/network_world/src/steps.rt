@@ -25,8 +25,7 @@ impl World {
         counts_are_small();
         self.journal.check()?;
         let input = Input::Local(local.copy()?);
-        self.journal.make_room()?;
-        let Step { kept, outs } = take_at(&mut self.stations, w, &input)?;
+        let Step { kept, outs } = take_at(&mut self.journal, &mut self.stations, w, &input)?;
         self.journal.note_own(w, outs.as_slice(), kept);
         Ok(())
     }

@@ -6,7 +6,7 @@ ghost use Rattle.network_world.specs.Standing.{IsRefusalDue, Steps};
 
 use crate::laws::{counts_are_small, steps_keep_all};
 use crate::refusals::StepRefused;
-use crate::sites::{mark_at, restart_at, stop_at};
+use crate::sites::{crash_at, mark_at, stop_at};
 use crate::worlds::World;
 use base_types::{Copied, Input, Local, Ws};
 
@@ -22,8 +22,7 @@ impl World {
         steps_keep_all();
         counts_are_small();
         self.journal.check()?;
-        self.journal.make_room()?;
-        restart_at(&mut self.stations, w);
+        crash_at(&mut self.journal, &mut self.stations, w)?;
         self.journal.note_own(w, &[], None);
         Ok(())
     }
@@ -41,8 +40,14 @@ impl World {
         counts_are_small();
         self.journal.check()?;
         let input = Input::Local(local.copy()?);
-        self.journal.make_room()?;
-        let made = stop_at(self.alloc, &mut self.stations, w, &input, kept)?;
+        let made = stop_at(
+            self.alloc,
+            &mut self.journal,
+            &mut self.stations,
+            w,
+            &input,
+            kept,
+        )?;
         self.journal.note_own(w, &[], made);
         Ok(())
     }
@@ -66,8 +71,14 @@ impl World {
         steps_keep_all();
         counts_are_small();
         let input = self.brought(a, b, k)?;
-        self.journal.make_room()?;
-        let made = stop_at(self.alloc, &mut self.stations, b, &input, kept)?;
+        let made = stop_at(
+            self.alloc,
+            &mut self.journal,
+            &mut self.stations,
+            b,
+            &input,
+            kept,
+        )?;
         mark_at(&mut self.stations, a, b, k);
         self.journal.note_mailed(b, &[], &made);
         Ok(())

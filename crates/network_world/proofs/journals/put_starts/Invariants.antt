@@ -8,6 +8,6 @@ invariant-loop-out l =
     record {
       told :
           l.starts.items
-          ≡ l.initial.starts.items ++ filter_map (start_in l.w) (take l.out-index l.out-items);
-      room : length (filter_map (start_in l.w) (drop l.out-index l.out-items)) ≤ l.starts.spare;
+          ≡ l.initial.starts.items ++ filter_map (start_in l.w) (take l.out-index l.outs);
+      room : length (filter_map (start_in l.w) (drop l.out-index l.outs)) ≤ l.starts.spare;
     }

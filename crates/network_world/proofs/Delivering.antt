@@ -5,7 +5,7 @@ use Rattle.std.proofs.lemmas.Bool.Decides.{eqb_tells}
 use Rattle.std.proofs.Common.{inl, inr}
 use Rattle.std.specs.List.{AllByRecursion}
 use Rattle.std.specs.Option.{option_map_or}
-use Rattle.std.specs.Prelude.{◌==◌, option_and_then, slice_get, slice_set}
+use Rattle.std.specs.Prelude.{◌==◌, IfErr, IfOk, option_and_then, slice_get, slice_set}
 use Rattle.model.specs.Types.{Ack, Body, Deliver, Entry, Feed, Input, LimitName, Mail, Net, Packet, WorldStep}
 use Rattle.model.specs.Words.{nth}
 use Rattle.model.specs.Network.{node_count}
@@ -196,31 +196,34 @@ pub deliver_steps : (s : WorldState) (a b k : ℕ) (input : Input) (sent : Step)
     → ((t : Station) → slice_get mid a ≡ Some t → IsMarkedAt mid a b k t stations)
     → HasNoted Origin.Mailed b sent.outs sent.kept s.journal j
     → Steps s (Deliver a b k) (record { net = s.net; stations = stations; journal = j })
-deliver_steps s a b k input sent mid stations j law in_a in_b count came taken marked wrote = λ x old.
-    let at_b = there_is s.stations b (omega (arith, in_b, count)) in
-    let got = taken at_b.0 at_b.1 in
-    let d : Effect = effect_in sent got.0.node in
-    let brought = came x old in
-    let done = ap (node_effect s.net x b) brought.0
-    ∙ effect_ok s.net x b input d brought.1 (taken_effect s x b at_b.0 input d old at_b.1 got.2.due) in
-    let y : model.World = apply_effect x b Origin.Mailed d in
-    let stepped = deliver_ok s.net x a b k d done in
-    let on : EachGoesOn s.net x y (Deliver a b k) s.stations mid =
-    each_goes_on s.net x (Deliver a b k) b Origin.Mailed d s.stations mid at_b.0 got.0
-    (kept_of_deliver s.net x a b k d done) at_b.1 got.1 got.2.goes in
-    let kept_count = count_stays s.stations mid b got.0 got.1 in
-    let q = there_is mid a (omega (arith, in_a, count, kept_count)) in
-    let mark = marked q.0 q.1 in
-    let l = there_is q.0.lanes b
-    (lane_after s x a b d at_b.0 got.0 q.0 mid old in_b at_b.1 got.1 got.2.goes q.1) in (
-      mark_delivered y a b k,
-      stepped,
-      stands_after s x (mark_delivered y a b k) (Deliver a b k) stations j old stepped
-          (law s.net x (mark_delivered y a b k) (Deliver a b k) old.reached stepped)
-          (count_stays mid stations a mark.0 mark.1 ∙ kept_count)
-          (each_marked s.net x y (Deliver a b k) a b k s.stations mid stations q.0 mark.0 l.0 q.1 l.1 mark.1 mark.2 on)
-          (journal_marked y a b k j (journal_after x b Origin.Mailed d s.journal j old.journal_ wrote)),
-    )
+deliver_steps s a b k input sent mid stations j law in_a in_b count came taken marked wrote = record {
+  net_ = refl;
+  leads = λ x old.
+      let at_b = there_is s.stations b (omega (arith, in_b, count)) in
+      let got = taken at_b.0 at_b.1 in
+      let d : Effect = effect_in sent got.0.node in
+      let brought = came x old in
+      let done = ap (node_effect s.net x b) brought.0
+      ∙ effect_ok s.net x b input d brought.1 (taken_effect s x b at_b.0 input d old at_b.1 got.2.due) in
+      let y : model.World = apply_effect x b Origin.Mailed d in
+      let stepped = deliver_ok s.net x a b k d done in
+      let on : EachGoesOn s.net x y (Deliver a b k) s.stations mid =
+      each_goes_on s.net x (Deliver a b k) b Origin.Mailed d s.stations mid at_b.0 got.0
+      (kept_of_deliver s.net x a b k d done) at_b.1 got.1 got.2.goes in
+      let kept_count = count_stays s.stations mid b got.0 got.1 in
+      let q = there_is mid a (omega (arith, in_a, count, kept_count)) in
+      let mark = marked q.0 q.1 in
+      let l = there_is q.0.lanes b
+      (lane_after s x a b d at_b.0 got.0 q.0 mid old in_b at_b.1 got.1 got.2.goes q.1) in (
+        mark_delivered y a b k,
+        stepped,
+        stands_after s x (mark_delivered y a b k) (Deliver a b k) stations j old stepped
+            (law s.net x (mark_delivered y a b k) (Deliver a b k) old.reached stepped)
+            (count_stays mid stations a mark.0 mark.1 ∙ kept_count)
+            (each_marked s.net x y (Deliver a b k) a b k s.stations mid stations q.0 mark.0 l.0 q.1 l.1 mark.1 mark.2 on)
+            (journal_marked y a b k j (journal_after x b Origin.Mailed d s.journal j old.journal_ wrote)),
+      );
+}
 
 pub deliver_can_be_noted : (s : WorldState) (a b k : ℕ) (input : Input) (sent : Step) (mid : List Station)
     (j : raw.Journal) → SentLaw → IsWorld s → node_count s.net ≤ 256 → b < node_count s.net
@@ -262,3 +265,33 @@ deliver_refused s a b k input r inside count came due =
     let at_b = there_is s.stations b (omega (arith, inside, count)) in
     node_refuses s (Deliver a b k) b at_b.0 input (λ x. delivery x a b k) r
     (λ x g old e. deliver_err s.net x a b k g e) came at_b.1 (due at_b.0 at_b.1)
+
+-- the sender's lane is there to be marked
+pub mark_inside : (s : WorldState) (a b : ℕ) (input : Input) (sent : Step) (mid : List Station) → IsWorld s
+    → a < node_count s.net → b < node_count s.net
+    → ((t : Station) → station_of s b ≡ Some t → HasTakenAt s.stations b t input sent mid)
+    → (a < length mid) × ((t : Station) → slice_get mid a ≡ Some t → b < length t.lanes)
+mark_inside s a b input sent mid is in_a in_b taken =
+    let old = is.stands in
+    let at_b = there_is s.stations b (omega (arith, in_b, old.station_count)) in
+    let got = taken at_b.0 at_b.1 in (
+      omega (arith, in_a, old.station_count, count_stays s.stations mid b got.0 got.1),
+      λ t e. lane_after s is.world a b (effect_in sent got.0.node) at_b.0 got.0 t mid old in_b at_b.1 got.1
+          got.2.goes e,
+    )
+
+-- what is opened is brought, or it is not
+pub brought_by : (s : WorldState) (a b k : ℕ) (p : Packet) (r : Result Input StepRefused) → BackedLaw
+    → a < node_count s.net → b < node_count s.net
+    → Some p ≡ option_and_then (λ (l : Lane). nth l.packets k) (lane_of s a b)
+    → limit_at s.journal.taken s.journal.sent s.journal.kept ≡ None → IsOpened s a p r
+    → IfOk r (λ i. IsBrought s a b k i)
+brought_by s a b k p (Ok i) law in_a in_b is free opened = opened_brought s a b k p i law in_a in_b is free opened
+brought_by s a b k p (Err e) law in_a in_b is free opened = tt
+
+pub not_brought_by : (s : WorldState) (a b k : ℕ) (p : Packet) (r : Result Input StepRefused) → BackedLaw
+    → a < node_count s.net → b < node_count s.net
+    → Some p ≡ option_and_then (λ (l : Lane). nth l.packets k) (lane_of s a b) → IsWorld s → IsOpened s a p r
+    → IfErr r (λ e. IsNotBrought s a b k e)
+not_brought_by s a b k p (Ok i) law in_a in_b is w opened = tt
+not_brought_by s a b k p (Err e) law in_a in_b is w opened = opened_not s a b k p e law in_a in_b is w opened

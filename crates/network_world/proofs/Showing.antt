@@ -271,4 +271,4 @@ pub all_parts : (s : WorldState) (x : model.World) (events : List Entry) (starts
     → parts_with events starts packets nodes ≡ parts_of s.net x
 all_parts s x events starts packets nodes old is_history are_starts are_packets are_nodes =
     λ i. parts_with ((is_history ∙ old.journal_.history_) i) ((are_starts ∙ old.journal_.starts_) i) (are_packets i)
-      (are_nodes i)
+    (are_nodes i)

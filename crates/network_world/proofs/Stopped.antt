@@ -147,8 +147,8 @@ station_marked n old new to k mark =
           let g = some_map seen (slice_get old to) l (sym (slice_get-map seen old to) ∙ e) in
           let m = mark g.0 g.1 in
           ap (map seen) m.1
-            ∙ map_set seen old to m.0
-            ∙ ap (slice_set (map seen old) to) (marked_seen g.0 m.0 l g.2 m.2 m.3);
+          ∙ map_set seen old to m.0
+          ∙ ap (slice_set (map seen old) to) (marked_seen g.0 m.0 l g.2 m.2 m.3);
     }
   where
     marked_seen : (g m : raw.Lane) (l : Lane) → seen g ≡ l → m.packets ≡ g.packets → m.reached ≡ max k g.reached

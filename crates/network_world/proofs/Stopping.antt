@@ -71,19 +71,22 @@ pub crash_steps : (s : WorldState) (w : ℕ) (stations : List Station) (j : Jour
     → ((t : Station) → station_of s w ≡ Some t → HasRestartedAt s.stations w t stations)
     → HasNoted Origin.Own w [] None s.journal j
     → Steps s (Crash w) (record { net = s.net; stations = stations; journal = j })
-crash_steps s w stations j law inside count free restarted wrote = λ x old.
-    let at_w = there_is s.stations w (omega (arith, inside, count)) in
-    let got = restarted at_w.0 at_w.1 in
-    let stepped = crash_ok s.net x w (same_limit s x old ∙ free) in (
-      apply_effect x w Origin.Own stop,
-      stepped,
-      stands_after s x (apply_effect x w Origin.Own stop) (Crash w) stations j old stepped
-          (law s.net x (apply_effect x w Origin.Own stop) (Crash w) old.reached stepped)
-          (count_stays s.stations stations w got.0 got.1)
-          (each_goes_on s.net x (Crash w) w Origin.Own stop s.stations stations at_w.0 got.0
-          (kept_of_crash s.net x w) at_w.1 got.1 got.2)
-          (journal_after x w Origin.Own stop s.journal j old.journal_ wrote),
-    )
+crash_steps s w stations j law inside count free restarted wrote = record {
+  net_ = refl;
+  leads = λ x old.
+      let at_w = there_is s.stations w (omega (arith, inside, count)) in
+      let got = restarted at_w.0 at_w.1 in
+      let stepped = crash_ok s.net x w (same_limit s x old ∙ free) in (
+        apply_effect x w Origin.Own stop,
+        stepped,
+        stands_after s x (apply_effect x w Origin.Own stop) (Crash w) stations j old stepped
+            (law s.net x (apply_effect x w Origin.Own stop) (Crash w) old.reached stepped)
+            (count_stays s.stations stations w got.0 got.1)
+            (each_goes_on s.net x (Crash w) w Origin.Own stop s.stations stations at_w.0 got.0
+            (kept_of_crash s.net x w) at_w.1 got.1 got.2)
+            (journal_after x w Origin.Own stop s.journal j old.journal_ wrote),
+      );
+}
 
 pub crash_limited : (s : WorldState) (w : ℕ) (r : StepRefused)
     → IsLimitDue s.journal.taken s.journal.sent s.journal.kept r → IsRefusalDue s (Crash w) r
@@ -101,24 +104,27 @@ pub crash_take_steps : (s : WorldState) (w : ℕ) (l : Local) (kept : Bool) (mad
     → ((t : Station) → station_of s w ≡ Some t → HasStoppedAt s.stations w t (Input.Local l) kept made stations)
     → HasNoted Origin.Own w [] made s.journal j
     → Steps s (CrashTake w l kept) (record { net = s.net; stations = stations; journal = j })
-crash_take_steps s w l kept made stations j law inside count free stopped wrote = λ x old.
-    let at_w = there_is s.stations w (omega (arith, inside, count)) in
-    let got = stopped at_w.0 at_w.1 in
-    let d : Effect = got.2.whole in
-    let done = effect_ok s.net x w (Input.Local l) d (same_limit s x old ∙ free)
-    (taken_effect s x w at_w.0 (Input.Local l) d old at_w.1 got.2.due) in
-    let stepped = crash_take_ok s.net x w l kept d done in
-    let y : model.World = apply_effect x w Origin.Own (cut_short kept d) in (
-      y,
-      stepped,
-      stands_after s x y (CrashTake w l kept) stations j old stepped
-          (law s.net x y (CrashTake w l kept) old.reached stepped)
-          (count_stays s.stations stations w got.0 got.1)
-          (each_goes_on s.net x (CrashTake w l kept) w Origin.Own (cut_short kept d) s.stations stations at_w.0 got.0
-          (kept_of_crash_take s.net x w l kept d done) at_w.1 got.1 got.2.goes)
-          (journal_after x w Origin.Own (cut_short kept d) s.journal j old.journal_
-          (cut_noted Origin.Own w kept d made s.journal j got.2.made_ wrote)),
-    )
+crash_take_steps s w l kept made stations j law inside count free stopped wrote = record {
+  net_ = refl;
+  leads = λ x old.
+      let at_w = there_is s.stations w (omega (arith, inside, count)) in
+      let got = stopped at_w.0 at_w.1 in
+      let d : Effect = got.2.whole in
+      let done = effect_ok s.net x w (Input.Local l) d (same_limit s x old ∙ free)
+      (taken_effect s x w at_w.0 (Input.Local l) d old at_w.1 got.2.due) in
+      let stepped = crash_take_ok s.net x w l kept d done in
+      let y : model.World = apply_effect x w Origin.Own (cut_short kept d) in (
+        y,
+        stepped,
+        stands_after s x y (CrashTake w l kept) stations j old stepped
+            (law s.net x y (CrashTake w l kept) old.reached stepped)
+            (count_stays s.stations stations w got.0 got.1)
+            (each_goes_on s.net x (CrashTake w l kept) w Origin.Own (cut_short kept d) s.stations stations at_w.0 got.0
+            (kept_of_crash_take s.net x w l kept d done) at_w.1 got.1 got.2.goes)
+            (journal_after x w Origin.Own (cut_short kept d) s.journal j old.journal_
+            (cut_noted Origin.Own w kept d made s.journal j got.2.made_ wrote)),
+      );
+}
 
 stopped_weighs : (s : WorldState) (x : model.World) (w : ℕ) (t u : Station) (input : Input) (kept : Bool) (d : Effect)
     (made : Option Entry) → StandsFor s x → station_of s w ≡ Some t → step_at t.node input ≡ Ok d
@@ -166,34 +172,37 @@ pub crash_deliver_steps : (s : WorldState) (a b k : ℕ) (input : Input) (kept :
     → ((t : Station) → slice_get mid a ≡ Some t → IsMarkedAt mid a b k t stations)
     → HasNoted Origin.Mailed b [] made s.journal j
     → Steps s (CrashDeliver a b k kept) (record { net = s.net; stations = stations; journal = j })
-crash_deliver_steps s a b k input kept made mid stations j law in_a in_b count came stopped marked wrote = λ x old.
-    let at_b = there_is s.stations b (omega (arith, in_b, count)) in
-    let got = stopped at_b.0 at_b.1 in
-    let d : Effect = got.2.whole in
-    let brought = came x old in
-    let done = ap (node_effect s.net x b) brought.0
-    ∙ effect_ok s.net x b input d brought.1 (taken_effect s x b at_b.0 input d old at_b.1 got.2.due) in
-    let y : model.World = apply_effect x b Origin.Mailed (cut_short kept d) in
-    let stepped = crash_deliver_ok s.net x a b k kept d done in
-    let on : EachGoesOn s.net x y (CrashDeliver a b k kept) s.stations mid =
-    each_goes_on s.net x (CrashDeliver a b k kept) b Origin.Mailed (cut_short kept d) s.stations mid at_b.0 got.0
-    (kept_of_crash_deliver s.net x a b k kept d done) at_b.1 got.1 got.2.goes in
-    let kept_count = count_stays s.stations mid b got.0 got.1 in
-    let q = there_is mid a (omega (arith, in_a, count, kept_count)) in
-    let mark = marked q.0 q.1 in
-    let l = there_is q.0.lanes b
-    (lane_after s x a b (cut_short kept d) at_b.0 got.0 q.0 mid old in_b at_b.1 got.1 got.2.goes q.1) in (
-      mark_delivered y a b k,
-      stepped,
-      stands_after s x (mark_delivered y a b k) (CrashDeliver a b k kept) stations j old stepped
-          (law s.net x (mark_delivered y a b k) (CrashDeliver a b k kept) old.reached stepped)
-          (count_stays mid stations a mark.0 mark.1 ∙ kept_count)
-          (each_marked s.net x y (CrashDeliver a b k kept) a b k s.stations mid stations q.0 mark.0 l.0 q.1 l.1 mark.1
-          mark.2 on)
-          (journal_marked y a b k j
-          (journal_after x b Origin.Mailed (cut_short kept d) s.journal j old.journal_
-          (cut_noted Origin.Mailed b kept d made s.journal j got.2.made_ wrote))),
-    )
+crash_deliver_steps s a b k input kept made mid stations j law in_a in_b count came stopped marked wrote = record {
+  net_ = refl;
+  leads = λ x old.
+      let at_b = there_is s.stations b (omega (arith, in_b, count)) in
+      let got = stopped at_b.0 at_b.1 in
+      let d : Effect = got.2.whole in
+      let brought = came x old in
+      let done = ap (node_effect s.net x b) brought.0
+      ∙ effect_ok s.net x b input d brought.1 (taken_effect s x b at_b.0 input d old at_b.1 got.2.due) in
+      let y : model.World = apply_effect x b Origin.Mailed (cut_short kept d) in
+      let stepped = crash_deliver_ok s.net x a b k kept d done in
+      let on : EachGoesOn s.net x y (CrashDeliver a b k kept) s.stations mid =
+      each_goes_on s.net x (CrashDeliver a b k kept) b Origin.Mailed (cut_short kept d) s.stations mid at_b.0 got.0
+      (kept_of_crash_deliver s.net x a b k kept d done) at_b.1 got.1 got.2.goes in
+      let kept_count = count_stays s.stations mid b got.0 got.1 in
+      let q = there_is mid a (omega (arith, in_a, count, kept_count)) in
+      let mark = marked q.0 q.1 in
+      let l = there_is q.0.lanes b
+      (lane_after s x a b (cut_short kept d) at_b.0 got.0 q.0 mid old in_b at_b.1 got.1 got.2.goes q.1) in (
+        mark_delivered y a b k,
+        stepped,
+        stands_after s x (mark_delivered y a b k) (CrashDeliver a b k kept) stations j old stepped
+            (law s.net x (mark_delivered y a b k) (CrashDeliver a b k kept) old.reached stepped)
+            (count_stays mid stations a mark.0 mark.1 ∙ kept_count)
+            (each_marked s.net x y (CrashDeliver a b k kept) a b k s.stations mid stations q.0 mark.0 l.0 q.1 l.1 mark.1
+            mark.2 on)
+            (journal_marked y a b k j
+            (journal_after x b Origin.Mailed (cut_short kept d) s.journal j old.journal_
+            (cut_noted Origin.Mailed b kept d made s.journal j got.2.made_ wrote))),
+      );
+}
 
 pub crash_deliver_not : (s : WorldState) (a b k : ℕ) (kept : Bool) (r : StepRefused) → IsNotBrought s a b k r
     → IsRefusalDue s (CrashDeliver a b k kept) r
@@ -219,3 +228,17 @@ crash_deliver_refused s a b k input kept r inside count came due =
 pub brought_free : (s : WorldState) (a b k : ℕ) (input : Input) → IsWorld s → IsBrought s a b k input
     → limit_at s.journal.taken s.journal.sent s.journal.kept ≡ None
 brought_free s a b k input is came = sym (same_limit s is.world is.stands) ∙ (came is.world is.stands).1
+
+-- the sender's lane is there to be marked
+pub stop_mark_inside : (s : WorldState) (a b : ℕ) (input : Input) (kept : Bool) (made : Option Entry)
+    (mid : List Station) → IsWorld s → a < node_count s.net → b < node_count s.net
+    → ((t : Station) → station_of s b ≡ Some t → HasStoppedAt s.stations b t input kept made mid)
+    → (a < length mid) × ((t : Station) → slice_get mid a ≡ Some t → b < length t.lanes)
+stop_mark_inside s a b input kept made mid is in_a in_b stopped =
+    let old = is.stands in
+    let at_b = there_is s.stations b (omega (arith, in_b, old.station_count)) in
+    let got = stopped at_b.0 at_b.1 in (
+      omega (arith, in_a, old.station_count, count_stays s.stations mid b got.0 got.1),
+      λ t e. lane_after s is.world a b (cut_short kept got.2.whole) at_b.0 got.0 t mid old in_b at_b.1 got.1
+          got.2.goes e,
+    )

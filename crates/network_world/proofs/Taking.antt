@@ -1,6 +1,6 @@
 -- A step of what happens at a node.
 use Rattle.std.proofs.Common.{◌≡◌, ◌<◌, ◌≤◌, ◌+◌, ◌*◌, ◌∙◌, ℕ, List, None, Ok, Option, Some, ap, arith, length, refl, subst, sym}
-use Rattle.std.specs.Prelude.{◌==◌, slice_get}
+use Rattle.std.specs.Prelude.{◌==◌, Err, IfErr, OnErr, OnOk, Result, slice_get}
 use Rattle.model.specs.Types.{Entry, Input, Local, Net, Out, Take, WorldStep}
 use Rattle.model.specs.Network.{node_count}
 use Rattle.model.specs.Step.{Effect, node_step}
@@ -49,22 +49,25 @@ pub take_steps : (s : WorldState) (w : ℕ) (l : Local) (sent : Step) (stations 
     → ((t : Station) → station_of s w ≡ Some t → HasTakenAt s.stations w t (Input.Local l) sent stations)
     → HasNoted Origin.Own w sent.outs sent.kept s.journal j
     → Steps s (Take w l) (record { net = s.net; stations = stations; journal = j })
-take_steps s w l sent stations j law inside count free taken wrote = λ x old.
-    let at_w = there_is s.stations w (omega (arith, inside, count)) in
-    let got = taken at_w.0 at_w.1 in
-    let d : Effect = effect_in sent got.0.node in
-    let done = effect_ok s.net x w (Input.Local l) d (same_limit s x old ∙ free)
-    (taken_effect s x w at_w.0 (Input.Local l) d old at_w.1 got.2.due) in
-    let stepped = take_ok s.net x w l d done in (
-      apply_effect x w Origin.Own d,
-      stepped,
-      stands_after s x (apply_effect x w Origin.Own d) (Take w l) stations j old stepped
-          (law s.net x (apply_effect x w Origin.Own d) (Take w l) old.reached stepped)
-          (count_stays s.stations stations w got.0 got.1)
-          (each_goes_on s.net x (Take w l) w Origin.Own d s.stations stations at_w.0 got.0
-          (kept_of_take s.net x w l d done) at_w.1 got.1 got.2.goes)
-          (journal_after x w Origin.Own d s.journal j old.journal_ wrote),
-    )
+take_steps s w l sent stations j law inside count free taken wrote = record {
+  net_ = refl;
+  leads = λ x old.
+      let at_w = there_is s.stations w (omega (arith, inside, count)) in
+      let got = taken at_w.0 at_w.1 in
+      let d : Effect = effect_in sent got.0.node in
+      let done = effect_ok s.net x w (Input.Local l) d (same_limit s x old ∙ free)
+      (taken_effect s x w at_w.0 (Input.Local l) d old at_w.1 got.2.due) in
+      let stepped = take_ok s.net x w l d done in (
+        apply_effect x w Origin.Own d,
+        stepped,
+        stands_after s x (apply_effect x w Origin.Own d) (Take w l) stations j old stepped
+            (law s.net x (apply_effect x w Origin.Own d) (Take w l) old.reached stepped)
+            (count_stays s.stations stations w got.0 got.1)
+            (each_goes_on s.net x (Take w l) w Origin.Own d s.stations stations at_w.0 got.0
+            (kept_of_take s.net x w l d done) at_w.1 got.1 got.2.goes)
+            (journal_after x w Origin.Own d s.journal j old.journal_ wrote),
+      );
+}
 
 -- it can be written down
 pub take_can_be_noted : (s : WorldState) (w : ℕ) (l : Local) (sent : Step) (stations : List Station) (j : raw.Journal)
@@ -103,7 +106,7 @@ take_refused s w l r inside count free due =
 -- it still stands for a world
 pub still_a_world : (s z : WorldState) (st : WorldStep) → IsWorld s → Steps s st z → IsWorld z
 still_a_world s z st old go =
-    let next = go old.world old.stands in
+    let next = go.leads old.world old.stands in
     record { world = next.0; stands = next.2 }
 
 -- what is the same as before stands for the same world
@@ -125,3 +128,13 @@ same_state net old new j k same written = λ i. state net (same i) (written i)
 pub noted_over : (o : Origin) (w : ℕ) (outs : List Out) (made : Option Entry) (old mid new : Journal) → mid ≡ old
     → HasNoted o w outs made mid new → HasNoted o w outs made old new
 noted_over o w outs made old mid new same h = subst (λ (j : Journal). HasNoted o w outs made j new) same h
+
+-- the network stays, and a refusal is one of the step that is taken
+pub net_stays : {A E : Type 0} (old : WorldState) (st : WorldStep) (new : WorldState) (r : Result A E)
+    → OnOk r (Steps old st new) → OnErr r (new ≡ old) → new.net ≡ old.net
+net_stays old st new (Ok u) h k = h.net_
+net_stays old st new (Err e) h k = ap (λ (s : WorldState). s.net) k
+
+pub refusals_of : {A : Type 0} (s : WorldState) (st as_it_is : WorldStep) (r : Result A StepRefused) → st ≡ as_it_is
+    → IfErr r (λ e. IsRefusalDue s st e) → IfErr r (λ e. IsRefusalDue s as_it_is e)
+refusals_of s st as_it_is r same h = subst (λ (t : WorldStep). IfErr r (λ e. IsRefusalDue s t e)) same h

@@ -63,10 +63,12 @@ ws_in_step (Crash w) = w ∷ []
 ws_in_step (CrashTake w l kept) = w ∷ []
 ws_in_step (CrashDeliver a b k kept) = a ∷ b ∷ []
 
--- a step that is taken leads, from whatever world it stood for, to the world after the step of the definitions
-abbrev pub Steps : WorldState → WorldStep → WorldState → Type 0
-Steps old st new =
-    (x : model.World) → StandsFor old x → (y : model.World) × (model.step old.net x st ≡ Ok y) × StandsFor new y
+-- a step that is taken leads, from whatever world it stood for, to the world after the step of the definitions, over the
+-- same network
+pub record Steps (old : WorldState) (st : WorldStep) (new : WorldState) : Type 0 where
+  pub net_ : new.net ≡ old.net
+  pub leads : (x : model.World) → StandsFor old x
+      → (y : model.World) × (model.step old.net x st ≡ Ok y) × StandsFor new y
 
 -- the definitions refuse a step for this cause, in whatever world it stands for
 abbrev pub IsRefusedFor : WorldState → WorldStep → model.StepRefused → Type 0

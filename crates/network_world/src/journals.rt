@@ -2,7 +2,7 @@
 ghost use Rattle.std.specs.Prelude.{◌≡◌, ◌+◌, ◌++◌, ◌<◌, ◌≤◌, ◌^◌, [], IfErr, None, OnOk, Some, count_by, filter_map, length};
 ghost use Rattle.std.specs.Option.{option_map_or, option_to_list};
 ghost use Rattle.model.specs.Sizes.{entry_size as size_of};
-ghost use Rattle.model.specs.World.{Origin, is_send, start_in};
+ghost use Rattle.model.specs.World.{Origin, history_with, is_send, start_in};
 ghost use Rattle.network_world.specs.Journals.{CanNote, HasRoom, HasNoted, HasStarts, IsLimitDue, seen};
 ghost use Rattle.network_world.specs.Refusals as spec;
 
@@ -72,6 +72,17 @@ fn weight(made: &Option<Entry>) -> u32
     }
 }
 
+/// Writes down an entry at the end of the history, if there is one. There is room for it.
+fn put_entry(history: &mut Growing<Entry>, made: Option<Entry>)
+    requires { 1 ≤ history.old.spare }
+    ensures { history.new.items ≡ history_with Origin.Own history.old.items made }
+{
+    match made {
+        None => {}
+        Some(entry) => history.put(entry),
+    }
+}
+
 impl Journal {
     /// Nothing has happened yet. It takes no memory.
     pub(crate) fn new(alloc: Global) -> Journal
@@ -125,9 +136,7 @@ impl Journal {
     {
         self.note_outs(w, outs);
         self.kept += weight(&made);
-        if let Some(entry) = made {
-            self.history.put(entry);
-        }
+        put_entry(&mut self.history, made);
     }
 
     /// Writes down a step of w that gave this out and kept this entry, which came by mail, or none. There is room for

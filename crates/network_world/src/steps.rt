@@ -9,7 +9,6 @@ use crate::laws::{counts_are_small, steps_keep_all};
 use crate::refusals::StepRefused;
 use crate::sites::take_at;
 use crate::worlds::World;
-use agent_core::Step;
 use base_types::{Copied, Input, Local, WorldStep, Ws};
 
 impl World {
@@ -25,8 +24,8 @@ impl World {
         counts_are_small();
         self.journal.check()?;
         let input = Input::Local(local.copy()?);
-        let Step { kept, outs } = take_at(&mut self.journal, &mut self.stations, w, &input)?;
-        self.journal.note_own(w, outs.as_slice(), kept);
+        let step = take_at(&mut self.journal, &mut self.stations, w, &input)?;
+        self.journal.note_own(w, step.outs.as_slice(), step.kept);
         Ok(())
     }
 

@@ -1,5 +1,5 @@
 -- A step of what happens at a node.
-use Rattle.std.proofs.Common.{◌≡◌, ◌<◌, ◌≤◌, ◌+◌, ◌*◌, ◌∙◌, ℕ, List, None, Ok, Option, Some, ap, arith, length, refl, subst, sym}
+use Rattle.std.proofs.Common.{◌≡◌, ◌<◌, ◌≤◌, ◌+◌, ◌*◌, ◌∙◌, ℕ, Bool, List, None, Ok, Option, Some, ap, arith, length, refl, subst, sym}
 use Rattle.std.specs.Prelude.{◌==◌, Err, IfErr, OnErr, OnOk, Result, slice_get}
 use Rattle.model.specs.Types.{Entry, Input, Local, Net, Out, Take, WorldStep}
 use Rattle.model.specs.Network.{node_count}
@@ -13,7 +13,7 @@ use Rattle.network_world.specs.Stations.{Journal, Station, WorldState, station_o
 use Rattle.network_world.specs.Refusals.{limit_at}
 use Rattle.network_world.specs.Standing.{IsReached, IsRefusalDue, IsWorld, KeepsAll, StandsFor, Steps}
 use Rattle.network_world.specs.Journals.{CanNote, HasNoted, HasRoom, IsLimitDue, seen}
-use Rattle.network_world.specs.Moves.{HasTakenAt, IsInputDue}
+use Rattle.network_world.specs.Moves.{HasStoppedAt, HasTakenAt, IsInputDue}
 use Rattle.network_world.specs.declared.journals.Journal as raw
 use Rattle.network_world.specs.declared.refusals.StepRefused.{StepRefused}
 use Rattle.network_world.proofs.Lists.{there_is}
@@ -138,3 +138,22 @@ net_stays old st new (Err e) h k = ap (λ (s : WorldState). s.net) k
 pub refusals_of : {A : Type 0} (s : WorldState) (st as_it_is : WorldStep) (r : Result A StepRefused) → st ≡ as_it_is
     → IfErr r (λ e. IsRefusalDue s st e) → IfErr r (λ e. IsRefusalDue s as_it_is e)
 refusals_of s st as_it_is r same h = subst (λ (t : WorldStep). IfErr r (λ e. IsRefusalDue s t e)) same h
+
+-- what is said of a copy of what happens is said of that itself
+pub taken_of : (s : WorldState) (w : ℕ) (l m : Local) (sent : Step) (stations : List Station) → m ≡ l
+    → ((t : Station) → station_of s w ≡ Some t → HasTakenAt s.stations w t (Input.Local m) sent stations)
+    → (t : Station) → station_of s w ≡ Some t → HasTakenAt s.stations w t (Input.Local l) sent stations
+taken_of s w l m sent stations same taken t e =
+    subst (λ (n : Local). HasTakenAt s.stations w t (Input.Local n) sent stations) same (taken t e)
+
+pub refused_of : (s : WorldState) (w : ℕ) (l m : Local) (r : StepRefused) → m ≡ l
+    → ((t : Station) → station_of s w ≡ Some t → IsInputDue t (Input.Local m) r) → (t : Station)
+    → station_of s w ≡ Some t → IsInputDue t (Input.Local l) r
+refused_of s w l m r same due t e = subst (λ (n : Local). IsInputDue t (Input.Local n) r) same (due t e)
+
+pub stopped_of : (s : WorldState) (w : ℕ) (l m : Local) (kept : Bool) (made : Option Entry) (stations : List Station)
+    → m ≡ l
+    → ((t : Station) → station_of s w ≡ Some t → HasStoppedAt s.stations w t (Input.Local m) kept made stations)
+    → (t : Station) → station_of s w ≡ Some t → HasStoppedAt s.stations w t (Input.Local l) kept made stations
+stopped_of s w l m kept made stations same stopped t e =
+    subst (λ (n : Local). HasStoppedAt s.stations w t (Input.Local n) kept made stations) same (stopped t e)

@@ -1,1 +1,2 @@
 mod Lowest
+mod Once

@@ -48,13 +48,14 @@ unfoldable pub needs_advice : View → ℕ → ℕ → Bool
 needs_advice V w j = option_map_or (needs_advice_in V w) (job V j) false
 
 -- to continue is to confirm the job, to rerun is to rerun it
+abbrev pub advised_by : Recovery → ℕ → Option Cmd
+advised_by recovery.Stop j = None
+advised_by recovery.Continue j = Some (Confirm j)
+advised_by recovery.Rerun j = Some (Rerun j)
+
+-- what the recovery of a job advises
 abbrev pub advised : JobDoc → Option Cmd
-advised doc = by doc.recovery
-  where
-    by : Recovery → Option Cmd
-    by recovery.Stop = None
-    by recovery.Continue = Some (Confirm doc.no)
-    by recovery.Rerun = Some (Rerun doc.no)
+advised doc = advised_by doc.recovery doc.no
 
 -- of job j
 abbrev pub advised_at : View → ℕ → Option Cmd

@@ -5,5 +5,7 @@
 #![tactic(auto)]
 
 mod advices;
+mod laws;
 
 pub use advices::advice;
+pub use laws::reruns_are_advised_once;

@@ -5,7 +5,7 @@ use Rattle.model.specs.World.{Origin}
 use Rattle.network_world.specs.Stations.{WorldState}
 use Rattle.network_world.specs.Journals.{seen}
 use Rattle.network_world.specs.Standing.{IsRefusalDue, Steps}
-use Rattle.network_world.proofs.Taking.{noted_over, same_state, same_world, state, still_a_world}
+use Rattle.network_world.proofs.Taking.{noted_over, refused_of, same_state, same_world, state, still_a_world, stopped_of}
 use Rattle.network_world.proofs.Stopping.{crash_take_limited, crash_take_refused, crash_take_steps, stop_at_can_be_noted}
 use Rattle.network_world.proofs.worlds.World.crash_take.Goals as goal
 
@@ -33,7 +33,9 @@ returns-in_err-made-clause-refused c =
     subst (λ (v : WorldState). IsRefusalDue v (CrashTake c.args.w c.args.local.now c.args.kept) c.in_err-made.field-0) c.self.view_is
     (crash_take_refused s c.args.w c.args.local.now c.args.kept c.in_err-made.field-0
     (subst (λ (v : WorldState). c.args.w < node_count v.net) (sym c.self.view_is) c.requires)
-    c.self.invariant.stands.station_count c.in_ok-check.ensures.ok c.in_err-made.ensures.refused)
+    c.self.invariant.stands.station_count c.in_ok-check.ensures.ok
+    (refused_of s c.args.w c.args.local.now c.in_ok-copy.field-0 c.in_err-made.field-0 c.in_ok-copy.ensures
+    c.in_err-made.ensures.refused))
 
 pub returns-in_err-made-clause-err : goal.returns-in_err-made-clause-err
 returns-in_err-made-clause-err c =
@@ -48,7 +50,8 @@ note_own-requires c =
     stop_at_can_be_noted s c.args.w (Input.Local c.args.local.now) c.args.kept c.in_ok-made.made c.stop_at.new.stations
     c.stop_at.new.journal c.self.invariant
     (subst (λ (v : WorldState). c.args.w < node_count v.net) (sym c.self.view_is) c.requires)
-    c.in_ok-check.ensures.ok c.in_ok-made.ensures.stopped c.in_ok-made.ensures.written c.in_ok-made.ensures.room
+    c.in_ok-check.ensures.ok (stopped_of s c.args.w c.args.local.now c.in_ok-copy.field-0 c.args.kept c.in_ok-made.made c.stop_at.new.stations
+    c.in_ok-copy.ensures c.in_ok-made.ensures.stopped) c.in_ok-made.ensures.written c.in_ok-made.ensures.room
 
 pub invariant_of-self : goal.invariant_of-self
 invariant_of-self c =
@@ -59,7 +62,8 @@ invariant_of-self c =
     (crash_take_steps s c.args.w c.args.local.now c.args.kept c.in_ok-made.made c.stop_at.new.stations
     (seen c.note_own.new.self) c.steps_keep_all.ensures
     (subst (λ (v : WorldState). c.args.w < node_count v.net) (sym c.self.view_is) c.requires)
-    c.self.invariant.stands.station_count c.in_ok-check.ensures.ok c.in_ok-made.ensures.stopped
+    c.self.invariant.stands.station_count c.in_ok-check.ensures.ok (stopped_of s c.args.w c.args.local.now c.in_ok-copy.field-0 c.args.kept c.in_ok-made.made c.stop_at.new.stations
+    c.in_ok-copy.ensures c.in_ok-made.ensures.stopped)
     (noted_over Origin.Own c.args.w [] c.in_ok-made.made (seen c.self.inside.journal) (seen c.stop_at.new.journal)
     (seen c.note_own.new.self) c.in_ok-made.ensures.written c.note_own.ensures))
 
@@ -73,6 +77,7 @@ returns-clause-taken c =
     (crash_take_steps s c.args.w c.args.local.now c.args.kept c.in_ok-made.made c.stop_at.new.stations
     (seen c.note_own.new.self) c.steps_keep_all.ensures
     (subst (λ (v : WorldState). c.args.w < node_count v.net) (sym c.self.view_is) c.requires)
-    c.self.invariant.stands.station_count c.in_ok-check.ensures.ok c.in_ok-made.ensures.stopped
+    c.self.invariant.stands.station_count c.in_ok-check.ensures.ok (stopped_of s c.args.w c.args.local.now c.in_ok-copy.field-0 c.args.kept c.in_ok-made.made c.stop_at.new.stations
+    c.in_ok-copy.ensures c.in_ok-made.ensures.stopped)
     (noted_over Origin.Own c.args.w [] c.in_ok-made.made (seen c.self.inside.journal) (seen c.stop_at.new.journal)
     (seen c.note_own.new.self) c.in_ok-made.ensures.written c.note_own.ensures))

@@ -6,7 +6,7 @@ use Rattle.network_world.specs.Stations.{WorldState}
 use Rattle.network_world.specs.Journals.{seen}
 use Rattle.network_world.specs.Standing.{IsRefusalDue, Steps}
 use Rattle.network_world.proofs.Taking.{noted_over, same_state, same_world, state, still_a_world, take_can_be_noted, take_limited}
-use Rattle.network_world.proofs.Taking.{take_refused, take_steps}
+use Rattle.network_world.proofs.Taking.{refused_of, take_refused, take_steps, taken_of}
 use Rattle.network_world.proofs.worlds.World.take.Goals as goal
 
 pub returns-in_err-check-clause-refused : goal.returns-in_err-check-clause-refused
@@ -33,7 +33,9 @@ returns-in_err-step-clause-refused c =
     subst (λ (v : WorldState). IsRefusalDue v (Take c.args.w c.args.local.now) c.in_err-step.field-0) c.self.view_is
     (take_refused s c.args.w c.args.local.now c.in_err-step.field-0
     (subst (λ (v : WorldState). c.args.w < node_count v.net) (sym c.self.view_is) c.requires)
-    c.self.invariant.stands.station_count c.in_ok-check.ensures.ok c.in_err-step.ensures.refused)
+    c.self.invariant.stands.station_count c.in_ok-check.ensures.ok
+    (refused_of s c.args.w c.args.local.now c.in_ok-copy.field-0 c.in_err-step.field-0 c.in_ok-copy.ensures
+    c.in_err-step.ensures.refused))
 
 pub returns-in_err-step-clause-err : goal.returns-in_err-step-clause-err
 returns-in_err-step-clause-err c =
@@ -49,7 +51,8 @@ note_own-requires c =
     c.counts_are_small.ensures.sent c.self.invariant
     (subst (λ (v : WorldState). node_count v.net ≤ 256) (sym c.self.view_is) c.stands.ensures.few)
     (subst (λ (v : WorldState). c.args.w < node_count v.net) (sym c.self.view_is) c.requires)
-    c.in_ok-check.ensures.ok c.in_ok-step.ensures.taken c.in_ok-step.ensures.written c.in_ok-step.ensures.room
+    c.in_ok-check.ensures.ok (taken_of s c.args.w c.args.local.now c.in_ok-copy.field-0 c.in_ok-step.step c.take_at.new.stations
+    c.in_ok-copy.ensures c.in_ok-step.ensures.taken) c.in_ok-step.ensures.written c.in_ok-step.ensures.room
 
 pub invariant_of-self : goal.invariant_of-self
 invariant_of-self c =
@@ -59,7 +62,8 @@ invariant_of-self c =
     (Take c.args.w c.args.local.now) c.self.invariant
     (take_steps s c.args.w c.args.local.now c.in_ok-step.step c.take_at.new.stations (seen c.note_own.new.self)
     c.steps_keep_all.ensures (subst (λ (v : WorldState). c.args.w < node_count v.net) (sym c.self.view_is) c.requires)
-    c.self.invariant.stands.station_count c.in_ok-check.ensures.ok c.in_ok-step.ensures.taken
+    c.self.invariant.stands.station_count c.in_ok-check.ensures.ok (taken_of s c.args.w c.args.local.now c.in_ok-copy.field-0 c.in_ok-step.step c.take_at.new.stations
+    c.in_ok-copy.ensures c.in_ok-step.ensures.taken)
     (noted_over Origin.Own c.args.w c.in_ok-step.step.outs c.in_ok-step.step.kept (seen c.self.inside.journal)
     (seen c.take_at.new.journal) (seen c.note_own.new.self) c.in_ok-step.ensures.written c.note_own.ensures))
 
@@ -72,6 +76,7 @@ returns-clause-taken c =
     (state c.self.inside.net c.take_at.new.stations (seen c.note_own.new.self))) c.self.view_is
     (take_steps s c.args.w c.args.local.now c.in_ok-step.step c.take_at.new.stations (seen c.note_own.new.self)
     c.steps_keep_all.ensures (subst (λ (v : WorldState). c.args.w < node_count v.net) (sym c.self.view_is) c.requires)
-    c.self.invariant.stands.station_count c.in_ok-check.ensures.ok c.in_ok-step.ensures.taken
+    c.self.invariant.stands.station_count c.in_ok-check.ensures.ok (taken_of s c.args.w c.args.local.now c.in_ok-copy.field-0 c.in_ok-step.step c.take_at.new.stations
+    c.in_ok-copy.ensures c.in_ok-step.ensures.taken)
     (noted_over Origin.Own c.args.w c.in_ok-step.step.outs c.in_ok-step.step.kept (seen c.self.inside.journal)
     (seen c.take_at.new.journal) (seen c.note_own.new.self) c.in_ok-step.ensures.written c.note_own.ensures))

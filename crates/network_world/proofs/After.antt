@@ -14,7 +14,7 @@ use Rattle.model.specs.World as model
 use Rattle.model.specs.World.{Origin, apply_effect, empty_world, history_with, is_send, mark_delivered, or_as_before}
 use Rattle.model.specs.World.{packets_to, run, start_in}
 use Rattle.model.specs.Kept.{HasKept, kept_in, only_if}
-use Rattle.agent_core.specs.Nodes.{session_in}
+use Rattle.agent_core.specs.Nodes.{NodeState, session_in}
 use Rattle.network_world.specs.Stations.{Journal, Lane, Station, WorldState, station_of}
 use Rattle.network_world.specs.Standing.{IsReached, JournalStandsFor, KeepsAll, LaneStandsFor, StandsFor, StationStandsFor}
 use Rattle.network_world.specs.Journals.{HasNoted}
@@ -270,9 +270,9 @@ sender_goes_on : (net : Net) (x y : model.World) (st : WorldStep) (a b k : ℕ) 
     → StationGoesOn net x (mark_delivered y a b k) st a t p
 sender_goes_on net x y st a b k t u p l at_b mark g =
     record {
-      net_ = ap (λ n. n.net) mark.node_ ∙ g.net_;
-      me_ = ap (λ n. n.me) mark.node_ ∙ g.me_;
-      kept_ = ap (λ n. n.kept) mark.node_ ∙ g.kept_;
+      net_ = ap (λ (n : NodeState). n.net) mark.node_ ∙ g.net_;
+      me_ = ap (λ (n : NodeState). n.me) mark.node_ ∙ g.me_;
+      kept_ = ap (λ (n : NodeState). n.kept) mark.node_ ∙ g.kept_;
       session_ = λ h. ap session_in mark.node_ ∙ g.session_ h ∙ sym (sessions_marked y a b k a);
       count = ap length set ∙ set_length u.lanes b marked ∙ g.count;
       lanes_ = λ c m e.

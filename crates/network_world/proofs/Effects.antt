@@ -12,7 +12,7 @@ use Rattle.model.specs.StepFaults.{StepFault}
 use Rattle.model.specs.Step.{Effect, node_step}
 use Rattle.model.specs.World as model
 use Rattle.model.specs.World.{Origin, apply_effect, cut_short, delivery, is_send, mark_delivered, node_effect}
-use Rattle.model.specs.World.{reached_limit, start_in, view_at}
+use Rattle.model.specs.World.{reached_limit, start_in, step, view_at}
 use Rattle.agent_core.specs.Nodes.{NodeState, session_in, view_in}
 use Rattle.agent_core.specs.Steps.{step_at}
 use Rattle.agent_core.specs.declared.StepFault as node
@@ -67,57 +67,57 @@ effect_none net x w = refl
 pub take_ok : (net : Net) (x : model.World) (w : ℕ) (l : Local) (d : Effect)
     → node_effect net x w (Some (Input.Local l)) ≡ Ok d
     → model.step net x (Take w l) ≡ Ok (apply_effect x w Origin.Own d)
-unfolding model.step
+unfolding step
 take_ok net x w l d e = rw e refl
 
 pub deliver_ok : (net : Net) (x : model.World) (a b k : ℕ) (d : Effect)
     → node_effect net x b (delivery x a b k) ≡ Ok d
     → model.step net x (Deliver a b k) ≡ Ok (mark_delivered (apply_effect x b Origin.Mailed d) a b k)
-unfolding model.step
+unfolding step
 deliver_ok net x a b k d e = rw e refl
 
 pub crash_ok : (net : Net) (x : model.World) (w : ℕ) → reached_limit x ≡ None
     → model.step net x (Crash w) ≡ Ok (apply_effect x w Origin.Own stop)
-unfolding model.step
+unfolding step
 crash_ok net x w e = rw e refl
 
 pub crash_take_ok : (net : Net) (x : model.World) (w : ℕ) (l : Local) (kept : Bool) (d : Effect)
     → node_effect net x w (Some (Input.Local l)) ≡ Ok d
     → model.step net x (CrashTake w l kept) ≡ Ok (apply_effect x w Origin.Own (cut_short kept d))
-unfolding model.step
+unfolding step
 crash_take_ok net x w l kept d e = rw e refl
 
 pub crash_deliver_ok : (net : Net) (x : model.World) (a b k : ℕ) (kept : Bool) (d : Effect)
     → node_effect net x b (delivery x a b k) ≡ Ok d
     → model.step net x (CrashDeliver a b k kept)
     ≡ Ok (mark_delivered (apply_effect x b Origin.Mailed (cut_short kept d)) a b k)
-unfolding model.step
+unfolding step
 crash_deliver_ok net x a b k kept d e = rw e refl
 
 -- the refusals of steps by those of their effects
 pub take_err : (net : Net) (x : model.World) (w : ℕ) (l : Local) (r : model.StepRefused)
     → node_effect net x w (Some (Input.Local l)) ≡ Err r → model.step net x (Take w l) ≡ Err r
-unfolding model.step
+unfolding step
 take_err net x w l r e = rw e refl
 
 pub deliver_err : (net : Net) (x : model.World) (a b k : ℕ) (r : model.StepRefused)
     → node_effect net x b (delivery x a b k) ≡ Err r → model.step net x (Deliver a b k) ≡ Err r
-unfolding model.step
+unfolding step
 deliver_err net x a b k r e = rw e refl
 
 pub crash_err : (net : Net) (x : model.World) (w : ℕ) (l : LimitName) → reached_limit x ≡ Some l
     → model.step net x (Crash w) ≡ Err (model.StepRefused.Limit l)
-unfolding model.step
+unfolding step
 crash_err net x w l e = rw e refl
 
 pub crash_take_err : (net : Net) (x : model.World) (w : ℕ) (l : Local) (kept : Bool) (r : model.StepRefused)
     → node_effect net x w (Some (Input.Local l)) ≡ Err r → model.step net x (CrashTake w l kept) ≡ Err r
-unfolding model.step
+unfolding step
 crash_take_err net x w l kept r e = rw e refl
 
 pub crash_deliver_err : (net : Net) (x : model.World) (a b k : ℕ) (kept : Bool) (r : model.StepRefused)
     → node_effect net x b (delivery x a b k) ≡ Err r → model.step net x (CrashDeliver a b k kept) ≡ Err r
-unfolding model.step
+unfolding step
 crash_deliver_err net x a b k kept r e = rw e refl
 
 -- what is told of a node's fault is told of what follows from it

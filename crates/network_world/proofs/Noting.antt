@@ -7,6 +7,7 @@ use Rattle.std.proofs.lemmas.List.Elements.{filter_map-append}
 use Rattle.std.proofs.lemmas.List.Sums.{count_by-le-length, count_by_more_no, count_by_more_yes}
 use Rattle.std.specs.Option.{option_map_or, option_to_list}
 use Rattle.std.specs.Prelude.{count_by, filter_map, nat_le}
+use Rattle.base_types.specs.Grown.{Grown}
 use Rattle.model.specs.Types.{Entry, Input, Launch, LimitName, Net, Out, Packet, Send, Start}
 use Rattle.model.specs.Words.{first_of_these}
 use Rattle.model.specs.Network.{node_count}
@@ -190,7 +191,7 @@ pub mailed_noted : (w : ℕ) (outs : List Out) (made : Option Entry) (old mid : 
     })
 mailed_noted w outs made old mid kept h weighed =
     record {
-      history_ = ap (λ g. g.items) h.history_ ∙ sym (mailed_history old.history.items made);
+      history_ = ap (λ (g : Grown Entry). g.items) h.history_ ∙ sym (mailed_history old.history.items made);
       starts_ = h.starts_;
       taken_ = h.taken_;
       sent_ = h.sent_;

@@ -264,6 +264,10 @@ sessions_marked : (y : model.World) (a b k v : ℕ) → (mark_delivered y a b k)
 unfolding mark_delivered
 sessions_marked y a b k v = refl
 
+-- a lane of which packet k was delivered
+abbrev pub marked_lane : ℕ → Lane → Lane
+marked_lane k l = record { packets = l.packets; reached = max k l.reached }
+
 -- the station of a, which sent the packet
 sender_goes_on : (net : Net) (x y : model.World) (st : WorldStep) (a b k : ℕ) (t u p : Station) (l : Lane)
     → slice_get u.lanes b ≡ Some l → IsMarkedTo u b k p → StationGoesOn net x y st a t u
@@ -274,25 +278,22 @@ sender_goes_on net x y st a b k t u p l at_b mark g =
       me_ = ap (λ (n : NodeState). n.me) mark.node_ ∙ g.me_;
       kept_ = ap (λ (n : NodeState). n.kept) mark.node_ ∙ g.kept_;
       session_ = λ h. ap session_in mark.node_ ∙ g.session_ h ∙ sym (sessions_marked y a b k a);
-      count = ap length set ∙ set_length u.lanes b marked ∙ g.count;
+      count = ap length set ∙ set_length u.lanes b (marked_lane k l) ∙ g.count;
       lanes_ = λ c m e.
-          let seen_at : slice_get (slice_set u.lanes b marked) c ≡ Some m =
+          let seen_at : slice_get (slice_set u.lanes b (marked_lane k l)) c ≡ Some m =
           ap (λ (ls : List Lane). slice_get ls c) (sym set) ∙ e in
           elim (eqb_tells c b) [
             | inl same ↦ at_lane c m same.1 seen_at
             | inr other ↦
-                let q = g.lanes_ c m (sym (set_elsewhere u.lanes b c marked other.1) ∙ seen_at) in
+                let q = g.lanes_ c m (sym (set_elsewhere u.lanes b c (marked_lane k l) other.1) ∙ seen_at) in
                 (q.0, q.1, λ h. lane_beside y a b c k m other.1 (q.2 h))
           ];
     }
   where
-    marked : Lane
-    marked = record { packets = l.packets; reached = max k l.reached }
-
-    set : p.lanes ≡ slice_set u.lanes b marked
+    set : p.lanes ≡ slice_set u.lanes b (marked_lane k l)
     set = mark.lanes_ l at_b
 
-    at_lane : (c : ℕ) (m : Lane) → c ≡ b → slice_get (slice_set u.lanes b marked) c ≡ Some m
+    at_lane : (c : ℕ) (m : Lane) → c ≡ b → slice_get (slice_set u.lanes b (marked_lane k l)) c ≡ Some m
         → (r : Lane) × (slice_get t.lanes c ≡ Some r)
         × (LaneStandsFor x a c r → LaneStandsFor (mark_delivered y a b k) a c m)
     at_lane c m same e =
@@ -302,8 +303,8 @@ sender_goes_on net x y st a b k t u p l at_b mark g =
           q.0,
           q.1,
           λ h. subst (λ (n : Lane). LaneStandsFor (mark_delivered y a b k) a b n)
-              (set_there u.lanes b marked m
-              (subst (λ (i : ℕ). slice_get (slice_set u.lanes b marked) i ≡ Some m) same e))
+              (set_there u.lanes b (marked_lane k l) m
+              (subst (λ (i : ℕ). slice_get (slice_set u.lanes b (marked_lane k l)) i ≡ Some m) same e))
               (lane_marked x y a b k q.0 l q.2 h),
         )
 

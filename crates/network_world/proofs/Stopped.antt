@@ -23,6 +23,7 @@ use Rattle.network_world.specs.Moves.{GoesOn, HasStopped, HasTaken, IsAgain, IsI
 use Rattle.network_world.specs.declared.lanes.Lane as raw
 use Rattle.network_world.specs.declared.refusals.StepRefused.{StepRefused}
 use Rattle.network_world.specs.declared.refusals.StepRefused.TheVariants as refused
+use Rattle.network_world.proofs.After.{marked_lane}
 use Rattle.network_world.proofs.Beginning.{lanes_seen}
 use Rattle.network_world.proofs.Lists.{map_set, some_map}
 use Rattle.network_world.proofs.Sending.{lanes_grow}
@@ -151,12 +152,9 @@ station_marked n old new to k mark =
           ∙ ap (slice_set (map seen old) to) (marked_seen g.0 m.0 l g.2 m.2 m.3);
     }
   where
-    marked_lane : Lane → Lane
-    marked_lane q = record { packets = q.packets; reached = max k q.reached }
-
     marked_seen : (g m : raw.Lane) (l : Lane) → seen g ≡ l → m.packets ≡ g.packets → m.reached ≡ max k g.reached
         → seen m ≡ record { packets = l.packets; reached = max k l.reached }
     marked_seen g m l same packets reached =
         let first : seen m ≡ record { packets = g.packets.items; reached = max k g.reached } =
         λ i. record { packets = (packets i).items; reached = reached i } in
-        first ∙ ap (λ (q : Lane). marked_lane q) same
+        first ∙ ap (marked_lane k) same

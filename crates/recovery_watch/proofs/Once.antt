@@ -55,10 +55,12 @@ pub advised_once : (V : View) (w j : ℕ) → advice V w ≡ Some (Rerun j) → 
 unfolding advice
 advised_once V w j e = go (is_waiting V w) e
   where
-    numbers : Option ℕ
-    numbers = least (filter (needs_advice V w) (own_job_numbers V w))
-
-    go : (b : Bool) → (if b then None else option_and_then (advised_at V) numbers) ≡ Some (Rerun j)
+    go : (b : Bool)
+        → (if b then None
+        else option_and_then (advised_at V) (least (filter (needs_advice V w) (own_job_numbers V w))))
+        ≡ Some (Rerun j)
         → reruns j (V (Events w)) ≡ 0
     go true h = cc
-    go false h = by_lowest V w j numbers (least_passes (needs_advice V w) (own_job_numbers V w)) h
+    go false h =
+        by_lowest V w j (least (filter (needs_advice V w) (own_job_numbers V w)))
+        (least_passes (needs_advice V w) (own_job_numbers V w)) h

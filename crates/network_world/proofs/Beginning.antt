@@ -16,7 +16,7 @@ use Rattle.base_types.specs.declared.NoMemory.{NoMemory}
 use Rattle.agent_core.specs.Nodes.{NodeState}
 use Rattle.network_world.specs.Stations.{Journal, Lane, Station, WorldState}
 use Rattle.network_world.specs.Standing.{IsReached, IsWorld, JournalStandsFor, StandsFor, StationStandsFor}
-use Rattle.network_world.specs.Lanes as lanes
+use Rattle.network_world.specs.Lanes as spec
 use Rattle.network_world.specs.Moves.{AreNew, IsAgain, IsNew}
 use Rattle.network_world.specs.declared.lanes.Lane as raw
 use Rattle.network_world.proofs.Lists.{some_map}
@@ -36,23 +36,23 @@ push_cases (x ∷ xs) a (suc i) t e =
     ]
 
 -- lanes and stations one by one
-pub lanes_begin : (made : List raw.Lane) → made ≡ [] → lanes.AreNew 0 made
+pub lanes_begin : (made : List raw.Lane) → made ≡ [] → spec.AreNew 0 made
 lanes_begin made e =
-    subst (λ (ls : List raw.Lane). lanes.AreNew 0 ls) (sym e) (refl, λ b l h. nothing b l h)
+    subst (λ (ls : List raw.Lane). spec.AreNew 0 ls) (sym e) (refl, λ b l h. nothing b l h)
   where
     nothing : (b : ℕ) (l : raw.Lane) → slice_get [] b ≡ Some l
-        → lanes.seen l ≡ record { packets = []; reached = 0 }
+        → spec.seen l ≡ record { packets = []; reached = 0 }
     nothing b l h = cc
 
-pub lanes_next : (i : ℕ) (made new : List raw.Lane) (l : raw.Lane) → lanes.AreNew i made
-    → lanes.seen l ≡ record { packets = []; reached = 0 } → new ≡ made ++ l ∷ [] → lanes.AreNew (i + 1) new
+pub lanes_next : (i : ℕ) (made new : List raw.Lane) (l : raw.Lane) → spec.AreNew i made
+    → spec.seen l ≡ record { packets = []; reached = 0 } → new ≡ made ++ l ∷ [] → spec.AreNew (i + 1) new
 lanes_next i made new l h blank is =
-    subst (λ (ls : List raw.Lane). lanes.AreNew (i + 1) ls) (sym is) (
+    subst (λ (ls : List raw.Lane). spec.AreNew (i + 1) ls) (sym is) (
       omega (arith, h.0, length-append made (l ∷ [])),
       λ b m e.
           elim (push_cases made l b m e) [
             | inl k ↦ h.1 b m k
-            | inr k ↦ ap lanes.seen k.1 ∙ blank
+            | inr k ↦ ap spec.seen k.1 ∙ blank
           ],
     )
 
@@ -82,13 +82,13 @@ stations_next net w stations new t count each here is =
     )
 
 -- a station that is made of a new node and new lanes
-pub lanes_seen : (net : Net) (made : List raw.Lane) → lanes.AreNew (node_count net) made
-    → (length (map lanes.seen made) ≡ node_count net)
-    × ((b : ℕ) (l : Lane) → slice_get (map lanes.seen made) b ≡ Some l → l ≡ record { packets = []; reached = 0 })
+pub lanes_seen : (net : Net) (made : List raw.Lane) → spec.AreNew (node_count net) made
+    → (length (map spec.seen made) ≡ node_count net)
+    × ((b : ℕ) (l : Lane) → slice_get (map spec.seen made) b ≡ Some l → l ≡ record { packets = []; reached = 0 })
 lanes_seen net made h = (
-  length-map made lanes.seen ∙ h.0,
+  length-map made spec.seen ∙ h.0,
   λ b l e.
-      let g = some_map lanes.seen (slice_get made b) l (sym (slice_get-map lanes.seen made b) ∙ e) in
+      let g = some_map spec.seen (slice_get made b) l (sym (slice_get-map spec.seen made b) ∙ e) in
       sym g.2 ∙ h.1 b g.0 g.1,
 )
 
@@ -149,7 +149,7 @@ pub new_is_world : (net : Net) (stations : List Station) (j : Journal) → AreNe
 new_is_world net stations j h is = record { world = empty_world; stands = new_world net stations j h is }
 
 pub lane_blank : (l : raw.Lane) → l.packets.items ≡ [] → l.reached ≡ 0
-    → lanes.seen l ≡ record { packets = []; reached = 0 }
+    → spec.seen l ≡ record { packets = []; reached = 0 }
 lane_blank l none zero_ = λ i. record { packets = none i; reached = zero_ i }
 
 -- a node that begins again from what another holds

@@ -23,7 +23,7 @@ use Rattle.symphony_view.specs.Listings.{listing_of}
 use Rattle.agent_core.specs.Nodes.{NodeState, view_in}
 use Rattle.network_world.specs.Stations.{Lane, Station, WorldState, lane_of, station_of}
 use Rattle.network_world.specs.Standing.{IsReached, IsWorld, NodeStandsFor, StandsFor}
-use Rattle.network_world.specs.Lanes as lanes
+use Rattle.network_world.specs.Lanes as spec
 use Rattle.network_world.specs.Parts.{held_at, held_by, node_part, pair, pairs_among, pairs_from, parts_of}
 use Rattle.network_world.specs.declared.lanes.Lane as raw
 use Rattle.network_world.proofs.Lists.{same_some, there_is}
@@ -49,11 +49,11 @@ below_more n =
 
 -- a lane that is shown is the one that was sent
 pub lane_shown : (s : WorldState) (x : model.World) (a b : ℕ) (r : raw.Lane) → StandsFor s x → a < node_count s.net
-    → b < node_count s.net → Some (lanes.seen r) ≡ lane_of s a b
+    → b < node_count s.net → Some (spec.seen r) ≡ lane_of s a b
     → (r.packets.items ≡ x.packets a b) × (r.reached ≡ x.reached a b)
 lane_shown s x a b r old in_a in_b is =
     let l = lane_there s x a b old in_a in_b in
-    let same : lanes.seen r ≡ l.0 = same_some (lanes.seen r) l.0 (is ∙ l.1) in (
+    let same : spec.seen r ≡ l.0 = same_some (spec.seen r) l.0 (is ∙ l.1) in (
       ap (λ (m : Lane). m.packets) same ∙ l.2.packets_,
       ap (λ (m : Lane). m.reached) same ∙ l.2.reached_,
     )
@@ -70,7 +70,7 @@ no_lane_shown s x a b old in_a in_b is =
 -- it has fewer packets than a field tells
 pub lane_short : (s : WorldState) (a b : ℕ) (r : raw.Lane) → SentLaw
     → ((net : Net) (x : model.World) → IsReached net x → (c d : ℕ) → length (x.packets c d) ≤ x.sent) → IsWorld s
-    → node_count s.net ≤ 256 → a < node_count s.net → b < node_count s.net → Some (lanes.seen r) ≡ lane_of s a b
+    → node_count s.net ≤ 256 → a < node_count s.net → b < node_count s.net → Some (spec.seen r) ≡ lane_of s a b
     → length r.packets.items < 2 ^ 32
 lane_short s a b r sent short is few in_a in_b lane =
     let x = is.world in

@@ -2,7 +2,7 @@
 ghost use Rattle.std.specs.Prelude.{◌≡◌, ◌<◌, IfErr, IfOk, OnErr, false, length, option_map, slice_get, true};
 ghost use Rattle.std.specs.Option.{option_copied};
 ghost use Rattle.model.specs.Network.{node_count};
-ghost use Rattle.network_world.specs.Lanes as lanes;
+ghost use Rattle.network_world.specs.Lanes as spec;
 ghost use Rattle.network_world.specs.Moves.{GoesOn, HasStopped, HasTaken, IsAgain, IsInputDue, IsMarkedTo, IsNew};
 ghost use Rattle.network_world.specs.Moves as moves;
 
@@ -44,7 +44,7 @@ impl Drop for Station {
 
 /// So many lanes without packets.
 fn new_lanes(alloc: Global, count: u16) -> Result<Items<Lane>, NoMemory>
-    ensures { IfOk result (λ made. lanes.AreNew count made) }
+    ensures { IfOk result (λ made. spec.AreNew count made) }
 {
     let mut made = Items::new(alloc);
     for _lane in 0..count {
@@ -79,7 +79,7 @@ impl Station {
 
     /// What went to a workstation. None where there is no such workstation.
     pub(crate) fn lane(&self, to: Ws) -> Option<&Lane>
-        ensures { option_map lanes.seen (option_copied result) ≡ slice_get self.now.lanes to }
+        ensures { option_map spec.seen (option_copied result) ≡ slice_get self.now.lanes to }
     {
         self.lanes.get(usize::from(to.0))
     }

@@ -5,7 +5,7 @@ ghost use Rattle.model.specs.Network.{node_count};
 ghost use Rattle.model.specs.Sound.{IsSound};
 ghost use Rattle.model.specs.World as model;
 ghost use Rattle.model.specs.World.{empty_world};
-ghost use Rattle.network_world.specs.Lanes as lanes;
+ghost use Rattle.network_world.specs.Lanes as spec;
 ghost use Rattle.network_world.specs.Moves.{AreNew};
 ghost use Rattle.network_world.specs.Stations.{Station as Seen, lane_of, station_of};
 ghost use Rattle.network_world.specs.Standing.{IsWorld, NodeStandsFor, StandsFor};
@@ -119,7 +119,7 @@ impl World {
 
     /// What one workstation sent to another. None where one of them is outside.
     pub(crate) fn lane(&self, from: Ws, to: Ws) -> Option<&Lane>
-        ensures { option_map lanes.seen (option_copied result) ≡ lane_of self.now from to }
+        ensures { option_map spec.seen (option_copied result) ≡ lane_of self.now from to }
     {
         match self.stations.get(usize::from(from.0)) {
             Some(station) => station.lane(to),

@@ -1,7 +1,7 @@
 //! Nights of networks: what is delivered late, again, out of order or over several hops, and the end of a day.
 use super::networks::{AGENTS, DOMAIN, NEXT, NEXT_DAY_1, NEXT_DAY_2, NEXT_OF_AGENTS, ONE_AGENT};
 use super::rows::{Does, Here};
-use super::worlds::reports;
+use super::worlds::{begun, do_rows, reports, sent_and_reached};
 use base_types::{JobNo, Obj};
 use std::test::Fail;
 use test_builders::Asks;
@@ -205,6 +205,18 @@ job 2 P#SA.A HOLD 0
 fn repeats_are_acknowledged_and_not_kept(rt: HostRuntime) -> Result<(), Fail> {
     let steps: [&[Does]; 3] = [&KNOWN_ABOVE, &PASSED_ON, &AGAIN];
     assert!(rt; reports(rt.alloc(), &AGENTS, &steps, AGAIN_REPORT)?);
+    Ok(())
+}
+
+#[test]
+fn a_packet_that_comes_again_late_takes_nothing_back(rt: HostRuntime) -> Result<(), Fail> {
+    let mut world = begun(rt.alloc(), &AGENTS)?;
+    do_rows(&mut world, rt.alloc(), &KNOWN_ABOVE)?;
+    do_rows(&mut world, rt.alloc(), &PASSED_ON)?;
+    do_rows(&mut world, rt.alloc(), &AGAIN)?;
+    assert!(rt; sent_and_reached(&world, 0, 1) == (7, 7));
+    assert!(rt; sent_and_reached(&world, 1, 0) == (11, 3));
+    assert!(rt; sent_and_reached(&world, 1, 2) == (0, 0));
     Ok(())
 }
 

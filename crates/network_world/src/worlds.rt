@@ -161,7 +161,9 @@ impl World {
         ensures stands { (x : model.World) → StandsFor self.now x → NodeStandsFor self.now.net x w result.now }
     {
         self.stands();
-        let station = &self.stations.as_slice()[usize::from(w.0)];
+        let stations = self.stations.as_slice();
+        let i = usize::from(w.0);
+        let station = &stations[i];
         &station.node
     }
 }

@@ -9,3 +9,5 @@ mod composer_lexer_tests;
 mod composer_parser_rows;
 #[cfg(test)]
 mod composer_parser_tests;
+#[cfg(test)]
+mod composer_print_tests;

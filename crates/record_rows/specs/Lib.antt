@@ -1,0 +1,5 @@
+pub mod Words
+pub mod Plans
+pub mod Steps
+pub mod Rows
+pub mod Ranges

@@ -1,0 +1,186 @@
+//! The lines of a plan but its dependencies: streams, jobs and the parts of jobs.
+ghost use Rattle.std.specs.Prelude.{◌≡◌, IfOk, map, option_map};
+ghost use Rattle.record_rows.specs.Plans as spec;
+ghost use Rattle.record_rows.specs.Rows.{plan_row};
+
+use crate::quotes::text;
+use crate::rows::{JobRow, PartRow, Ranged, Row, StreamRow};
+use crate::words::{number_up_to, priority};
+use base_types::{NoMemory, Recovery};
+use std::alloc::Global;
+use syntax::{name, words};
+
+/// The priority of a stream or a job whose line gives none.
+const PRIORITY: u8 = 10;
+
+/// `[prio N]`, and what is left of the words. None where the number is none.
+fn given_priority<'a>(words: &'a [&'a str]) -> Option<(Ranged<u8>, &'a [&'a str])>
+    ensures { option_map (λ p. (p.0, map (λ x. x.now) p.1.now)) result
+        ≡ spec.priority_of (map (λ x. x.now) words.now) }
+{
+    match words {
+        [key, n, rest @ ..] => {
+            if *key != "prio" {
+                return Some((Ranged::Within(PRIORITY), words));
+            }
+            match priority(n) {
+                Some(n) => Some((n, rest)),
+                None => None,
+            }
+        }
+        _ => Some((Ranged::Within(PRIORITY), words)),
+    }
+}
+
+/// A limit that is given.
+fn given(limit: Ranged<u16>) -> Ranged<Option<u16>>
+    ensures { result ≡ spec.given limit }
+{
+    match limit {
+        Ranged::Within(n) => Ranged::Within(Some(n)),
+        Ranged::OutOfRange => Ranged::OutOfRange,
+    }
+}
+
+/// `[limit N]`, and what is left of the words. None where the number is none.
+fn given_limit<'a>(words: &'a [&'a str]) -> Option<(Ranged<Option<u16>>, &'a [&'a str])>
+    ensures { option_map (λ p. (p.0, map (λ x. x.now) p.1.now)) result
+        ≡ spec.limit_of (map (λ x. x.now) words.now) }
+{
+    match words {
+        [key, n, rest @ ..] => {
+            if *key != "limit" {
+                return Some((Ranged::Within(None), words));
+            }
+            match number_up_to(1024, n) {
+                Some(n) => Some((given(n), rest)),
+                None => None,
+            }
+        }
+        _ => Some((Ranged::Within(None), words)),
+    }
+}
+
+/// `[carry]`, which ends the line.
+fn carry(words: &[&str]) -> Option<bool>
+    ensures { result ≡ spec.carry_of (map (λ x. x.now) words.now) }
+{
+    match words {
+        [] => Some(false),
+        [word] => { if *word == "carry" { Some(true) } else { None } }
+        _ => None,
+    }
+}
+
+/// `stream WS NAME [prio N] [limit N] [carry]`
+#[tactic(auto, unfolding(crate::specs::Plans::stream_of))]
+fn stream(alloc: Global, words: &[&str]) -> Result<Option<StreamRow>, NoMemory>
+    ensures { IfOk result (λ o. o ≡ spec.stream_of (map (λ x. x.now) words.now)) }
+{
+    match words {
+        [ws, own, rest @ ..] => {
+            let Some(ws) = name(alloc, ws)? else {
+                return Ok(None);
+            };
+            let Some(own) = name(alloc, own)? else {
+                return Ok(None);
+            };
+            let Some((priority, rest)) = given_priority(rest) else {
+                return Ok(None);
+            };
+            let Some((limit, rest)) = given_limit(rest) else {
+                return Ok(None);
+            };
+            let Some(carry) = carry(rest) else {
+                return Ok(None);
+            };
+            Ok(Some(StreamRow {
+                ws,
+                name: own,
+                priority,
+                limit,
+                carry,
+            }))
+        }
+        _ => Ok(None),
+    }
+}
+
+/// `job WS NAME [prio N]`
+#[tactic(auto, unfolding(crate::specs::Plans::job_of))]
+fn job(alloc: Global, words: &[&str]) -> Result<Option<JobRow>, NoMemory>
+    ensures { IfOk result (λ o. o ≡ spec.job_of (map (λ x. x.now) words.now)) }
+{
+    match words {
+        [ws, own, rest @ ..] => {
+            let Some(ws) = name(alloc, ws)? else {
+                return Ok(None);
+            };
+            let Some(own) = name(alloc, own)? else {
+                return Ok(None);
+            };
+            let Some((priority, rest)) = given_priority(rest) else {
+                return Ok(None);
+            };
+            if !rest.is_empty() {
+                return Ok(None);
+            }
+            Ok(Some(JobRow {
+                ws,
+                name: own,
+                priority,
+            }))
+        }
+        _ => Ok(None),
+    }
+}
+
+/// A stream or a job, by the line's first word and what follows it. None where it is none.
+#[tactic(auto, unfolding(crate::specs::Rows::plan_row))]
+pub(crate) fn object_row(alloc: Global, word: &str, rest: &str) -> Result<Option<Row>, NoMemory>
+    ensures { IfOk result (λ o. o ≡ plan_row word.now rest.now) }
+{
+    if word == "stream" {
+        let words = words(alloc, rest)?;
+        Ok(stream(alloc, &words)?.map(Row::Stream))
+    } else if word == "job" {
+        let words = words(alloc, rest)?;
+        Ok(job(alloc, &words)?.map(Row::Job))
+    } else {
+        Ok(None)
+    }
+}
+
+/// `continue`, `rerun`
+fn recovery(rest: &str) -> Option<Recovery>
+    ensures { result ≡ spec.recovery_of rest.now }
+{
+    if rest == "continue" {
+        Some(Recovery::Continue)
+    } else if rest == "rerun" {
+        Some(Recovery::Rerun)
+    } else {
+        None
+    }
+}
+
+/// `do "TEXT"`, `script "TEXT"`, `logon "TEXT"`, `succ "COND"`, `recovery continue`, `recovery rerun`. None where it is
+/// none of these.
+#[tactic(auto, unfolding(crate::specs::Plans::part_of))]
+pub(crate) fn part(alloc: Global, word: &str, rest: &str) -> Result<Option<PartRow>, NoMemory>
+    ensures { IfOk result (λ o. o ≡ spec.part_of word.now rest.now) }
+{
+    if word == "do" {
+        Ok(text(alloc, rest)?.map(PartRow::Command))
+    } else if word == "script" {
+        Ok(text(alloc, rest)?.map(PartRow::Script))
+    } else if word == "logon" {
+        Ok(text(alloc, rest)?.map(PartRow::Logon))
+    } else if word == "succ" {
+        Ok(text(alloc, rest)?.map(PartRow::Cond))
+    } else if word == "recovery" {
+        Ok(recovery(rest).map(PartRow::Recovery))
+    } else {
+        Ok(None)
+    }
+}

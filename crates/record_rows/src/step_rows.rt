@@ -1,0 +1,321 @@
+//! The lines that are steps.
+ghost use Rattle.std.specs.Prelude.{◌≡◌, IfOk, Ok, map, option_map};
+ghost use Rattle.std.specs.Str.{bytes_eq};
+ghost use Rattle.conman_syntax.specs.Rows.{due_line};
+ghost use Rattle.record_rows.specs.Steps as spec;
+ghost use Rattle.record_rows.specs.declared.rows.OwnRow.TheVariants as own;
+
+use crate::rows::{CutRow, ObjRow, OwnRow, Ranged, StepRow};
+use crate::words::{code, count, dep_no, job_no, moment, stream_no};
+use base_types::{NoMemory, Text};
+use calendars::read_date;
+use conman_syntax::{CommandFault, Line, parse_command};
+use std::alloc::Global;
+use syntax::{first_word, name, words};
+
+/// `J RC`
+fn ended(rest: &str) -> Option<OwnRow>
+    ensures { result ≡ spec.ended_of rest.now }
+{
+    let (job, rc) = first_word(rest);
+    let job = job_no(job)?;
+    let rc = code(rc)?;
+    Some(OwnRow::Ended(job, rc))
+}
+
+/// Whether the line gives a command. Others show, or are for a node itself.
+fn gives_command(line: &Line) -> bool
+    ensures { result ≡ spec.gives_command line.now }
+{
+    match line {
+        Line::ShowJobs(_)
+        | Line::ShowSchedules(_)
+        | Line::ShowCpus(_)
+        | Line::ShowPrompts(_)
+        | Line::ShowResources(_)
+        | Line::Link(_)
+        | Line::Unlink(_)
+        | Line::Shutdown
+        | Line::JNextPlan(_) => false,
+        _ => true,
+    }
+}
+
+/// The step of a line that gives a command.
+fn typed(line: Line) -> Option<OwnRow>
+    ensures { result ≡ option_map own.Typed (spec.command_of (Ok line)) }
+{
+    let gives = gives_command(&line);
+    let row = OwnRow::Typed(line);
+    if gives { Some(row) } else { None }
+}
+
+/// An operator's line that gives a command, as a step. None where it is another, or none.
+fn command(alloc: Global, text: &str) -> Result<Option<OwnRow>, NoMemory>
+    ensures { IfOk result (λ o. o ≡ option_map own.Typed (spec.command_of (due_line text.now))) }
+{
+    match parse_command(alloc, text) {
+        Ok(line) => Ok(typed(line)),
+        Err(CommandFault::NoMemory) => Err(NoMemory),
+        Err(_) => Ok(None),
+    }
+}
+
+/// `turn W T`, `started W J`, `failed W J`, `ended W J RC`, `type W LINE`, behind W. None where it is none of these.
+#[tactic(auto, unfolding(crate::specs::Steps::own_of))]
+fn own(alloc: Global, word: &str, rest: &str) -> Result<Option<OwnRow>, NoMemory>
+    ensures { IfOk result (λ o. o ≡ spec.own_of word.now rest.now) }
+{
+    if word == "turn" {
+        Ok(moment(rest).map(OwnRow::Turn))
+    } else if word == "started" {
+        Ok(job_no(rest).map(OwnRow::Started))
+    } else if word == "failed" {
+        Ok(job_no(rest).map(OwnRow::Failed))
+    } else if word == "ended" {
+        Ok(ended(rest))
+    } else if word == "type" {
+        command(alloc, rest)
+    } else {
+        Ok(None)
+    }
+}
+
+/// A step that is a workstation's own.
+#[tactic(auto, unfolding(crate::specs::Steps::own_step))]
+fn own_step(alloc: Global, word: &str, rest: &str) -> Result<Option<StepRow>, NoMemory>
+    ensures { IfOk result (λ o. o ≡ spec.own_step word.now rest.now) }
+{
+    let (ws, rest) = first_word(rest);
+    let Some(ws) = name(alloc, ws)? else {
+        return Ok(None);
+    };
+    let Some(step) = own(alloc, word, rest)? else {
+        return Ok(None);
+    };
+    Ok(Some(StepRow::Own(ws, step)))
+}
+
+/// `A B`
+fn pair(alloc: Global, rest: &str) -> Result<Option<(Text, Text)>, NoMemory>
+    ensures { IfOk result (λ o. o ≡ spec.pair_of rest.now) }
+{
+    let (a, b) = first_word(rest);
+    let Some(a) = name(alloc, a)? else {
+        return Ok(None);
+    };
+    let Some(b) = name(alloc, b)? else {
+        return Ok(None);
+    };
+    Ok(Some((a, b)))
+}
+
+/// `A B K`
+fn packet(alloc: Global, words: &[&str]) -> Result<Option<(Text, Text, Ranged<u32>)>, NoMemory>
+    ensures { IfOk result (λ o. o ≡ spec.packet_of (map (λ x. x.now) words.now)) }
+{
+    match words {
+        [a, b, k] => {
+            let Some(from) = name(alloc, a)? else {
+                return Ok(None);
+            };
+            let Some(to) = name(alloc, b)? else {
+                return Ok(None);
+            };
+            let Some(k) = count(k) else {
+                return Ok(None);
+            };
+            Ok(Some((from, to, k)))
+        }
+        _ => Ok(None),
+    }
+}
+
+/// `W RC`
+#[tactic(auto, unfolding(crate::specs::Steps::reap_of))]
+fn reap(alloc: Global, rest: &str) -> Result<Option<StepRow>, NoMemory>
+    ensures { IfOk result (λ o. o ≡ spec.reap_of rest.now) }
+{
+    let (ws, rc) = first_word(rest);
+    let Some(ws) = name(alloc, ws)? else {
+        return Ok(None);
+    };
+    let Some(rc) = code(rc) else {
+        return Ok(None);
+    };
+    Ok(Some(StepRow::Reap(ws, rc)))
+}
+
+/// `job J`, `stream S`
+fn object(kind: &str, n: &str) -> Option<ObjRow>
+    ensures { result ≡ spec.object_of kind.now n.now }
+{
+    if kind == "job" {
+        job_no(n).map(ObjRow::Job)
+    } else if kind == "stream" {
+        stream_no(n).map(ObjRow::Stream)
+    } else {
+        None
+    }
+}
+
+/// `W job J I`, `W stream S I`
+#[tactic(auto, unfolding(crate::specs::Steps::fulfil_of))]
+fn fulfil(alloc: Global, words: &[&str]) -> Result<Option<StepRow>, NoMemory>
+    ensures { IfOk result (λ o. o ≡ spec.fulfil_of (map (λ x. x.now) words.now)) }
+{
+    match words {
+        [ws, kind, n, i] => {
+            let Some(ws) = name(alloc, ws)? else {
+                return Ok(None);
+            };
+            let Some(object) = object(kind, n) else {
+                return Ok(None);
+            };
+            let Some(i) = dep_no(i) else {
+                return Ok(None);
+            };
+            Ok(Some(StepRow::Fulfil(ws, object, i)))
+        }
+        _ => Ok(None),
+    }
+}
+
+fn is_same(a: &Text, b: &Text) -> bool
+    ensures { result ≡ bytes_eq a.now b.now }
+{
+    a.as_str() == b.as_str()
+}
+
+/// A step of this workstation's own, in which it stops.
+#[tactic(auto, unfolding(crate::specs::Steps::own_cut))]
+fn own_cut(alloc: Global, ws: &Text, word: &str, rest: &str) -> Result<Option<CutRow>, NoMemory>
+    ensures { IfOk result (λ o. o ≡ spec.own_cut ws.now word.now rest.now) }
+{
+    let (named, rest) = first_word(rest);
+    let Some(named) = name(alloc, named)? else {
+        return Ok(None);
+    };
+    if !is_same(&named, ws) {
+        return Ok(None);
+    }
+    Ok(own(alloc, word, rest)?.map(CutRow::Own))
+}
+
+/// A packet to this workstation, at which it stops.
+#[tactic(auto, unfolding(crate::specs::Steps::packet_cut))]
+fn packet_cut(alloc: Global, ws: &Text, rest: &str) -> Result<Option<CutRow>, NoMemory>
+    ensures { IfOk result (λ o. o ≡ spec.packet_cut ws.now rest.now) }
+{
+    let words = words(alloc, rest)?;
+    let Some((from, to, k)) = packet(alloc, &words)? else {
+        return Ok(None);
+    };
+    if !is_same(&to, ws) {
+        return Ok(None);
+    }
+    Ok(Some(CutRow::Deliver(from, k)))
+}
+
+/// A step in which this workstation stops.
+#[tactic(auto, unfolding(crate::specs::Steps::cut_of))]
+fn cut(alloc: Global, ws: &Text, text: &str) -> Result<Option<CutRow>, NoMemory>
+    ensures { IfOk result (λ o. o ≡ spec.cut_of ws.now text.now) }
+{
+    if text == "next" {
+        return Ok(Some(CutRow::Next));
+    }
+    let (word, rest) = first_word(text);
+    if word == "next" {
+        Ok(read_date(rest).map(CutRow::NextDay))
+    } else if word == "deliver" {
+        packet_cut(alloc, ws, rest)
+    } else {
+        own_cut(alloc, ws, word, rest)
+    }
+}
+
+/// `kept`, `lost`
+fn kept(word: &str) -> Option<bool>
+    ensures { result ≡ spec.kept_of word.now }
+{
+    if word == "kept" {
+        Some(true)
+    } else if word == "lost" {
+        Some(false)
+    } else {
+        None
+    }
+}
+
+/// `kept STEP`, `lost STEP`
+#[tactic(auto, unfolding(crate::specs::Steps::crash_in))]
+fn crash_in(alloc: Global, ws: Text, rest: &str) -> Result<Option<StepRow>, NoMemory>
+    ensures { IfOk result (λ o. o ≡ spec.crash_in ws rest.now) }
+{
+    let (word, rest) = first_word(rest);
+    let Some(kept) = kept(word) else {
+        return Ok(None);
+    };
+    let Some(step) = cut(alloc, &ws, rest)? else {
+        return Ok(None);
+    };
+    Ok(Some(StepRow::CrashIn(ws, kept, step)))
+}
+
+/// `W`, `W kept STEP`, `W lost STEP`
+#[tactic(auto, unfolding(crate::specs::Steps::crash_of))]
+fn crash(alloc: Global, rest: &str) -> Result<Option<StepRow>, NoMemory>
+    ensures { IfOk result (λ o. o ≡ spec.crash_of rest.now) }
+{
+    let (word, behind) = first_word(rest);
+    let Some(ws) = name(alloc, word)? else {
+        return Ok(None);
+    };
+    if word == rest {
+        return Ok(Some(StepRow::Crash(ws)));
+    }
+    crash_in(alloc, ws, behind)
+}
+
+/// A step by its first word and what follows it.
+#[tactic(auto, unfolding(crate::specs::Steps::step_of_word))]
+fn step_of_word(alloc: Global, word: &str, rest: &str) -> Result<Option<StepRow>, NoMemory>
+    ensures { IfOk result (λ o. o ≡ spec.step_of_word word.now rest.now) }
+{
+    if word == "next" {
+        Ok(read_date(rest).map(StepRow::NextDay))
+    } else if word == "link" {
+        Ok(pair(alloc, rest)?.map(|(a, b)| StepRow::Link(a, b)))
+    } else if word == "unlink" {
+        Ok(pair(alloc, rest)?.map(|(a, b)| StepRow::Unlink(a, b)))
+    } else if word == "deliver" {
+        let words = words(alloc, rest)?;
+        Ok(packet(alloc, &words)?.map(|(from, to, k)| StepRow::Deliver(from, to, k)))
+    } else if word == "flow" {
+        Ok(pair(alloc, rest)?.map(|(a, b)| StepRow::Flow(a, b)))
+    } else if word == "reap" {
+        reap(alloc, rest)
+    } else if word == "crash" {
+        crash(alloc, rest)
+    } else if word == "fulfil" {
+        let words = words(alloc, rest)?;
+        fulfil(alloc, &words)
+    } else if word == "recover" {
+        Ok(name(alloc, rest)?.map(StepRow::Recover))
+    } else {
+        own_step(alloc, word, rest)
+    }
+}
+
+/// A line that is a step. None where it is none.
+#[tactic(auto, unfolding(crate::specs::Steps::step_of))]
+pub(crate) fn step(alloc: Global, text: &str) -> Result<Option<StepRow>, NoMemory>
+    ensures { IfOk result (λ o. o ≡ spec.step_of text.now) }
+{
+    if text == "next" {
+        return Ok(Some(StepRow::Next));
+    }
+    let (word, rest) = first_word(text);
+    step_of_word(alloc, word, rest)
+}

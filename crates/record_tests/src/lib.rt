@@ -1,0 +1,7 @@
+//! Tests of the crates that read records, at values worked out by hand.
+//!
+//! Each module holds the tests of the crate that it is named after.
+#![tactic(auto)]
+
+#[cfg(test)]
+mod record_rows_tests;

@@ -1,5 +1,5 @@
 //! How many entries of each feed a node holds.
-ghost use Rattle.std.specs.Prelude.{◌≡◌, ◌++◌, ◌∷◌, ◌<◌, [], IfOk, OnOk, flat_map, map};
+ghost use Rattle.std.specs.Prelude.{◌≡◌, ◌++◌, ◌∷◌, [], IfOk, OnOk, flat_map, map};
 ghost use Rattle.model.specs.Types.{Events, Orders};
 ghost use Rattle.model.specs.Words.{below};
 ghost use Rattle.model.specs.Network.{node_count};

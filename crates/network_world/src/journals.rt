@@ -1,5 +1,5 @@
 //! What is written of a world: its history, its starts, and what is counted.
-ghost use Rattle.std.specs.Prelude.{◌≡◌, ◌+◌, ◌++◌, ◌<◌, ◌≤◌, ◌^◌, [], IfErr, None, OnOk, Some, count_by, filter_map, length};
+ghost use Rattle.std.specs.Prelude.{◌≡◌, ◌+◌, ◌++◌, ◌<◌, ◌≤◌, ◌^◌, [], IfErr, None, OnOk, count_by, filter_map, length};
 ghost use Rattle.std.specs.Option.{option_map_or, option_to_list};
 ghost use Rattle.model.specs.Sizes.{entry_size as size_of};
 ghost use Rattle.model.specs.World.{Origin, history_with, is_send, start_in};

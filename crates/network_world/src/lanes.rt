@@ -1,8 +1,7 @@
 //! The packets from one workstation to another.
-ghost use Rattle.std.specs.Prelude.{◌≡◌, ◌+◌, ◌++◌, ◌∷◌, ◌<◌, ◌≤◌, ◌^◌, [], None, Some, OnOk, length, map, max, slice_get, slice_set};
+ghost use Rattle.std.specs.Prelude.{◌≡◌, ◌∷◌, ◌<◌, ◌≤◌, ◌^◌, [], None, Some, OnOk, length, map, slice_get};
 ghost use Rattle.std.specs.Option.{option_copied};
 ghost use Rattle.model.specs.Words.{nth};
-ghost use Rattle.model.specs.World.{packets_to};
 ghost use Rattle.network_world.specs.Lanes.{GetsPacket, HaveMore, HaveRoom, HaveRoomFor, HasRoomAt, IsMarked, seen};
 ghost use Rattle.network_world.specs.declared.lanes.Lane.{Lane as Raw};
 

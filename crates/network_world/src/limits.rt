@@ -1,5 +1,5 @@
 //! The limits of a world.
-ghost use Rattle.std.specs.Prelude.{◌≡◌, ◌<◌, ◌≤◌, None};
+ghost use Rattle.std.specs.Prelude.{◌≡◌, ◌<◌, None};
 ghost use Rattle.network_world.specs.Refusals as spec;
 
 use base_types::LimitName;

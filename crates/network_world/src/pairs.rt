@@ -1,5 +1,5 @@
 //! How many packets went from each workstation to each other.
-ghost use Rattle.std.specs.Prelude.{◌≡◌, ◌++◌, ◌∷◌, ◌<◌, [], IfOk, OnOk, flat_map, length};
+ghost use Rattle.std.specs.Prelude.{◌≡◌, ◌++◌, ◌∷◌, ◌<◌, [], IfOk, OnOk};
 ghost use Rattle.model.specs.Words.{below};
 ghost use Rattle.model.specs.Network.{node_count};
 ghost use Rattle.model.specs.World as model;

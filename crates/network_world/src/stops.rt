@@ -1,5 +1,5 @@
 //! Nodes that stop and begin again.
-ghost use Rattle.std.specs.Prelude.{◌≡◌, ◌<◌, [], IfErr, None, OnErr, OnOk};
+ghost use Rattle.std.specs.Prelude.{◌≡◌, ◌<◌, IfErr, OnErr, OnOk};
 ghost use Rattle.model.specs.Types as types;
 ghost use Rattle.model.specs.Network.{node_count};
 ghost use Rattle.network_world.specs.Standing.{IsRefusalDue, Steps};

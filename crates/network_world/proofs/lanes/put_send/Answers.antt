@@ -1,4 +1,4 @@
-use Rattle.std.proofs.Common.{refl, subst, sym}
+use Rattle.std.proofs.Common.{[], refl, subst, sym, ◌∷◌}
 use Rattle.model.specs.Types.{Out, Send}
 use Rattle.network_world.specs.Lanes.{HaveMore, HaveRoomFor}
 use Rattle.network_world.proofs.Sending.{launch_put, packet_put, room_for_packet, sends_nothing}

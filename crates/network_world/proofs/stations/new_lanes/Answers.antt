@@ -1,4 +1,4 @@
-use Rattle.std.proofs.Common.{arith, subst}
+use Rattle.std.proofs.Common.{arith, subst, ℕ, ◌≡◌}
 use Rattle.network_world.specs.Lanes.{AreNew}
 use Rattle.network_world.proofs.Beginning.{lane_blank, lanes_begin, lanes_next}
 use Rattle.network_world.proofs.stations.new_lanes.Goals as goal

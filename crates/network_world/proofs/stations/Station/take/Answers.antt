@@ -1,4 +1,4 @@
-use Rattle.std.proofs.Common.{◌≡◌, ◌∙◌, ap, map, subst, sym}
+use Rattle.std.proofs.Common.{ap, map, refl, subst, sym, ◌∙◌, ◌≡◌}
 use Rattle.agent_core.specs.Nodes.{session_in, view_in}
 use Rattle.agent_core.specs.Steps.{effect_in}
 use Rattle.network_world.specs.Lanes.{seen}

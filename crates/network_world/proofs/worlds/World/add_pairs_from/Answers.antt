@@ -1,4 +1,4 @@
-use Rattle.std.proofs.Common.{◌∙◌, ap, append-nil, arith, subst, sym}
+use Rattle.std.proofs.Common.{ap, append-nil, arith, subst, sym, ◌++◌, ◌∙◌}
 use Rattle.model.specs.Words.{below}
 use Rattle.network_world.specs.Parts.{pairs_from}
 use Rattle.network_world.proofs.Showing.{pairs_next}

@@ -1,9 +1,7 @@
 //! One node among its neighbours: what each input keeps and gives out, and why it is refused.
 use crate::nodes::{Comes, Given, Gives, Turned, first_wrong, restored};
 use agent_core::{Agent, RestoreFault, StepFault};
-use base_types::{
-    Bytes, Cmd, Dep, Feed, Input, Items, JobNo, Local, Obj, Text, Why, Ws,
-};
+use base_types::{Bytes, Cmd, Dep, Feed, Input, Items, JobNo, Local, Obj, Text, Why, Ws};
 use carry_forward::CarryFault;
 use std::alloc::Global;
 use std::test::Fail;
@@ -33,8 +31,14 @@ const AT_P: [Turned; 16] = [
         Comes::Keeps((M, 2, Says::Clock(2)), &[Gives::Ack(2, M, 2)]),
     ),
     // A repeat.
-    (Given::Mail(2, (M, 2, Says::Clock(2))), Comes::Gives(&[Gives::Ack(2, M, 2)])),
-    (Given::Mail(1, BEHIND), Comes::Refuses(StepFault::NotNeighbour)),
+    (
+        Given::Mail(2, (M, 2, Says::Clock(2))),
+        Comes::Gives(&[Gives::Ack(2, M, 2)]),
+    ),
+    (
+        Given::Mail(1, BEHIND),
+        Comes::Refuses(StepFault::NotNeighbour),
+    ),
     (Given::Linked(1), Comes::Refuses(StepFault::NotNeighbour)),
     (
         Given::Mail(0, (FeedRow::Events(5), 1, Says::Clock(1))),
@@ -42,8 +46,14 @@ const AT_P: [Turned; 16] = [
     ),
     (Given::Next(&[]), Comes::Refuses(StepFault::NotMaster)),
     (Given::Ended(1, 0), Comes::Refuses(StepFault::NoProcess)),
-    (Given::Fulfil(Obj::Job(JobNo(1)), 1), Comes::Refuses(StepFault::NoDep)),
-    (Given::Ack(0, FeedRow::Orders(0, 7), 1), Comes::Refuses(StepFault::NotInNetwork)),
+    (
+        Given::Fulfil(Obj::Job(JobNo(1)), 1),
+        Comes::Refuses(StepFault::NoDep),
+    ),
+    (
+        Given::Ack(0, FeedRow::Orders(0, 7), 1),
+        Comes::Refuses(StepFault::NotInNetwork),
+    ),
 ];
 
 const FIRST: [EntryRow; 1] = [(M, 1, Says::Clock(1))];
@@ -83,10 +93,22 @@ const OUTSIDE: [EntryRow; 2] = [
 #[test]
 fn a_node_is_restored_from_what_follows_on_alone(rt: HostRuntime) -> Result<(), Fail> {
     assert_eq!(rt; fault(rt.alloc(), 1, &FIRST)?, None);
-    assert_eq!(rt; fault(rt.alloc(), 1, &SECOND)?, Some(RestoreFault::NotNext(0)));
-    assert_eq!(rt; fault(rt.alloc(), 1, &REPEATED)?, Some(RestoreFault::NotNext(2)));
-    assert_eq!(rt; fault(rt.alloc(), 1, &OUTSIDE)?, Some(RestoreFault::NotNext(1)));
-    assert_eq!(rt; fault(rt.alloc(), 3, &SECOND)?, Some(RestoreFault::NotInNetwork));
+    assert_eq!(rt;
+        fault(rt.alloc(), 1, &SECOND)?,
+        Some(RestoreFault::NotNext(0))
+    );
+    assert_eq!(rt;
+        fault(rt.alloc(), 1, &REPEATED)?,
+        Some(RestoreFault::NotNext(2))
+    );
+    assert_eq!(rt;
+        fault(rt.alloc(), 1, &OUTSIDE)?,
+        Some(RestoreFault::NotNext(1))
+    );
+    assert_eq!(rt;
+        fault(rt.alloc(), 3, &SECOND)?,
+        Some(RestoreFault::NotInNetwork)
+    );
     Ok(())
 }
 
@@ -96,12 +118,22 @@ const DRAFTED: [StreamDraftRow; 1] = [(0, "S", true, &[], &DRAFTED_JOBS)];
 
 const DRAFTED_JOBS: [JobDraftRow; 1] = [(0, "J", &[DraftWaits::Plain(Waits::File("f"))])];
 
-const PLANNED: [StreamRow; 1] = [(1, 0, "S", true, &[], &[(1, 0, "J", 10, &[Waits::File("f")])])];
+const PLANNED: [StreamRow; 1] = [(
+    1,
+    0,
+    "S",
+    true,
+    &[],
+    &[(1, 0, "J", 10, &[Waits::File("f")])],
+)];
 
 /// The master M, with P linked, on a day of one job that waits for a file, starts, is killed and ends.
 const AT_M: [Turned; 15] = [
     (Given::Linked(1), NOTHING),
-    (Given::Next(&DRAFTED), Comes::Keeps((M, 1, Says::NewPlan(1, &[], &[], &PLANNED)), &[])),
+    (
+        Given::Next(&DRAFTED),
+        Comes::Keeps((M, 1, Says::NewPlan(1, &[], &[], &PLANNED)), &[]),
+    ),
     (
         Given::Turn(1),
         Comes::Keeps(
@@ -109,19 +141,32 @@ const AT_M: [Turned; 15] = [
             &[Gives::Mail(1, M, 1), Gives::Mail(1, M, 2)],
         ),
     ),
-    (Given::Turn(2), Comes::Gives(&[Gives::Mail(1, M, 1), Gives::Mail(1, M, 2)])),
+    (
+        Given::Turn(2),
+        Comes::Gives(&[Gives::Mail(1, M, 1), Gives::Mail(1, M, 2)]),
+    ),
     (Given::Ack(1, M, 9), NOTHING),
     (Given::Turn(2), NOTHING),
-    (Given::Fulfil(JOB, 1), Comes::Keeps((M, 3, Says::Fulfilled(JOB, 1)), &[])),
+    (
+        Given::Fulfil(JOB, 1),
+        Comes::Keeps((M, 3, Says::Fulfilled(JOB, 1)), &[]),
+    ),
     (Given::Fulfil(JOB, 1), Comes::Refuses(StepFault::NoDep)),
     (
         Given::Turn(3),
         Comes::Keeps(
             (M, 4, Says::Launched(1, 1, &[(0, 3)])),
-            &[Gives::Launch(1, 1), Gives::Mail(1, M, 3), Gives::Mail(1, M, 4)],
+            &[
+                Gives::Launch(1, 1),
+                Gives::Mail(1, M, 3),
+                Gives::Mail(1, M, 4),
+            ],
         ),
     ),
-    (Given::Started(1), Comes::Keeps((M, 5, Says::Started(1, 1)), &[])),
+    (
+        Given::Started(1),
+        Comes::Keeps((M, 5, Says::Started(1, 1)), &[]),
+    ),
     (Given::Started(1), Comes::Refuses(StepFault::NoProcess)),
     (
         Given::Typed(0, Asks::Kill(1)),
@@ -140,7 +185,10 @@ const AT_M: [Turned; 15] = [
             ],
         ),
     ),
-    (Given::Ended(1, 0), Comes::Keeps((M, 7, Says::Ended(1, 1, 0)), &[])),
+    (
+        Given::Ended(1, 0),
+        Comes::Keeps((M, 7, Says::Ended(1, 1, 0)), &[]),
+    ),
     (Given::Ended(1, 0), Comes::Refuses(StepFault::NoProcess)),
 ];
 
@@ -163,12 +211,18 @@ const RELEASED: [EntryRow; 2] = [
 
 const LAUNCHED: Turned = (
     Given::Turn(1),
-    Comes::Keeps((M, 3, Says::Launched(1, 1, &[(0, 2)])), &[Gives::Launch(1, 1)]),
+    Comes::Keeps(
+        (M, 3, Says::Launched(1, 1, &[(0, 2)])),
+        &[Gives::Launch(1, 1)],
+    ),
 );
 
 const CANNOT_START: [Turned; 3] = [
     LAUNCHED,
-    (Given::StartFailed(1), Comes::Keeps((M, 4, Says::Failed(1, 1)), &[])),
+    (
+        Given::StartFailed(1),
+        Comes::Keeps((M, 4, Says::Failed(1, 1)), &[]),
+    ),
     (Given::StartFailed(1), Comes::Refuses(StepFault::NoProcess)),
 ];
 
@@ -203,11 +257,17 @@ const AFTER_A_RESTART: [Turned; 2] = [
 #[test]
 fn a_restart_forgets_links_and_what_runs(rt: HostRuntime) -> Result<(), Fail> {
     let mut agent = restored(rt.alloc(), &TWO_AGENTS, 0, &RELEASED)?;
-    assert_eq!(rt; first_wrong(rt.alloc(), &mut agent, &BEFORE_A_RESTART)?, None);
+    assert_eq!(rt;
+        first_wrong(rt.alloc(), &mut agent, &BEFORE_A_RESTART)?,
+        None
+    );
     assert_eq!(rt; agent.live().len(), 1);
     agent.restart();
     assert_eq!(rt; agent.live().len(), 0);
-    assert_eq!(rt; first_wrong(rt.alloc(), &mut agent, &AFTER_A_RESTART)?, None);
+    assert_eq!(rt;
+        first_wrong(rt.alloc(), &mut agent, &AFTER_A_RESTART)?,
+        None
+    );
     Ok(())
 }
 
@@ -221,7 +281,10 @@ const TO_L: Asks = Asks::SwitchMgr(2);
 const SWITCHED: [Turned; 5] = [
     (Given::Linked(1), NOTHING),
     (Given::Linked(2), NOTHING),
-    (Given::Typed(0, TO_L), Comes::Keeps((ORDERS, 1, Says::Order(TO_L)), &[])),
+    (
+        Given::Typed(0, TO_L),
+        Comes::Keeps((ORDERS, 1, Says::Order(TO_L)), &[]),
+    ),
     (
         Given::Turn(1),
         Comes::Keeps((M, 1, Says::Obeyed(0, 1, TO_L)), &[Gives::Mail(2, M, 1)]),
@@ -261,7 +324,10 @@ fn is_below_the_master(agent: &Agent) -> (bool, bool) {
     if present.count() < 3 || defined.count() < 3 {
         return (false, false);
     }
-    (present.hop(Ws(2)) == Some(Ws(0)), defined.hop(Ws(2)) == Some(Ws(0)))
+    (
+        present.hop(Ws(2)) == Some(Ws(0)),
+        defined.hop(Ws(2)) == Some(Ws(0)),
+    )
 }
 
 #[test]
@@ -277,8 +343,14 @@ fn an_agent_that_takes_over_hears_the_master(rt: HostRuntime) -> Result<(), Fail
 fn declines(alloc: Global, nodes: &[NodeRow], w: u16, why: Why) -> Result<bool, Fail> {
     let mut agent = restored(alloc, nodes, 0, &[])?;
     let rows = [
-        (Given::Typed(0, Asks::SwitchMgr(w)), Comes::Keeps((ORDERS, 1, Says::Order(Asks::SwitchMgr(w))), &[])),
-        (Given::Turn(1), Comes::Keeps((M, 1, Says::Declined(0, 1, why)), &[])),
+        (
+            Given::Typed(0, Asks::SwitchMgr(w)),
+            Comes::Keeps((ORDERS, 1, Says::Order(Asks::SwitchMgr(w))), &[]),
+        ),
+        (
+            Given::Turn(1),
+            Comes::Keeps((M, 1, Says::Declined(0, 1, why)), &[]),
+        ),
     ];
     Ok(first_wrong(alloc, &mut agent, &rows)?.is_none())
 }
@@ -292,9 +364,10 @@ fn a_manager_and_an_agent_of_the_master_do_not_take_over(rt: HostRuntime) -> Res
 
 const LAST_RUN: [EntryRow; 1] = [(M, 1, Says::NewPlan(u32::MAX, &[], &[], &[]))];
 
-const NO_RUN_LEFT: [Turned; 1] = [
-    (Given::Next(&[]), Comes::Refuses(StepFault::Carry(CarryFault::RunsSpent))),
-];
+const NO_RUN_LEFT: [Turned; 1] = [(
+    Given::Next(&[]),
+    Comes::Refuses(StepFault::Carry(CarryFault::RunsSpent)),
+)];
 
 #[test]
 fn a_day_without_a_plan(rt: HostRuntime) -> Result<(), Fail> {

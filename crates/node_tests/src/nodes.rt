@@ -124,7 +124,11 @@ fn is_given(out: &Out, want: &Gives) -> bool {
 }
 
 fn are_given(outs: &[Out], wanted: &[Gives]) -> bool {
-    outs.len() == wanted.len() && outs.iter().zip(wanted).all(|(out, want)| is_given(out, want))
+    outs.len() == wanted.len()
+        && outs
+            .iter()
+            .zip(wanted)
+            .all(|(out, want)| is_given(out, want))
 }
 
 fn is_kept(alloc: Global, step: &Step, row: &EntryRow) -> Result<bool, Fail> {

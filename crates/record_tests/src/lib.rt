@@ -4,4 +4,6 @@
 #![tactic(auto)]
 
 #[cfg(test)]
+mod record_faults_tests;
+#[cfg(test)]
 mod record_rows_tests;

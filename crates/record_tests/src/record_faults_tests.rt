@@ -1,0 +1,3 @@
+//! Whole records, and the first fault of each.
+mod faults;
+mod places;

@@ -16,7 +16,7 @@ use base_types::{Body, Copied, Entry, Feed, Input, Packet, Ws};
 
 /// Mail: an entry that a workstation holds, copied.
 fn mail(from: Ws, feed: &Feed, place: u32, held: Option<&Body>) -> Result<Input, StepRefused>
-    ensures { IsInputOf from (types.Mail feed.now place) (option_copied held) result }
+    ensures { IsInputOf from (types.Mail feed.now place) (option_copied held.entry) result }
 {
     match held {
         None => Err(StepRefused::NoPacket),

@@ -25,7 +25,8 @@ impl World {
         self.journal.check()?;
         let input = Input::Local(local.copy()?);
         let step = take_at(&mut self.journal, &mut self.stations, w, &input)?;
-        self.journal.note_own(w, step.outs.as_slice(), step.kept);
+        let made = step.kept;
+        self.journal.note_own(w, step.outs.as_slice(), made);
         Ok(())
     }
 

@@ -1,5 +1,5 @@
 //! What is written of a world: its history, its starts, and what is counted.
-ghost use Rattle.std.specs.Prelude.{◌≡◌, ◌+◌, ◌++◌, ◌<◌, ◌≤◌, ◌^◌, [], IfErr, None, OnOk, count_by, filter_map, length};
+ghost use Rattle.std.specs.Prelude.{◌≡◌, ◌+◌, ◌++◌, ◌∷◌, ◌<◌, ◌≤◌, ◌^◌, [], IfErr, None, OnOk, count_by, filter_map, length};
 ghost use Rattle.std.specs.Option.{option_map_or, option_to_list};
 ghost use Rattle.model.specs.Sizes.{entry_size as size_of};
 ghost use Rattle.model.specs.World.{Origin, history_with, is_send, start_in};
@@ -22,15 +22,24 @@ pub(crate) struct Journal {
     pub(crate) kept: u32,
 }
 
+/// How many packets one output is: one or none.
+fn sends_by(out: &Out) -> usize
+    ensures value { result ≡ count_by is_send (out.now ∷ []) }
+    ensures few { result ≤ 1 }
+{
+    if let Out::Send(_, _) = out {
+        return 1;
+    }
+    0
+}
+
 /// How many packets go out.
 fn sends_in(outs: &[Out]) -> usize
     ensures { result ≡ count_by is_send outs.now }
 {
     let mut count = 0;
     for out in outs {
-        if let Out::Send(_, _) = out {
-            count += 1;
-        }
+        count += sends_by(out);
     }
     count
 }

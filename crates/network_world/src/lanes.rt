@@ -2,7 +2,7 @@
 ghost use Rattle.std.specs.Prelude.{◌≡◌, ◌∷◌, ◌<◌, ◌≤◌, ◌^◌, [], None, Some, OnOk, length, map, slice_get};
 ghost use Rattle.std.specs.Option.{option_copied};
 ghost use Rattle.model.specs.Words.{nth};
-ghost use Rattle.network_world.specs.Lanes.{GetsPacket, HaveMore, HaveRoom, HaveRoomFor, HasRoomAt, IsMarked, seen};
+ghost use Rattle.network_world.specs.Lanes.{GetsPacket, HasMore, HaveMore, HaveRoom, HaveRoomFor, HasRoomAt, IsMarked, seen};
 ghost use Rattle.network_world.specs.declared.lanes.Lane.{Lane as Raw};
 
 use base_types::{Growing, Items, NoMemory, Out, Packet, Ws};
@@ -47,6 +47,17 @@ impl Lane {
         }
         self.packets.get((k - 1) as usize)
     }
+
+    /// Puts a packet at the end. There is room for it.
+    fn put(&mut self, packet: &Packet)
+        requires { 1 ≤ self.old.packets.spare }
+        ensures { HasMore (packet.now ∷ []) self.old self.new }
+    {
+        match packet {
+            Packet::Mail(feed, place) => self.packets.put(Packet::Mail(*feed, *place)),
+            Packet::Ack(feed, count) => self.packets.put(Packet::Ack(*feed, *count)),
+        }
+    }
 }
 
 /// Makes room in one lane. The packets stay, whatever comes.
@@ -79,7 +90,7 @@ fn put_packet(lanes: &mut Items<Lane>, to: Ws, packet: &Packet)
     ensures none { slice_get lanes.old to ≡ None → lanes.new ≡ lanes.old }
 {
     if let Some(lane) = lanes.get_mut(usize::from(to.0)) {
-        lane.packets.put(*packet);
+        lane.put(packet);
     }
 }
 

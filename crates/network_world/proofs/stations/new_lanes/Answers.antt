@@ -8,7 +8,7 @@ loop-lane-init c = lanes_begin c.new-made.result c.new-made.ensures
 
 pub loop-lane-preserved : goal.loop-lane-preserved
 loop-lane-preserved c =
-    lanes_next c.loop-lane._lane c.loop-lane.made c.push.new.made c.new.result c.loop-lane.invariant
+    lanes_next c.loop-lane._lane c.loop-lane.made c.push.new.self c.new.result c.loop-lane.invariant
     (lane_blank c.new.result c.new.ensures.packets c.new.ensures.reached) c.in_ok-push.ensures.ok
 
 pub returns : goal.returns

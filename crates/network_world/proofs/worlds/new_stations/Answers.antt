@@ -10,7 +10,7 @@ new-requires c = omega (arith, c.loop-w-test.true, c.count-w-end.ensures.value)
 
 pub loop-w-preserved : goal.loop-w-preserved
 loop-w-preserved c =
-    stations_next c.args.net.now c.loop-w.w c.loop-w.stations c.push.new.stations c.in_ok-new.value
+    stations_next c.args.net.now c.loop-w.w c.loop-w.stations c.push.new.self c.in_ok-new.field-0
     c.loop-w.invariant.0 c.loop-w.invariant.1 c.in_ok-new.ensures c.in_ok-push.ensures.ok
 
 pub returns : goal.returns

@@ -12,7 +12,7 @@ node_part-requires c = omega (arith, c.loop-w-test.true, c.count-w-end.ensures.v
 
 pub loop-w-preserved : goal.loop-w-preserved
 loop-w-preserved c = λ x old.
-    parts_next c.args.self.now.net x c.loop-w.w c.loop-w.parts c.push.new.parts c.in_ok-node_part.value
+    parts_next c.args.self.now.net x c.loop-w.w c.loop-w.parts c.push.new.self c.in_ok-node_part.field-0
     (c.loop-w.invariant x old) (c.in_ok-node_part.ensures x old) c.in_ok-push.ensures.ok
 
 pub returns : goal.returns

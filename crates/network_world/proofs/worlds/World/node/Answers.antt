@@ -1,4 +1,4 @@
-use Rattle.std.proofs.Common.{◌<◌, ◌∙◌, ℕ, ap, arith, length, option_map, subst, sym}
+use Rattle.std.proofs.Common.{◌≡◌, ◌<◌, ◌∙◌, ℕ, List, ap, arith, get_or, length, option_map, subst, sym}
 use Rattle.network_world.specs.Stations.{Station, WorldState}
 use Rattle.network_world.proofs.Showing.{item_there, node_shown}
 use Rattle.network_world.proofs.worlds.World.node.Goals as goal
@@ -18,9 +18,14 @@ bounds-stations-i c =
 pub returns : goal.returns
 returns c =
     let s : WorldState = c.args.self.now in
+    let same : c.as_slice-stations.result.now ≡ s.stations =
+    c.as_slice-stations.ensures ∙ ap (λ (v : WorldState). v.stations) c.self.view_is in
+    let place : c.from-i.result ≡ c.args.w = omega (arith, c.from-i.ensures, c.w.view_is) in
     let at_w = item_there s.stations c.args.w c.index-stations-i.result
     (subst (λ (n : ℕ). c.args.w < n) (sym c.stands.ensures.world.stands.station_count) c.requires)
-    c.index-stations-i.is in
+    (c.index-stations-i.is
+    ∙ ap (λ (l : List Station). get_or l c.from-i.result c.index-stations-i.result) same
+    ∙ ap (λ (n : ℕ). get_or s.stations n c.index-stations-i.result) place) in
     record {
       value = ap (option_map (λ (t : Station). t.node)) at_w;
       stands = λ x old. node_shown s x c.args.w c.index-stations-i.result old at_w;

@@ -1,4 +1,5 @@
 pub mod Lists
+pub mod Exits
 pub mod Sending
 pub mod Starting
 pub mod Noting

@@ -144,7 +144,7 @@ impl Station {
     {
         let before = self.again(alloc)?;
         match self.node.step(input) {
-            Ok(_) => {
+            Ok(_taken) => {
                 self.node = before;
                 Ok(None)
             }

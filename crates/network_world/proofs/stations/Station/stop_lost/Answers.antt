@@ -11,7 +11,7 @@ returns-in-Ok-clause-stopped c =
     let t : Station = record { node = c.self.inside.node; lanes = map seen c.self.inside.lanes } in
     let u : Station = record { node = c.in_ok-before.before; lanes = map seen c.self.inside.lanes } in
     subst (λ (s : Station). HasStopped s c.args.input.now false None u) c.self.view_is
-    (station_lost t c.args.input.now (effect_in c.in-Ok.field-0 c.step.new.self) c.in_ok-before.before
+    (station_lost t c.args.input.now (effect_in c.in-Ok._taken c.step.new.self) c.in_ok-before.before
     c.in-Ok.ensures.taken
     (subst (λ (s : Station). IsAgain s.node.net s.node.me s.node.kept c.in_ok-before.before) (sym c.self.view_is)
     c.in_ok-before.ensures))

@@ -13,6 +13,7 @@ use Rattle.network_world.proofs.Taking.{noted_over, same_state, same_world, stat
 use Rattle.network_world.proofs.Delivering.{lane_after}
 use Rattle.network_world.proofs.Stopping.{brought_free, crash_deliver_not, crash_deliver_refused, crash_deliver_steps, stop_at_can_be_noted}
 use Rattle.network_world.proofs.Stopping.{stop_mark_inside}
+use Rattle.network_world.proofs.Exits.{if_err, on_err}
 use Rattle.network_world.proofs.worlds.World.crash_deliver.Goals as goal
 
 brought_here : {s v : WorldState} {a b k : ℕ} {input : Input} → s ≡ v → IsBrought v a b k input → IsBrought s a b k input
@@ -24,34 +25,39 @@ not_brought_here s v a b k r same h = subst (λ (u : WorldState). IsNotBrought u
 
 pub returns-in_err-input-clause-refused : goal.returns-in_err-input-clause-refused
 returns-in_err-input-clause-refused c =
-    crash_deliver_not c.args.self.now c.args.a c.args.b c.args.k c.args.kept c.in_err-input.field-0
-    c.in_err-input.ensures.refused
+    if_err (λ r. IsRefusalDue c.args.self.now (CrashDeliver c.args.a c.args.b c.args.k c.args.kept) r) c.from_residual-in_err-input.result
+    c.in_err-input.field-0.0 c.from_residual-in_err-input.ensures.1
+    (crash_deliver_not c.args.self.now c.args.a c.args.b c.args.k c.args.kept c.in_err-input.field-0.0
+    c.in_err-input.ensures.refused)
 
 pub stop_at-requires : goal.stop_at-requires
 stop_at-requires c =
     subst (λ n. c.args.b < n) (sym c.self.invariant.stands.station_count)
     (subst (λ (v : WorldState). c.args.b < node_count v.net) (sym c.self.view_is) c.requires.to)
 
-pub invariant_of-self-in_err-made : goal.invariant_of-self-in_err-made
-invariant_of-self-in_err-made c =
+pub invariant_of-self : goal.invariant_of-self
+invariant_of-self c =
     same_world c.self.inside.net c.self.inside.stations c.stop_at.new.stations (seen c.self.inside.journal)
     (seen c.stop_at.new.journal) c.in_err-made.ensures.err c.in_err-made.ensures.written c.self.invariant
 
 pub returns-in_err-made-clause-refused : goal.returns-in_err-made-clause-refused
 returns-in_err-made-clause-refused c =
-    let s : WorldState =
+    if_err (λ r. IsRefusalDue c.args.self.now (CrashDeliver c.args.a c.args.b c.args.k c.args.kept) r) c.from_residual-in_err-made.result
+    c.in_err-made.field-0.0 c.from_residual-in_err-made.ensures.1
+    (let s : WorldState =
     record { net = c.self.inside.net; stations = c.self.inside.stations; journal = seen c.self.inside.journal } in
-    subst (λ (v : WorldState). IsRefusalDue v (CrashDeliver c.args.a c.args.b c.args.k c.args.kept) c.in_err-made.field-0) c.self.view_is
-    (crash_deliver_refused s c.args.a c.args.b c.args.k c.in_ok-input.input c.args.kept c.in_err-made.field-0
+    subst (λ (v : WorldState). IsRefusalDue v (CrashDeliver c.args.a c.args.b c.args.k c.args.kept) c.in_err-made.field-0.0) c.self.view_is
+    (crash_deliver_refused s c.args.a c.args.b c.args.k c.in_ok-input.input c.args.kept c.in_err-made.field-0.0
     (subst (λ (v : WorldState). c.args.b < node_count v.net) (sym c.self.view_is) c.requires.to)
     c.self.invariant.stands.station_count (brought_here c.self.view_is c.in_ok-input.ensures.ok)
-    c.in_err-made.ensures.refused)
+    c.in_err-made.ensures.refused))
 
 pub returns-in_err-made-clause-err : goal.returns-in_err-made-clause-err
 returns-in_err-made-clause-err c =
-    same_state c.self.inside.net c.self.inside.stations c.stop_at.new.stations (seen c.self.inside.journal)
+    on_err c.from_residual-in_err-made.result
+    (same_state c.self.inside.net c.self.inside.stations c.stop_at.new.stations (seen c.self.inside.journal)
     (seen c.stop_at.new.journal) c.in_err-made.ensures.err c.in_err-made.ensures.written
-    ∙ c.self.view_is
+    ∙ c.self.view_is)
 
 pub mark_at-requires : goal.mark_at-requires
 mark_at-requires c =
@@ -75,8 +81,8 @@ note_mailed-requires c =
     (brought_here c.self.view_is c.in_ok-input.ensures.ok)) c.in_ok-made.ensures.stopped c.in_ok-made.ensures.written
     c.in_ok-made.ensures.room
 
-pub invariant_of-self : goal.invariant_of-self
-invariant_of-self c =
+pub invariant_of-self-2 : goal.invariant_of-self-2
+invariant_of-self-2 c =
     let s : WorldState =
     record { net = c.self.inside.net; stations = c.self.inside.stations; journal = seen c.self.inside.journal } in
     still_a_world s (state c.self.inside.net c.mark_at.new.stations (seen c.note_mailed.new.self))

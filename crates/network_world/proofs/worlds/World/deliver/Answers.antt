@@ -12,6 +12,7 @@ use Rattle.network_world.specs.declared.refusals.StepRefused.{StepRefused}
 use Rattle.network_world.proofs.Taking.{noted_over, same_state, same_world, state, still_a_world}
 use Rattle.network_world.proofs.Delivering.{mark_inside}
 use Rattle.network_world.proofs.Delivering.{deliver_can_be_noted, deliver_not, deliver_refused, deliver_steps}
+use Rattle.network_world.proofs.Exits.{if_err, on_err}
 use Rattle.network_world.proofs.worlds.World.deliver.Goals as goal
 
 brought_here : {s v : WorldState} {a b k : ℕ} {input : Input} → s ≡ v → IsBrought v a b k input → IsBrought s a b k input
@@ -23,33 +24,38 @@ not_brought_here s v a b k r same h = subst (λ (u : WorldState). IsNotBrought u
 
 pub returns-in_err-input-clause-refused : goal.returns-in_err-input-clause-refused
 returns-in_err-input-clause-refused c =
-    deliver_not c.args.self.now c.args.a c.args.b c.args.k c.in_err-input.field-0 c.in_err-input.ensures.refused
+    if_err (λ r. IsRefusalDue c.args.self.now (Deliver c.args.a c.args.b c.args.k) r) c.from_residual-in_err-input.result
+    c.in_err-input.field-0.0 c.from_residual-in_err-input.ensures.1
+    (deliver_not c.args.self.now c.args.a c.args.b c.args.k c.in_err-input.field-0.0 c.in_err-input.ensures.refused)
 
 pub take_at-requires : goal.take_at-requires
 take_at-requires c =
     subst (λ n. c.args.b < n) (sym c.self.invariant.stands.station_count)
     (subst (λ (v : WorldState). c.args.b < node_count v.net) (sym c.self.view_is) c.requires.to)
 
-pub invariant_of-self-in_err-step : goal.invariant_of-self-in_err-step
-invariant_of-self-in_err-step c =
+pub invariant_of-self : goal.invariant_of-self
+invariant_of-self c =
     same_world c.self.inside.net c.self.inside.stations c.take_at.new.stations (seen c.self.inside.journal)
     (seen c.take_at.new.journal) c.in_err-step.ensures.err c.in_err-step.ensures.written c.self.invariant
 
 pub returns-in_err-step-clause-refused : goal.returns-in_err-step-clause-refused
 returns-in_err-step-clause-refused c =
-    let s : WorldState =
+    if_err (λ r. IsRefusalDue c.args.self.now (Deliver c.args.a c.args.b c.args.k) r) c.from_residual-in_err-step.result
+    c.in_err-step.field-0.0 c.from_residual-in_err-step.ensures.1
+    (let s : WorldState =
     record { net = c.self.inside.net; stations = c.self.inside.stations; journal = seen c.self.inside.journal } in
-    subst (λ (v : WorldState). IsRefusalDue v (Deliver c.args.a c.args.b c.args.k) c.in_err-step.field-0) c.self.view_is
-    (deliver_refused s c.args.a c.args.b c.args.k c.in_ok-input.input c.in_err-step.field-0
+    subst (λ (v : WorldState). IsRefusalDue v (Deliver c.args.a c.args.b c.args.k) c.in_err-step.field-0.0) c.self.view_is
+    (deliver_refused s c.args.a c.args.b c.args.k c.in_ok-input.input c.in_err-step.field-0.0
     (subst (λ (v : WorldState). c.args.b < node_count v.net) (sym c.self.view_is) c.requires.to)
     c.self.invariant.stands.station_count (brought_here c.self.view_is c.in_ok-input.ensures.ok)
-    c.in_err-step.ensures.refused)
+    c.in_err-step.ensures.refused))
 
 pub returns-in_err-step-clause-err : goal.returns-in_err-step-clause-err
 returns-in_err-step-clause-err c =
-    same_state c.self.inside.net c.self.inside.stations c.take_at.new.stations (seen c.self.inside.journal)
+    on_err c.from_residual-in_err-step.result
+    (same_state c.self.inside.net c.self.inside.stations c.take_at.new.stations (seen c.self.inside.journal)
     (seen c.take_at.new.journal) c.in_err-step.ensures.err c.in_err-step.ensures.written
-    ∙ c.self.view_is
+    ∙ c.self.view_is)
 
 pub mark_at-requires : goal.mark_at-requires
 mark_at-requires c =
@@ -72,8 +78,8 @@ note_mailed-requires c =
     (brought_here c.self.view_is c.in_ok-input.ensures.ok) c.in_ok-step.ensures.taken c.in_ok-step.ensures.written
     c.in_ok-step.ensures.room
 
-pub invariant_of-self : goal.invariant_of-self
-invariant_of-self c =
+pub invariant_of-self-2 : goal.invariant_of-self-2
+invariant_of-self-2 c =
     let s : WorldState =
     record { net = c.self.inside.net; stations = c.self.inside.stations; journal = seen c.self.inside.journal } in
     still_a_world s (state c.self.inside.net c.mark_at.new.stations (seen c.note_mailed.new.self))

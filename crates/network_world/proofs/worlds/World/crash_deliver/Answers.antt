@@ -16,8 +16,8 @@ use Rattle.network_world.proofs.Stopping.{stop_mark_inside}
 use Rattle.network_world.proofs.Exits.{if_err, on_err}
 use Rattle.network_world.proofs.worlds.World.crash_deliver.Goals as goal
 
-brought_here : {s v : WorldState} {a b k : ℕ} {input : Input} → s ≡ v → IsBrought v a b k input → IsBrought s a b k input
-brought_here {s} {v} {a} {b} {k} {input} same came = subst (λ (u : WorldState). IsBrought u a b k input) (sym same) came
+brought_here : (s v : WorldState) (a b k : ℕ) (input : Input) → s ≡ v → IsBrought v a b k input → IsBrought s a b k input
+brought_here s v a b k input same came = subst (λ (u : WorldState). IsBrought u a b k input) (sym same) came
 
 not_brought_here : (s v : WorldState) (a b k : ℕ) (r : StepRefused) → s ≡ v → IsNotBrought v a b k r
     → IsNotBrought s a b k r
@@ -49,7 +49,7 @@ returns-in_err-made-clause-refused c =
     subst (λ (v : WorldState). IsRefusalDue v (CrashDeliver c.args.a c.args.b c.args.k c.args.kept) c.in_err-made.field-0.0) c.self.view_is
     (crash_deliver_refused s c.args.a c.args.b c.args.k c.in_ok-input.input c.args.kept c.in_err-made.field-0.0
     (subst (λ (v : WorldState). c.args.b < node_count v.net) (sym c.self.view_is) c.requires.to)
-    c.self.invariant.stands.station_count (brought_here c.self.view_is c.in_ok-input.ensures.ok)
+    c.self.invariant.stands.station_count (brought_here _ _ c.args.a c.args.b c.args.k c.in_ok-input.input c.self.view_is c.in_ok-input.ensures.ok)
     c.in_err-made.ensures.refused))
 
 pub returns-in_err-made-clause-err : goal.returns-in_err-made-clause-err
@@ -78,7 +78,7 @@ note_mailed-requires c =
     c.stop_at.new.journal c.self.invariant
     (subst (λ (v : WorldState). c.args.b < node_count v.net) (sym c.self.view_is) c.requires.to)
     (brought_free s c.args.a c.args.b c.args.k c.in_ok-input.input c.self.invariant
-    (brought_here c.self.view_is c.in_ok-input.ensures.ok)) c.in_ok-made.ensures.stopped c.in_ok-made.ensures.written
+    (brought_here _ _ c.args.a c.args.b c.args.k c.in_ok-input.input c.self.view_is c.in_ok-input.ensures.ok)) c.in_ok-made.ensures.stopped c.in_ok-made.ensures.written
     c.in_ok-made.ensures.room
 
 pub invariant_of-self-2 : goal.invariant_of-self-2
@@ -92,7 +92,7 @@ invariant_of-self-2 c =
     (subst (λ (v : WorldState). c.args.a < node_count v.net) (sym c.self.view_is) c.requires.from)
     (subst (λ (v : WorldState). c.args.b < node_count v.net) (sym c.self.view_is) c.requires.to)
     c.self.invariant.stands.station_count
-    (brought_here c.self.view_is c.in_ok-input.ensures.ok) c.in_ok-made.ensures.stopped c.mark_at.ensures
+    (brought_here _ _ c.args.a c.args.b c.args.k c.in_ok-input.input c.self.view_is c.in_ok-input.ensures.ok) c.in_ok-made.ensures.stopped c.mark_at.ensures
     (noted_over Origin.Mailed c.args.b [] c.in_ok-made.made (seen c.self.inside.journal) (seen c.stop_at.new.journal)
     (seen c.note_mailed.new.self) c.in_ok-made.ensures.written c.note_mailed.ensures))
 
@@ -108,6 +108,6 @@ returns-clause-taken c =
     (subst (λ (v : WorldState). c.args.a < node_count v.net) (sym c.self.view_is) c.requires.from)
     (subst (λ (v : WorldState). c.args.b < node_count v.net) (sym c.self.view_is) c.requires.to)
     c.self.invariant.stands.station_count
-    (brought_here c.self.view_is c.in_ok-input.ensures.ok) c.in_ok-made.ensures.stopped c.mark_at.ensures
+    (brought_here _ _ c.args.a c.args.b c.args.k c.in_ok-input.input c.self.view_is c.in_ok-input.ensures.ok) c.in_ok-made.ensures.stopped c.mark_at.ensures
     (noted_over Origin.Mailed c.args.b [] c.in_ok-made.made (seen c.self.inside.journal) (seen c.stop_at.new.journal)
     (seen c.note_mailed.new.self) c.in_ok-made.ensures.written c.note_mailed.ensures))

@@ -1,9 +1,9 @@
-use Rattle.std.proofs.Common.{◌≡◌, ◌∙◌, ◌<◌, ◌≤◌, [], None, refl, subst, sym}
-use Rattle.model.specs.Types.{Deliver}
+use Rattle.std.proofs.Common.{◌≡◌, ◌∙◌, ◌<◌, ◌≤◌, [], List, None, refl, subst, sym}
+use Rattle.model.specs.Types.{Out, Deliver}
 use Rattle.model.specs.Network.{node_count}
 use Rattle.model.specs.World.{Origin}
 use Rattle.network_world.specs.Stations.{WorldState}
-use Rattle.network_world.specs.Journals.{seen}
+use Rattle.network_world.specs.Journals.{CanNote, HasNoted, seen}
 use Rattle.network_world.specs.Standing.{IsRefusalDue, Steps}
 use Rattle.std.proofs.Common.{ℕ}
 use Rattle.model.specs.Types.{Input}
@@ -15,8 +15,8 @@ use Rattle.network_world.proofs.Delivering.{deliver_can_be_noted, deliver_not, d
 use Rattle.network_world.proofs.Exits.{if_err, on_err}
 use Rattle.network_world.proofs.worlds.World.deliver.Goals as goal
 
-brought_here : {s v : WorldState} {a b k : ℕ} {input : Input} → s ≡ v → IsBrought v a b k input → IsBrought s a b k input
-brought_here {s} {v} {a} {b} {k} {input} same came = subst (λ (u : WorldState). IsBrought u a b k input) (sym same) came
+brought_here : (s v : WorldState) (a b k : ℕ) (input : Input) → s ≡ v → IsBrought v a b k input → IsBrought s a b k input
+brought_here s v a b k input same came = subst (λ (u : WorldState). IsBrought u a b k input) (sym same) came
 
 not_brought_here : (s v : WorldState) (a b k : ℕ) (r : StepRefused) → s ≡ v → IsNotBrought v a b k r
     → IsNotBrought s a b k r
@@ -47,7 +47,7 @@ returns-in_err-step-clause-refused c =
     subst (λ (v : WorldState). IsRefusalDue v (Deliver c.args.a c.args.b c.args.k) c.in_err-step.field-0.0) c.self.view_is
     (deliver_refused s c.args.a c.args.b c.args.k c.in_ok-input.input c.in_err-step.field-0.0
     (subst (λ (v : WorldState). c.args.b < node_count v.net) (sym c.self.view_is) c.requires.to)
-    c.self.invariant.stands.station_count (brought_here c.self.view_is c.in_ok-input.ensures.ok)
+    c.self.invariant.stands.station_count (brought_here _ _ c.args.a c.args.b c.args.k c.in_ok-input.input c.self.view_is c.in_ok-input.ensures.ok)
     c.in_err-step.ensures.refused))
 
 pub returns-in_err-step-clause-err : goal.returns-in_err-step-clause-err
@@ -71,12 +71,13 @@ pub note_mailed-requires : goal.note_mailed-requires
 note_mailed-requires c =
     let s : WorldState =
     record { net = c.self.inside.net; stations = c.self.inside.stations; journal = seen c.self.inside.journal } in
-    deliver_can_be_noted s c.args.a c.args.b c.args.k c.in_ok-input.input c.in_ok-step.step c.take_at.new.stations
+    subst (λ (outs : List Out). CanNote c.args.b outs c.in_ok-step.step.kept c.take_at.new.journal) (sym c.as_slice.ensures)
+    (deliver_can_be_noted s c.args.a c.args.b c.args.k c.in_ok-input.input c.in_ok-step.step c.take_at.new.stations
     c.take_at.new.journal c.counts_are_small.ensures.sent c.self.invariant
     (subst (λ (v : WorldState). node_count v.net ≤ 256) (sym c.self.view_is) c.stands.ensures.few)
     (subst (λ (v : WorldState). c.args.b < node_count v.net) (sym c.self.view_is) c.requires.to)
-    (brought_here c.self.view_is c.in_ok-input.ensures.ok) c.in_ok-step.ensures.taken c.in_ok-step.ensures.written
-    c.in_ok-step.ensures.room
+    (brought_here _ _ c.args.a c.args.b c.args.k c.in_ok-input.input c.self.view_is c.in_ok-input.ensures.ok) c.in_ok-step.ensures.taken c.in_ok-step.ensures.written
+    c.in_ok-step.ensures.room)
 
 pub invariant_of-self-2 : goal.invariant_of-self-2
 invariant_of-self-2 c =
@@ -89,9 +90,11 @@ invariant_of-self-2 c =
     (subst (λ (v : WorldState). c.args.a < node_count v.net) (sym c.self.view_is) c.requires.from)
     (subst (λ (v : WorldState). c.args.b < node_count v.net) (sym c.self.view_is) c.requires.to)
     c.self.invariant.stands.station_count
-    (brought_here c.self.view_is c.in_ok-input.ensures.ok) c.in_ok-step.ensures.taken c.mark_at.ensures
+    (brought_here _ _ c.args.a c.args.b c.args.k c.in_ok-input.input c.self.view_is c.in_ok-input.ensures.ok) c.in_ok-step.ensures.taken c.mark_at.ensures
     (noted_over Origin.Mailed c.args.b c.in_ok-step.step.outs c.in_ok-step.step.kept (seen c.self.inside.journal)
-    (seen c.take_at.new.journal) (seen c.note_mailed.new.self) c.in_ok-step.ensures.written c.note_mailed.ensures))
+    (seen c.take_at.new.journal) (seen c.note_mailed.new.self) c.in_ok-step.ensures.written 
+    (subst (λ (outs : List Out). HasNoted Origin.Mailed c.args.b outs c.in_ok-step.step.kept (seen c.take_at.new.journal)
+    (seen c.note_mailed.new.self)) c.as_slice.ensures c.note_mailed.ensures)))
 
 pub returns-clause-taken : goal.returns-clause-taken
 returns-clause-taken c =
@@ -105,6 +108,8 @@ returns-clause-taken c =
     (subst (λ (v : WorldState). c.args.a < node_count v.net) (sym c.self.view_is) c.requires.from)
     (subst (λ (v : WorldState). c.args.b < node_count v.net) (sym c.self.view_is) c.requires.to)
     c.self.invariant.stands.station_count
-    (brought_here c.self.view_is c.in_ok-input.ensures.ok) c.in_ok-step.ensures.taken c.mark_at.ensures
+    (brought_here _ _ c.args.a c.args.b c.args.k c.in_ok-input.input c.self.view_is c.in_ok-input.ensures.ok) c.in_ok-step.ensures.taken c.mark_at.ensures
     (noted_over Origin.Mailed c.args.b c.in_ok-step.step.outs c.in_ok-step.step.kept (seen c.self.inside.journal)
-    (seen c.take_at.new.journal) (seen c.note_mailed.new.self) c.in_ok-step.ensures.written c.note_mailed.ensures))
+    (seen c.take_at.new.journal) (seen c.note_mailed.new.self) c.in_ok-step.ensures.written 
+    (subst (λ (outs : List Out). HasNoted Origin.Mailed c.args.b outs c.in_ok-step.step.kept (seen c.take_at.new.journal)
+    (seen c.note_mailed.new.self)) c.as_slice.ensures c.note_mailed.ensures)))

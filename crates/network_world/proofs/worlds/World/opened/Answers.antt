@@ -1,5 +1,5 @@
 use Rattle.std.proofs.Common.{Option, Ok, refl, subst, sym}
-use Rattle.model.specs.Types.{Ack, Body, Mail, Packet}
+use Rattle.model.specs.Types.{Body, Input, Mail, Packet}
 use Rattle.network_world.specs.Deliveries.{IsInputOf, IsOpened}
 use Rattle.network_world.proofs.worlds.World.opened.Goals as goal
 
@@ -7,9 +7,9 @@ pub returns-in-Mail : goal.returns-in-Mail
 returns-in-Mail c =
     subst (λ (p : Packet). IsOpened c.args.self.now c.args.a p c.mail.result) (sym c.in-Mail.is)
     (λ x old. subst
-    (λ (held : Option Body). IsInputOf c.args.a (Mail c.in-Mail.feed.now c.in-Mail.place.now) held c.mail.result)
+    (λ (held : Option Body). IsInputOf c.args.a (Mail c.in-Mail.feed c.in-Mail.place) held c.mail.result)
     (c.held.ensures x old) c.mail.ensures)
 
 pub returns-in-Ack : goal.returns-in-Ack
 returns-in-Ack c =
-    subst (λ (p : Packet). IsOpened c.args.self.now c.args.a p _) (sym c.in-Ack.is) (λ x old. refl)
+    subst (λ (p : Packet). IsOpened c.args.self.now c.args.a p (Ok (Input.Ack c.args.a c.in-Ack.feed c.in-Ack.count))) (sym c.in-Ack.is) (λ x old. refl)

@@ -10,7 +10,7 @@ pub loop-a-init : goal.loop-a-init
 loop-a-init c = λ x old. c.new-counts.ensures
 
 pub add_pairs_from-requires : goal.add_pairs_from-requires
-add_pairs_from-requires c = omega (arith, c.loop-a-test.true, c.count-a-end.ensures.value)
+add_pairs_from-requires c = omega (arith, c.loop-a-test.true, c.count-a-end.ensures.value, ap node_count c.net.ensures)
 
 pub loop-a-preserved : goal.loop-a-preserved
 loop-a-preserved c = λ x old.
@@ -21,4 +21,4 @@ pub returns : goal.returns
 returns c = λ x old.
     c.loop-a.invariant x old
     ∙ ap (λ n. flat_map (λ b. pairs_from x b (below (node_count c.args.self.now.net))) (below n))
-    (omega (arith, c.loop-a-test.false, c.count-a-end.ensures.value))
+    (omega (arith, c.loop-a-test.false, c.count-a-end.ensures.value, ap node_count c.net.ensures))

@@ -1,9 +1,9 @@
-use Rattle.std.proofs.Common.{◌≡◌, ◌∙◌, ◌<◌, ◌≤◌, [], None, refl, subst, sym}
-use Rattle.model.specs.Types.{Take}
+use Rattle.std.proofs.Common.{◌≡◌, ◌∙◌, ◌<◌, ◌≤◌, [], List, None, refl, subst, sym}
+use Rattle.model.specs.Types.{Out, Take}
 use Rattle.model.specs.Network.{node_count}
 use Rattle.model.specs.World.{Origin}
 use Rattle.network_world.specs.Stations.{WorldState}
-use Rattle.network_world.specs.Journals.{seen}
+use Rattle.network_world.specs.Journals.{CanNote, HasNoted, seen}
 use Rattle.network_world.specs.Standing.{IsRefusalDue, Steps}
 use Rattle.network_world.proofs.Taking.{noted_over, same_state, same_world, state, still_a_world, take_can_be_noted, take_limited}
 use Rattle.network_world.proofs.Taking.{refused_of, take_refused, take_steps, taken_of}
@@ -53,12 +53,13 @@ pub note_own-requires : goal.note_own-requires
 note_own-requires c =
     let s : WorldState =
     record { net = c.self.inside.net; stations = c.self.inside.stations; journal = seen c.self.inside.journal } in
-    take_can_be_noted s c.args.w c.args.local.now c.in_ok-step.step c.take_at.new.stations c.take_at.new.journal
+    subst (λ (outs : List Out). CanNote c.args.w outs c.in_ok-step.step.kept c.take_at.new.journal) (sym c.as_slice.ensures)
+    (take_can_be_noted s c.args.w c.args.local.now c.in_ok-step.step c.take_at.new.stations c.take_at.new.journal
     c.counts_are_small.ensures.sent c.self.invariant
     (subst (λ (v : WorldState). node_count v.net ≤ 256) (sym c.self.view_is) c.stands.ensures.few)
     (subst (λ (v : WorldState). c.args.w < node_count v.net) (sym c.self.view_is) c.requires)
     c.in_ok-check.ensures.ok (taken_of s c.args.w c.args.local.now c.in_ok-copy.field-0 c.in_ok-step.step c.take_at.new.stations
-    c.in_ok-copy.ensures c.in_ok-step.ensures.taken) c.in_ok-step.ensures.written c.in_ok-step.ensures.room
+    c.in_ok-copy.ensures c.in_ok-step.ensures.taken) c.in_ok-step.ensures.written c.in_ok-step.ensures.room)
 
 pub invariant_of-self-2 : goal.invariant_of-self-2
 invariant_of-self-2 c =
@@ -71,7 +72,9 @@ invariant_of-self-2 c =
     c.self.invariant.stands.station_count c.in_ok-check.ensures.ok (taken_of s c.args.w c.args.local.now c.in_ok-copy.field-0 c.in_ok-step.step c.take_at.new.stations
     c.in_ok-copy.ensures c.in_ok-step.ensures.taken)
     (noted_over Origin.Own c.args.w c.in_ok-step.step.outs c.in_ok-step.step.kept (seen c.self.inside.journal)
-    (seen c.take_at.new.journal) (seen c.note_own.new.self) c.in_ok-step.ensures.written c.note_own.ensures))
+    (seen c.take_at.new.journal) (seen c.note_own.new.self) c.in_ok-step.ensures.written 
+    (subst (λ (outs : List Out). HasNoted Origin.Own c.args.w outs c.in_ok-step.step.kept (seen c.take_at.new.journal)
+    (seen c.note_own.new.self)) c.as_slice.ensures c.note_own.ensures)))
 
 pub returns-clause-taken : goal.returns-clause-taken
 returns-clause-taken c =
@@ -85,4 +88,6 @@ returns-clause-taken c =
     c.self.invariant.stands.station_count c.in_ok-check.ensures.ok (taken_of s c.args.w c.args.local.now c.in_ok-copy.field-0 c.in_ok-step.step c.take_at.new.stations
     c.in_ok-copy.ensures c.in_ok-step.ensures.taken)
     (noted_over Origin.Own c.args.w c.in_ok-step.step.outs c.in_ok-step.step.kept (seen c.self.inside.journal)
-    (seen c.take_at.new.journal) (seen c.note_own.new.self) c.in_ok-step.ensures.written c.note_own.ensures))
+    (seen c.take_at.new.journal) (seen c.note_own.new.self) c.in_ok-step.ensures.written 
+    (subst (λ (outs : List Out). HasNoted Origin.Own c.args.w outs c.in_ok-step.step.kept (seen c.take_at.new.journal)
+    (seen c.note_own.new.self)) c.as_slice.ensures c.note_own.ensures)))

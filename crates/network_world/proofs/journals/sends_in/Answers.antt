@@ -23,9 +23,9 @@ pub loop-out-preserved : goal.loop-out-preserved
 loop-out-preserved c =
     record {
       told =
-          sends_next c.args.outs.now c.loop-out.out-index c.loop-out.count c.sends_by.result c.out-item.result
-          (omega arith) c.out-item.is c.sends_by.ensures.value c.loop-out.invariant.told;
-      few = omega (arith, c.loop-out.invariant.few, c.sends_by.ensures.few);
+          sends_next c.args.outs.now c.loop-out.out-index c.loop-out.count c.sends_by-count.result c.out-item.result
+          (omega arith) c.out-item.is c.sends_by-count.ensures.value c.loop-out.invariant.told;
+      few = omega (arith, c.loop-out.invariant.few, c.sends_by-count.ensures.few);
     }
 
 pub returns : goal.returns

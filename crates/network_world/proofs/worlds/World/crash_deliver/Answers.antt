@@ -25,8 +25,8 @@ not_brought_here s v a b k r same h = subst (λ (u : WorldState). IsNotBrought u
 
 pub returns-in_err-input-clause-refused : goal.returns-in_err-input-clause-refused
 returns-in_err-input-clause-refused c =
-    if_err (λ r. IsRefusalDue c.args.self.now (CrashDeliver c.args.a c.args.b c.args.k c.args.kept) r) c.from_residual-in_err-input.result
-    c.in_err-input.field-0.0 c.from_residual-in_err-input.ensures.1
+    if_err (λ r. IsRefusalDue c.args.self.now (CrashDeliver c.args.a c.args.b c.args.k c.args.kept) r) c.from_residual.result
+    c.in_err-input.field-0.0 c.from_residual.ensures.1
     (crash_deliver_not c.args.self.now c.args.a c.args.b c.args.k c.args.kept c.in_err-input.field-0.0
     c.in_err-input.ensures.refused)
 

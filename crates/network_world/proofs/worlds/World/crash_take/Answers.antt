@@ -12,8 +12,8 @@ use Rattle.network_world.proofs.worlds.World.crash_take.Goals as goal
 
 pub returns-in_err-check-clause-refused : goal.returns-in_err-check-clause-refused
 returns-in_err-check-clause-refused c =
-    if_err (λ r. IsRefusalDue c.args.self.now (CrashTake c.args.w c.args.local.now c.args.kept) r) c.from_residual-in_err-check.result
-    c.in_err-check.field-0.0 c.from_residual-in_err-check.ensures.1
+    if_err (λ r. IsRefusalDue c.args.self.now (CrashTake c.args.w c.args.local.now c.args.kept) r) c.from_residual.result
+    c.in_err-check.field-0.0 c.from_residual.ensures.1
     (let s : WorldState =
     record { net = c.self.inside.net; stations = c.self.inside.stations; journal = seen c.self.inside.journal } in
     subst (λ (v : WorldState). IsRefusalDue v (CrashTake c.args.w c.args.local.now c.args.kept) c.in_err-check.field-0.0) c.self.view_is

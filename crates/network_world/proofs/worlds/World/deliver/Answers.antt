@@ -24,8 +24,8 @@ not_brought_here s v a b k r same h = subst (λ (u : WorldState). IsNotBrought u
 
 pub returns-in_err-input-clause-refused : goal.returns-in_err-input-clause-refused
 returns-in_err-input-clause-refused c =
-    if_err (λ r. IsRefusalDue c.args.self.now (Deliver c.args.a c.args.b c.args.k) r) c.from_residual-in_err-input.result
-    c.in_err-input.field-0.0 c.from_residual-in_err-input.ensures.1
+    if_err (λ r. IsRefusalDue c.args.self.now (Deliver c.args.a c.args.b c.args.k) r) c.from_residual.result
+    c.in_err-input.field-0.0 c.from_residual.ensures.1
     (deliver_not c.args.self.now c.args.a c.args.b c.args.k c.in_err-input.field-0.0 c.in_err-input.ensures.refused)
 
 pub take_at-requires : goal.take_at-requires

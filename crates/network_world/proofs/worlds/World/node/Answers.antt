@@ -1,5 +1,7 @@
-use Rattle.std.proofs.Common.{◌≡◌, ◌<◌, ◌∙◌, ℕ, List, ap, arith, get_or, length, option_map, subst, sym}
+use Rattle.std.proofs.Common.{◌≡◌, ◌<◌, ◌∙◌, ℕ, List, Some, ap, arith, get_or, length, option_map, subst, sym}
+use Rattle.agent_core.specs.Nodes.{NodeState}
 use Rattle.network_world.specs.Stations.{Station, WorldState}
+use Rattle.network_world.specs.Standing.{NodeStandsFor}
 use Rattle.network_world.proofs.Showing.{item_there, node_shown}
 use Rattle.network_world.proofs.worlds.World.node.Goals as goal
 
@@ -26,7 +28,11 @@ returns c =
     (c.index-stations-i.is
     ∙ ap (λ (l : List Station). get_or l c.from-i.result c.index-stations-i.result) same
     ∙ ap (λ (n : ℕ). get_or s.stations n c.index-stations-i.result) place) in
+    let here : c.station.inside.node ≡ c.index-stations-i.result.node = ap (λ (t : Station). t.node) c.station.view_is in
     record {
-      value = ap (option_map (λ (t : Station). t.node)) at_w;
-      stands = λ x old. node_shown s x c.args.w c.index-stations-i.result old at_w;
+      value =
+          ap (option_map (λ (t : Station). t.node)) at_w ∙ ap (λ (n : NodeState). Some n) (sym here);
+      stands = λ x old.
+          subst (λ (n : NodeState). NodeStandsFor s.net x c.args.w n) (sym here)
+          (node_shown s x c.args.w c.index-stations-i.result old at_w);
     }

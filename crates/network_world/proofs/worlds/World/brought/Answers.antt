@@ -15,18 +15,18 @@ returns-in-None-clause-refused c =
 pub returns-in_err-check-in-Some-clause-refused : goal.returns-in_err-check-in-Some-clause-refused
 returns-in_err-check-in-Some-clause-refused c =
     if_err (λ r. IsNotBrought c.args.self.now c.args.a c.args.b c.args.k r) c.from_residual.result
-    c.in_err-check.field-0.0 c.from_residual.ensures.1
-    (limit_brought c.args.self.now c.args.a c.args.b c.args.k c.in-Some.packet.now c.in_err-check.field-0.0
+    c.in_err-check-in-Some.field-0.0 c.from_residual.ensures.1
+    (limit_brought c.args.self.now c.args.a c.args.b c.args.k c.in-Some.packet.now c.in_err-check-in-Some.field-0.0
     c.packets_have_entries.ensures.backed c.packets_have_entries.ensures.within c.requires.from c.requires.to
     c.in-Some.ensures
-    (subst (λ (v : WorldState). IsLimitDue v.journal.taken v.journal.sent v.journal.kept c.in_err-check.field-0.0)
-    c.self.view_is c.in_err-check.ensures.refused))
+    (subst (λ (v : WorldState). IsLimitDue v.journal.taken v.journal.sent v.journal.kept c.in_err-check-in-Some.field-0.0)
+    c.self.view_is c.in_err-check-in-Some.ensures.refused))
 
 pub returns-in_ok-check-in-Some : goal.returns-in_ok-check-in-Some
 returns-in_ok-check-in-Some c =
     let free =
     subst (λ (v : WorldState). limit_at v.journal.taken v.journal.sent v.journal.kept ≡ None) c.self.view_is
-    c.in_ok-check.ensures.ok in
+    c.in_ok-check-in-Some.ensures.ok in
     record {
       ok =
           brought_by c.args.self.now c.args.a c.args.b c.args.k c.in-Some.packet.now c.opened.result

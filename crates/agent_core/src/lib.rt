@@ -4,7 +4,7 @@
 //! Contracts see it as `specs/Nodes` has it. A step is that of `model::specs::Step`, or its fault, and what it owes is
 //! `specs/Steps`. After a fault the agent is as before.
 //!
-//! What that costs: a step copies the entry that it keeps and what it gives out, and nothing that the node holds. A
+//! What that costs: a step copies the entry that it keeps and what it gives out, and no list of entries. A
 //! turn costs what its choice and its sends cost. The best job is told by an index (`trackers`): where the index has no
 //! memory for an entry it is given up, and the next step makes it anew before it does anything else.
 #![tactic(auto)]

@@ -88,7 +88,7 @@ firsts_at_most {X} number known (x ∷ xs) n =
 firsts_apart : {X : Type 0} (number : X → ℕ) (xs : List X) → AreApart number (firsts number [] xs)
 firsts_apart number xs n = firsts_at_most number [] xs n
 
-filter_filter : {X : Type 0} (p q : X → Bool) (xs : List X)
+pub filter_filter : {X : Type 0} (p q : X → Bool) (xs : List X)
     → filter p (filter q xs) ≡ filter (λ (x : X). q x && p x) xs
 filter_filter p q [] = refl
 filter_filter {X} p q (x ∷ xs) = go (p x) (q x) (filter_filter p q xs) refl
@@ -175,7 +175,7 @@ some_where : (b : Bool) (x l : LastLaunch) → then_some b x ≡ Some l → b �
 some_where true x l h = refl
 some_where false x l h = cc
 
-launch_is_told : (j : ℕ) (b : Body) (bs : List Body) (l : LastLaunch) → launch_here j b bs ≡ Some l
+pub launch_is_told : (j : ℕ) (b : Body) (bs : List Body) (l : LastLaunch) → launch_here j b bs ≡ Some l
     → is_launch_of j b ≡ true
 launch_is_told j (Launched k n seen) bs l h = some_where (j == k) (record { number = n; later = bs }) l h
 launch_is_told j (Released s seen) bs l h = cc

@@ -5,3 +5,7 @@ mod Further
 mod Counted
 mod Asked
 mod Holders
+mod Covering
+mod Changing
+mod Coded
+mod Beside

@@ -6,7 +6,7 @@ use Rattle.model.specs.History.{View, list_of}
 use Rattle.model.specs.Catalogue.{StreamJob, catalogue, jobs_of}
 use Rattle.model.specs.Facts.{is_cancelled, is_ended, is_open, is_released}
 use Rattle.model.specs.Dependencies.{dep, is_waived, units_in}
-use Rattle.owner_fold.specs.Spots.{job_at}
+use Rattle.owner_fold.specs.Sets.{job_coded}
 use Rattle.owner_fold.specs.declared.units.OpenLaunches.{OpenLaunches}
 
 -- a job of w with an open launch
@@ -33,7 +33,7 @@ streams_under_way V w = filter (is_under_way w (V (Events w))) (catalogue V)
 unfoldable pub open_left : OpenLaunches → List StreamJob
 open_left it =
     filter (λ (p : StreamJob). is_open_here it.ws (list_of it.owners.now (Events it.ws)) p.doc)
-    (filter_map (job_at it.owners.now) it.spots.now)
+    (filter_map (job_coded it.owners.now it.ws) it.codes.now)
 
 -- the units of resource r that dependency i of an object asks for, 0 where it is waived or not there
 abbrev pub units_at : View → ℕ → Obj → ℕ → ℕ

@@ -2,6 +2,7 @@
 use Rattle.std.specs.Prelude.{◌==◌, List, filter, filter_map}
 use Rattle.model.specs.Types.{StreamDoc}
 use Rattle.model.specs.Catalogue.{StreamJob}
+use Rattle.owner_fold.specs.Sets.{job_coded}
 use Rattle.owner_fold.specs.Spots.{doc_at, job_at}
 use Rattle.owner_fold.specs.declared.catalogue.Streams.{Streams}
 use Rattle.owner_fold.specs.declared.catalogue.PlannedJobs.{PlannedJobs}
@@ -18,4 +19,5 @@ jobs_left it = filter_map (job_at it.entries.now) it.spots.now
 -- those of one stream
 unfoldable pub stream_jobs_left : StreamJobs → List StreamJob
 stream_jobs_left it =
-    filter (λ (p : StreamJob). p.parent.no == it.stream) (filter_map (job_at it.entries.now) it.spots.now)
+    filter (λ (p : StreamJob). p.parent.no == it.stream)
+    (filter_map (job_coded it.owners.now it.stream) it.codes.now)

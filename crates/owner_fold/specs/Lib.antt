@@ -6,3 +6,6 @@ pub mod Spots
 pub mod Numbers
 pub mod Plans
 pub mod Holders
+pub mod Sets
+pub mod Stages
+pub mod Kept

@@ -6,6 +6,7 @@ ghost use Rattle.model.specs.Types.{Job, StreamDoc as Doc};
 ghost use Rattle.model.specs.History.{view_of};
 ghost use Rattle.model.specs.Catalogue.{StreamJob, catalogue, jobs, jobs_of_stream, members, stream, job};
 ghost use Rattle.model.specs.Catalogue.{is_member, stream_of, owner};
+ghost use Rattle.owner_fold.specs.Sets as spec;
 ghost use Rattle.owner_fold.specs.Spots.{stream_job};
 ghost use Rattle.owner_fold.specs.Left.{jobs_left, stream_jobs_left, streams_left};
 
@@ -72,9 +73,16 @@ impl<'a> Iterator for PlannedJobs<'a> {
 /// The jobs of one stream of the catalogue, each with the stream, in the order of the catalogue.
 #[derive(Drop)]
 pub struct StreamJobs<'a> {
-    pub(crate) entries: &'a [Entry],
-    pub(crate) spots: &'a [JobSpot],
+    pub(crate) owners: &'a Owners,
+    pub(crate) codes: &'a [u64],
     pub(crate) stream: StreamNo,
+}
+
+/// The job at the place of a code of a stream, with its stream.
+fn job_coded(owners: &Owners, s: StreamNo, code: u64) -> Option<(&StreamDoc, &JobDoc)>
+    ensures { option_map (λ p. stream_job p.0.now p.1.now) result ≡ spec.job_coded owners.now s code }
+{
+    owners.job_coded(s.0, code)
 }
 
 /// The document is that of this stream.
@@ -93,16 +101,16 @@ impl<'a> Iterator for StreamJobs<'a> {
 
     #[tactic(auto, unfolding(crate::specs::Left::stream_jobs_left))]
     fn next(&mut self) -> Option<(&'a StreamDoc, &'a JobDoc)> {
-        let spots = self.spots;
-        for (i, spot) in spots.iter().enumerate() {
-            if let Some((parent, job)) = planned_job_at(self.entries, spot) {
+        let codes = self.codes;
+        for (i, code) in codes.iter().enumerate() {
+            if let Some((parent, job)) = job_coded(self.owners, self.stream, *code) {
                 if has_number(parent, self.stream) {
-                    self.spots = &spots[i + 1..];
+                    self.codes = &codes[i + 1..];
                     return Some((parent, job));
                 }
             }
         }
-        self.spots = &spots[spots.len()..];
+        self.codes = &codes[codes.len()..];
         None
     }
 }
@@ -131,13 +139,13 @@ impl Owners {
     }
 
     /// The jobs of a stream, each with the stream, in the order of the catalogue. None of one outside the catalogue.
-    #[tactic(auto, unfolding(crate::specs::Left::stream_jobs_left, model::specs::Catalogue::jobs_of_stream))]
+    #[tactic(auto, unfolding(crate::specs::Left::stream_jobs_left))]
     pub fn jobs_of_stream(&self, s: StreamNo) -> StreamJobs<'_>
         ensures { stream_jobs_left result ≡ jobs_of_stream (view_of self.now) s }
     {
         StreamJobs {
-            entries: self.entries(),
-            spots: self.job_spots(),
+            owners: self,
+            codes: self.stream_job_codes(s),
             stream: s,
         }
     }

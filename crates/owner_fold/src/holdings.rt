@@ -1,19 +1,26 @@
 //! What a node holds: the entries that it took.
-ghost use Rattle.std.specs.Prelude.{◌≡◌, ◌+◌, ◌++◌, [], ◌∷◌, ℕ, false, length, filter_map, OnOk, OnErr};
-ghost use Rattle.std.specs.Prelude.{option_and_then};
+ghost use Rattle.std.specs.Prelude.{◌≡◌, ◌+◌, ◌++◌, ◌==◌, [], ◌∷◌, ℕ, false, filter, filter_map, length, OnOk, OnErr};
+ghost use Rattle.std.specs.Prelude.{option_and_then, option_map};
 ghost use Rattle.std.specs.Option.{option_copied};
-ghost use Rattle.model.specs.Types.{Orders};
+ghost use Rattle.model.specs.Types.{Events, Orders};
 ghost use Rattle.model.specs.Words.{nth};
 ghost use Rattle.model.specs.History.{list_of, view_of};
 ghost use Rattle.model.specs.Turn.{ordered_command};
-ghost use Rattle.model.specs.Catalogue.{catalogue, has_plan, is_member, job, jobs, members, stream};
+ghost use Rattle.model.specs.Catalogue.{StreamJob, catalogue, has_plan, is_member, job, jobs, jobs_of_stream, members};
+ghost use Rattle.model.specs.Catalogue.{stream};
 ghost use Rattle.model.specs.NewPlan.{last_job, last_stream};
 ghost use Rattle.owner_rows.specs.Standing.{has_issued};
-ghost use Rattle.owner_fold.specs.Spots.{doc_at, job_at};
+ghost use Rattle.owner_fold.specs.Holders.{is_open_here, is_under_way, open_jobs, streams_under_way};
+ghost use Rattle.owner_fold.specs.Sets as spec;
+ghost use Rattle.owner_fold.specs.Sets.{is_waiting_here, streams_waiting};
+ghost use Rattle.owner_fold.specs.Spots.{doc_at, job_at, stream_job};
 
+use crate::changes::change_of;
 use crate::plans::{Plan, is_planning};
-use crate::spots::{JobSpot, StreamSpot, job_spot_at, stream_spot_at};
-use base_types::{Body, Cmd, Entry, Feed, JobNo, NoMemory, StreamNo, StreamNos, Ws};
+use crate::sets::Sets;
+use crate::spots::{JobSpot, StreamSpot, job_spot_at, planned_job_at, stream_at, stream_spot_at};
+use base_types::{Body, Cmd, Copied, Entry, Feed, JobDoc, JobNo, NoMemory, StreamDoc, StreamNo, StreamNos, Ws};
+use grouped_places::place_in;
 use owner_rows::Kept;
 use std::alloc::Global;
 use std::marker::Model;
@@ -22,6 +29,7 @@ use std::marker::Model;
 pub struct Owners {
     kept: Kept,
     plan: Plan,
+    sets: Sets,
 }
 
 /// Written out, so that dropping one is a call for whoever owns it.
@@ -30,20 +38,21 @@ impl Drop for Owners {
         let Owners {
             kept: _kept,
             plan: _plan,
+            sets: _sets,
         } = self;
     }
 }
 
 impl Model for Owners {
     ghost use Rattle.std.specs.Prelude.{List};
-    ghost use Rattle.owner_fold.specs.Plans.{IsPlanOf};
+    ghost use Rattle.owner_fold.specs.Kept.{IsKeptBeside};
     ghost use Rattle.model.specs.Types.{Entry as Taken};
 
     ghost Value = { List Taken };
 
     ghost view = { λ o. o.kept };
 
-    ghost invariant = { λ o. IsPlanOf o.kept o.plan };
+    ghost invariant = { λ o. IsKeptBeside o.kept o.plan o.sets };
 }
 
 impl Owners {
@@ -54,6 +63,7 @@ impl Owners {
         Owners {
             kept: Kept::new(alloc),
             plan: Plan::new(alloc),
+            sets: Sets::new(alloc),
         }
     }
 
@@ -63,14 +73,7 @@ impl Owners {
         ensures ok { OnOk result (self.new ≡ self.old ++ e.now ∷ []) }
         ensures err { OnErr result (self.new ≡ self.old) }
     {
-        if is_planning(e) {
-            let plan = self.plan.with(self.kept.entries(), e)?;
-            self.kept.take(e)?;
-            self.plan = plan;
-            return Ok(());
-        }
-        self.kept.take(e)?;
-        Ok(())
+        self.take_own(e.copy()?)
     }
 
     /// Takes an entry whose place is the next of its feed. Where memory runs out nothing changes.
@@ -81,11 +84,16 @@ impl Owners {
     {
         if is_planning(&e) {
             let plan = self.plan.with(self.kept.entries(), &e)?;
+            let sets = self.sets.anew(&self.kept, &e, &plan.spots)?;
             self.kept.take_own(e)?;
             self.plan = plan;
+            self.sets = sets;
             return Ok(());
         }
+        let change = change_of(&e);
+        self.sets.prepare(&self.plan.index, &change)?;
         self.kept.take_own(e)?;
+        self.sets.settle(&self.kept, &self.plan.index, &change);
         Ok(())
     }
 
@@ -201,5 +209,57 @@ impl Owners {
         ensures { filter_map (job_at self.now) result.now ≡ jobs (view_of self.now) }
     {
         self.plan.spots.jobs.as_slice()
+    }
+
+    /// The stream at the place of a code of a group.
+    pub(crate) fn stream_coded(&self, group: u32, code: u64) -> Option<&StreamDoc>
+        ensures { option_copied result ≡ spec.stream_coded self.now group code }
+    {
+        match stream_spot_at(self.plan.spots.streams.as_slice(), place_in(group, code)) {
+            None => None,
+            Some(spot) => stream_at(self.entries(), spot),
+        }
+    }
+
+    /// The job at the place of a code of a group, with its stream.
+    pub(crate) fn job_coded(&self, group: u32, code: u64) -> Option<(&StreamDoc, &JobDoc)>
+        ensures { option_map (λ p. stream_job p.0.now p.1.now) result ≡ spec.job_coded self.now group code }
+    {
+        match job_spot_at(self.plan.spots.jobs.as_slice(), place_in(group, code)) {
+            None => None,
+            Some(spot) => planned_job_at(self.entries(), spot),
+        }
+    }
+
+    /// The codes of the streams of w that may wait.
+    pub(crate) fn waiting_codes(&self, w: Ws) -> &[u64]
+        ensures { filter (is_waiting_here w (list_of self.now (Events w)))
+            (filter_map (spec.stream_coded self.now w) result.now) ≡ streams_waiting (view_of self.now) w }
+    {
+        self.sets.waiting.of(u32::from(w.0))
+    }
+
+    /// The codes of the streams of w that may be under way.
+    pub(crate) fn begun_codes(&self, w: Ws) -> &[u64]
+        ensures { filter (is_under_way w (list_of self.now (Events w)))
+            (filter_map (spec.stream_coded self.now w) result.now) ≡ streams_under_way (view_of self.now) w }
+    {
+        self.sets.begun.of(u32::from(w.0))
+    }
+
+    /// The codes of the jobs of w that may have an open launch.
+    pub(crate) fn opened_codes(&self, w: Ws) -> &[u64]
+        ensures { filter (λ (p : StreamJob). is_open_here w (list_of self.now (Events w)) p.doc)
+            (filter_map (spec.job_coded self.now w) result.now) ≡ open_jobs (view_of self.now) w }
+    {
+        self.sets.opened.of(u32::from(w.0))
+    }
+
+    /// The codes of the jobs of a stream.
+    pub(crate) fn stream_job_codes(&self, s: StreamNo) -> &[u64]
+        ensures { filter (λ (p : StreamJob). p.parent.no == s)
+            (filter_map (spec.job_coded self.now s) result.now) ≡ jobs_of_stream (view_of self.now) s }
+    {
+        self.sets.by_stream.of(s.0)
     }
 }

@@ -5,20 +5,26 @@
 //! its owner. A fact of an object that the catalogue lacks is 0, false or None. No fact takes memory.
 //!
 //! What each workstation tells in its own list is that of `owner_rows`, which `kept` hands out. Beside it `Owners` keeps
-//! where the documents of the catalogue stand, and the members of the plan, each by its number, and the greatest numbers.
+//! where the documents of the catalogue stand, and the members of the plan, each by its number, and the greatest numbers;
+//! and for each workstation which streams wait for their release, which are under way, and which jobs have an open launch.
 #![tactic(auto)]
 
 mod catalogue;
+mod changes;
 mod dependencies;
 mod events;
 mod facts;
+mod fills;
 mod holdings;
 mod numbers;
 mod plans;
+mod sets;
 mod spots;
+mod stages;
 mod units;
 
 pub use catalogue::{PlannedJobs, StreamJobs, Streams};
 pub use holdings::Owners;
 pub use owner_rows::Outcome;
+pub use stages::{BegunStreams, WaitingStreams};
 pub use units::OpenLaunches;

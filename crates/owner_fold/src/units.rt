@@ -1,24 +1,24 @@
 //! The open launches of a workstation, and the units of a resource that are in use there.
-ghost use Rattle.std.specs.Prelude.{◌≡◌, ◌+◌, ◌<◌, ◌≤◌, ◌^◌, filter, length};
+ghost use Rattle.std.specs.Prelude.{◌≡◌, ◌+◌, ◌<◌, ◌≤◌, ◌^◌, filter, length, option_map};
 ghost use Rattle.std.specs.Iterator.{YieldsFirstBy, item_count};
-ghost use Rattle.model.specs.Types.{Events, Stream};
+ghost use Rattle.model.specs.Types.{Events};
 ghost use Rattle.model.specs.History.{list_of, view_of};
 ghost use Rattle.model.specs.Catalogue.{StreamJob, jobs_of};
-ghost use Rattle.model.specs.Facts.{is_open, is_released, is_ended, is_cancelled};
+ghost use Rattle.model.specs.Facts.{is_open};
 ghost use Rattle.model.specs.Dependencies.{units, units_in, used};
+ghost use Rattle.owner_fold.specs.Sets as spec;
 ghost use Rattle.owner_fold.specs.Spots.{stream_job};
-ghost use Rattle.owner_fold.specs.Holders.{is_open_here, is_under_way, is_unfinished, open_jobs, open_left};
+ghost use Rattle.owner_fold.specs.Holders.{is_open_here, open_jobs, open_left};
 ghost use Rattle.owner_fold.specs.Holders.{streams_under_way, units_at};
 
 use crate::holdings::Owners;
-use crate::spots::{JobSpot, planned_job_at};
 use base_types::{Dep, JobDoc, Obj, StreamDoc, Ws};
 
 /// The jobs of a workstation with an open launch, each with its stream, in the order of the catalogue.
 #[derive(Drop)]
 pub struct OpenLaunches<'a> {
     pub(crate) owners: &'a Owners,
-    pub(crate) spots: &'a [JobSpot],
+    pub(crate) codes: &'a [u64],
     pub(crate) ws: Ws,
 }
 
@@ -31,18 +31,25 @@ impl<'a> Iterator for OpenLaunches<'a> {
 
     #[tactic(auto, unfolding(crate::specs::Holders::open_left))]
     fn next(&mut self) -> Option<(&'a StreamDoc, &'a JobDoc)> {
-        let spots = self.spots;
-        for (i, spot) in spots.iter().enumerate() {
-            if let Some((parent, job)) = planned_job_at(self.owners.entries(), spot) {
+        let codes = self.codes;
+        for (i, code) in codes.iter().enumerate() {
+            if let Some((parent, job)) = job_coded(self.owners, self.ws, *code) {
                 if is_open_job(self.owners, self.ws, job) {
-                    self.spots = &spots[i + 1..];
+                    self.codes = &codes[i + 1..];
                     return Some((parent, job));
                 }
             }
         }
-        self.spots = &spots[spots.len()..];
+        self.codes = &codes[codes.len()..];
         None
     }
+}
+
+/// The job at the place of a code of w, with its stream.
+fn job_coded(owners: &Owners, w: Ws, code: u64) -> Option<(&StreamDoc, &JobDoc)>
+    ensures { option_map (λ p. stream_job p.0.now p.1.now) result ≡ spec.job_coded owners.now w code }
+{
+    owners.job_coded(u32::from(w.0), code)
 }
 
 /// The job is one of w, and has an open launch.
@@ -50,21 +57,6 @@ fn is_open_job(owners: &Owners, w: Ws, job: &JobDoc) -> bool
     ensures { result ≡ is_open_here w (list_of owners.now (Events w)) job.now }
 {
     job.ws.0 == w.0 && owners.kept().is_open_at(w, job.no)
-}
-
-/// The stream is neither ended nor cancelled at w.
-fn is_unfinished(owners: &Owners, w: Ws, doc: &StreamDoc) -> bool
-    ensures { result ≡ is_unfinished (list_of owners.now (Events w)) doc.now }
-{
-    let o = Obj::Stream(doc.no);
-    !owners.kept().is_ended_at(w, doc.no) && !owners.kept().is_cancelled_at(w, &o)
-}
-
-/// The stream is one of w, and is released, not ended and not cancelled.
-fn is_under_way_at(owners: &Owners, w: Ws, doc: &StreamDoc) -> bool
-    ensures { result ≡ is_under_way w (list_of owners.now (Events w)) doc.now }
-{
-    doc.ws.0 == w.0 && (owners.kept().is_released_at(w, doc.no) && is_unfinished(owners, w, doc))
 }
 
 /// The units of a resource that a dependency asks for.
@@ -92,7 +84,7 @@ impl Owners {
     {
         OpenLaunches {
             owners: self,
-            spots: self.job_spots(),
+            codes: self.opened_codes(w),
             ws: w,
         }
     }
@@ -134,7 +126,7 @@ impl Owners {
         let _entries = self.kept().entries();
         OpenLaunches {
             owners: self,
-            spots: self.job_spots(),
+            codes: self.opened_codes(w),
             ws: w,
         }
     }
@@ -148,11 +140,9 @@ impl Owners {
             let o = Obj::Job(doc.no);
             used += self.units_of(&o, resource);
         }
-        for doc in self.streams() {
-            if is_under_way_at(self, w, doc) {
-                let o = Obj::Stream(doc.no);
-                used += self.units_of(&o, resource);
-            }
+        for doc in self.streams_under_way(w) {
+            let o = Obj::Stream(doc.no);
+            used += self.units_of(&o, resource);
         }
         used
     }

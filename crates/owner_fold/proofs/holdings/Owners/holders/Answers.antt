@@ -1,16 +1,13 @@
-use Rattle.std.proofs.Common.{◌<◌, ◌^◌, List, arith, filter_map, length, subst}
+use Rattle.std.proofs.Common.{◌<◌, ◌^◌, List, arith, length, subst}
 use Rattle.model.specs.Types.{Entry, Events}
 use Rattle.model.specs.History.{list_of, view_of}
-use Rattle.owner_fold.specs.Spots.{job_at}
 use Rattle.owner_fold.specs.Holders.{open_left}
-use Rattle.owner_fold.proofs.Holders.{few_holders, open_among}
+use Rattle.owner_fold.proofs.Holders.{few_holders}
 use Rattle.owner_fold.proofs.holdings.Owners.holders.Goals as goal
 
 pub returns-clause-jobs : goal.returns-clause-jobs
 unfolding open_left
-returns-clause-jobs c =
-    open_among (view_of c.args.self.now) c.args.w (filter_map (job_at c.args.self.now) c.job_spots.result.now)
-    c.job_spots.ensures
+returns-clause-jobs c = c.opened_codes.ensures
 
 pub returns-clause-few : goal.returns-clause-few
 returns-clause-few c =

@@ -13,4 +13,4 @@ returns c =
     (found_in_order (job_at c.self.inside.kept) c.self.inside.plan.spots.jobs
     (first_jobs_among (flat_map jobs_in
     (first_docs_among (flat_map docs_in (list_of c.self.inside.kept (Events 0))))))
-    c.self.invariant.spots.jobs.0)
+    c.self.invariant.plan.spots.jobs.0)

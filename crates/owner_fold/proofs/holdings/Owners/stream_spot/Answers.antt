@@ -9,7 +9,7 @@ pub returns-in-None : goal.returns-in-None
 returns-in-None c =
     ap (option_and_then (λ i. option_and_then (doc_at c.args.self.now) (slice_get c.self.inside.plan.spots.streams i)))
     (sym c.in-None.is)
-    ∙ stream_found c.self.inside.kept c.args.self.now c.self.inside.plan c.s.inside.0 c.place.result c.self.invariant
+    ∙ stream_found c.self.inside.kept c.args.self.now c.self.inside.plan c.s.inside.0 c.place.result c.self.invariant.plan
     c.self.view_is c.place.ensures
     ∙ ap (λ n. stream (view_of c.args.self.now) n) c.s.view_is
 
@@ -19,6 +19,6 @@ returns-in-Some c =
     (c.stream_spot_at.ensures ∙ ap (λ l. slice_get l c.in-Some.place) c.as_slice.ensures)
     ∙ ap (option_and_then (λ i. option_and_then (doc_at c.args.self.now) (slice_get c.self.inside.plan.spots.streams i)))
     (sym c.in-Some.is)
-    ∙ stream_found c.self.inside.kept c.args.self.now c.self.inside.plan c.s.inside.0 c.place.result c.self.invariant
+    ∙ stream_found c.self.inside.kept c.args.self.now c.self.inside.plan c.s.inside.0 c.place.result c.self.invariant.plan
     c.self.view_is c.place.ensures
     ∙ ap (λ n. stream (view_of c.args.self.now) n) c.s.view_is

@@ -12,4 +12,4 @@ returns c =
     rw (c.as_slice.ensures, ← c.self.view_is)
     (found_in_order (doc_at c.self.inside.kept) c.self.inside.plan.spots.streams
     (first_docs_among (flat_map docs_in (list_of c.self.inside.kept (Events 0))))
-    c.self.invariant.spots.streams.0)
+    c.self.invariant.plan.spots.streams.0)

@@ -1,12 +1,7 @@
 use Rattle.std.proofs.Common.{Err, Ok, Result, sym, ◌∙◌}
 use Rattle.std.specs.Prelude.{OnErr}
-use Rattle.owner_fold.proofs.Further.{kept_without}
+use Rattle.owner_fold.proofs.Beside.{beside_changed, beside_planned, beside_prepared}
 use Rattle.owner_fold.proofs.holdings.Owners.take_own.Goals as goal
-
-pub invariant_of-self-2 : goal.invariant_of-self-2
-invariant_of-self-2 c =
-    kept_without c.self.inside.kept c.take_own-2.new.self c.args.e c.self.inside.plan c.self.invariant
-    c.in_ok-take_own-2.ensures.ok (sym c.is_planning.ensures ∙ c.if-is_planning.false)
 
 on_err : {T E P : Type 0} (r : Result T E) → P → OnErr r P
 on_err (Ok x) p = tt

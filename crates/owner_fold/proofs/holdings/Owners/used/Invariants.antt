@@ -1,9 +1,8 @@
-use Rattle.std.proofs.Common.{◌≡◌, ◌+◌, ◌*◌, ◌≤◌, filter, length}
-use Rattle.model.specs.Types.{Events}
-use Rattle.model.specs.History.{list_of, view_of}
+use Rattle.std.proofs.Common.{◌≡◌, ◌+◌, ◌*◌, ◌≤◌, length}
+use Rattle.model.specs.History.{view_of}
 use Rattle.model.specs.Dependencies.{used}
-use Rattle.owner_fold.specs.Left.{streams_left}
-use Rattle.owner_fold.specs.Holders.{is_under_way, open_left, streams_under_way}
+use Rattle.owner_fold.specs.Holders.{open_left, streams_under_way}
+use Rattle.owner_fold.specs.Stages.{begun_left}
 use Rattle.owner_fold.proofs.Holders.{job_units, stream_units}
 use Rattle.owner_fold.proofs.holdings.Owners.used.Given as goal
 
@@ -22,11 +21,6 @@ abbrev pub invariant-loop-doc-2 : goal.invariant-loop-doc-2
 invariant-loop-doc-2 l =
     record {
       sum : used (view_of l.self) l.fn.w l.resource
-          ≡ l.used
-          + stream_units (view_of l.self) l.resource
-          (filter (is_under_way l.fn.w (list_of l.self (Events l.fn.w))) (streams_left l.doc-iterator));
-      few : l.used
-          + 4294836225
-          * length (filter (is_under_way l.fn.w (list_of l.self (Events l.fn.w))) (streams_left l.doc-iterator))
-          ≤ 18446181123756261375;
+          ≡ l.used + stream_units (view_of l.self) l.resource (begun_left l.doc-iterator);
+      few : l.used + 4294836225 * length (begun_left l.doc-iterator) ≤ 18446181123756261375;
     }

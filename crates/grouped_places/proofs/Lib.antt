@@ -1,0 +1,2 @@
+mod Rising
+pub mod Finding

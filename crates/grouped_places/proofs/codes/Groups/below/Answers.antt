@@ -1,0 +1,19 @@
+use Rattle.std.proofs.Common.{List, ltb, rules, subst, sym, ℕ, ◌<◌, ◌∙◌, ◌≤◌}
+use Rattle.std.proofs.lemmas.List.Sorted.{IsPartitionPoint-from_clause, IsPartitionedBy-ltb}
+use Rattle.std.specs.List.Sorted.{IsPartitionPoint}
+use borrow.Author.Tests.{ltb-false, ltb-true}
+use Rattle.grouped_places.specs.Codes.{RisesFrom}
+use Rattle.grouped_places.proofs.Rising.{never_falls}
+use Rattle.grouped_places.proofs.codes.Groups.below.Goals as goal
+
+pub returns-clause-point : goal.returns-clause-point
+returns-clause-point c =
+    let rises : RisesFrom 0 c.as_slice.result.now = subst (RisesFrom 0) (sym c.as_slice.ensures.value) c.self.invariant in
+    let parted = IsPartitionedBy-ltb (λ n. n) c.as_slice.result.now c.args.code (never_falls 0 c.as_slice.result.now rises) in
+    let point =
+    IsPartitionPoint-from_clause (λ n. ltb n c.args.code) _ _ c.partition_point.ensures.partitioned parted
+    (λ a r q k. search rules) in
+    let told : IsPartitionPoint (λ n. n < c.args.code) (λ n. c.args.code ≤ n) c.as_slice.result.now c.partition_point.result =
+    (λ k d l h. ltb-true _ _ (point.0 k d l h), λ k d l h. ltb-false _ _ (point.1 k d l h)) in
+    subst (λ (l : List ℕ). IsPartitionPoint (λ n. n < c.args.code) (λ n. c.args.code ≤ n) l c.partition_point.result)
+    (c.as_slice.ensures.value ∙ c.self.view_is) told

@@ -1,0 +1,12 @@
+-- What `Owners` keeps beside the entries.
+use Rattle.std.specs.Prelude.{List}
+use Rattle.model.specs.Types.{Entry}
+use Rattle.owner_fold.specs.Plans.{IsPlanOf}
+use Rattle.owner_fold.specs.Sets.{AreSetsOf}
+use Rattle.owner_fold.specs.declared.plans.Plan.{Plan}
+use Rattle.owner_fold.specs.declared.sets.Sets.{Sets}
+
+-- the plan and the sets of these entries
+pub record IsKeptBeside (kept : List Entry) (plan : Plan) (sets : Sets) : Type 0 where
+  pub plan : IsPlanOf kept plan
+  pub sets : AreSetsOf kept sets

@@ -1,0 +1,51 @@
+//! What an entry may change in the sets.
+ghost use Rattle.std.specs.Prelude.{◌≡◌};
+ghost use Rattle.owner_fold.specs.Sets as spec;
+
+use base_types::{Body, Cmd, Entry, Feed, Obj, OnUntil};
+
+/// Of whom an entry tells what may change the sets: the workstation that tells it, the number, and whether it is the
+/// release of the stream or a launch of the job.
+#[derive(Clone, Copy)]
+pub(crate) enum Change {
+    StreamChange(u16, u32, bool),
+    JobChange(u16, u32, bool),
+    NoChange,
+}
+
+/// A stream that is cancelled.
+fn change_of_object(w: u16, o: &Obj) -> Change
+    ensures { result ≡ spec.change_of_object w o.now }
+{
+    match o {
+        Obj::Stream(s) => Change::StreamChange(w, s.0, false),
+        Obj::Job(_) => Change::NoChange,
+    }
+}
+
+/// What an entry in the events of w may change.
+fn change_by(w: u16, body: &Body) -> Change
+    ensures { result ≡ spec.change_by w body.now }
+{
+    match body {
+        Body::Released(s, _) => Change::StreamChange(w, s.0, true),
+        Body::StreamEnded(s, _) => Change::StreamChange(w, s.0, false),
+        Body::UntilPassed(o, _, OnUntil::Canc) => change_of_object(w, o),
+        Body::Obeyed(_, _, Cmd::Cancel(o)) => change_of_object(w, o),
+        Body::Launched(j, _, _) => Change::JobChange(w, j.0, true),
+        Body::Failed(j, _) => Change::JobChange(w, j.0, false),
+        Body::Ended(j, _, _, _) => Change::JobChange(w, j.0, false),
+        Body::Lost(j, _) => Change::JobChange(w, j.0, false),
+        _ => Change::NoChange,
+    }
+}
+
+/// What an entry may change.
+pub(crate) fn change_of(e: &Entry) -> Change
+    ensures { result ≡ spec.change_in e.now.body e.now.feed }
+{
+    match &e.feed {
+        Feed::Orders(_, _) => Change::NoChange,
+        Feed::Events(w) => change_by(w.0, &e.body),
+    }
+}

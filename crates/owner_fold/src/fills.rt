@@ -1,0 +1,213 @@
+//! The sets of a plan that comes: each made anew, in one walk over what stands in the catalogue.
+ghost use Rattle.std.specs.Prelude.{◌≡◌, ◌++◌, [], ◌∷◌, List, true, IfOk, OnOk, option_map, slice_get};
+ghost use Rattle.std.specs.Option.{option_copied};
+ghost use Rattle.model.specs.Types.{StreamDoc as Doc};
+ghost use Rattle.model.specs.Catalogue.{StreamJob};
+ghost use Rattle.owner_fold.specs.Sets as spec;
+ghost use Rattle.owner_fold.specs.Sets.{Covers, Further};
+ghost use Rattle.owner_fold.specs.Spots.{AreJobSpots, AreStreamSpots, doc_at, job_at, stream_job};
+
+use crate::sets::{is_begun, is_waiting};
+use crate::spots::{JobSpot, Spots, StreamSpot, docs_of};
+use base_types::{Entry, JobDoc, NoMemory, StreamDoc};
+use grouped_places::Groups;
+use owner_rows::Kept;
+
+/// The entry at a place, where `e` comes after the others.
+fn entry_with<'a>(entries: &'a [Entry], e: &'a Entry, place: usize) -> Option<&'a Entry>
+    ensures { option_copied result ≡ slice_get (entries.now ++ e.now ∷ []) place }
+{
+    if place == entries.len() {
+        return Some(e);
+    }
+    entries.get(place)
+}
+
+/// The document that stands there then.
+fn stream_with<'a>(
+    entries: &'a [Entry],
+    e: &'a Entry,
+    spot: &StreamSpot,
+) -> Option<&'a StreamDoc>
+    ensures { option_copied result ≡ doc_at (entries.now ++ e.now ∷ []) spot.now }
+{
+    match entry_with(entries, e, spot.entry) {
+        None => None,
+        Some(entry) => docs_of(&entry.body).get(spot.doc),
+    }
+}
+
+/// The job that stands there then, with its stream.
+fn job_with<'a>(
+    entries: &'a [Entry],
+    e: &'a Entry,
+    spot: &JobSpot,
+) -> Option<(&'a StreamDoc, &'a JobDoc)>
+    ensures { option_map (λ p. stream_job p.0.now p.1.now) result ≡ job_at (entries.now ++ e.now ∷ []) spot.now }
+{
+    match stream_with(entries, e, &spot.stream) {
+        None => None,
+        Some(doc) => match doc.jobs.get(spot.job) {
+            None => None,
+            Some(job) => Some((doc, job)),
+        },
+    }
+}
+
+/// Puts in the stream at this spot, where it waits.
+fn put_waiting(
+    groups: &mut Groups,
+    kept: &Kept,
+    e: &Entry,
+    place: usize,
+    spot: &StreamSpot,
+) -> Result<(), NoMemory>
+    ensures { OnOk result (Further spec.station_of (spec.waits_by kept.now) place
+        (doc_at (kept.now ++ e.now ∷ []) spot.now) groups.old groups.new) }
+{
+    match stream_with(kept.entries(), e, spot) {
+        None => Ok(()),
+        Some(doc) => {
+            if is_waiting(kept, doc.ws, doc.no) {
+                groups.add(u32::from(doc.ws.0), place)?;
+                Ok(())
+            } else {
+                Ok(())
+            }
+        }
+    }
+}
+
+/// Puts in the stream at this spot, where it is begun.
+fn put_begun(
+    groups: &mut Groups,
+    kept: &Kept,
+    e: &Entry,
+    place: usize,
+    spot: &StreamSpot,
+) -> Result<(), NoMemory>
+    ensures { OnOk result (Further spec.station_of (spec.began_by kept.now) place
+        (doc_at (kept.now ++ e.now ∷ []) spot.now) groups.old groups.new) }
+{
+    match stream_with(kept.entries(), e, spot) {
+        None => Ok(()),
+        Some(doc) => {
+            if is_begun(kept, doc.ws, doc.no) {
+                groups.add(u32::from(doc.ws.0), place)?;
+                Ok(())
+            } else {
+                Ok(())
+            }
+        }
+    }
+}
+
+/// Puts in the job at this spot, where it has an open launch.
+fn put_opened(
+    groups: &mut Groups,
+    kept: &Kept,
+    e: &Entry,
+    place: usize,
+    spot: &JobSpot,
+) -> Result<(), NoMemory>
+    ensures { OnOk result (Further spec.job_station_of (spec.opened_by kept.now) place
+        (job_at (kept.now ++ e.now ∷ []) spot.now) groups.old groups.new) }
+{
+    match job_with(kept.entries(), e, spot) {
+        None => Ok(()),
+        Some((_, doc)) => {
+            if kept.is_open_at(doc.ws, doc.no) {
+                groups.add(u32::from(doc.ws.0), place)?;
+                Ok(())
+            } else {
+                Ok(())
+            }
+        }
+    }
+}
+
+/// Puts in the job at this spot.
+fn put_by_stream(
+    groups: &mut Groups,
+    kept: &Kept,
+    e: &Entry,
+    place: usize,
+    spot: &JobSpot,
+) -> Result<(), NoMemory>
+    ensures { OnOk result (Further spec.job_stream_of (λ p. true) place
+        (job_at (kept.now ++ e.now ∷ []) spot.now) groups.old groups.new) }
+{
+    match job_with(kept.entries(), e, spot) {
+        None => Ok(()),
+        Some((parent, _)) => {
+            groups.add(parent.no.0, place)?;
+            Ok(())
+        }
+    }
+}
+
+/// The streams that wait.
+pub(crate) fn waiting_of(
+    mut groups: Groups,
+    kept: &Kept,
+    e: &Entry,
+    spots: &Spots,
+) -> Result<Groups, NoMemory>
+    ensures { IfOk result (λ codes. (docs : List Doc) → AreStreamSpots (kept.now ++ e.now ∷ []) spots.now.streams docs
+        → Covers spec.station_of (spec.waits_by kept.now) docs codes) }
+{
+    for (i, spot) in spots.streams.as_slice().iter().enumerate() {
+        put_waiting(&mut groups, kept, e, i, spot)?;
+    }
+    Ok(groups)
+}
+
+/// The streams that are begun.
+pub(crate) fn begun_of(
+    mut groups: Groups,
+    kept: &Kept,
+    e: &Entry,
+    spots: &Spots,
+) -> Result<Groups, NoMemory>
+    ensures { IfOk result (λ codes. (docs : List Doc) → AreStreamSpots (kept.now ++ e.now ∷ []) spots.now.streams docs
+        → Covers spec.station_of (spec.began_by kept.now) docs codes) }
+{
+    for (i, spot) in spots.streams.as_slice().iter().enumerate() {
+        put_begun(&mut groups, kept, e, i, spot)?;
+    }
+    Ok(groups)
+}
+
+/// The jobs with an open launch.
+pub(crate) fn opened_of(
+    mut groups: Groups,
+    kept: &Kept,
+    e: &Entry,
+    spots: &Spots,
+) -> Result<Groups, NoMemory>
+    ensures { IfOk result (λ codes. (placed : List StreamJob)
+        → AreJobSpots (kept.now ++ e.now ∷ []) spots.now.jobs placed
+        → Covers spec.job_station_of (spec.opened_by kept.now) placed codes) }
+{
+    for (i, spot) in spots.jobs.as_slice().iter().enumerate() {
+        put_opened(&mut groups, kept, e, i, spot)?;
+    }
+    Ok(groups)
+}
+
+/// The jobs of each stream.
+pub(crate) fn by_stream_of(
+    mut groups: Groups,
+    kept: &Kept,
+    e: &Entry,
+    spots: &Spots,
+) -> Result<Groups, NoMemory>
+    ensures { IfOk result (λ codes. (placed : List StreamJob)
+        → AreJobSpots (kept.now ++ e.now ∷ []) spots.now.jobs placed
+        → Covers spec.job_stream_of (λ p. true) placed codes) }
+{
+    for (i, spot) in spots.jobs.as_slice().iter().enumerate() {
+        put_by_stream(&mut groups, kept, e, i, spot)?;
+    }
+    Ok(groups)
+}

@@ -3,6 +3,7 @@ mod feeds;
 mod launches;
 mod orders;
 mod plans;
+mod sets;
 mod times;
 
 use base_types::{JobNo, Obj};

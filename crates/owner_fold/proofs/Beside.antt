@@ -83,7 +83,7 @@ beside_changed kept new e plan old mid last_ change h other one p begins grown s
 
 -- no entries
 nobody : {X : Type 0} {A : Type 0} (i : ℕ) (x : X) → slice_get {X = X} [] i ≡ Some x → A
-nobody {X} i x s = let q : None ≡ Some x = sym (nothing_there {X} i) ∙ s in absurd (cc)
+nobody {X} i x s = let q : None ≡ Some x = sym (nothing_there {X = X} i) ∙ s in absurd (cc)
 
 pub sets_of_none : (sets : Sets) → AreSetsOf [] sets
 unfolding list_of catalogue jobs

@@ -1,6 +1,6 @@
 -- Sets by places: one item further, one place less, and what an entry changes.
 use Rattle.std.proofs.Common.{[], ℕ, ◌&&◌, ◌*◌, ◌+◌, ◌++◌, ◌<◌, ◌^◌, ◌∙◌, ◌∷◌, ◌≡◌, ◌≤◌, ◌≢◌, ◌⊎◌, Bool, List, None, Option}
-use Rattle.std.proofs.Common.{Some, ap, arith, cond, eqb, false, filter, filter_map, inl, inr, length, map, not}
+use Rattle.std.proofs.Common.{Some, ap, arith, cond, eqb, false, filter, filter_map, get_or, inl, inr, length, map, not}
 use Rattle.std.proofs.Common.{option_and_then, refl, slice_get, suc, sym, true, zero}
 use Rattle.std.proofs.lemmas.Bool.Decides.{eqb_tells}
 use borrow.Author.Tests.{ltb-false, ltb-true}
@@ -20,6 +20,19 @@ item_placed f (s ∷ ss) [] h i = cc
 item_placed {S} {X} f (s ∷ ss) (x ∷ xs) h zero = let here : f s ≡ Some x = cc in sym here
 item_placed {S} {X} f (s ∷ ss) (x ∷ xs) h (suc i) =
     let there : map f ss ≡ map Some xs = cc in item_placed f ss xs there i
+
+found_there : {S X : Type 0} (f : S → Option X) (spots : List S) (i : ℕ) (d : S) → i < length spots
+    → option_and_then f (slice_get spots i) ≡ f (get_or spots i d)
+found_there f [] i d h = absurd (omega (arith, h))
+found_there f (s ∷ ss) zero d h = refl
+found_there f (s ∷ ss) (suc i) d h = found_there f ss i d (omega (arith, h))
+
+-- what a walk over the spots meets
+pub item_met : {S X : Type 0} (f : S → Option X) (spots walked : List S) (items : List X) (i : ℕ) (d : S)
+    → map f spots ≡ map Some items → walked ≡ spots → i < length walked → slice_get items i ≡ f (get_or walked i d)
+item_met {S} f spots walked items i d e same h =
+    item_placed f spots items e i ∙ ap (λ (l : List S). option_and_then f (slice_get l i)) (sym same)
+    ∙ found_there f walked i d h
 
 -- as many spots as items
 within : {S X : Type 0} (f : S → Option X) (spots : List S) (items : List X) → map f spots ≡ map Some items → (i : ℕ)

@@ -7,6 +7,6 @@ use Rattle.owner_fold.specs.declared.plans.Plan.{Plan}
 use Rattle.owner_fold.specs.declared.sets.Sets.{Sets}
 
 -- the plan and the sets of these entries
-pub record IsKeptBeside (kept : List Entry) (plan : Plan) (sets : Sets) : Type 0 where
-  pub plan : IsPlanOf kept plan
-  pub sets : AreSetsOf kept sets
+pub record IsKeptBeside (kept : List Entry) (its_plan : Plan) (its_sets : Sets) : Type 0 where
+  pub plan : IsPlanOf kept its_plan
+  pub sets : AreSetsOf kept its_sets

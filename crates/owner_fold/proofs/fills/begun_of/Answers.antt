@@ -1,8 +1,8 @@
-use Rattle.std.proofs.Common.{[], ◌++◌, ◌∙◌, ◌∷◌, ap, option_and_then, slice_get, arith, length, sym}
+use Rattle.std.proofs.Common.{[], ◌++◌, ◌∷◌, ap, arith, get_or, length, true}
 use Rattle.owner_fold.specs.Sets.{began_by, station_of}
 use Rattle.owner_fold.specs.Spots.{doc_at}
-use Rattle.owner_fold.proofs.Covering.{covers_all, covers_further, covers_none, item_placed}
-use Rattle.owner_fold.proofs.Standing.{item_at}
+use Rattle.owner_fold.specs.declared.spots.StreamSpot.{StreamSpot}
+use Rattle.owner_fold.proofs.Covering.{covers_all, covers_further, covers_none, item_met}
 use Rattle.owner_fold.proofs.fills.begun_of.Goals as goal
 
 pub loop-i-init : goal.loop-i-init
@@ -10,13 +10,13 @@ loop-i-init c = λ docs placed_so. covers_none station_of (began_by c.args.kept.
 
 pub loop-i-preserved : goal.loop-i-preserved
 loop-i-preserved c =
+    let none : StreamSpot = record { number = 0; entry = 0; doc = 0 } in
     λ docs placed_so.
     covers_further station_of (began_by c.args.kept.now) docs c.loop-i.i
-    (doc_at (c.args.kept.now ++ c.args.e.now ∷ []) c.spot-item.result) c.loop-i.groups c.put_begun.new.groups
-    (item_placed (doc_at (c.args.kept.now ++ c.args.e.now ∷ [])) c.args.spots.now.streams docs placed_so.0 c.loop-i.i
-    ∙ ap (option_and_then (doc_at (c.args.kept.now ++ c.args.e.now ∷ [])))
-    (ap (λ l. slice_get l c.loop-i.i) (sym c.as_slice-spot-items.ensures)
-    ∙ item_at c.as_slice-spot-items.result.now c.loop-i.i c.spot-item.result c.loop-i-test.true c.spot-item.is))
+    (doc_at (c.args.kept.now ++ c.args.e.now ∷ []) (get_or c.as_slice-spot-items.result.now c.loop-i.i none))
+    c.loop-i.groups c.put_begun.new.groups
+    (item_met (doc_at (c.args.kept.now ++ c.args.e.now ∷ [])) c.args.spots.now.streams c.as_slice-spot-items.result.now
+    docs c.loop-i.i none placed_so.0 c.as_slice-spot-items.ensures c.loop-i-test.true)
     (c.loop-i.invariant docs placed_so) c.in_ok-put_begun.ensures
 
 pub returns : goal.returns

@@ -1,8 +1,8 @@
-use Rattle.std.proofs.Common.{[], ◌++◌, ◌∙◌, ◌∷◌, ap, option_and_then, slice_get, arith, length, sym}
+use Rattle.std.proofs.Common.{[], ◌++◌, ◌∷◌, ap, arith, get_or, length, true}
 use Rattle.owner_fold.specs.Sets.{job_station_of, opened_by}
 use Rattle.owner_fold.specs.Spots.{job_at}
-use Rattle.owner_fold.proofs.Covering.{covers_all, covers_further, covers_none, item_placed}
-use Rattle.owner_fold.proofs.Standing.{item_at}
+use Rattle.owner_fold.specs.declared.spots.JobSpot.{JobSpot}
+use Rattle.owner_fold.proofs.Covering.{covers_all, covers_further, covers_none, item_met}
 use Rattle.owner_fold.proofs.fills.opened_of.Goals as goal
 
 pub loop-i-init : goal.loop-i-init
@@ -10,13 +10,13 @@ loop-i-init c = λ placed placed_so. covers_none job_station_of (opened_by c.arg
 
 pub loop-i-preserved : goal.loop-i-preserved
 loop-i-preserved c =
+    let none : JobSpot = record { number = 0; stream = record { number = 0; entry = 0; doc = 0 }; job = 0 } in
     λ placed placed_so.
     covers_further job_station_of (opened_by c.args.kept.now) placed c.loop-i.i
-    (job_at (c.args.kept.now ++ c.args.e.now ∷ []) c.spot-item.result) c.loop-i.groups c.put_opened.new.groups
-    (item_placed (job_at (c.args.kept.now ++ c.args.e.now ∷ [])) c.args.spots.now.jobs placed placed_so.0 c.loop-i.i
-    ∙ ap (option_and_then (job_at (c.args.kept.now ++ c.args.e.now ∷ [])))
-    (ap (λ l. slice_get l c.loop-i.i) (sym c.as_slice-spot-items.ensures)
-    ∙ item_at c.as_slice-spot-items.result.now c.loop-i.i c.spot-item.result c.loop-i-test.true c.spot-item.is))
+    (job_at (c.args.kept.now ++ c.args.e.now ∷ []) (get_or c.as_slice-spot-items.result.now c.loop-i.i none))
+    c.loop-i.groups c.put_opened.new.groups
+    (item_met (job_at (c.args.kept.now ++ c.args.e.now ∷ [])) c.args.spots.now.jobs c.as_slice-spot-items.result.now
+    placed c.loop-i.i none placed_so.0 c.as_slice-spot-items.ensures c.loop-i-test.true)
     (c.loop-i.invariant placed placed_so) c.in_ok-put_opened.ensures
 
 pub returns : goal.returns

@@ -1,0 +1,11 @@
+use Rattle.std.proofs.Common.{List, refl, subst}
+use Rattle.model.specs.Types.{Entry}
+use Rattle.owner_fold.specs.Sets.{AreSetsOf}
+use Rattle.owner_fold.proofs.Coded.{of_stream_found}
+use Rattle.owner_fold.proofs.holdings.Owners.stream_job_codes.Goals as goal
+
+pub returns : goal.returns
+returns c =
+    of_stream_found c.args.self.now c.self.inside.sets
+    (subst (λ (l : List Entry). AreSetsOf l c.self.inside.sets) c.self.view_is c.self.invariant.sets) c.args.s
+    c.s.inside.0 c.of.result.now c.self.inside.sets.by_stream c.s.view_is c.of.ensures.codes c.of.ensures.rising refl

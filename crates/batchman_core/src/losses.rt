@@ -15,12 +15,11 @@ use base_types::{JobDoc, JobNo, Live, StreamDoc, Ws};
 use owner_fold::Owners;
 
 /// The lowest job of `me` with an open launch that has no live process.
-#[tactic(auto, using(dependencies::proofs::Found::jobs_left_planned), unfolding(model::specs::Turn::lost_jobs, model::specs::Catalogue::jobs_of))]
 pub(crate) fn lowest_lost(o: &Owners, me: Ws, live: &Live) -> Option<JobNo>
     ensures { result ≡ least (spec.lost_jobs (view_of o.now) me live.now) }
 {
     let mut lowest = None;
-    for (parent, doc) in o.jobs() {
+    for (parent, doc) in o.open_launches(me) {
         if is_lost(o, me, live, parent, doc) {
             lowest = Some(lower(lowest, doc.no.0));
         }

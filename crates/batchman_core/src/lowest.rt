@@ -10,12 +10,11 @@ use network_tree::Network;
 use owner_fold::Owners;
 
 /// The lowest own member of w that may be released.
-#[tactic(auto, using(dependencies::proofs::Found::streams_left_planned), unfolding(model::specs::OwnMembers::own_streams, model::specs::Catalogue::streams_of))]
 pub(crate) fn lowest_to_release(net: &Network, o: &Owners, w: Ws) -> Option<StreamNo>
     ensures { let V = view_of o.now in result ≡ least (filter (spec.may_release net.now V w) (spec.own_numbers V w)) }
 {
     let mut lowest = None;
-    for doc in o.streams() {
+    for doc in o.streams_waiting(w) {
         if may_release_in(net, o, w, doc) {
             lowest = Some(lower(lowest, doc.no.0));
         }
@@ -27,12 +26,11 @@ pub(crate) fn lowest_to_release(net: &Network, o: &Owners, w: Ws) -> Option<Stre
 }
 
 /// The lowest own member of w that may end.
-#[tactic(auto, using(dependencies::proofs::Found::streams_left_planned), unfolding(model::specs::OwnMembers::own_streams, model::specs::Catalogue::streams_of))]
 pub(crate) fn lowest_to_end(o: &Owners, w: Ws) -> Option<StreamNo>
     ensures { let V = view_of o.now in result ≡ least (filter (spec.may_end V w) (spec.own_numbers V w)) }
 {
     let mut lowest = None;
-    for doc in o.streams() {
+    for doc in o.streams_under_way(w) {
         if may_end_in(o, w, doc) {
             lowest = Some(lower(lowest, doc.no.0));
         }

@@ -1,7 +1,8 @@
 -- The lowest number of those that pass, one item further.
-use Rattle.std.proofs.Common.{◌≡◌, ◌∙◌, ◌∷◌, ℕ, Bool, List, None, Option, Some, ap, arith, cond, false, map, refl}
-use Rattle.std.proofs.Common.{true}
+use Rattle.std.proofs.Common.{◌≡◌, ◌∙◌, ◌∷◌, [], ℕ, Bool, List, None, Option, Some, ap, arith, cond, false, map, refl}
+use Rattle.std.proofs.Common.{sym, true}
 use Rattle.std.proofs.lemmas.Bool.Decides.{nat_tests}
+use Rattle.std.specs.List.{AllByRecursion}
 use Rattle.std.specs.Prelude.{◌&&◌, filter, nat_lt}
 use Rattle.model.specs.Words.{least, lesser}
 
@@ -69,3 +70,27 @@ pub lowest_without : {X : Type 0} (p q : X → Bool) (r : ℕ → Bool) (number 
     → all ≡ lower_of before (least (numbers_of p q r number xs))
 lowest_without p q r number x xs all before h e =
     e ∙ ap (λ (l : List ℕ). lower_of before (least l)) (no_more p q r number x xs h)
+
+-- among those whom another test lets pass too, where each that counts passes it
+pub numbers_among : {X : Type 0} (P : X → Type 0) (p q : X → Bool) (r : ℕ → Bool) (number : X → ℕ) (s : X → Bool)
+    (xs : List X) → ((x : X) → P x → (p x && (q x && r (number x))) ≡ true → s x ≡ true) → AllByRecursion P xs
+    → numbers_of p q r number (filter s xs) ≡ numbers_of p q r number xs
+numbers_among P p q r number s [] h a = refl
+numbers_among {X} P p q r number s (x ∷ xs) h a =
+    go (p x && (q x && r (number x))) (s x) refl refl (numbers_among P p q r number s xs h a.1)
+  where
+    kept : (c : Bool) → s x ≡ c
+        → numbers_of p q r number (filter s (x ∷ xs))
+        ≡ numbers_of p q r number (cond c (x ∷ filter s xs) (filter s xs))
+    kept c f = ap (λ (b : Bool). numbers_of p q r number (cond b (x ∷ filter s xs) (filter s xs))) f
+
+    go : (b c : Bool) → (p x && (q x && r (number x))) ≡ b → s x ≡ c
+        → numbers_of p q r number (filter s xs) ≡ numbers_of p q r number xs
+        → numbers_of p q r number (filter s (x ∷ xs)) ≡ numbers_of p q r number (x ∷ xs)
+    go true true e f ih =
+        kept true f ∙ one_more p q r number x (filter s xs) e ∙ ap (λ (l : List ℕ). number x ∷ l) ih
+        ∙ sym (one_more p q r number x xs e)
+    go true false e f ih = absurd (let t : false ≡ true = sym f ∙ h x a.0 e in cc)
+    go false true e f ih =
+        kept true f ∙ no_more p q r number x (filter s xs) e ∙ ih ∙ sym (no_more p q r number x xs e)
+    go false false e f ih = kept false f ∙ ih ∙ sym (no_more p q r number x xs e)

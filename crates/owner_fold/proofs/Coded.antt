@@ -1,20 +1,52 @@
 -- What the places of a set find is what counts in the catalogue.
 use Rattle.std.proofs.Common.{[], ℕ, ◌&&◌, ◌*◌, ◌+◌, ◌-◌, ◌<◌, ◌^◌, ◌∙◌, ◌≡◌, Bool, List, Option, Some, ap, eqb, false, filter}
-use Rattle.std.proofs.Common.{filter_map, inl, inr, map, option_and_then, option_map, refl, slice_get, subst, sym, true}
+use Rattle.std.proofs.Common.{filter_map, flat_map, inl, inr, map, option_and_then, option_map, refl, slice_get, subst, sym, true}
 use Rattle.std.proofs.lemmas.Bool.Decides.{eqb_tells}
 use Rattle.grouped_places.specs.Codes.{RisesFrom, code, is_in_group}
 use Rattle.grouped_places.proofs.Finding.{group_finds}
 use Rattle.model.specs.Types.{Body, Entry, Events, StreamDoc}
 use Rattle.model.specs.Words.{has}
 use Rattle.model.specs.History.{list_of, view_of}
-use Rattle.model.specs.Catalogue.{StreamJob, catalogue, jobs, jobs_of_stream, streams_of}
+use Rattle.model.specs.Catalogue.{StreamJob, catalogue, docs_in, jobs, jobs_in, jobs_of_stream, streams_of}
 use Rattle.model.specs.Facts.{is_open}
 use Rattle.owner_fold.specs.Holders.{is_open_here, is_under_way, open_jobs, streams_under_way}
 use Rattle.owner_fold.specs.Sets.{AreSetsOf, Covers, began_by, is_begun, is_waiting, is_waiting_here, job_coded}
 use Rattle.owner_fold.specs.Sets.{job_station_of, job_stream_of, opened_by, station_of, stream_coded, streams_waiting}
 use Rattle.owner_fold.specs.Sets.{waits_by}
+use Rattle.owner_fold.specs.Plans.{IsPlanOf}
+use Rattle.owner_fold.specs.Spots.{doc_at, first_docs_among, first_jobs_among, job_at}
+use Rattle.owner_fold.specs.declared.plans.Plan.{Plan}
 use Rattle.owner_fold.specs.declared.sets.Sets.{Sets}
+use Rattle.owner_fold.specs.declared.spots.JobSpot.{JobSpot}
+use Rattle.owner_fold.specs.declared.spots.StreamSpot.{StreamSpot}
+use Rattle.owner_fold.proofs.Covering.{item_placed}
 use Rattle.owner_fold.proofs.Holders.{filter_filter, open_among}
+
+-- the stream and the job at the place of a code
+pub stream_of_code : (kept now : List Entry) (plan : Plan) (spots : List StreamSpot) (n group c : ℕ)
+    (o : Option StreamSpot) → IsPlanOf kept plan → kept ≡ now → o ≡ slice_get spots n → spots ≡ plan.spots.streams
+    → n ≡ c - group * 2 ^ 32 → option_and_then (doc_at now) o ≡ stream_coded now group c
+unfolding catalogue
+stream_of_code kept now plan spots n group c o h same found same_spots place =
+    subst (λ (l : List Entry). option_and_then (doc_at l) o ≡ stream_coded l group c) same
+    (ap (option_and_then (doc_at kept))
+    (found ∙ ap (λ (l : List StreamSpot). slice_get l n) same_spots ∙ ap (slice_get plan.spots.streams) place)
+    ∙ sym
+    (item_placed (doc_at kept) plan.spots.streams
+    (first_docs_among (flat_map docs_in (list_of kept (Events 0)))) h.spots.streams.0 (c - group * 2 ^ 32)))
+
+pub job_of_code : (kept now : List Entry) (plan : Plan) (spots : List JobSpot) (n group c : ℕ) (o : Option JobSpot)
+    → IsPlanOf kept plan → kept ≡ now → o ≡ slice_get spots n → spots ≡ plan.spots.jobs → n ≡ c - group * 2 ^ 32
+    → option_and_then (job_at now) o ≡ job_coded now group c
+unfolding catalogue jobs
+job_of_code kept now plan spots n group c o h same found same_spots place =
+    subst (λ (l : List Entry). option_and_then (job_at l) o ≡ job_coded l group c) same
+    (ap (option_and_then (job_at kept))
+    (found ∙ ap (λ (l : List JobSpot). slice_get l n) same_spots ∙ ap (slice_get plan.spots.jobs) place)
+    ∙ sym
+    (item_placed (job_at kept) plan.spots.jobs
+    (first_jobs_among (flat_map jobs_in (first_docs_among (flat_map docs_in (list_of kept (Events 0))))))
+    h.spots.jobs.0 (c - group * 2 ^ 32)))
 
 -- who counts in a group is of the group and counts by itself
 in_group : {X : Type 0} (group : X → ℕ) (counts : X → Bool) (by_ : ℕ → X → Bool) (items : List X) (all : List ℕ) (g : ℕ)

@@ -5,17 +5,29 @@ use Rattle.model.specs.Words.{least, lesser}
 use Rattle.model.specs.History.{view_of}
 use Rattle.model.specs.Catalogue.{is_member}
 use Rattle.model.specs.OwnMembers.{may_end, own_numbers}
-use Rattle.owner_fold.specs.Left.{streams_left}
+use Rattle.owner_fold.specs.Holders.{streams_under_way}
+use Rattle.owner_fold.specs.Stages.{begun_left}
 use Rattle.dependencies.specs.Planned.{ArePlannedStreams}
 use Rattle.dependencies.proofs.Lowest.{lower_of, lowest_with, lowest_without, numbers_of}
-use Rattle.batchman_core.proofs.Members.{endable}
+use Rattle.batchman_core.proofs.Members.{endable, under_way_at_first, under_way_planned}
 use Rattle.batchman_core.proofs.lowest.lowest_to_end.Goals as goal
+
+pub loop-doc-init : goal.loop-doc-init
+loop-doc-init c =
+    let V = view_of c.args.o.now in
+    let all : begun_left c.into_iter-doc-iterator.result ≡ streams_under_way V c.args.w =
+    ap begun_left c.into_iter-doc-iterator.ensures.into_iter_gives ∙ c.streams_under_way-doc-items.ensures
+    in
+    record {
+      planned = under_way_planned V c.args.w (begun_left c.into_iter-doc-iterator.result) all;
+      lowest = under_way_at_first V c.args.w (begun_left c.into_iter-doc-iterator.result) all;
+    }
 
 pub loop-doc-preserved-then-may_end_in : goal.loop-doc-preserved-then-may_end_in
 loop-doc-preserved-then-may_end_in c =
     let V = view_of c.args.o.now in
     let d = c.in-Some.doc.now in
-    let planned : ArePlannedStreams V (d ∷ streams_left c.next.new.self) =
+    let planned : ArePlannedStreams V (d ∷ begun_left c.next.new.self) =
     subst (λ (l : List StreamDoc). ArePlannedStreams V l) c.in-Some.ensures.steps c.loop-doc.invariant.planned
     in
     let lower : c.lower.result ≡ lesser d.no c.loop-doc.lowest =
@@ -26,7 +38,7 @@ loop-doc-preserved-then-may_end_in c =
       lowest =
           lowest_with (λ (e : StreamDoc). e.ws == c.args.w) (λ (e : StreamDoc). is_member V e.no)
           (may_end V c.args.w)
-          (λ (e : StreamDoc). e.no) d (streams_left c.next.new.self)
+          (λ (e : StreamDoc). e.no) d (begun_left c.next.new.self)
           (least (filter (may_end V c.args.w) (own_numbers V c.args.w))) c.loop-doc.lowest
           (endable V c.args.w d planned.0 ∙ sym c.may_end_in.ensures ∙ c.if-may_end_in.true)
           (subst
@@ -42,7 +54,7 @@ loop-doc-preserved-then-may_end_in c =
           lower_of (Some n)
           (least (numbers_of (λ (e : StreamDoc). e.ws == c.args.w) (λ (e : StreamDoc). is_member V e.no)
           (may_end V c.args.w)
-          (λ (e : StreamDoc). e.no) (streams_left c.next.new.self))))
+          (λ (e : StreamDoc). e.no) (begun_left c.next.new.self))))
           (sym lower);
     }
 
@@ -50,7 +62,7 @@ pub loop-doc-preserved : goal.loop-doc-preserved
 loop-doc-preserved c =
     let V = view_of c.args.o.now in
     let d = c.in-Some.doc.now in
-    let planned : ArePlannedStreams V (d ∷ streams_left c.next.new.self) =
+    let planned : ArePlannedStreams V (d ∷ begun_left c.next.new.self) =
     subst (λ (l : List StreamDoc). ArePlannedStreams V l) c.in-Some.ensures.steps c.loop-doc.invariant.planned
     in
     record {
@@ -58,7 +70,7 @@ loop-doc-preserved c =
       lowest =
           lowest_without (λ (e : StreamDoc). e.ws == c.args.w) (λ (e : StreamDoc). is_member V e.no)
           (may_end V c.args.w)
-          (λ (e : StreamDoc). e.no) d (streams_left c.next.new.self)
+          (λ (e : StreamDoc). e.no) d (begun_left c.next.new.self)
           (least (filter (may_end V c.args.w) (own_numbers V c.args.w))) c.loop-doc.lowest
           (endable V c.args.w d planned.0 ∙ sym c.may_end_in.ensures ∙ c.if-may_end_in.false)
           (subst

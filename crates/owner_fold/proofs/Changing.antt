@@ -8,25 +8,25 @@ use Rattle.std.specs.List.{list_any}
 use Rattle.std.specs.Option.{option_or}
 use Rattle.std.specs.Prelude.{◌||◌, option_map}
 use Rattle.grouped_places.specs.Codes.{code}
-use Rattle.model.specs.Types.{Added, Body, Clock, Cmd, Declined, Ended, Entry, Events, Failed, Feed, Fulfilled, Late}
+use Rattle.model.specs.Types.{Added, Body, Clock, Declined, Ended, Entry, Events, Failed, Fulfilled, Late}
 use Rattle.model.specs.Types.{Launched, Lost, NewPlan, Obeyed, Obj, Order, Released, Started, Stream, StreamDoc}
 use Rattle.model.specs.Types.{StreamEnded, UntilPassed}
 use Rattle.model.specs.Equalities.{feed_eq}
 use Rattle.model.specs.Words.{firsts, has}
-use Rattle.model.specs.History.{list_of, view_of}
+use Rattle.model.specs.History.{list_of}
 use Rattle.model.specs.Catalogue.{StreamJob}
 use Rattle.model.specs.Facts.{LastLaunch, commands, end_of, first_end, is_cancel_of, is_cancelled, is_cancelling, is_end_of}
 use Rattle.model.specs.Facts.{is_ended, is_launch_of, is_open, is_release_of, is_released, last_launch, launch_here}
-use Rattle.model.specs.Facts.{obeyed_command, open_launch}
+use Rattle.model.specs.Facts.{open_launch}
 use Rattle.owner_rows.proofs.Feeds.{feed_cases, list_with, list_without}
 use Rattle.owner_rows.proofs.Further.{any_command_with, any_with}
 use Rattle.owner_rows.proofs.JobTelling.{later_with}
-use Rattle.owner_fold.specs.Numbers.{ArePlaces, place_of}
+use Rattle.owner_fold.specs.Numbers.{ArePlaces}
 use Rattle.owner_fold.specs.Plans.{is_planning, is_planning_body}
-use Rattle.owner_fold.specs.Sets.{AreSetsAmong, Begins, Covers, Prepared, began_by, change_by, change_in, is_begun, is_waiting}
+use Rattle.owner_fold.specs.Sets.{AreSetsAmong, Begins, Prepared, began_by, change_by, change_in, is_begun, is_waiting}
 use Rattle.owner_fold.specs.Sets.{job_station_of, job_stream_of, opened_by, station_of, waits_by}
 use Rattle.owner_fold.specs.declared.changes.Change.{Change}
-use Rattle.owner_fold.specs.declared.changes.Change.TheVariants.{JobChange, NoChange, StreamChange}
+use Rattle.owner_fold.specs.declared.changes.Change.TheVariants.{JobChange, StreamChange}
 use Rattle.owner_fold.specs.declared.numbers.Index.{Index}
 use Rattle.owner_fold.specs.declared.sets.Sets.{Sets}
 use Rattle.owner_fold.proofs.Covering.{covers_more, covers_still, first_place}

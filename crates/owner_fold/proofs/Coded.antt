@@ -1,10 +1,10 @@
 -- What the places of a set find is what counts in the catalogue.
-use Rattle.std.proofs.Common.{[], ℕ, ◌&&◌, ◌*◌, ◌+◌, ◌-◌, ◌<◌, ◌^◌, ◌∙◌, ◌≡◌, Bool, List, Option, Some, ap, eqb, false, filter}
-use Rattle.std.proofs.Common.{filter_map, flat_map, inl, inr, map, option_and_then, option_map, refl, slice_get, subst, sym, true}
+use Rattle.std.proofs.Common.{ℕ, ◌&&◌, ◌*◌, ◌-◌, ◌<◌, ◌^◌, ◌∙◌, ◌≡◌, Bool, List, Option, Some, ap, eqb, false, filter}
+use Rattle.std.proofs.Common.{filter_map, flat_map, inl, inr, option_and_then, refl, slice_get, subst, sym, true}
 use Rattle.std.proofs.lemmas.Bool.Decides.{eqb_tells}
 use Rattle.grouped_places.specs.Codes.{RisesFrom, code, is_in_group}
 use Rattle.grouped_places.proofs.Finding.{group_finds}
-use Rattle.model.specs.Types.{Body, Entry, Events, StreamDoc}
+use Rattle.model.specs.Types.{Entry, Events, StreamDoc}
 use Rattle.model.specs.Words.{has}
 use Rattle.model.specs.History.{list_of, view_of}
 use Rattle.model.specs.Catalogue.{StreamJob, catalogue, docs_in, jobs, jobs_in, jobs_of_stream, streams_of}

@@ -1,12 +1,12 @@
 -- Sets by places: one item further, one place less, and what an entry changes.
-use Rattle.std.proofs.Common.{[], ℕ, ◌&&◌, ◌*◌, ◌+◌, ◌++◌, ◌<◌, ◌^◌, ◌∙◌, ◌∷◌, ◌≡◌, ◌≤◌, ◌≢◌, ◌⊎◌, Bool, List, None, Option}
-use Rattle.std.proofs.Common.{Some, ap, arith, cond, eqb, false, filter, filter_map, get_or, inl, inr, length, map, not}
+use Rattle.std.proofs.Common.{[], ℕ, ◌+◌, ◌<◌, ◌^◌, ◌∙◌, ◌∷◌, ◌≡◌, ◌≤◌, ◌≢◌, ◌⊎◌, Bool, List, None, Option}
+use Rattle.std.proofs.Common.{Some, ap, arith, cond, eqb, false, filter, get_or, inl, inr, length, map, not}
 use Rattle.std.proofs.Common.{option_and_then, refl, slice_get, suc, sym, true, zero}
 use Rattle.std.proofs.lemmas.Bool.Decides.{eqb_tells}
 use borrow.Author.Tests.{ltb-false, ltb-true}
 use Rattle.std.specs.Prelude.{◌||◌, nat_lt, option_map}
-use Rattle.grouped_places.specs.Codes.{RisesFrom, code, is_in_group}
-use Rattle.grouped_places.proofs.Finding.{group_finds, has_filter, inserted_keeps, inserted_there}
+use Rattle.grouped_places.specs.Codes.{code}
+use Rattle.grouped_places.proofs.Finding.{has_filter, inserted_keeps, inserted_there}
 use Rattle.model.specs.Words.{firsts, has, insert_once}
 use Rattle.owner_fold.specs.Numbers.{place_of}
 use Rattle.owner_fold.specs.Sets.{Covers, CoversBelow, Further}
@@ -205,8 +205,7 @@ first_place {X} number known (y ∷ ys) i x h =
         → (has known (number x) ≡ false)
         × (place_of (map number (y ∷ firsts number (number y ∷ known) ys)) (number x) ≡ Some i)
     here zero f s later =
-        let e : y ≡ x = cc in
-        (
+        let e : y ≡ x = cc in (
           ap (λ (z : X). has known (number z)) (sym e) ∙ f,
           elim (eqb_tells (number y) (number x)) [
             | inl d ↦ (rw d.0 refl)
@@ -240,8 +239,7 @@ added_keeps x old new p c h = ap (λ (m : List ℕ). has m c) p ∙ inserted_kee
 pub added_there : (w g n : ℕ) (old new : List ℕ) → g ≡ w → new ≡ insert_once (code g n) old → n < 2 ^ 32 → (i : ℕ)
     → Some n ≡ Some i → (i < 2 ^ 32) × (has new (code w i) ≡ true)
 added_there w g n old new e p l i q =
-    let r : n ≡ i = cc in
-    (
+    let r : n ≡ i = cc in (
       omega (arith, r, l),
       (λ j. has (p j) (code (sym e j) (sym r j))) ∙ inserted_there (code g n) old,
     )

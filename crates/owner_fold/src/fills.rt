@@ -24,11 +24,7 @@ fn entry_with<'a>(entries: &'a [Entry], e: &'a Entry, place: usize) -> Option<&'
 }
 
 /// The document that stands there then.
-fn stream_with<'a>(
-    entries: &'a [Entry],
-    e: &'a Entry,
-    spot: &StreamSpot,
-) -> Option<&'a StreamDoc>
+fn stream_with<'a>(entries: &'a [Entry], e: &'a Entry, spot: &StreamSpot) -> Option<&'a StreamDoc>
     ensures { option_copied result ≡ doc_at (entries.now ++ e.now ∷ []) spot.now }
 {
     match entry_with(entries, e, spot.entry) {

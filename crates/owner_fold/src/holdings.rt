@@ -19,7 +19,9 @@ use crate::changes::change_of;
 use crate::plans::{Plan, is_planning};
 use crate::sets::Sets;
 use crate::spots::{JobSpot, StreamSpot, job_spot_at, planned_job_at, stream_at, stream_spot_at};
-use base_types::{Body, Cmd, Copied, Entry, Feed, JobDoc, JobNo, NoMemory, StreamDoc, StreamNo, StreamNos, Ws};
+use base_types::{
+    Body, Cmd, Copied, Entry, Feed, JobDoc, JobNo, NoMemory, StreamDoc, StreamNo, StreamNos, Ws,
+};
 use grouped_places::place_in;
 use owner_rows::Kept;
 use std::alloc::Global;

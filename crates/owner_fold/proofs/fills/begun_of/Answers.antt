@@ -1,4 +1,4 @@
-use Rattle.std.proofs.Common.{[], ◌++◌, ◌∷◌, ap, arith, get_or, length, true}
+use Rattle.std.proofs.Common.{[], ◌++◌, ◌∷◌, ap, arith, get_or, length}
 use Rattle.owner_fold.specs.Sets.{began_by, station_of}
 use Rattle.owner_fold.specs.Spots.{doc_at}
 use Rattle.owner_fold.specs.declared.spots.StreamSpot.{StreamSpot}

@@ -1,4 +1,4 @@
-use Rattle.std.proofs.Common.{[], ◌++◌, ◌∷◌, ap, arith, get_or, length, true}
+use Rattle.std.proofs.Common.{[], ◌++◌, ◌∷◌, ap, arith, get_or, length}
 use Rattle.owner_fold.specs.Sets.{job_station_of, opened_by}
 use Rattle.owner_fold.specs.Spots.{job_at}
 use Rattle.owner_fold.specs.declared.spots.JobSpot.{JobSpot}

@@ -9,11 +9,10 @@ use Rattle.model.specs.History.{View}
 use Rattle.model.specs.Catalogue.{StreamJob, jobs, jobs_of}
 use Rattle.model.specs.Facts.{is_open, open_launch}
 use Rattle.model.specs.Turn.{is_alive, lost_jobs}
-use Rattle.owner_fold.proofs.Holders.{filter_filter}
 use Rattle.dependencies.specs.Planned.{ArePlannedJobs, IsPlannedJob}
 use Rattle.dependencies.proofs.Found.{jobs_planned}
 use Rattle.dependencies.proofs.Lists.{all_filter}
-use Rattle.dependencies.proofs.Lowest.{lower_of, numbers_among, numbers_of}
+use Rattle.dependencies.proofs.Lowest.{filter_filter, lower_of, numbers_among, numbers_of}
 
 -- every item
 abbrev pub any : {X : Type 0} → X → Bool

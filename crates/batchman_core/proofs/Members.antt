@@ -10,11 +10,10 @@ use Rattle.model.specs.Facts.{is_cancelled, is_ended, is_released}
 use Rattle.model.specs.OwnMembers.{lets_stream_end, may_end, may_end_in, may_release, may_release_in, own_numbers, own_streams}
 use Rattle.owner_fold.specs.Holders.{is_under_way, streams_under_way}
 use Rattle.owner_fold.specs.Sets.{is_waiting}
-use Rattle.owner_fold.proofs.Holders.{filter_filter}
 use Rattle.dependencies.specs.Planned.{ArePlannedStreams, IsPlannedStream}
 use Rattle.dependencies.proofs.Found.{streams_planned}
 use Rattle.dependencies.proofs.Lists.{all_filter}
-use Rattle.dependencies.proofs.Lowest.{lower_of, numbers_among, numbers_of}
+use Rattle.dependencies.proofs.Lowest.{filter_filter, lower_of, numbers_among, numbers_of}
 
 twice : (a b c : Bool) → (a && (b && (a && (b && c)))) ≡ (a && (b && c))
 twice true true c = refl

@@ -94,3 +94,17 @@ numbers_among {X} P p q r number s (x ∷ xs) h a =
     go false true e f ih =
         kept true f ∙ no_more p q r number x (filter s xs) e ∙ ih ∙ sym (no_more p q r number x xs e)
     go false false e f ih = kept false f ∙ ih ∙ sym (no_more p q r number x xs e)
+
+-- two filters are one
+pub filter_filter : {X : Type 0} (p q : X → Bool) (xs : List X)
+    → filter p (filter q xs) ≡ filter (λ (x : X). q x && p x) xs
+filter_filter p q [] = refl
+filter_filter {X} p q (x ∷ xs) = go (p x) (q x) (filter_filter p q xs) refl
+  where
+    go : (a b : Bool) → filter p (filter q xs) ≡ filter (λ (y : X). q y && p y) xs → p x ≡ a
+        → filter p (cond b (x ∷ filter q xs) (filter q xs))
+        ≡ cond (b && a) (x ∷ filter (λ (y : X). q y && p y) xs) (filter (λ (y : X). q y && p y) xs)
+    go true true h e = rw (e, h) refl
+    go false true h e = rw (e, h) refl
+    go true false h e = h
+    go false false h e = h

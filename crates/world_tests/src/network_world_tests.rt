@@ -1,9 +1,10 @@
 //! What a world reports after the steps of worked nights.
+mod days;
 mod limits;
-mod networks;
 mod nights;
 mod recoveries;
 mod refusals;
-mod rows;
+mod smallest;
 mod stops;
-mod worlds;
+mod too_large;
+mod ways;

@@ -1,7 +1,7 @@
 //! The limit of steps.
-use super::networks::ALONE;
-use super::rows::{Does, Here};
-use super::worlds::{answer, begun, step};
+use crate::networks::ALONE;
+use crate::rows::{Does, Here};
+use crate::worlds::{answer, begun, step};
 use base_types::LimitName;
 use network_world::{StepRefused, World};
 use std::alloc::Global;

@@ -1,7 +1,7 @@
 //! Nodes that type what they advise themselves.
-use super::networks::ALONE;
-use super::rows::{Does, Here};
-use super::worlds::reports;
+use crate::networks::ALONE;
+use crate::rows::{Does, Here};
+use crate::worlds::reports;
 use base_types::Recovery;
 use std::test::Fail;
 use test_builders::{DraftWaits, JobDraftRow, StreamDraftRow};

@@ -1,7 +1,7 @@
 //! Steps that are refused, and that nothing changes then.
-use super::networks::{AGENTS, NEXT_OF_AGENTS};
-use super::rows::{Does, Here};
-use super::worlds::{answer, begun, do_rows, report, step};
+use crate::networks::{AGENTS, NEXT_OF_AGENTS};
+use crate::rows::{Does, Here};
+use crate::worlds::{answer, begun, do_rows, report, step};
 use agent_core::StepFault;
 use base_types::{JobNo, Obj};
 use network_world::{StepRefused, World};

@@ -1,7 +1,7 @@
 //! Nodes that stop in the midst of a step and begin again.
-use super::networks::{AGENTS, ALONE, NEXT, NEXT_OF_AGENTS};
-use super::rows::{Does, Here};
-use super::worlds::{begun, do_rows, reports, sent_and_reached};
+use crate::networks::{AGENTS, ALONE, NEXT, NEXT_OF_AGENTS};
+use crate::rows::{Does, Here};
+use crate::worlds::{begun, do_rows, reports, sent_and_reached};
 use base_types::{Feed, JobNo, Obj, Ws};
 use network_world::World;
 use std::alloc::Global;

@@ -1,6 +1,6 @@
 //! Worlds that take rows of steps.
-use super::rows::{Does, Here, is_inside, local};
-use base_types::{Bytes, Cmd, Local, WorldStep, Ws};
+use crate::rows::{Does, Here, is_inside, local};
+use base_types::{Bytes, Cmd, JobNo, Local, WorldStep, Ws};
 use network_world::{StepRefused, World};
 use recovery_watch::advice;
 use report_text::print_report;
@@ -24,7 +24,8 @@ pub(crate) fn answer(world: &mut World, step: &WorldStep) -> Result<Result<(), S
     Ok(world.step(step))
 }
 
-fn take(world: &mut World, step: &WorldStep) -> Result<(), Fail> {
+/// Takes a step.
+pub(crate) fn take(world: &mut World, step: &WorldStep) -> Result<(), Fail> {
     match answer(world, step)? {
         Ok(()) => Ok(()),
         Err(refused) => Err(refused)?,
@@ -45,6 +46,40 @@ fn flow(world: &mut World, a: u16, b: u16) -> Result<(), Fail> {
     for k in reached..sent {
         let step = WorldStep::Deliver(Ws(a), Ws(b), k + 1);
         take(world, &step)?;
+    }
+    Ok(())
+}
+
+/// The lowest job beyond this one with a launch that is live at a node.
+fn next_live(world: &World, w: u16, beyond: u32) -> Option<u32> {
+    if w >= world.net().count() {
+        return None;
+    }
+    let mut lowest: Option<u32> = None;
+    for launch in world.node(Ws(w)).live().as_slice() {
+        let number = launch.job.0;
+        if number > beyond && lowest.is_none_or(|low| number < low) {
+            lowest = Some(number);
+        }
+    }
+    lowest
+}
+
+fn live_count(world: &World, w: u16) -> usize {
+    if w >= world.net().count() {
+        return 0;
+    }
+    world.node(Ws(w)).live().len()
+}
+
+fn reap(world: &mut World, w: u16, code: i32) -> Result<(), Fail> {
+    let mut beyond = 0;
+    for _ in 0..live_count(world, w) {
+        if let Some(number) = next_live(world, w, beyond) {
+            let step = WorldStep::Take(Ws(w), Local::Ended(JobNo(number), code));
+            take(world, &step)?;
+            beyond = number;
+        }
     }
     Ok(())
 }
@@ -82,6 +117,7 @@ pub(crate) fn step(alloc: Global, row: &Does) -> Result<WorldStep, Fail> {
         Does::At(w, here) => at(alloc, *w, here),
         Does::Deliver(a, b, k) => Ok(WorldStep::Deliver(Ws(*a), Ws(*b), *k)),
         Does::Flow(_, _) => Err("no single step")?,
+        Does::Reap(_, _) => Err("no single step")?,
         Does::Recover(_) => Err("no single step")?,
         Does::Crash(w) => Ok(WorldStep::Crash(Ws(*w))),
         Does::CrashAt(w, here, kept) => crash_at(alloc, *w, here, *kept),
@@ -91,9 +127,11 @@ pub(crate) fn step(alloc: Global, row: &Does) -> Result<WorldStep, Fail> {
     }
 }
 
-fn do_row(world: &mut World, alloc: Global, row: &Does) -> Result<(), Fail> {
+/// Takes the steps of a row.
+pub(crate) fn do_row(world: &mut World, alloc: Global, row: &Does) -> Result<(), Fail> {
     match row {
         Does::Flow(a, b) => flow(world, *a, *b),
+        Does::Reap(w, code) => reap(world, *w, *code),
         Does::Recover(w) => recover(world, *w),
         _ => {
             let step = step(alloc, row)?;

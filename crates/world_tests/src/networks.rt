@@ -1,5 +1,5 @@
-//! Networks and plans of the nights.
-use super::rows::{Does, Here};
+//! Networks and plans of the nights, and a night that two modules tell of.
+use crate::rows::{Does, Here};
 use test_builders::{DraftWaits, JobDraftRow, NodeRow, StreamDraftRow};
 
 /// The master M alone.
@@ -64,3 +64,27 @@ const SECOND_DAY: [StreamDraftRow; 1] = [(0, "N", false, &[], &JOB_N)];
 
 /// The plan of the second day.
 pub(crate) const NEXT_DAY_2: Does = Does::At(0, Here::Next(&SECOND_DAY));
+
+/// A day ends while P is not linked.
+pub(crate) const END_OF_DAY: [Does; 20] = [
+    NEXT_DAY_1,
+    Does::At(0, Here::Link(1)),
+    Does::At(1, Here::Link(0)),
+    Does::At(0, Here::Turn(1)),
+    Does::Flow(0, 1),
+    Does::At(1, Here::Turn(1)),
+    Does::At(1, Here::Turn(1)),
+    Does::At(0, Here::Unlink(1)),
+    Does::At(1, Here::Unlink(0)),
+    Does::At(0, Here::Turn(1)),
+    Does::At(0, Here::Turn(1)),
+    Does::At(0, Here::Ended(2, 0)),
+    Does::At(0, Here::Turn(1)),
+    NEXT_DAY_2,
+    Does::At(1, Here::Ended(1, 0)),
+    Does::At(1, Here::Turn(1)),
+    Does::At(0, Here::Link(1)),
+    Does::At(1, Here::Link(0)),
+    Does::At(1, Here::Turn(1)),
+    Does::Flow(1, 0),
+];

@@ -32,6 +32,8 @@ pub(crate) enum Does<'a> {
     Deliver(u16, u16, u32),
     /// The packets beyond the last that was delivered, up to the last that was sent before, are delivered.
     Flow(u16, u16),
+    /// Each launch that is live at the node ends with this return code, the lowest job first.
+    Reap(u16, i32),
     /// The node types what it advises itself, if it does.
     Recover(u16),
     Crash(u16),

@@ -77,7 +77,7 @@ fn bests(alloc: Global, net: &Network, w: u16, entries: &[Entry]) -> Result<Item
     Ok(numbers)
 }
 
-/// The same of what a node holds, in the order in which it took it.
+/// What a node holds, in the order in which it took it.
 fn held(world: &World, node: u16) -> &[Entry] {
     if node < world.net().count() {
         return world.node(Ws(node)).owners().kept().entries();
@@ -85,7 +85,7 @@ fn held(world: &World, node: u16) -> &[Entry] {
     &[]
 }
 
-/// At which of the numbers of the best jobs of M and P the day ends: entry by entry of the history.
+/// The best jobs of M and of P after each entry of the history, 0 for none.
 const BEST_OF_M: [u32; 11] = [0, 2, 2, 2, 2, 3, 3, 3, 0, 0, 0];
 
 const BEST_OF_P: [u32; 11] = [0, 0, 1, 0, 0, 0, 0, 0, 0, 0, 0];

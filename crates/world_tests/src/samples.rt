@@ -3,7 +3,9 @@
 //! Each draw goes on from the one before, so a count of jobs and a first number tell the whole night.
 use crate::rows::{Does, Here};
 use crate::worlds::{begun, do_row, do_rows, take};
-use base_types::{Copied, DraftDep, Local, NoMemory, StreamDraft, StreamDrafts, Text, WorldStep, Ws};
+use base_types::{
+    Copied, DraftDep, Local, NoMemory, StreamDraft, StreamDrafts, Text, WorldStep, Ws,
+};
 use network_world::World;
 use std::alloc::Global;
 use std::test::Fail;
@@ -48,7 +50,11 @@ fn on_stream(of: &StreamDraft) -> Result<DraftDep, NoMemory> {
 
 /// A stream without jobs: by one draw of four it is on an agent, and where one of two is 0 it follows one of those
 /// before it.
-fn stream(alloc: Global, draws: &mut Draws, before: &StreamDrafts) -> Result<StreamDraft, NoMemory> {
+fn stream(
+    alloc: Global,
+    draws: &mut Draws,
+    before: &StreamDrafts,
+) -> Result<StreamDraft, NoMemory> {
     let count = u32::try_from(before.len()).unwrap_or(0);
     let on = draws.below(4);
     let mut draft = stream_draft(alloc, 0, "S")?;
@@ -65,7 +71,12 @@ fn stream(alloc: Global, draws: &mut Draws, before: &StreamDrafts) -> Result<Str
 }
 
 /// Adds a job of this number. Where it follows, it follows the job before it.
-fn add_job(alloc: Global, draft: &mut StreamDraft, number: u32, follows: bool) -> Result<(), NoMemory> {
+fn add_job(
+    alloc: Global,
+    draft: &mut StreamDraft,
+    number: u32,
+    follows: bool,
+) -> Result<(), NoMemory> {
     let mut job = job_draft(alloc, 0, "J")?;
     job.ws = draft.ws;
     job.name = name(alloc, "J", number)?;

@@ -46,10 +46,7 @@ fn waiting(alloc: Global, pieces: u32) -> Result<Local, NoMemory> {
         path.push_str(piece.as_str())?;
     }
     let waits = Dep::Outside(Text::from_string(path));
-    Ok(Local::Typed(
-        Ws(0),
-        Cmd::AddDep(Obj::Job(JobNo(1)), waits),
-    ))
+    Ok(Local::Typed(Ws(0), Cmd::AddDep(Obj::Job(JobNo(1)), waits)))
 }
 
 fn answers(world: &mut World, step: &WorldStep, refused: &StepRefused) -> Result<bool, Fail> {

@@ -1,5 +1,5 @@
 -- The world after a step.
-use Rattle.std.proofs.Common.{◌≡◌, ◌≢◌, ◌∷◌, ◌+◌, ◌++◌, ◌∙◌, [], ℕ, Bool, Err, List, None, Ok, Option, Result, Some, ap, append-nil}
+use Rattle.std.proofs.Common.{◌≡◌, ◌≢◌, ◌∷◌, ◌+◌, ◌++◌, ◌∙◌, [], ℕ, Bool, List, None, Ok, Option, Some, ap, append-nil}
 use Rattle.std.proofs.Common.{false, inl, inr, length, max, refl, subst, sym, true}
 use Rattle.std.proofs.lemmas.Bool.{eq-eqb, eqb-true}
 use Rattle.std.proofs.lemmas.Bool.Decides.{eqb_tells}
@@ -7,7 +7,6 @@ use Rattle.std.specs.Option.{option_map_or, option_to_list}
 use Rattle.std.specs.Prelude.{if◌then◌else◌, ◌==◌, count_by, filter_map, slice_get, slice_set}
 use Rattle.model.specs.Types.{Entry, Net, Packet, WorldStep}
 use Rattle.model.specs.Words.{with_at}
-use Rattle.model.specs.Network.{node_count}
 use Rattle.model.specs.Sizes.{entry_size}
 use Rattle.model.specs.Step.{Effect}
 use Rattle.model.specs.World as model
@@ -15,7 +14,7 @@ use Rattle.model.specs.World.{Origin, apply_effect, empty_world, history_with, i
 use Rattle.model.specs.World.{packets_to, run, start_in}
 use Rattle.model.specs.Kept.{HasKept, kept_in, only_if}
 use Rattle.agent_core.specs.Nodes.{NodeState, session_in}
-use Rattle.network_world.specs.Stations.{Journal, Lane, Station, WorldState, station_of}
+use Rattle.network_world.specs.Stations.{Journal, Lane, Station, WorldState}
 use Rattle.network_world.specs.Standing.{IsReached, JournalStandsFor, KeepsAll, LaneStandsFor, StandsFor, StationStandsFor}
 use Rattle.network_world.specs.Journals.{HasNoted}
 use Rattle.network_world.specs.Moves.{GoesOn, IsMarkedTo}

@@ -1,21 +1,20 @@
 -- The world before anything has happened.
-use Rattle.std.proofs.Common.{◌≡◌, ◌∷◌, ◌<◌, ◌≤◌, ◌+◌, ◌++◌, ◌∙◌, [], ℕ, List, None, Option, Some, ap, arith, inl, inr, length}
-use Rattle.std.proofs.Common.{length-append, map, option_map, refl, subst, suc, sym, zero}
+use Rattle.std.proofs.Common.{◌≡◌, ◌∷◌, ◌<◌, ◌+◌, ◌++◌, ◌∙◌, [], ℕ, List, None, Some, ap, arith, inl, inr, length}
+use Rattle.std.proofs.Common.{length-append, map, refl, subst, suc, sym, zero}
 use Rattle.std.proofs.lemmas.Bool.{lt-ltb}
 use Rattle.std.proofs.lemmas.List.{length-map}
 use Rattle.std.proofs.lemmas.Option.{slice_get-map, slice_get_within}
-use Rattle.std.specs.Prelude.{◌⊎◌, IfOk, Result, nat_lt, slice_get}
-use Rattle.model.specs.Types.{Entry, Feed, Net}
+use Rattle.std.specs.Prelude.{◌⊎◌, IfOk, Result, slice_get}
+use Rattle.model.specs.Types.{Entry, Net}
 use Rattle.model.specs.Network.{node_count}
 use Rattle.model.specs.History.{list_of}
 use Rattle.model.specs.Restore.{first_wrong, restore_fault}
-use Rattle.model.specs.World as model
-use Rattle.model.specs.World.{empty_world, run, view_at}
+use Rattle.model.specs.World.{empty_world, run}
 use Rattle.model.specs.Kept.{HasKept}
 use Rattle.base_types.specs.declared.NoMemory.{NoMemory}
 use Rattle.agent_core.specs.Nodes.{NodeState}
 use Rattle.network_world.specs.Stations.{Journal, Lane, Station, WorldState}
-use Rattle.network_world.specs.Standing.{IsReached, IsWorld, JournalStandsFor, StandsFor, StationStandsFor}
+use Rattle.network_world.specs.Standing.{IsReached, IsWorld, StandsFor, StationStandsFor}
 use Rattle.network_world.specs.Lanes as spec
 use Rattle.network_world.specs.Moves.{AreNew, IsAgain, IsNew, IsRestorable}
 use Rattle.network_world.specs.declared.lanes.Lane as raw

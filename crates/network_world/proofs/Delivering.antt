@@ -1,34 +1,34 @@
 -- A packet that is delivered.
-use Rattle.std.proofs.Common.{Bool, Err, List, None, Ok, Option, Result, Some, [], ap, arith, length, refl, ℕ, ◌*◌, ◌+◌, ◌<◌, ◌∙◌, ◌∷◌, ◌≡◌, ◌≤◌}
+use Rattle.std.proofs.Common.{Err, List, None, Ok, Option, Result, Some, [], ap, arith, length, refl, ℕ, ◌<◌, ◌∙◌, ◌∷◌, ◌≡◌, ◌≤◌}
 use Rattle.std.proofs.Common.{option_map, subst, suc, sym, take, zero}
 use Rattle.std.proofs.lemmas.Bool.Decides.{eqb_tells}
 use Rattle.std.proofs.Common.{inl, inr}
 use Rattle.std.specs.List.{AllByRecursion}
 use Rattle.std.specs.Option.{option_map_or}
 use Rattle.std.specs.Prelude.{◌==◌, IfErr, IfOk, option_and_then, slice_get, slice_set}
-use Rattle.model.specs.Types.{Ack, Body, Deliver, Entry, Feed, Input, LimitName, Mail, Net, Packet, WorldStep}
+use Rattle.model.specs.Types.{Ack, Body, Deliver, Feed, Input, Mail, Net, Packet}
 use Rattle.model.specs.Words.{nth}
 use Rattle.model.specs.Network.{node_count}
-use Rattle.model.specs.History.{list_of, view}
+use Rattle.model.specs.History.{list_of}
 use Rattle.model.specs.Invariant.{IsBacked}
-use Rattle.model.specs.Step.{Effect, node_step}
+use Rattle.model.specs.Step.{Effect}
 use Rattle.model.specs.World as model
 use Rattle.model.specs.World.{Origin, apply_effect, delivery, mark_delivered, node_effect, packet_input, reached_limit}
 use Rattle.model.specs.World.{view_at}
 use Rattle.model.specs.Kept.{kept_in, made_by, only_if}
 use Rattle.model_laws.proofs.Options.{slice_get_all, there_if}
-use Rattle.agent_core.specs.Steps.{effect_in, step_at}
+use Rattle.agent_core.specs.Steps.{effect_in}
 use Rattle.agent_core.specs.declared.Step.{Step}
 use Rattle.network_world.specs.Stations.{Journal, Lane, Station, WorldState, lane_of, station_of}
 use Rattle.network_world.specs.Refusals.{limit_at}
 use Rattle.network_world.specs.Standing.{IsReached, IsRefusalDue, IsWorld, LaneStandsFor, StandsFor, Steps}
 use Rattle.network_world.specs.Journals.{CanNote, HasNoted, HasRoom, IsLimitDue, seen}
 use Rattle.network_world.specs.Moves.{GoesOn, HasTakenAt, IsInputDue, IsMarkedAt}
-use Rattle.network_world.specs.Deliveries.{IsBrought, IsInputOf, IsNotBrought, IsOpened, input_by, named_at}
+use Rattle.network_world.specs.Deliveries.{IsBrought, IsNotBrought, IsOpened, input_by, named_at}
 use Rattle.network_world.specs.declared.journals.Journal as raw
 use Rattle.network_world.specs.declared.refusals.StepRefused.{StepRefused}
 use Rattle.network_world.specs.declared.refusals.StepRefused.TheVariants as refused
-use Rattle.network_world.proofs.Lists.{same_some, set_elsewhere, set_there, there_is}
+use Rattle.network_world.proofs.Lists.{set_elsewhere, set_there, there_is}
 use Rattle.network_world.proofs.After.{EachGoesOn, count_stays, each_goes_on, each_marked, journal_after, journal_marked}
 use Rattle.network_world.proofs.After.{reached_next, stands_after}
 use Rattle.network_world.proofs.Effects.{deliver_err, deliver_ok, effect_limit, effect_none, effect_ok, node_refuses}

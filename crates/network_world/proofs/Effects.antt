@@ -1,26 +1,20 @@
 -- What the step of a node is in the world of the definitions, and what refuses it.
-use Rattle.std.proofs.Common.{◌≡◌, ◌<◌, ◌≤◌, ◌+◌, ◌*◌, ◌^◌, ◌∙◌, [], ℕ, Bool, Err, List, None, Ok, Option, Result, Some, ap, arith}
-use Rattle.std.proofs.Common.{length, refl, subst, sym}
-use Rattle.std.specs.Option.{option_map_or}
-use Rattle.std.specs.Prelude.{count_by, filter_map}
-use Rattle.model.specs.Types.{Crash, CrashDeliver, CrashTake, Deliver, Entry, Input, Local, LimitName, Net, Out, Take, WorldStep}
-use Rattle.model.specs.Network.{node_count}
-use Rattle.model.specs.History.{View}
-use Rattle.model.specs.Sessions.{restarted}
-use Rattle.model.specs.Sizes.{entry_size}
+use Rattle.std.proofs.Common.{◌≡◌, ◌∙◌, ℕ, Bool, Err, None, Ok, Option, Some, ap}
+use Rattle.std.proofs.Common.{refl, sym}
+use Rattle.model.specs.Types.{Crash, CrashDeliver, CrashTake, Deliver, Input, Local, LimitName, Net, Take, WorldStep}
 use Rattle.model.specs.StepFaults.{StepFault}
 use Rattle.model.specs.Step.{Effect, node_step}
 use Rattle.model.specs.World as model
 use Rattle.model.specs.World.{Origin, apply_effect, cut_short, delivery, is_send, mark_delivered, node_effect}
 use Rattle.model.specs.World.{reached_limit, start_in, step, view_at}
-use Rattle.agent_core.specs.Nodes.{NodeState, session_in, view_in}
+use Rattle.agent_core.specs.Nodes.{NodeState, view_in}
 use Rattle.agent_core.specs.Steps.{step_at}
 use Rattle.agent_core.specs.declared.StepFault as node
 use Rattle.agent_core.specs.declared.StepFault.TheVariants as fault
 use Rattle.carry_forward.specs.declared.CarryFault.TheVariants as carry
-use Rattle.network_world.specs.Stations.{Journal, Station, WorldState, station_of}
+use Rattle.network_world.specs.Stations.{Station, WorldState, station_of}
 use Rattle.network_world.specs.Refusals.{Tells, limit_at, refused_by}
-use Rattle.network_world.specs.Standing.{IsReached, IsRefusalDue, IsRefusedFor, NodeStandsFor, StandsFor}
+use Rattle.network_world.specs.Standing.{IsRefusalDue, IsRefusedFor, NodeStandsFor, StandsFor}
 use Rattle.network_world.specs.Moves.{IsInputDue, stop}
 use Rattle.network_world.specs.Journals.{IsLimitDue}
 use Rattle.network_world.specs.declared.refusals.StepRefused.{StepRefused}

@@ -1,14 +1,13 @@
 -- What is written of a step, and that there is room for it.
-use Rattle.std.proofs.Common.{◌≡◌, ◌∷◌, ◌+◌, ◌*◌, ◌^◌, ◌<◌, ◌≤◌, ◌++◌, ◌∙◌, [], ℕ, Bool, List, None, Ok, Option, Some, ap, append-nil}
-use Rattle.std.proofs.Common.{append_assoc, arith, cond, drop, false, get_or, length, length-append, refl, subst, sym, take}
+use Rattle.std.proofs.Common.{◌≡◌, ◌∷◌, ◌+◌, ◌*◌, ◌<◌, ◌≤◌, ◌++◌, ◌∙◌, [], ℕ, Bool, List, None, Ok, Option, Some, ap}
+use Rattle.std.proofs.Common.{append_assoc, arith, drop, false, get_or, length, length-append, refl, sym, take}
 use Rattle.std.proofs.Common.{take_all, true}
 use Rattle.std.proofs.lemmas.Bool.{leb-false}
 use Rattle.std.proofs.lemmas.List.Elements.{filter_map-append}
-use Rattle.std.proofs.lemmas.List.Sums.{count_by-le-length, count_by_more_no, count_by_more_yes}
 use Rattle.std.specs.Option.{option_map_or, option_to_list}
 use Rattle.std.specs.Prelude.{count_by, filter_map, nat_le}
 use Rattle.base_types.specs.Grown.{Grown}
-use Rattle.model.specs.Types.{Entry, Input, Launch, LimitName, Net, Out, Packet, Send, Start}
+use Rattle.model.specs.Types.{Entry, Input, Launch, LimitName, Net, Out, Send, Start}
 use Rattle.model.specs.Words.{first_of_these}
 use Rattle.model.specs.Network.{node_count}
 use Rattle.model.specs.Sizes.{entry_size}

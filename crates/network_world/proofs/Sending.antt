@@ -10,11 +10,11 @@ use Rattle.std.specs.Prelude.{slice_get, slice_set}
 use Rattle.model.specs.Types.{Launch, Out, Packet, Send}
 use Rattle.model.specs.World.{packets_to}
 use Rattle.network_world.specs.Stations.{Lane}
-use Rattle.network_world.specs.Lanes.{AreNew, GetsPacket, HasMore, HasRoomAt, HaveMore, HaveRoom, HaveRoomFor, seen}
+use Rattle.network_world.specs.Lanes.{GetsPacket, HasMore, HasRoomAt, HaveMore, HaveRoom, HaveRoomFor, seen}
 use Rattle.network_world.specs.Moves.{LanesGrow}
 use Rattle.network_world.specs.declared.lanes.Lane as raw
-use Rattle.network_world.proofs.Lists.{drop_here, map_set_same, same_some, set_elsewhere, set_length, set_there, some_map}
-use Rattle.network_world.proofs.Lists.{take_more, there_is}
+use Rattle.network_world.proofs.Lists.{drop_here, map_set_same, set_elsewhere, set_length, set_there, some_map}
+use Rattle.network_world.proofs.Lists.{take_more}
 
 pub packets_append : (b : ℕ) (xs ys : List Out) → packets_to b (xs ++ ys) ≡ packets_to b xs ++ packets_to b ys
 packets_append b [] ys = refl

@@ -1,6 +1,6 @@
 -- What a world shows.
-use Rattle.std.proofs.Common.{◌≡◌, ◌≢◌, ◌∷◌, ◌<◌, ◌≤◌, ◌+◌, ◌*◌, ◌^◌, ◌++◌, ◌∙◌, [], ℕ, Bool, List, None, Option, Some, ap, append-nil}
-use Rattle.std.proofs.Common.{append_assoc, arith, cond, flat_map, get_or, length, map, option_map, refl, subst, suc, sym, take, true, zero}
+use Rattle.std.proofs.Common.{◌≡◌, ◌≢◌, ◌∷◌, ◌<◌, ◌≤◌, ◌+◌, ◌^◌, ◌++◌, ◌∙◌, [], ℕ, List, None, Some, ap, append-nil}
+use Rattle.std.proofs.Common.{append_assoc, arith, flat_map, get_or, length, map, refl, subst, suc, sym, zero}
 use Rattle.std.proofs.lemmas.Bool.{lt-ltb}
 use Rattle.std.proofs.lemmas.Grind.{flat_map-append}
 use Rattle.std.proofs.lemmas.List.{length-take-le, map-append}
@@ -11,7 +11,7 @@ use Rattle.base_types.specs.declared.FeedCount.{FeedCount}
 use Rattle.base_types.specs.declared.NodePart.{NodePart}
 use Rattle.base_types.specs.declared.PairCount.{PairCount}
 use Rattle.base_types.specs.declared.ReportParts.{ReportParts}
-use Rattle.model.specs.Types.{Entry, Events, Feed, Net, Orders, Packet, Start, WorldStep}
+use Rattle.model.specs.Types.{Entry, Events, Feed, Net, Orders, Start, WorldStep}
 use Rattle.model.specs.Words.{below, numbers_from}
 use Rattle.model.specs.Network.{node_count}
 use Rattle.model.specs.History.{list_of}
@@ -26,7 +26,7 @@ use Rattle.network_world.specs.Standing.{IsReached, IsWorld, NodeStandsFor, Stan
 use Rattle.network_world.specs.Lanes as spec
 use Rattle.network_world.specs.Parts.{held_at, held_by, node_part, pair, pairs_among, pairs_from, parts_of}
 use Rattle.network_world.specs.declared.lanes.Lane as raw
-use Rattle.network_world.proofs.Lists.{same_some, there_is}
+use Rattle.network_world.proofs.Lists.{same_some}
 use Rattle.network_world.proofs.Delivering.{lane_there}
 use Rattle.network_world.proofs.Taking.{SentLaw}
 

@@ -1,12 +1,12 @@
 -- A step starts at most one launch, and keeps no entry that is too long.
 use Rattle.std.proofs.Common.{◌≡◌, ◌∷◌, ◌+◌, ◌≤◌, ◌++◌, ◌∙◌, [], ℕ, Bool, List, None, Option, Some, ap, arith, cond, false}
-use Rattle.std.proofs.Common.{append-nil, leb, length, length-append, map, refl, subst, sym, true}
+use Rattle.std.proofs.Common.{length, length-append, map, refl, subst, sym, true}
 use Rattle.std.proofs.lemmas.Bool.{leb-true}
 use Rattle.std.proofs.lemmas.List.Elements.{filter_map-append}
 use Rattle.std.specs.Option.{option_map_or}
 use Rattle.std.specs.Prelude.{◌&&◌, Ok, filter, filter_map, flat_map, nat_le}
 use Rattle.model.specs.Types.{Ack, Body, Entry, Events, Feed, Input, Kill, Launch, Launched, Mail, Net, Obeyed, Out, Send}
-use Rattle.model.specs.Types.{Start, Turn}
+use Rattle.model.specs.Types.{Turn}
 use Rattle.model.specs.Words.{below}
 use Rattle.model.specs.Network.{are_neighbours, node_count}
 use Rattle.model.specs.History.{View}

@@ -1,15 +1,14 @@
 -- One station: its node takes an input, stops in it, begins again.
-use Rattle.std.proofs.Common.{◌≡◌, ◌∷◌, ◌+◌, ◌<◌, ◌≤◌, ◌++◌, ◌∙◌, [], ℕ, Bool, Err, List, None, Ok, Option, Some, ap, append-nil, false}
-use Rattle.std.proofs.Common.{length, map, max, option_map, refl, subst, sym, true}
-use Rattle.std.proofs.lemmas.List.{length-map}
+use Rattle.std.proofs.Common.{◌≡◌, ◌++◌, ◌∙◌, [], ℕ, List, None, Ok, Some, ap, append-nil, false}
+use Rattle.std.proofs.Common.{map, max, refl, subst, sym, true}
 use Rattle.std.proofs.lemmas.Option.{slice_get-map}
 use Rattle.std.specs.Option.{option_to_list}
 use Rattle.std.specs.Prelude.{slice_get, slice_set}
-use Rattle.model.specs.Types.{Entry, Input, Net}
+use Rattle.model.specs.Types.{Input, Net}
 use Rattle.model.specs.Network.{node_count}
 use Rattle.model.specs.Sessions.{restarted}
 use Rattle.model.specs.Step.{Effect}
-use Rattle.model.specs.World.{cut_short, packets_to}
+use Rattle.model.specs.World.{cut_short}
 use Rattle.agent_core.specs.Nodes.{NodeState, session_in}
 use Rattle.agent_core.specs.Steps.{IsDue, effect_in, step_at}
 use Rattle.agent_core.specs.declared.Step.{Step}
@@ -22,7 +21,6 @@ use Rattle.network_world.specs.Lanes.{AreNew, HaveMore, IsMarked, seen}
 use Rattle.network_world.specs.Moves.{GoesOn, HasStopped, HasTaken, IsAgain, IsInputDue, IsMarkedTo, IsNew, LanesGrow, stop}
 use Rattle.network_world.specs.declared.lanes.Lane as raw
 use Rattle.network_world.specs.declared.refusals.StepRefused.{StepRefused}
-use Rattle.network_world.specs.declared.refusals.StepRefused.TheVariants as refused
 use Rattle.network_world.proofs.After.{marked_lane}
 use Rattle.network_world.proofs.Beginning.{lanes_seen}
 use Rattle.network_world.proofs.Lists.{map_set, some_map}

@@ -1,12 +1,10 @@
 -- Nodes that stop and begin again.
-use Rattle.std.proofs.Common.{◌≡◌, ◌∷◌, ◌<◌, ◌≤◌, ◌+◌, ◌∙◌, [], ℕ, Bool, List, None, Ok, Option, Some, ap, arith, false, length, refl}
+use Rattle.std.proofs.Common.{◌≡◌, ◌<◌, ◌≤◌, ◌∙◌, [], ℕ, Bool, List, None, Ok, Option, Some, ap, arith, false, length, refl}
 use Rattle.std.proofs.Common.{subst, sym, true}
-use Rattle.std.specs.Option.{option_map_or}
-use Rattle.std.specs.Prelude.{◌==◌, slice_get, slice_set}
-use Rattle.model.specs.Types.{Crash, CrashDeliver, CrashTake, Entry, Input, Local, Net, Out, WorldStep}
+use Rattle.std.specs.Prelude.{◌==◌, slice_get}
+use Rattle.model.specs.Types.{Crash, CrashDeliver, CrashTake, Entry, Input, Local, Net, Out}
 use Rattle.model.specs.Network.{node_count}
-use Rattle.model.specs.Sizes.{entry_size}
-use Rattle.model.specs.Step.{Effect, node_step}
+use Rattle.model.specs.Step.{Effect}
 use Rattle.model.specs.World as model
 use Rattle.model.specs.World.{Origin, apply_effect, cut_short, delivery, mark_delivered, node_effect, reached_limit, view_at}
 use Rattle.model.specs.Kept.{kept_in, made_by, only_if}
@@ -15,7 +13,7 @@ use Rattle.network_world.specs.Stations.{Journal, Station, WorldState, station_o
 use Rattle.network_world.specs.Refusals.{limit_at}
 use Rattle.network_world.specs.Standing.{IsRefusalDue, IsWorld, StandsFor, Steps}
 use Rattle.network_world.specs.Journals.{CanNote, HasNoted, HasRoom, IsLimitDue, seen}
-use Rattle.network_world.specs.Moves.{GoesOn, HasRestartedAt, HasStoppedAt, IsInputDue, IsMarkedAt, stop}
+use Rattle.network_world.specs.Moves.{HasRestartedAt, HasStoppedAt, IsInputDue, IsMarkedAt, stop}
 use Rattle.network_world.specs.Deliveries.{IsBrought, IsNotBrought}
 use Rattle.network_world.specs.declared.journals.Journal as raw
 use Rattle.network_world.specs.declared.refusals.StepRefused.{StepRefused}

@@ -1,6 +1,6 @@
 -- A step of what happens at a node.
 use Rattle.std.proofs.Common.{◌≡◌, ◌<◌, ◌≤◌, ◌+◌, ◌*◌, ◌∙◌, ℕ, Bool, List, None, Ok, Option, Some, ap, arith, length, refl, subst, sym}
-use Rattle.std.specs.Prelude.{◌==◌, Err, IfErr, OnErr, OnOk, Result, slice_get}
+use Rattle.std.specs.Prelude.{◌==◌, Err, IfErr, OnErr, OnOk, Result}
 use Rattle.model.specs.Types.{Entry, Input, Local, Net, Out, Take, WorldStep}
 use Rattle.model.specs.Network.{node_count}
 use Rattle.model.specs.Step.{Effect, node_step}

@@ -1,4 +1,4 @@
-use Rattle.std.proofs.Common.{◌++◌, ◌∙◌, ap, append-nil, arith, length, map, sym}
+use Rattle.std.proofs.Common.{◌++◌, ◌∙◌, ap, append-nil, arith, map, sym}
 use Rattle.model.specs.Types.{Events}
 use Rattle.model.specs.Words.{below}
 use Rattle.model.specs.Network.{node_count}

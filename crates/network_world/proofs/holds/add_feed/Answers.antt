@@ -1,4 +1,4 @@
-use Rattle.std.proofs.Common.{◌≡◌, ◌++◌, ◌∷◌, ◌∙◌, [], Err, List, Ok, Result, ap, append-nil, sym}
+use Rattle.std.proofs.Common.{◌++◌, ◌∙◌, Err, List, Ok, Result, ap, append-nil, sym}
 use Rattle.std.specs.Prelude.{OnOk}
 use Rattle.base_types.specs.declared.FeedCount.{FeedCount}
 use Rattle.network_world.proofs.Showing.{feed_none, feed_some}

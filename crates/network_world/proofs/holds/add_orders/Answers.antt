@@ -1,4 +1,4 @@
-use Rattle.std.proofs.Common.{◌++◌, ◌∙◌, ap, append-nil, arith, flat_map, map, subst, sym}
+use Rattle.std.proofs.Common.{◌++◌, ◌∙◌, ap, append-nil, arith, flat_map, map, sym}
 use Rattle.model.specs.Types.{Orders}
 use Rattle.model.specs.Words.{below}
 use Rattle.model.specs.Network.{node_count}

@@ -1,5 +1,5 @@
-use Rattle.std.proofs.Common.{[], refl, subst, sym, ◌∷◌}
-use Rattle.model.specs.Types.{Out, Send}
+use Rattle.std.proofs.Common.{[], subst, sym, ◌∷◌}
+use Rattle.model.specs.Types.{Out}
 use Rattle.network_world.specs.Lanes.{HaveMore, HaveRoomFor}
 use Rattle.network_world.proofs.Sending.{launch_put, packet_put, room_for_packet, sends_nothing}
 use Rattle.network_world.proofs.lanes.put_send.Goals as goal

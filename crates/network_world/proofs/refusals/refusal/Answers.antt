@@ -1,4 +1,4 @@
-use Rattle.std.proofs.Common.{◌≡◌, sym}
+use Rattle.std.proofs.Common.{sym}
 use Rattle.network_world.proofs.Effects.{other_fault}
 use Rattle.network_world.proofs.refusals.refusal.Goals as goal
 

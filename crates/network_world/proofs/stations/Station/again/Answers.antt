@@ -1,4 +1,4 @@
-use Rattle.std.proofs.Common.{◌∙◌, ap, subst}
+use Rattle.std.proofs.Common.{◌∙◌, ap}
 use Rattle.network_world.specs.Stations.{Station}
 use Rattle.network_world.proofs.Beginning.{again_of, again_restores}
 use Rattle.network_world.proofs.stations.Station.again.Goals as goal

@@ -1,4 +1,4 @@
-use Rattle.std.proofs.Common.{◌≡◌, ◌∙◌, List, ap, arith, option_map, sym}
+use Rattle.std.proofs.Common.{◌≡◌, ◌∙◌, ap, arith, option_map, sym}
 use Rattle.std.proofs.lemmas.Option.{slice_get-map}
 use Rattle.std.specs.Prelude.{slice_get}
 use Rattle.network_world.specs.Lanes.{seen}

@@ -1,4 +1,4 @@
-use Rattle.std.proofs.Common.{ap, length, map, subst, sym, ℕ, ◌<◌}
+use Rattle.std.proofs.Common.{length, map, subst, sym, ℕ, ◌<◌}
 use Rattle.std.proofs.lemmas.List.{length-map}
 use Rattle.network_world.specs.Lanes.{seen}
 use Rattle.network_world.specs.Stations.{Station}

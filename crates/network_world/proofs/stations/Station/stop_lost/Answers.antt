@@ -1,4 +1,4 @@
-use Rattle.std.proofs.Common.{◌∙◌, None, ap, false, map, refl, subst, sym}
+use Rattle.std.proofs.Common.{◌∙◌, None, false, map, refl, subst, sym}
 use Rattle.agent_core.specs.Steps.{effect_in}
 use Rattle.network_world.specs.Lanes.{seen}
 use Rattle.network_world.specs.Stations.{Station}

@@ -1,4 +1,4 @@
-use Rattle.std.proofs.Common.{List, ap, map, refl, subst, sym, ◌∙◌, ◌≡◌}
+use Rattle.std.proofs.Common.{List, map, refl, subst, sym, ◌∙◌}
 use Rattle.agent_core.specs.Nodes.{session_in, view_in}
 use Rattle.agent_core.specs.Steps.{effect_in}
 use Rattle.model.specs.Types.{Out}

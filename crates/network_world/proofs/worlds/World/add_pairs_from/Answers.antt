@@ -1,4 +1,4 @@
-use Rattle.std.proofs.Common.{ap, append-nil, arith, subst, sym, ◌++◌, ◌∙◌}
+use Rattle.std.proofs.Common.{ap, append-nil, arith, sym, ◌++◌, ◌∙◌}
 use Rattle.model.specs.Words.{below}
 use Rattle.model.specs.Network.{node_count}
 use Rattle.network_world.specs.Parts.{pairs_from}

@@ -1,8 +1,7 @@
-use Rattle.std.proofs.Common.{◌≡◌, None, Some, option_map, subst}
-use Rattle.std.specs.Prelude.{option_and_then}
+use Rattle.std.proofs.Common.{◌≡◌, None, subst}
 use Rattle.network_world.specs.Stations.{WorldState}
 use Rattle.network_world.specs.Refusals.{limit_at}
-use Rattle.network_world.specs.Journals.{IsLimitDue, seen}
+use Rattle.network_world.specs.Journals.{IsLimitDue}
 use Rattle.network_world.specs.Deliveries.{IsNotBrought}
 use Rattle.network_world.proofs.Exits.{if_err}
 use Rattle.network_world.proofs.Delivering.{brought_by, limit_brought, none_brought, not_brought_by}

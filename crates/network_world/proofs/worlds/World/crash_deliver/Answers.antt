@@ -1,4 +1,4 @@
-use Rattle.std.proofs.Common.{◌≡◌, ◌∙◌, ◌<◌, ◌≤◌, [], None, refl, subst, sym}
+use Rattle.std.proofs.Common.{◌≡◌, ◌∙◌, ◌<◌, [], subst, sym}
 use Rattle.model.specs.Types.{CrashDeliver}
 use Rattle.model.specs.Network.{node_count}
 use Rattle.model.specs.World.{Origin}
@@ -10,7 +10,6 @@ use Rattle.model.specs.Types.{Input}
 use Rattle.network_world.specs.Deliveries.{IsBrought, IsNotBrought}
 use Rattle.network_world.specs.declared.refusals.StepRefused.{StepRefused}
 use Rattle.network_world.proofs.Taking.{noted_over, same_state, same_world, state, still_a_world}
-use Rattle.network_world.proofs.Delivering.{lane_after}
 use Rattle.network_world.proofs.Stopping.{brought_free, crash_deliver_not, crash_deliver_refused, crash_deliver_steps, stop_at_can_be_noted}
 use Rattle.network_world.proofs.Stopping.{stop_mark_inside}
 use Rattle.network_world.proofs.Beginning.{stations_restore}

@@ -1,4 +1,4 @@
-use Rattle.std.proofs.Common.{◌≡◌, ◌∙◌, ◌<◌, ◌≤◌, [], None, refl, subst, sym}
+use Rattle.std.proofs.Common.{◌∙◌, ◌<◌, [], subst, sym}
 use Rattle.model.specs.Types.{CrashTake, Input}
 use Rattle.model.specs.Network.{node_count}
 use Rattle.model.specs.World.{Origin}

@@ -1,4 +1,4 @@
-use Rattle.std.proofs.Common.{◌≡◌, ◌∙◌, ◌<◌, ◌≤◌, [], List, None, refl, subst, sym}
+use Rattle.std.proofs.Common.{◌≡◌, ◌∙◌, ◌<◌, ◌≤◌, List, subst, sym}
 use Rattle.model.specs.Types.{Out, Deliver}
 use Rattle.model.specs.Network.{node_count}
 use Rattle.model.specs.World.{Origin}
@@ -92,7 +92,7 @@ invariant_of-self-2 c =
     c.self.invariant.stands.station_count
     (brought_here _ _ c.args.a c.args.b c.args.k c.in_ok-input.input c.self.view_is c.in_ok-input.ensures.ok) c.in_ok-step.ensures.taken c.mark_at.ensures
     (noted_over Origin.Mailed c.args.b c.in_ok-step.step.outs c.in_ok-step.step.kept (seen c.self.inside.journal)
-    (seen c.take_at.new.journal) (seen c.note_mailed.new.self) c.in_ok-step.ensures.written 
+    (seen c.take_at.new.journal) (seen c.note_mailed.new.self) c.in_ok-step.ensures.written
     (subst (λ (outs : List Out). HasNoted Origin.Mailed c.args.b outs c.in_ok-step.step.kept (seen c.take_at.new.journal)
     (seen c.note_mailed.new.self)) c.as_slice.ensures c.note_mailed.ensures)))
 
@@ -110,6 +110,6 @@ returns-clause-taken c =
     c.self.invariant.stands.station_count
     (brought_here _ _ c.args.a c.args.b c.args.k c.in_ok-input.input c.self.view_is c.in_ok-input.ensures.ok) c.in_ok-step.ensures.taken c.mark_at.ensures
     (noted_over Origin.Mailed c.args.b c.in_ok-step.step.outs c.in_ok-step.step.kept (seen c.self.inside.journal)
-    (seen c.take_at.new.journal) (seen c.note_mailed.new.self) c.in_ok-step.ensures.written 
+    (seen c.take_at.new.journal) (seen c.note_mailed.new.self) c.in_ok-step.ensures.written
     (subst (λ (outs : List Out). HasNoted Origin.Mailed c.args.b outs c.in_ok-step.step.kept (seen c.take_at.new.journal)
     (seen c.note_mailed.new.self)) c.as_slice.ensures c.note_mailed.ensures)))

@@ -1,4 +1,4 @@
-use Rattle.std.proofs.Common.{◌≡◌, ◌∙◌, Option, ap, arith, option_map}
+use Rattle.std.proofs.Common.{◌∙◌, Option, ap, arith}
 use Rattle.std.specs.Prelude.{option_and_then, slice_get}
 use Rattle.network_world.specs.Stations.{Station, WorldState, lane_of}
 use Rattle.network_world.proofs.worlds.World.lane.Goals as goal

@@ -1,4 +1,3 @@
-use Rattle.std.proofs.Common.{◌∙◌}
 use Rattle.network_world.proofs.Showing.{part_shown}
 use Rattle.network_world.proofs.worlds.World.node_part.Goals as goal
 

@@ -1,7 +1,7 @@
 use Rattle.std.proofs.Common.{subst, sym}
 use Rattle.std.specs.Prelude.{OnOk}
 use Rattle.model.specs.Types.{WorldStep}
-use Rattle.network_world.specs.Standing.{IsRefusalDue, Steps}
+use Rattle.network_world.specs.Standing.{Steps}
 use Rattle.network_world.proofs.Taking.{net_stays, refusals_of}
 use Rattle.network_world.proofs.worlds.World.step.Goals as goal
 

@@ -1,4 +1,4 @@
-use Rattle.std.proofs.Common.{◌≡◌, ◌∙◌, ◌<◌, ◌≤◌, [], List, None, refl, subst, sym}
+use Rattle.std.proofs.Common.{◌∙◌, ◌<◌, ◌≤◌, List, subst, sym}
 use Rattle.model.specs.Types.{Out, Take}
 use Rattle.model.specs.Network.{node_count}
 use Rattle.model.specs.World.{Origin}
@@ -72,7 +72,7 @@ invariant_of-self-2 c =
     c.self.invariant.stands.station_count c.in_ok-check.ensures.ok (taken_of s c.args.w c.args.local.now c.in_ok-copy.field-0 c.in_ok-step.step c.take_at.new.stations
     c.in_ok-copy.ensures c.in_ok-step.ensures.taken)
     (noted_over Origin.Own c.args.w c.in_ok-step.step.outs c.in_ok-step.step.kept (seen c.self.inside.journal)
-    (seen c.take_at.new.journal) (seen c.note_own.new.self) c.in_ok-step.ensures.written 
+    (seen c.take_at.new.journal) (seen c.note_own.new.self) c.in_ok-step.ensures.written
     (subst (λ (outs : List Out). HasNoted Origin.Own c.args.w outs c.in_ok-step.step.kept (seen c.take_at.new.journal)
     (seen c.note_own.new.self)) c.as_slice.ensures c.note_own.ensures)))
 
@@ -88,6 +88,6 @@ returns-clause-taken c =
     c.self.invariant.stands.station_count c.in_ok-check.ensures.ok (taken_of s c.args.w c.args.local.now c.in_ok-copy.field-0 c.in_ok-step.step c.take_at.new.stations
     c.in_ok-copy.ensures c.in_ok-step.ensures.taken)
     (noted_over Origin.Own c.args.w c.in_ok-step.step.outs c.in_ok-step.step.kept (seen c.self.inside.journal)
-    (seen c.take_at.new.journal) (seen c.note_own.new.self) c.in_ok-step.ensures.written 
+    (seen c.take_at.new.journal) (seen c.note_own.new.self) c.in_ok-step.ensures.written
     (subst (λ (outs : List Out). HasNoted Origin.Own c.args.w outs c.in_ok-step.step.kept (seen c.take_at.new.journal)
     (seen c.note_own.new.self)) c.as_slice.ensures c.note_own.ensures)))

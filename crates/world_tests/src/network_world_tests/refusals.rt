@@ -1,0 +1,113 @@
+//! Steps that are refused, and that nothing changes then.
+use crate::networks::{AGENTS, NEXT_OF_AGENTS};
+use crate::rows::{Does, Here};
+use crate::worlds::{answer, begun, do_rows, report, step};
+use agent_core::StepFault;
+use base_types::{JobNo, Obj};
+use network_world::{StepRefused, World};
+use std::alloc::Global;
+use std::test::Fail;
+use test_builders::Asks;
+
+/// What was done before.
+const BEFORE: [Does; 5] = [
+    NEXT_OF_AGENTS,
+    Does::At(0, Here::Link(1)),
+    Does::At(1, Here::Link(0)),
+    Does::At(0, Here::Turn(100)),
+    Does::Deliver(0, 1, 1),
+];
+
+/// A step, and why it is refused.
+type Row<'a> = (Does<'a>, StepRefused);
+
+const REFUSED: [Row; 16] = [
+    // Packets that were not sent.
+    (Does::Deliver(0, 0, 1), StepRefused::NoPacket),
+    (Does::Deliver(0, 1, 0), StepRefused::NoPacket),
+    (Does::Deliver(0, 1, 2), StepRefused::NoPacket),
+    (Does::Deliver(2, 1, 1), StepRefused::NoPacket),
+    (Does::CrashDeliver(0, 2, 1, true), StepRefused::NoPacket),
+    // A workstation outside, in a command too.
+    (
+        Does::At(0, Here::Link(3)),
+        StepRefused::Step(StepFault::NotInNetwork),
+    ),
+    (
+        Does::At(1, Here::Type(3, Asks::Start)),
+        StepRefused::Step(StepFault::NotInNetwork),
+    ),
+    (
+        Does::CrashAt(1, Here::Type(3, Asks::Start), true),
+        StepRefused::Step(StepFault::NotInNetwork),
+    ),
+    // A link to itself.
+    (
+        Does::At(1, Here::Link(1)),
+        StepRefused::Step(StepFault::NotNeighbour),
+    ),
+    (
+        Does::CrashAt(1, Here::Link(1), false),
+        StepRefused::Step(StepFault::NotNeighbour),
+    ),
+    // A plan at an agent.
+    (
+        Does::At(1, Here::Next(&[])),
+        StepRefused::Step(StepFault::NotMaster),
+    ),
+    // A job without a process.
+    (
+        Does::At(1, Here::Ended(2, 0)),
+        StepRefused::Step(StepFault::NoProcess),
+    ),
+    (
+        Does::CrashAt(1, Here::Started(2), true),
+        StepRefused::Step(StepFault::NoProcess),
+    ),
+    (
+        Does::CrashAt(1, Here::Failed(2), false),
+        StepRefused::Step(StepFault::NoProcess),
+    ),
+    // A file for which nothing waits.
+    (
+        Does::At(1, Here::Fulfil(JOB_2, 1)),
+        StepRefused::Step(StepFault::NoDep),
+    ),
+    (
+        Does::CrashAt(1, Here::Fulfil(JOB_2, 1), false),
+        StepRefused::Step(StepFault::NoDep),
+    ),
+];
+
+const JOB_2: Obj = Obj::Job(JobNo(2));
+
+fn is_refused(world: &mut World, alloc: Global, row: &Row) -> Result<bool, Fail> {
+    let step = step(alloc, &row.0)?;
+    match answer(world, &step)? {
+        Ok(()) => Ok(false),
+        Err(refused) => Ok(refused == row.1),
+    }
+}
+
+/// The number, from 1, of the first row that is refused for another cause, or after which the report is another one.
+fn first_other(world: &mut World, alloc: Global) -> Result<Option<usize>, Fail> {
+    let before = report(alloc, world)?;
+    for (i, row) in REFUSED.iter().enumerate() {
+        if !is_refused(world, alloc, row)? {
+            return Ok(Some(i + 1));
+        }
+        let after = report(alloc, world)?;
+        if after.as_slice() != before.as_slice() {
+            return Ok(Some(i + 1));
+        }
+    }
+    Ok(None)
+}
+
+#[test]
+fn what_cannot_be_is_refused_and_changes_nothing(rt: HostRuntime) -> Result<(), Fail> {
+    let mut world = begun(rt.alloc(), &AGENTS)?;
+    do_rows(&mut world, rt.alloc(), &BEFORE)?;
+    assert_eq!(rt; first_other(&mut world, rt.alloc())?, None);
+    Ok(())
+}

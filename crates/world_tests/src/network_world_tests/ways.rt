@@ -1,0 +1,156 @@
+//! Orders and events on their way: over several hops, many at once, and after an agent took over.
+use crate::networks::{DOMAIN, NEXT, ONE_AGENT};
+use crate::rows::{Does, Here};
+use crate::worlds::reports;
+use base_types::{JobNo, Obj};
+use std::test::Fail;
+use test_builders::Asks;
+
+/// A job is cancelled by a command that is typed two hops away and comes twice.
+const OVER_TWO_HOPS: [Does; 17] = [
+    NEXT,
+    Does::At(0, Here::Link(1)),
+    Does::At(1, Here::Link(0)),
+    Does::At(1, Here::Link(2)),
+    Does::At(2, Here::Link(1)),
+    Does::At(0, Here::Turn(100)),
+    Does::Flow(0, 1),
+    Does::At(1, Here::Turn(100)),
+    Does::Flow(1, 2),
+    Does::At(2, Here::Type(0, Asks::Cancel(Obj::Job(JobNo(1))))),
+    Does::At(2, Here::Turn(100)),
+    Does::Flow(2, 1),
+    Does::At(1, Here::Turn(100)),
+    Does::Deliver(1, 0, 3),
+    Does::Deliver(1, 0, 3),
+    Does::At(0, Here::Turn(100)),
+    Does::At(0, Here::Turn(100)),
+];
+
+const OVER_TWO_HOPS_REPORT: &str = "events 5
+M 1 newplan 1 cut - carried - fresh 1
+M 2 released 1 seen M:1
+L>M 1 order cancel job 1
+M 3 obeyed L 1 cancel job 1
+M 4 streamended 1 seen M:3
+starts 0
+packets M D 11
+packets D M 3
+packets D L 3
+packets L D 3
+node M
+holds M 4
+holds L>M 1
+plan 1
+cpu M fence 0 limit 10 clock 0 running
+stream 1 M#S SUCC
+job 1 M#S.A CANCEL 0
+node D
+holds M 2
+holds L>M 1
+plan 1
+cpu M fence 0 limit 10 clock 0 running
+stream 1 M#S EXEC
+job 1 M#S.A READY 0
+node L
+holds M 2
+holds L>M 1
+plan 1
+cpu M fence 0 limit 10 clock 0 running
+stream 1 M#S EXEC
+job 1 M#S.A READY 0
+";
+
+#[test]
+fn a_command_over_two_hops_is_obeyed_once(rt: HostRuntime) -> Result<(), Fail> {
+    let steps: [&[Does]; 1] = [&OVER_TWO_HOPS];
+    assert!(rt; reports(rt.alloc(), &DOMAIN, &steps, OVER_TWO_HOPS_REPORT)?);
+    Ok(())
+}
+
+/// Nine orders for P are typed there, of which eight go out in one turn.
+const NINE_ORDERS: [Does; 16] = [
+    Does::At(1, Here::Link(0)),
+    Does::At(0, Here::Link(1)),
+    FENCE,
+    FENCE,
+    FENCE,
+    FENCE,
+    FENCE,
+    FENCE,
+    FENCE,
+    FENCE,
+    FENCE,
+    Does::At(1, Here::Turn(1)),
+    Does::At(1, Here::Turn(1)),
+    Does::Flow(1, 0),
+    Does::Flow(0, 1),
+    Does::At(1, Here::Turn(1)),
+];
+
+const FENCE: Does = Does::At(1, Here::Type(0, Asks::Fence(9)));
+
+const NINE_ORDERS_REPORT: &str = "events 9
+P>M 1 order fence 9
+P>M 2 order fence 9
+P>M 3 order fence 9
+P>M 4 order fence 9
+P>M 5 order fence 9
+P>M 6 order fence 9
+P>M 7 order fence 9
+P>M 8 order fence 9
+P>M 9 order fence 9
+starts 0
+packets M P 16
+packets P M 17
+node M
+holds P>M 8
+no plan
+node P
+holds P>M 9
+no plan
+";
+
+#[test]
+fn eight_entries_go_out_in_a_turn(rt: HostRuntime) -> Result<(), Fail> {
+    let steps: [&[Does]; 1] = [&NINE_ORDERS];
+    assert!(rt; reports(rt.alloc(), &ONE_AGENT, &steps, NINE_ORDERS_REPORT)?);
+    Ok(())
+}
+
+/// The agent L takes over from its manager D.
+const TAKEN_OVER: [Does; 7] = [
+    Does::At(0, Here::Type(0, Asks::SwitchMgr(2))),
+    Does::At(0, Here::Turn(1)),
+    Does::At(0, Here::Link(2)),
+    Does::At(2, Here::Link(0)),
+    Does::At(0, Here::Turn(1)),
+    Does::Flow(0, 2),
+    Does::At(2, Here::Turn(1)),
+];
+
+const TAKEN_OVER_REPORT: &str = "events 2
+M>M 1 order switchmgr L
+M 1 obeyed M 1 switchmgr L
+starts 0
+packets M L 1
+packets L M 1
+node M
+holds M 1
+holds M>M 1
+no plan
+cpu M fence 0 limit 10 clock 0 running
+node D
+no plan
+node L
+holds M 1
+no plan
+cpu M fence 0 limit 10 clock 0 running
+";
+
+#[test]
+fn routes_go_by_who_manages_now(rt: HostRuntime) -> Result<(), Fail> {
+    let steps: [&[Does]; 1] = [&TAKEN_OVER];
+    assert!(rt; reports(rt.alloc(), &DOMAIN, &steps, TAKEN_OVER_REPORT)?);
+    Ok(())
+}

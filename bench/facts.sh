@@ -8,13 +8,13 @@ trap 'rm -rf "$copy"' EXIT
 
 cp crates.txt HANDLES "$copy"
 mkdir -p "$copy/crates/facts_bench/src"
-for crate in base_types model owner_rows owner_fold; do
+for crate in base_types model owner_rows grouped_places owner_fold; do
   mkdir "$copy/crates/$crate"
   for part in src specs proofs; do
     [ ! -d "crates/$crate/$part" ] || cp -r "crates/$crate/$part" "$copy/crates/$crate"
   done
 done
-grep -E '^(base_types|model|owner_rows|owner_fold):' crates.txt > "$copy/crates.txt"
+grep -E '^(base_types|model|owner_rows|grouped_places|owner_fold):' crates.txt > "$copy/crates.txt"
 echo 'facts_bench: base_types owner_fold' >> "$copy/crates.txt"
 
 cat > "$copy/crates/facts_bench/src/main.rt" <<'PROGRAM'

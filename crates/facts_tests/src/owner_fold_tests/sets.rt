@@ -11,7 +11,14 @@ const P: FeedRow = FeedRow::Events(1);
 const PAIR: [JobRow; 2] = [(11, 1, "J", 10, &[]), (12, 0, "K", 10, &[])];
 
 const FIRST_PLAN: [StreamRow; 4] = [
-    (1, 0, "A", false, &[], &[(1, 0, "J", 10, &[]), (2, 1, "K", 10, &[])]),
+    (
+        1,
+        0,
+        "A",
+        false,
+        &[],
+        &[(1, 0, "J", 10, &[]), (2, 1, "K", 10, &[])],
+    ),
     (2, 0, "B", true, &[], &[(3, 0, "J", 10, &[])]),
     (3, 1, "C", false, &[], &PAIR),
     (4, 1, "D", false, &[], &[(4, 1, "J", 10, &[])]),
@@ -48,10 +55,22 @@ const NIGHT: [Row; 30] = [
     (P, Says::EndedAs(11, 2, 4, false)),
     (M, Says::StreamEnded(1, &[])),
     (M, Says::Released(1, &[])),
-    (P, Says::Obeyed(0, 1, Asks::Cancel(Obj::Stream(StreamNo(4))))),
-    (P, Says::Obeyed(0, 2, Asks::Cancel(Obj::Stream(StreamNo(3))))),
-    (M, Says::UntilPassed(Obj::Stream(StreamNo(2)), 1, OnUntil::Cont)),
-    (M, Says::UntilPassed(Obj::Stream(StreamNo(2)), 1, OnUntil::Canc)),
+    (
+        P,
+        Says::Obeyed(0, 1, Asks::Cancel(Obj::Stream(StreamNo(4)))),
+    ),
+    (
+        P,
+        Says::Obeyed(0, 2, Asks::Cancel(Obj::Stream(StreamNo(3)))),
+    ),
+    (
+        M,
+        Says::UntilPassed(Obj::Stream(StreamNo(2)), 1, OnUntil::Cont),
+    ),
+    (
+        M,
+        Says::UntilPassed(Obj::Stream(StreamNo(2)), 1, OnUntil::Canc),
+    ),
     (P, Says::Launched(9, 2, &[])),
     (P, Says::StreamEnded(9, &[])),
     (P, Says::Ended(9, 2, 0)),

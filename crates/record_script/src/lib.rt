@@ -1,0 +1,6 @@
+//! Records as they are read.
+#![tactic(auto)]
+
+mod scripts;
+
+pub use scripts::{OneStep, Plans, Script, ScriptStep, ScriptSteps, StepForm};

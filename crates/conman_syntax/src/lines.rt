@@ -2,7 +2,6 @@
 use base_types::{OnUntil, Text};
 
 /// A job stream as it is typed. Its names are in upper case.
-#[derive(Drop)]
 pub struct StreamRef {
     /// The workstation. None means that of the node at which the line is typed.
     pub ws: Option<Text>,
@@ -11,11 +10,29 @@ pub struct StreamRef {
     pub no: Option<u32>,
 }
 
+impl Drop for StreamRef {
+    fn drop(self) {
+        let StreamRef {
+            ws: _ws,
+            name: _name,
+            no: _no,
+        } = self;
+    }
+}
+
 /// A job as it is typed, in its stream. Its names are in upper case.
-#[derive(Drop)]
 pub struct JobRef {
     pub stream: StreamRef,
     pub name: Text,
+}
+
+impl Drop for JobRef {
+    fn drop(self) {
+        let JobRef {
+            stream: _stream,
+            name: _name,
+        } = self;
+    }
 }
 
 /// A job or a job stream as it is typed.
@@ -26,7 +43,6 @@ pub enum ObjRef {
 }
 
 /// A dependency as it is typed. Times are seconds since 1970, UTC.
-#[derive(Drop)]
 pub enum DepRef {
     FollowsJob(JobRef),
     FollowsStream(StreamRef),
@@ -41,9 +57,22 @@ pub enum DepRef {
     Until(u64, OnUntil),
 }
 
+impl Drop for DepRef {
+    fn drop(self) {
+        match self {
+            DepRef::FollowsJob(_a) => {}
+            DepRef::FollowsStream(_a) => {}
+            DepRef::Needs(_a, _b, _c) => {}
+            DepRef::PromptName(_a) => {}
+            DepRef::PromptText(_a) => {}
+            DepRef::At(_a) => {}
+            DepRef::Until(_a, _b) => {}
+        }
+    }
+}
+
 /// A line with its parts, in the order in which they are typed. Names are in upper case; numbers may be any of their
 /// type, whether or not the command is then declined.
-#[derive(Drop)]
 pub enum Line {
     AddDep(ObjRef, DepRef),
     DelDep(ObjRef, DepRef),
@@ -82,4 +111,38 @@ pub enum Line {
     Shutdown,
     /// A day, counted from 01/01/1970 as 0.
     JNextPlan(u32),
+}
+
+impl Drop for Line {
+    fn drop(self) {
+        match self {
+            Line::AddDep(_a, _b) => {}
+            Line::DelDep(_a, _b) => {}
+            Line::Release(_a) => {}
+            Line::AltPri(_a, _b) => {}
+            Line::Cancel(_a) => {}
+            Line::Confirm(_a) => {}
+            Line::Kill(_a) => {}
+            Line::Rerun(_a) => {}
+            Line::Fence(_a, _b) => {}
+            Line::CpuLimit(_a, _b) => {}
+            Line::StreamLimit(_a, _b) => {}
+            Line::Resource(_a, _b, _c) => {}
+            Line::ReplyGlobal(_a, _b) => {}
+            Line::ReplyOwn(_a, _b, _c) => {}
+            Line::Start(_a) => {}
+            Line::Stop(_a) => {}
+            Line::Submit(_a, _b, _c, _d) => {}
+            Line::SwitchMgr(_a, _b) => {}
+            Line::ShowJobs(_a) => {}
+            Line::ShowSchedules(_a) => {}
+            Line::ShowCpus(_a) => {}
+            Line::ShowPrompts(_a) => {}
+            Line::ShowResources(_a) => {}
+            Line::Link(_a) => {}
+            Line::Unlink(_a) => {}
+            Line::Shutdown => {}
+            Line::JNextPlan(_a) => {}
+        }
+    }
 }

@@ -24,12 +24,22 @@ pub struct PeerAt {
 }
 
 /// Calls of `begin`, in room that was taken when this was made.
-#[derive(Drop)]
 pub struct Begun {
     calls: Vec<Row<BegunBy>>,
     peers: Rows<PeerAt>,
     room: usize,
     whole: bool,
+}
+
+impl Drop for Begun {
+    fn drop(self) {
+        let Begun {
+            calls: _calls,
+            peers: _peers,
+            room: _room,
+            whole: _whole,
+        } = self;
+    }
 }
 
 impl Model for Begun {

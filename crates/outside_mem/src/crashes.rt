@@ -33,11 +33,20 @@ pub enum Made {
 ///
 /// Listed calls fail: a write leaves half of its piece, a cut and a sync leave the file as it was. A write and a cut that
 /// are listed count as made. A call that would pass the room fails too, and changes nothing.
-#[derive(Drop)]
 pub struct CrashDisk {
     first: Bytes,
     disk: MemDisk,
     made: Rows<Made>,
+}
+
+impl Drop for CrashDisk {
+    fn drop(self) {
+        let CrashDisk {
+            first: _first,
+            disk: _disk,
+            made: _made,
+        } = self;
+    }
 }
 
 impl Model for CrashDisk {

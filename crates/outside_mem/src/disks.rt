@@ -14,11 +14,20 @@ use std::marker::Model;
 
 /// A disk in memory, which tells its bytes and not what a stop leaves of them. The calls whose numbers are listed, from
 /// 1, fail, as does a write that would pass the room. A call that fails changes nothing.
-#[derive(Drop)]
 pub struct MemDisk {
     bytes: Vec<u8>,
     room: usize,
     calls: Calls,
+}
+
+impl Drop for MemDisk {
+    fn drop(self) {
+        let MemDisk {
+            bytes: _bytes,
+            room: _room,
+            calls: _calls,
+        } = self;
+    }
 }
 
 impl Model for MemDisk {

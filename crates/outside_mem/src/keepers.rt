@@ -20,13 +20,24 @@ const LONGEST_FILE: u64 = 2_147_483_648;
 
 /// Bodies in memory. The calls whose numbers are listed, from 1, fail, as does an `append` that passes the room; from
 /// then on it is spent. It tells the bodies, and not what a stop leaves of them.
-#[derive(Drop)]
 pub struct MemKeeper {
     alloc: Global,
     bodies: Rows<()>,
     size: u64,
     spent: bool,
     calls: Calls,
+}
+
+impl Drop for MemKeeper {
+    fn drop(self) {
+        let MemKeeper {
+            alloc: _alloc,
+            bodies: _bodies,
+            size: _size,
+            spent: _spent,
+            calls: _calls,
+        } = self;
+    }
 }
 
 impl Model for MemKeeper {

@@ -40,7 +40,6 @@ pub enum Ask {
 /// The calls whose numbers are listed, from 1, fail, as does one that passes the room; it then tells calls of that kind
 /// no more. It tells what was raised and closed as long as there is room. Polls give copies and don't count; an arrival
 /// `NoMemory` is passed over once it was given.
-#[derive(Drop)]
 pub struct MemLink {
     arrivals: Items<Arrival>,
     at: usize,
@@ -50,6 +49,21 @@ pub struct MemLink {
     replied: Rows<bool>,
     asked: Log<Ask>,
     calls: Calls,
+}
+
+impl Drop for MemLink {
+    fn drop(self) {
+        let MemLink {
+            arrivals: _arrivals,
+            at: _at,
+            idle: _idle,
+            begun: _begun,
+            sent: _sent,
+            replied: _replied,
+            asked: _asked,
+            calls: _calls,
+        } = self;
+    }
 }
 
 impl Model for MemLink {

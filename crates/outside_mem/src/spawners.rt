@@ -37,7 +37,6 @@ pub struct Killed {
 ///
 /// The starts and polls whose numbers are listed, from 1, fail, as does a start that passes the room; it then tells
 /// what was started no more. It tells kills and reports as long as there is room.
-#[derive(Drop)]
 pub struct MemSpawner {
     answers: Items<Option<End>>,
     at: usize,
@@ -45,6 +44,19 @@ pub struct MemSpawner {
     killed: Log<Killed>,
     reported: Log<Result<Option<End>, Failed>>,
     calls: Calls,
+}
+
+impl Drop for MemSpawner {
+    fn drop(self) {
+        let MemSpawner {
+            answers: _answers,
+            at: _at,
+            started: _started,
+            killed: _killed,
+            reported: _reported,
+            calls: _calls,
+        } = self;
+    }
 }
 
 impl Model for MemSpawner {

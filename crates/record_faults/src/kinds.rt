@@ -5,7 +5,7 @@
 pub enum ScriptKind {
     /// The line has no form where it stands, or a section is missing.
     BadLine,
-    /// No line has this kind any more.
+    /// The line begins what is not read yet: definitions.
     NotBuilt,
     /// The name stands before.
     Duplicate,

@@ -5,7 +5,7 @@
 pub enum ScriptKind {
     /// The line has no form where it stands, or a section is missing.
     BadLine,
-    /// The line begins what is not read yet: definitions.
+    /// No line has this kind any more.
     NotBuilt,
     /// The name stands before.
     Duplicate,

@@ -6,7 +6,7 @@ use base_types::Text;
 use record_rows::{CutRow, Row, StepRow};
 
 /// The name of a workstation.
-pub fn station_name<'a>(row: &'a Row) -> Option<&'a Text>
+pub(crate) fn station_name<'a>(row: &'a Row) -> Option<&'a Text>
     ensures { option_map (λ t. t.now) result ≡ spec.station_name row.now }
 {
     match row {
@@ -17,7 +17,7 @@ pub fn station_name<'a>(row: &'a Row) -> Option<&'a Text>
 }
 
 /// A resource, by its workstation and its name.
-pub fn resource_of<'a>(row: &'a Row) -> Option<(&'a Text, &'a Text)>
+pub(crate) fn resource_of<'a>(row: &'a Row) -> Option<(&'a Text, &'a Text)>
     ensures { option_map (λ t. (t.0.now, t.1.now)) result ≡ spec.resource_of row.now }
 {
     match row {
@@ -27,7 +27,7 @@ pub fn resource_of<'a>(row: &'a Row) -> Option<(&'a Text, &'a Text)>
 }
 
 /// The name of a prompt.
-pub fn prompt_of<'a>(row: &'a Row) -> Option<&'a Text>
+pub(crate) fn prompt_of<'a>(row: &'a Row) -> Option<&'a Text>
     ensures { option_map (λ t. t.now) result ≡ spec.prompt_of row.now }
 {
     match row {
@@ -106,7 +106,7 @@ pub(crate) fn is_carry(row: &Row) -> bool
 }
 
 /// `$PLAN`
-pub fn is_plan(row: &Row) -> bool
+pub(crate) fn is_plan(row: &Row) -> bool
     ensures { result ≡ spec.is_plan row.now }
 {
     match row {
@@ -116,7 +116,7 @@ pub fn is_plan(row: &Row) -> bool
 }
 
 /// `$STEPS`
-pub fn is_steps(row: &Row) -> bool
+pub(crate) fn is_steps(row: &Row) -> bool
     ensures { result ≡ spec.is_steps row.now }
 {
     match row {
@@ -126,7 +126,7 @@ pub fn is_steps(row: &Row) -> bool
 }
 
 /// A row that begins a stream, or a section.
-pub fn begins_stream(row: &Row) -> bool
+pub(crate) fn begins_stream(row: &Row) -> bool
     ensures { result ≡ spec.begins_stream row.now }
 {
     match row {
@@ -136,7 +136,7 @@ pub fn begins_stream(row: &Row) -> bool
 }
 
 /// A stream or a job.
-pub fn is_object(row: &Row) -> bool
+pub(crate) fn is_object(row: &Row) -> bool
     ensures { result ≡ spec.is_object row.now }
 {
     match row {

@@ -1,8 +1,9 @@
 //! Jobs before they are planned.
-ghost use Rattle.std.specs.Prelude.{◌≡◌, ◌≤◌, [], IfOk, length};
+ghost use Rattle.std.specs.Prelude.{◌≡◌, ◌≢◌, ◌≤◌, [], Err, IfOk, length};
 ghost use Rattle.model.specs.Types as types;
 ghost use Rattle.model.specs.Types.{Command};
 ghost use Rattle.rc_conditions.specs.Machine.{read_of};
+ghost use Rattle.rc_conditions.specs.declared.CondFault.TheVariants as refusal;
 ghost use Rattle.record_script.specs.Networks.{first_or};
 ghost use Rattle.record_script.specs.Plans as spec;
 
@@ -47,8 +48,11 @@ fn logon(alloc: Global, rows: &[Row]) -> Result<Text, NoMemory>
     Ok(Text::new(alloc))
 }
 
-/// The condition that was read. None was read of a text that is none.
-fn operations(alloc: Global, read: Result<Cond, CondFault>) -> Result<Cond, NoMemory> {
+/// The condition that was read, and the empty one of a text that is none. The only error is that memory ran out.
+fn operations(alloc: Global, read: Result<Cond, CondFault>) -> Result<Cond, NoMemory>
+    ensures same { IfOk result (λ c. c ≡ spec.operations read) }
+    ensures told { IfOk result (λ c. read ≢ Err refusal.NoMemory) }
+{
     match read {
         Ok(cond) => Ok(cond),
         Err(CondFault::NoMemory) => Err(NoMemory),
@@ -57,11 +61,22 @@ fn operations(alloc: Global, read: Result<Cond, CondFault>) -> Result<Cond, NoMe
 }
 
 /// The condition that a text is, and the empty one of a text that is none.
-fn condition(alloc: Global, text: &str) -> Result<Cond, NoMemory>
+fn read(alloc: Global, text: &str) -> Result<Cond, NoMemory>
     requires { length text.now ≤ 4096 }
     ensures { IfOk result (λ c. c ≡ spec.operations (read_of text.now)) }
 {
-    operations(alloc, read_cond(alloc, text))
+    let cond = operations(alloc, read_cond(alloc, text))?;
+    Ok(cond)
+}
+
+/// The condition that a text of at most 4,096 bytes is, and the empty one of another text.
+fn condition(alloc: Global, text: &Text) -> Result<Cond, NoMemory>
+    ensures { IfOk result (λ c. c ≡ spec.condition text.now) }
+{
+    if text.len() > 4096 {
+        return Ok(Items::new(alloc));
+    }
+    read(alloc, text.as_str())
 }
 
 /// When an end of a job with these parts is a good one.
@@ -71,7 +86,7 @@ fn cond(alloc: Global, rows: &[Row]) -> Result<Cond, NoMemory>
     for row in rows {
         if let Row::Part(PartRow::Cond(text)) = row {
             let text = text_within(alloc, text)?;
-            return condition(alloc, text.as_str());
+            return condition(alloc, &text);
         }
     }
     Ok(Items::new(alloc))

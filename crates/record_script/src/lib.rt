@@ -15,6 +15,7 @@ mod names;
 mod nets;
 mod numbers;
 mod operator_lines;
+mod picks;
 mod plans;
 mod reading;
 mod scripts;

@@ -5,8 +5,8 @@ ghost use Rattle.record_script.specs.Numbers as spec;
 ghost use Rattle.record_script.specs.Counted.{AreNew, AreNumbers};
 
 use crate::names::{Keys, Names};
+use crate::picks::{prompt_of, resource_of, station_name};
 use base_types::{NoMemory, Text, Ws};
-use record_faults::{prompt_of, resource_of, station_name};
 use record_rows::Row;
 use std::alloc::Global;
 use std::marker::Model;
@@ -38,7 +38,7 @@ impl<'a> Model for Numbers<'a> {
 
 /// The workstations that rows define.
 fn stations<'a>(alloc: Global, rows: &'a [Row]) -> Result<Names<'a>, NoMemory>
-    requires { AreNew bytes_eq known.station_name rows.now }
+    requires { AreNew bytes_eq (filter_map known.station_name rows.now) }
     ensures { IfOk result (λ names. names ≡ filter_map known.station_name rows.now) }
 {
     let mut names = Names::new(alloc);
@@ -52,7 +52,7 @@ fn stations<'a>(alloc: Global, rows: &'a [Row]) -> Result<Names<'a>, NoMemory>
 
 /// The resources that rows define.
 fn resources<'a>(alloc: Global, rows: &'a [Row]) -> Result<Keys<'a>, NoMemory>
-    requires { AreNew known.key_eq known.resource_of rows.now }
+    requires { AreNew known.key_eq (filter_map known.resource_of rows.now) }
     ensures { IfOk result (λ keys. keys ≡ filter_map known.resource_of rows.now) }
 {
     let mut keys = Keys::new(alloc);
@@ -66,7 +66,7 @@ fn resources<'a>(alloc: Global, rows: &'a [Row]) -> Result<Keys<'a>, NoMemory>
 
 /// The prompts that rows define.
 fn prompts<'a>(alloc: Global, rows: &'a [Row]) -> Result<Names<'a>, NoMemory>
-    requires { AreNew bytes_eq known.prompt_of rows.now }
+    requires { AreNew bytes_eq (filter_map known.prompt_of rows.now) }
     ensures { IfOk result (λ names. names ≡ filter_map known.prompt_of rows.now) }
 {
     let mut names = Names::new(alloc);

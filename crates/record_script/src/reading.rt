@@ -3,6 +3,7 @@ ghost use Rattle.std.specs.Prelude.{◌≡◌, ◌≤◌, ◌<◌, ◌^◌, ℕ,
 ghost use Rattle.std.specs.List.{position};
 ghost use Rattle.record_faults.specs.declared.kinds.ScriptKind as kinds;
 ghost use Rattle.record_script.specs.declared.reading.ScriptFault.TheVariants.{At, NoMemory as NoRoom};
+ghost use Rattle.record_script.specs.Counted.{AreNumbers};
 ghost use Rattle.record_script.specs.Scripts as spec;
 
 use crate::nets::net;
@@ -41,16 +42,22 @@ fn is_definitions(row: &Row) -> bool
     }
 }
 
+/// The place of `$DEFINITIONS`, from 0.
+fn definitions_place(rows: &[Row]) -> Option<usize>
+    ensures { result ≡ position spec.is_definitions rows.now }
+{
+    rows.iter().position(|row| is_definitions(row))
+}
+
 /// The line of `$DEFINITIONS`.
 fn definitions_line(rows: &[Row]) -> Option<usize>
+    requires { length rows.now < 2 ^ 32 }
     ensures { result ≡ spec.definitions_line rows.now }
 {
-    for (i, row) in rows.iter().enumerate() {
-        if is_definitions(row) {
-            return Some(i + 1);
-        }
+    match definitions_place(rows) {
+        Some(place) => Some(place + 1),
+        None => None,
     }
-    None
 }
 
 /// The first fault of a record, by that of its rows and by the line of its definitions.
@@ -72,6 +79,7 @@ fn with_definitions(
 
 /// The first fault of a record, by its rows as they stand.
 fn fault(alloc: Global, rows: &[Row]) -> Result<Option<(usize, ScriptKind)>, NoMemory>
+    requires { length rows.now < 2 ^ 32 }
     ensures { IfOk result (λ o. o ≡ spec.fault_of rows.now) }
 {
     let first = record_fault(alloc, rows)?;
@@ -80,7 +88,8 @@ fn fault(alloc: Global, rows: &[Row]) -> Result<Option<(usize, ScriptKind)>, NoM
 
 /// What rows without faults mean.
 fn script(alloc: Global, rows: &[Row]) -> Result<Script, NoMemory>
-    requires { length rows.now < 2 ^ 32 }
+    requires few { length rows.now < 2 ^ 32 }
+    requires numbers { AreNumbers rows.now }
     ensures { IfOk result (λ s. s ≡ spec.script_of rows.now) }
 {
     let numbers = Numbers::of_rows(alloc, rows)?;
@@ -100,8 +109,8 @@ pub fn read_script(alloc: Global, text: &str) -> Result<Script, ScriptFault>
 {
     let mut rows = read_rows(alloc, text)?;
     place_rows(&mut rows);
-    if let Some((line, kind)) = fault(alloc, rows.as_slice())? {
-        return Err(ScriptFault::At(line as u32, kind));
+    match fault(alloc, rows.as_slice())? {
+        Some((line, kind)) => Err(ScriptFault::At(line as u32, kind)),
+        None => Ok(script(alloc, rows.as_slice())?),
     }
-    Ok(script(alloc, rows.as_slice())?)
 }

@@ -3,7 +3,7 @@ ghost use Rattle.std.specs.Prelude.{◌≡◌};
 ghost use Rattle.record_faults.specs.Known as known;
 ghost use Rattle.record_script.specs.Plans as spec;
 
-use record_faults::{begins_stream, is_object, is_plan, is_steps};
+use crate::picks::{begins_stream, ends_section, is_object};
 use record_rows::Row;
 
 /// The rows before the next job or stream.
@@ -28,12 +28,6 @@ pub(crate) fn until_stream<'a>(rows: &'a [Row]) -> &'a [Row]
         }
     }
     rows
-}
-
-fn ends_section(row: &Row) -> bool
-    ensures { result ≡ spec.ends_section row.now }
-{
-    is_plan(row) || is_steps(row)
 }
 
 /// The rows before the next section.

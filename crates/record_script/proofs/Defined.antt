@@ -95,13 +95,14 @@ new_prompts rows new =
 
 found_by : {A : Type 0} (p : A → Bool) (xs : List A) → list_any p xs ≡ true → (a : A) × (find p xs ≡ Some a) × (p a ≡ true)
 found_by p [] e = absurd (cc)
-found_by {A = A} p (x ∷ xs) e = go (p x) refl
+found_by {A = A} p (x ∷ xs) e = go (p x) refl (found_by p xs)
   where
-    go : (b : Bool) → p x ≡ b → (a : A) × (find p (x ∷ xs) ≡ Some a) × (p a ≡ true)
-    go true is = (x, ap (λ b. cond b (Some x) (find p xs)) is, is)
-    go false is =
+    go : (b : Bool) → p x ≡ b → (list_any p xs ≡ true → (a : A) × (find p xs ≡ Some a) × (p a ≡ true))
+        → (a : A) × (find p (x ∷ xs) ≡ Some a) × (p a ≡ true)
+    go true is each = (x, ap (λ b. cond b (Some x) (find p xs)) is, is)
+    go false is each =
         let rest : list_any p xs ≡ true = sym (ap (λ b. b || list_any p xs) is) ∙ e in
-        let more = found_by p xs rest in
+        let more = each rest in
         (more.0, ap (λ b. cond b (Some x) (find p xs)) is ∙ more.1, more.2)
 
 pub not_lacking : (b : Bool) → not b ≡ false → b ≡ true

@@ -82,7 +82,7 @@ few_lines text = go (eqb (length text) 0) refl
     go false is = pieces (eqb (slice_index text (length text - 1)) 10) is refl
 
 pub few_rows : (text : List ℕ) → length (rows_of text) ≤ length text
-few_rows text = let e = length-map row_of (lines_of text) in let few = few_lines text in omega (arith, e, few)
+few_rows text = let e = length-map (lines_of text) row_of in let few = few_lines text in omega (arith, e, few)
 
 pub placed_length : (p : Place) (rows : List Row) → length (placed_from p rows) ≡ length rows
 unfolding placed_from
@@ -90,6 +90,9 @@ placed_length p [] = refl
 placed_length p (r ∷ rows) = ap suc (placed_length (below_row p (row_at p r)) rows)
 
 -- a fault stands on one of the lines
+some_line : (a l : ℕ) (j k : ScriptKind) → ◌≡◌ {A = Option (ℕ × ScriptKind)} (Some (a, j)) (Some (l, k)) → a ≡ l
+some_line a l j k e = ap (λ (o : Option (ℕ × ScriptKind)). option_map_or (λ (p : ℕ × ScriptKind). p.0) o a) e
+
 line_from : (n : Named) (above rows : List Row) (l : ℕ) (k : ScriptKind) → fault_from n above rows ≡ Some (l, k)
     → l ≤ length above + length rows
 line_from n above [] l k e = absurd (cc)
@@ -101,12 +104,12 @@ line_from n above (r ∷ rows) l k e =
         → (fault_from n (above ++ r ∷ []) rows ≡ Some (l, k) → l ≤ length (above ++ r ∷ []) + length rows)
         → l ≤ length above + length (r ∷ rows)
     go None h more = let long = length-append above (r ∷ []) in let low = more h in omega (arith, long, low)
-    go (Some j) h more = let is : 1 + length above ≡ l = cc in omega (arith, is)
+    go (Some j) h more = let is = some_line (1 + length above) l j k h in omega (arith, is)
 
 line_of_first : (n : Named) (rows : List Row) (l : ℕ) (k : ScriptKind) → first_fault n rows ≡ Some (l, k)
     → (l ≡ 1) ⊎ (l ≤ length rows)
 unfolding first_fault
-line_of_first n [] l k e = let is : 1 ≡ l = cc in inl (sym is)
+line_of_first n [] l k e = inl (sym (some_line 1 l kind.BadLine k e))
 line_of_first n (r ∷ rows) l k e = let low = line_from n [] (r ∷ rows) l k e in inr (omega (arith, low))
 
 place_within : {X : Type 0} (p : X → Bool) (xs : List X) (i : ℕ) → position p xs ≡ Some i → i < length xs
@@ -145,7 +148,7 @@ line_of_fault rows l k e = go (definitions_line rows) refl (first_fault (named_i
     go (Some d) a None b =
         let is : Some (d, kind.NotBuilt) ≡ Some (l, k) =
         sym (ap (λ o. with_definitions o (first_fault (named_in rows) rows)) a ∙ ap (with_definitions (Some d)) b) ∙ e in
-        let same : d ≡ l = cc in
+        let same = some_line d l kind.NotBuilt k is in
         inr (subst (λ x. x ≤ length rows) same (definitions_within rows d a))
     go (Some d) a (Some f) b = on (nat_le f.0 d) refl
       where
@@ -159,5 +162,5 @@ line_of_fault rows l k e = go (definitions_line rows) refl (first_fault (named_i
             let found : Some (d, kind.NotBuilt) ≡ Some (l, k) =
             sym (ap (λ o. with_definitions o (first_fault (named_in rows) rows)) a ∙ ap (with_definitions (Some d)) b
             ∙ ap (λ c. if c then Some f else Some (d, kind.NotBuilt)) is) ∙ e in
-            let same : d ≡ l = cc in
+            let same = some_line d l kind.NotBuilt k found in
             inr (subst (λ x. x ≤ length rows) same (definitions_within rows d a))

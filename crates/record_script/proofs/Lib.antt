@@ -10,3 +10,7 @@ pub mod Trees
 pub mod Accepted
 pub mod Defined
 pub mod Totals
+pub mod Stepping
+pub mod Whole
+pub mod Taking
+pub mod Holding

@@ -67,7 +67,7 @@ line_fits text rows l k is low e = go (line_of_fault rows l k e)
 
 pub read_err_at : (text : List ℕ) (rows : List Row) (l : ℕ) (k : ScriptKind) (n : ℕ) (j : ScriptKind)
     → rows ≡ placed text → fault_of rows ≡ Some (l, k)
-    → Err {A = Script} (At l k) ≡ Err (At n j) → read_of text ≡ Err (n, j)
+    → ◌≡◌ {A = Result Script ScriptFault} (Err (At l k)) (Err (At n j)) → read_of text ≡ Err (n, j)
 read_err_at text rows l k n j is e h =
     let line : l ≡ n = cc in
     let kind_ : k ≡ j = cc in

@@ -37,7 +37,24 @@ stands_back : (p : Place) (r : Row) → fate_of p r ≡ fate.Stands → early (b
     → (early p ≡ true) × (station_name r ≡ None)
 unfolding fate_of may_stand below_row
 stands_back place.Nothing row.Network is e = (refl, refl)
-stands_back p r is e = absurd (cc)
+stands_back place.Nothing r is e = absurd (cc)
+stands_back place.Nothing r is e = absurd (cc)
+stands_back place.Header (row.Master m) is e = absurd (let wrong : false ≡ true = e in cc)
+stands_back place.Header r is e = absurd (cc)
+stands_back place.Definitions row.Network is e = absurd (cc)
+stands_back place.Definitions r is e = absurd (let wrong : false ≡ true = e in cc)
+stands_back place.Network row.Network is e = absurd (cc)
+stands_back place.Network r is e = absurd (let wrong : false ≡ true = e in cc)
+stands_back place.Plan row.Network is e = absurd (cc)
+stands_back place.Plan r is e = absurd (let wrong : false ≡ true = e in cc)
+stands_back place.Stream row.Network is e = absurd (cc)
+stands_back place.Stream r is e = absurd (let wrong : false ≡ true = e in cc)
+stands_back (place.Job last) row.Network is e = absurd (cc)
+stands_back (place.Job last) r is e = absurd (let wrong : false ≡ true = e in cc)
+stands_back place.Steps row.Network is e = absurd (cc)
+stands_back place.Steps r is e = absurd (let wrong : false ≡ true = e in cc)
+stands_back place.DaySteps row.Network is e = absurd (cc)
+stands_back place.DaySteps r is e = absurd (let wrong : false ≡ true = e in cc)
 
 stands_on : (p : Place) (r : Row) → lean p ≡ true → fate_of p r ≡ fate.Stands
     → ((lean (below_row p r) ≡ true) × (station_name r ≡ None)) ⊎ ((m : List ℕ) × (r ≡ row.Master m))
@@ -53,6 +70,8 @@ stands_early : (p : Place) (r : Row) → early p ≡ true → fate_of p r ≡ fa
     → is_definitions r ≡ false → (early (below_row p r) ≡ true) × (is_steps r ≡ false)
 unfolding fate_of may_stand below_row
 stands_early place.Nothing row.Network l is none d = (refl, refl)
+stands_early place.Header (row.Master m) l is none d =
+    absurd (let wrong : Some m ≡ None = none in cc)
 stands_early p r l is none d = absurd (cc)
 
 -- Rows as they are where they stand.

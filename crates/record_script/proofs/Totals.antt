@@ -1,6 +1,6 @@
 -- No resource of a text has a total above 1,024 that counts as within its range.
 use Rattle.std.proofs.Common.{◌≡◌, ◌<◌, ◌≤◌, ℕ, Bool, true, false, ◌||◌, List, [], ◌∷◌, Option, Some, None, refl, ap, sym, ◌∙◌, arith, option_map, unwrap_or, option_and_then, if◌then◌else◌, length}
-use Rattle.std.specs.Prelude.{map, nat_le, nat_lt}
+use Rattle.std.specs.Prelude.{map, nat_le, nat_lt, codes}
 use Rattle.std.specs.List.{list_any}
 use Rattle.std.specs.Option.{option_map_or}
 use Rattle.std.specs.Str.Parse.{digits_value}
@@ -12,7 +12,7 @@ use Rattle.record_rows.specs.declared.rows.Row.{Row}
 use Rattle.record_rows.specs.declared.rows.Row.TheVariants as row
 use Rattle.record_rows.specs.declared.rows.Ranged.{Ranged}
 use Rattle.record_rows.specs.declared.rows.Ranged.TheVariants.{Within, OutOfRange}
-use Rattle.record_rows.specs.Words.{up_to}
+use Rattle.record_rows.specs.Words.{up_to, ◌is◌}
 use Rattle.record_rows.specs.Rows as rows
 use Rattle.record_rows.specs.Rows.{header_of, station_of, resource_of, prompt_of, network_row, plan_row, form_below, form_of, row_of, rows_of, is_skipped, ◌else_◌}
 use Rattle.record_rows.specs.Plans.{stream_of, job_of, part_of, dep_of}
@@ -46,9 +46,16 @@ then_small f each None = refl
 then_small f each (Some a) = each a
 
 header_small : (text : List ℕ) → great (header_of text) ≡ false
-header_small text =
-    if_small _ (Some row.Network) _ refl (if_small _ (Some row.Definitions) _ refl (if_small _ (Some row.Plan) _ refl
-    (if_small _ (Some row.Steps) None refl refl)))
+header_small text = go (text is codes "$NETWORK") (text is codes "$DEFINITIONS") (text is codes "$PLAN") (text is codes "$STEPS")
+  where
+    go : (a b c d : Bool)
+        → great (if a then Some row.Network else if b then Some row.Definitions else if c then Some row.Plan else if d then Some row.Steps else None)
+        ≡ false
+    go true b c d = refl
+    go false true c d = refl
+    go false false true d = refl
+    go false false false true = refl
+    go false false false false = refl
 
 station_small : (words : List (List ℕ)) → great (station_of words) ≡ false
 unfolding station_of
@@ -64,8 +71,8 @@ total_small word w n = go (is_number word)
   where
     inside : (b : Bool) → nat_le (digits_value 10 word) 1024 ≡ b
         → is_great (row.Resource w n (if b then Within (digits_value 10 word) else OutOfRange)) ≡ false
-    inside true is = let low : nat_lt 1024 (digits_value 10 word) ≡ false = grind (arith, nat_tests) in low
-    inside false is = refl
+    inside true h = let low : nat_lt 1024 (digits_value 10 word) ≡ false = grind (arith, nat_tests) in low
+    inside false h = refl
     go : (b : Bool) → great (option_and_then (λ t. Some (row.Resource w n t)) (if b then Some (if nat_le (digits_value 10 word) 1024 then Within (digits_value 10 word) else OutOfRange) else None)) ≡ false
     go true = inside (nat_le (digits_value 10 word) 1024) refl
     go false = refl
@@ -86,16 +93,29 @@ prompt_small rest = then_small _ (λ n. mapped_small (row.Prompt n) (λ t. refl)
 network_small : (word rest : List ℕ) → great (network_row word rest) ≡ false
 unfolding network_row
 network_small word rest =
-    if_small _ (station_of (words_of rest)) _ (station_small (words_of rest))
-    (if_small _ (resource_of (words_of rest)) _ (resource_small (words_of rest))
-    (if_small _ (prompt_of rest) _ (prompt_small rest)
-    (if_small _ (option_map row.CarryForward (rows.carry_of rest)) None (mapped_small row.CarryForward (λ c. refl) (rows.carry_of rest)) refl)))
+    if_small (word is codes "ws") (station_of (words_of rest))
+    (if word is codes "res" then resource_of (words_of rest) else
+    if word is codes "prompt" then prompt_of rest else
+    if word is codes "carryforward" then option_map row.CarryForward (rows.carry_of rest) else None)
+    (station_small (words_of rest))
+    (if_small (word is codes "res") (resource_of (words_of rest))
+    (if word is codes "prompt" then prompt_of rest else
+    if word is codes "carryforward" then option_map row.CarryForward (rows.carry_of rest) else None)
+    (resource_small (words_of rest))
+    (if_small (word is codes "prompt") (prompt_of rest)
+    (if word is codes "carryforward" then option_map row.CarryForward (rows.carry_of rest) else None)
+    (prompt_small rest)
+    (if_small (word is codes "carryforward") (option_map row.CarryForward (rows.carry_of rest)) None
+    (mapped_small row.CarryForward (λ c. refl) (rows.carry_of rest)) refl)))
 
 plan_small : (word rest : List ℕ) → great (plan_row word rest) ≡ false
 unfolding plan_row
 plan_small word rest =
-    if_small _ (option_map row.Stream (stream_of (words_of rest))) _ (mapped_small row.Stream (λ s. refl) (stream_of (words_of rest)))
-    (if_small _ (option_map row.Job (job_of (words_of rest))) None (mapped_small row.Job (λ j. refl) (job_of (words_of rest))) refl)
+    if_small (word is codes "stream") (option_map row.Stream (stream_of (words_of rest)))
+    (if word is codes "job" then option_map row.Job (job_of (words_of rest)) else None)
+    (mapped_small row.Stream (λ s. refl) (stream_of (words_of rest)))
+    (if_small (word is codes "job") (option_map row.Job (job_of (words_of rest))) None
+    (mapped_small row.Job (λ j. refl) (job_of (words_of rest))) refl)
 
 below_small : (text : List ℕ) → great (form_below text) ≡ false
 unfolding form_below

@@ -78,20 +78,23 @@ found_at : (all : List Station) (name : List ℕ) (st : Station)
     → (position_or_len (bytes_eq name) (map station_title all) < length all)
     × (slice_get all (position_or_len (bytes_eq name) (map station_title all)) ≡ Some st)
 found_at [] name st e = absurd (cc)
-found_at (s ∷ all) name st e = go (bytes_eq s.name name) refl
+found_at (s ∷ all) name st e = go (bytes_eq s.name name) refl (found_at all name st)
   where
     go : (b : Bool) → bytes_eq s.name name ≡ b
+        → (find (λ (t : Station). bytes_eq t.name name) all ≡ Some st
+        → (position_or_len (bytes_eq name) (map station_title all) < length all)
+        × (slice_get all (position_or_len (bytes_eq name) (map station_title all)) ≡ Some st))
         → (position_or_len (bytes_eq name) (station_title s ∷ map station_title all) < length (s ∷ all))
         × (slice_get (s ∷ all) (position_or_len (bytes_eq name) (station_title s ∷ map station_title all)) ≡ Some st)
-    go true is =
+    go true is each =
         let same : Some s ≡ Some st = sym (ap (λ b. cond b (Some s) (find (λ (t : Station). bytes_eq t.name name) all)) is) ∙ e in
         let at_ : position_or_len (bytes_eq name) (station_title s ∷ map station_title all) ≡ 0 =
         ap (λ b. cond (not b) (1 + position_or_len (bytes_eq name) (map station_title all)) 0) (bytes_sym s.name name true is) in
         (omega (arith, at_), ap (slice_get (s ∷ all)) at_ ∙ same)
-    go false is =
+    go false is each =
         let less : find (λ (t : Station). bytes_eq t.name name) all ≡ Some st =
         sym (ap (λ b. cond b (Some s) (find (λ (t : Station). bytes_eq t.name name) all)) is) ∙ e in
-        let more = found_at all name st less in
+        let more = each less in
         let at_ : position_or_len (bytes_eq name) (station_title s ∷ map station_title all) ≡ suc (position_or_len (bytes_eq name) (map station_title all)) =
         ap (λ b. cond (not b) (1 + position_or_len (bytes_eq name) (map station_title all)) 0) (bytes_sym s.name name false is)
         ∙ omega arith in
@@ -124,7 +127,7 @@ length-map_title [] = refl
 length-map_title (s ∷ all) = ap suc (length-map_title all)
 
 -- the number of a name whose workstation is found
-found_no : (rows : List Row) (name : List ℕ) (st : Station) → station_at (stations rows) name ≡ Some st
+pub found_no : (rows : List Row) (name : List ℕ) (st : Station) → station_at (stations rows) name ≡ Some st
     → (ws_no (numbered rows) name < length (stations rows))
     × (slice_get (stations rows) (ws_no (numbered rows) name) ≡ Some st)
 found_no rows name st e =
@@ -161,7 +164,7 @@ station_each (row.Master n) = refl
 station_each (row.Station s) = refl
 station_each r = refl
 
-node_each : (n : Numbered) (r : Row) → length (cons_option (station_name r) []) ≡ length (cons_option (node_of n r) [])
+pub node_each : (n : Numbered) (r : Row) → length (cons_option (station_name r) []) ≡ length (cons_option (node_of n r) [])
 node_each n (row.Master m) = refl
 node_each n (row.Station s) = refl
 node_each n r = refl
@@ -245,12 +248,12 @@ module _ (raw : List Row) (f : Faultless raw) where
   abbrev no : List ℕ → ℕ
   no name = ws_no (numbered rows) name
 
-  count_is : node_count net ≡ length (filter_map station_name rows)
+  pub count_is : node_count net ≡ length (filter_map station_name rows)
   count_is =
       ap length (nodes_are rows)
       ∙ sym (same_length station_name (node_of (numbered rows)) (node_each (numbered rows)) rows)
 
-  stations_are : length (stations rows) ≡ node_count net
+  pub stations_are : length (stations rows) ≡ node_count net
   stations_are = sym (same_length station_name station_of station_each rows) ∙ sym count_is
 
   at_no : (w : ℕ) → w < node_count net → Both rows w
@@ -283,21 +286,24 @@ module _ (raw : List Row) (f : Faultless raw) where
 
   up_by : (n : ℕ) (name : List ℕ) → reaches (stations rows) n name ≡ true → (j : ℕ) × (up net j (no name) ≡ Some 0)
   up_by zero name e = absurd (cc)
-  up_by (suc n) name e = go (station_at (stations rows) name) refl
+  up_by (suc n) name e = go (station_at (stations rows) name) refl (up_by n)
     where
       on : (h : Option (List ℕ)) → option_map_or (reaches (stations rows) n) h true ≡ true
+          → ((v : List ℕ) → reaches (stations rows) n v ≡ true → (j : ℕ) × (up net j (no v) ≡ Some 0))
           → (b : Both rows (no name)) → b.station.hop ≡ h → (j : ℕ) × (up net j (no name) ≡ Some 0)
-      on None r b is = (0, ap Some (b.root is).0)
-      on (Some h) r b is =
-          let further = up_by n h r in
+      on None r each b is = (0, ap Some (b.root is).0)
+      on (Some h) r each b is =
+          let further = each h r in
           (suc further.0, ap (option_and_then (up net further.0)) (hop_at (no name) b ∙ ap (option_map no) is) ∙ further.1)
-      go : (o : Option Station) → station_at (stations rows) name ≡ o → (j : ℕ) × (up net j (no name) ≡ Some 0)
-      go None is = absurd (let none : reaches (stations rows) (suc n) name ≡ false = ap (λ q. option_map_or (λ (s : Station). option_map_or (reaches (stations rows) n) s.hop true) q false) is in cc)
-      go (Some st) is =
+      go : (o : Option Station) → station_at (stations rows) name ≡ o
+          → ((v : List ℕ) → reaches (stations rows) n v ≡ true → (j : ℕ) × (up net j (no v) ≡ Some 0))
+          → (j : ℕ) × (up net j (no name) ≡ Some 0)
+      go None is each = absurd (let none : reaches (stations rows) (suc n) name ≡ false = ap (λ q. option_map_or (λ (s : Station). option_map_or (reaches (stations rows) n) s.hop true) q false) is in cc)
+      go (Some st) is each =
           let there = named_both name st is in
           let b = at_no (no name) there.0 in
           on st.hop (sym (ap (λ q. option_map_or (λ (s : Station). option_map_or (reaches (stations rows) n) s.hop true) q false) is) ∙ e)
-          b (ap (λ (s : Station). s.hop) (there.1 b))
+          each b (ap (λ (s : Station). s.hop) (there.1 b))
 
   to_master : (w : ℕ) → w < node_count net → (j : ℕ) × (up net j w ≡ Some 0)
   to_master w low = go (at_no w low).station.hop refl

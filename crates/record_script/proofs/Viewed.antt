@@ -16,7 +16,7 @@ pub position_viewed : {A B : Type 0} (p : A → Bool) (view : B → A) (ks : Lis
     → position (λ (k : B). p (view k)) ks ≡ position p (map view ks)
 position_viewed p view ks =
     ap (λ n. found n (length ks)) (place_viewed p view ks)
-    ∙ ap (found (position_or_len p (map view ks))) (sym (length-map view ks))
+    ∙ ap (found (position_or_len p (map view ks))) (sym (length-map ks view))
 
 -- one more key
 pub add_viewed : {A B : Type 0} (eq : A → A → Bool) (view : B → A) (m : B) (ks new : List B)

@@ -4,6 +4,9 @@ use Rattle.record_rows.specs.declared.rows.Row.{Row}
 use Rattle.record_faults.specs.declared.places.Place.TheVariants as place
 use Rattle.record_faults.specs.Places.{placed_from}
 use Rattle.record_script.specs.Scripts.{fault_of, placed, read_of, script_of}
+use Rattle.std.specs.Prelude.{count_by, length}
+use Rattle.std.specs.List.{list_all}
+use Rattle.record_script.proofs.Holding.{accepted_at, inside_at, enough_at}
 use Rattle.record_script.proofs.Readings.{few_placed, line_fits, numbers_of, read_err_at, read_ok_of, numbers_at}
 use Rattle.record_script.proofs.reading.read_script.Goals as goal
 
@@ -14,31 +17,53 @@ fault-requires c =
 
 pub overflow_cast-result : goal.overflow_cast-result
 overflow_cast-result c =
-    line_fits c.args.text.now c.as_slice.result.now c.in-Some.line c.in-Some.kind
+    let low = line_fits c.args.text.now c.as_slice.result.now c.in-Some.line c.in-Some.kind
     (c.as_slice.ensures ∙ (c.place_rows.ensures ∙ ap (placed_from place.Nothing) c.in_ok-rows.ensures)) c.requires
-    (sym c.in_ok-match.ensures ∙ c.in-Some.is)
+    (sym c.in_ok-line.ensures ∙ c.in-Some.is) in
+    omega (arith, low)
 
 pub returns-in-Some-clause-at : goal.returns-in-Some-clause-at
 returns-in-Some-clause-at c =
     λ n k e. read_err_at c.args.text.now c.as_slice.result.now c.in-Some.line c.in-Some.kind n k
     (c.as_slice.ensures ∙ (c.place_rows.ensures ∙ ap (placed_from place.Nothing) c.in_ok-rows.ensures))
-    (sym c.in_ok-match.ensures ∙ c.in-Some.is) e
+    (sym c.in_ok-line.ensures ∙ c.in-Some.is) e
 
 pub script-requires-clause-few : goal.script-requires-clause-few
 script-requires-clause-few c =
-    few_placed c.args.text.now c.as_slice-2.result.now
-    (c.as_slice-2.ensures ∙ (c.place_rows.ensures ∙ ap (placed_from place.Nothing) c.in_ok-rows.ensures)) c.requires
+    few_placed c.args.text.now c.as_slice-in-None.result.now
+    (c.as_slice-in-None.ensures ∙ (c.place_rows.ensures ∙ ap (placed_from place.Nothing) c.in_ok-rows.ensures)) c.requires
 
 pub script-requires-clause-numbers : goal.script-requires-clause-numbers
 script-requires-clause-numbers c =
-    numbers_at c.args.text.now c.as_slice.result.now c.as_slice-2.result.now
+    numbers_at c.args.text.now c.as_slice.result.now c.as_slice-in-None.result.now
     (c.as_slice.ensures ∙ (c.place_rows.ensures ∙ ap (placed_from place.Nothing) c.in_ok-rows.ensures))
-    (c.as_slice-2.ensures ∙ (c.place_rows.ensures ∙ ap (placed_from place.Nothing) c.in_ok-rows.ensures))
-    (sym c.in_ok-match.ensures ∙ c.in-None.is)
+    (c.as_slice-in-None.ensures ∙ (c.place_rows.ensures ∙ ap (placed_from place.Nothing) c.in_ok-rows.ensures))
+    (sym c.in_ok-line.ensures ∙ c.in-None.is)
 
-pub returns-in-None-clause-script : goal.returns-in-None-clause-script
-returns-in-None-clause-script c =
-    read_ok_of c.args.text.now c.as_slice.result.now c.as_slice-2.result.now
+pub returns-clause-script : goal.returns-clause-script
+returns-clause-script c =
+    read_ok_of c.args.text.now c.as_slice.result.now c.as_slice-in-None.result.now
     (c.as_slice.ensures ∙ (c.place_rows.ensures ∙ ap (placed_from place.Nothing) c.in_ok-rows.ensures))
-    (c.as_slice-2.ensures ∙ (c.place_rows.ensures ∙ ap (placed_from place.Nothing) c.in_ok-rows.ensures))
-    (sym c.in_ok-match.ensures ∙ c.in-None.is) c.in_ok-script.ensures
+    (c.as_slice-in-None.ensures ∙ (c.place_rows.ensures ∙ ap (placed_from place.Nothing) c.in_ok-rows.ensures))
+    (sym c.in_ok-line.ensures ∙ c.in-None.is) c.in_ok-script-in-None.ensures
+
+pub returns-clause-accepted : goal.returns-clause-accepted
+returns-clause-accepted c =
+    accepted_at c.args.text.now c.as_slice.result.now c.as_slice-in-None.result.now
+    (c.as_slice.ensures ∙ (c.place_rows.ensures ∙ ap (placed_from place.Nothing) c.in_ok-rows.ensures))
+    (c.as_slice-in-None.ensures ∙ (c.place_rows.ensures ∙ ap (placed_from place.Nothing) c.in_ok-rows.ensures))
+    (sym c.in_ok-line.ensures ∙ c.in-None.is) c.in_ok-script-in-None.ensures
+
+pub returns-clause-inside : goal.returns-clause-inside
+returns-clause-inside c =
+    inside_at c.args.text.now c.as_slice.result.now c.as_slice-in-None.result.now
+    (c.as_slice.ensures ∙ (c.place_rows.ensures ∙ ap (placed_from place.Nothing) c.in_ok-rows.ensures))
+    (c.as_slice-in-None.ensures ∙ (c.place_rows.ensures ∙ ap (placed_from place.Nothing) c.in_ok-rows.ensures))
+    (sym c.in_ok-line.ensures ∙ c.in-None.is) c.in_ok-script-in-None.ensures
+
+pub returns-clause-plans : goal.returns-clause-plans
+returns-clause-plans c =
+    enough_at c.args.text.now c.as_slice.result.now c.as_slice-in-None.result.now
+    (c.as_slice.ensures ∙ (c.place_rows.ensures ∙ ap (placed_from place.Nothing) c.in_ok-rows.ensures))
+    (c.as_slice-in-None.ensures ∙ (c.place_rows.ensures ∙ ap (placed_from place.Nothing) c.in_ok-rows.ensures))
+    (sym c.in_ok-line.ensures ∙ c.in-None.is) c.in_ok-script-in-None.ensures

@@ -1,14 +1,15 @@
 -- What holds of each record that is read, as the call has it.
-use Rattle.std.proofs.Common.{◌≡◌, ◌≤◌, ℕ, List, None, ap, sym, subst, ◌∙◌, length, true}
+use Rattle.std.proofs.Common.{◌≡◌, ◌≤◌, ℕ, List, None, ap, sym, subst, ◌∙◌, length, true, false}
 use Rattle.std.specs.Prelude.{IsTrue, count_by}
-use Rattle.std.specs.List.{list_all}
+use Rattle.std.specs.List.{list_all, list_any}
 use Rattle.network_tree.specs.Faults.{net_fault}
 use Rattle.record_rows.specs.declared.rows.Row.{Row}
 use Rattle.record_script.specs.declared.scripts.Script.{Script}
-use Rattle.record_script.specs.Inside.{is_inside, takes_plan}
+use Rattle.record_script.specs.Inside.{is_inside, takes_day, takes_plan}
 use Rattle.record_script.specs.Scripts.{fault_of, placed, script_of}
 use Rattle.record_script.proofs.Whole.{accepted_of, inside_of}
 use Rattle.record_script.proofs.Taking.{enough}
+use Rattle.record_script.proofs.Days.{no_day}
 
 the_script : (text : List ℕ) (same : List Row) (s : Script) → same ≡ placed text → s ≡ script_of same
     → script_of (placed text) ≡ s
@@ -30,3 +31,9 @@ pub enough_at : (text : List ℕ) (rows same : List Row) {s : Script} → rows �
 enough_at text rows same {s} is also e found =
     subst (λ (x : Script). count_by takes_plan x.steps ≤ length x.plans) (the_script text same s also found)
     (enough text (ap fault_of (sym is) ∙ e))
+
+pub no_day_at : (text : List ℕ) (rows same : List Row) {s : Script} → rows ≡ placed text → same ≡ placed text
+    → fault_of rows ≡ None → s ≡ script_of same → list_any takes_day s.steps ≡ false
+no_day_at text rows same {s} is also e found =
+    subst (λ (x : Script). list_any takes_day x.steps ≡ false) (the_script text same s also found)
+    (no_day text (ap fault_of (sym is) ∙ e))

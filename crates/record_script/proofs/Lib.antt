@@ -13,4 +13,5 @@ pub mod Totals
 pub mod Stepping
 pub mod Whole
 pub mod Taking
+pub mod Days
 pub mod Holding

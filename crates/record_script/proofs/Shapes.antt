@@ -38,7 +38,6 @@ stands_back : (p : Place) (r : Row) → fate_of p r ≡ fate.Stands → early (b
 unfolding fate_of may_stand below_row
 stands_back place.Nothing row.Network is e = (refl, refl)
 stands_back place.Nothing r is e = absurd (cc)
-stands_back place.Nothing r is e = absurd (cc)
 stands_back place.Header (row.Master m) is e = absurd (let wrong : false ≡ true = e in cc)
 stands_back place.Header r is e = absurd (cc)
 stands_back place.Definitions row.Network is e = absurd (cc)

@@ -48,7 +48,7 @@ absent p (x ∷ xs) h = go (p x) h (absent p xs)
     go true e more = absurd (omega (arith, e))
     go false e more = more (omega (arith, e))
 
-no_definitions : (rows : List Row) → definitions_line rows ≡ None → list_any is_definitions rows ≡ false
+pub no_definitions : (rows : List Row) → definitions_line rows ≡ None → list_any is_definitions rows ≡ false
 no_definitions rows e = go (nat_lt (position_or_len is_definitions rows) (length rows)) refl
   where
     go : (b : Bool) → nat_lt (position_or_len is_definitions rows) (length rows) ≡ b → list_any is_definitions rows ≡ false

@@ -6,7 +6,7 @@ use Rattle.record_faults.specs.Places.{placed_from}
 use Rattle.record_script.specs.Scripts.{fault_of, placed, read_of, script_of}
 use Rattle.std.specs.Prelude.{count_by, length}
 use Rattle.std.specs.List.{list_all}
-use Rattle.record_script.proofs.Holding.{accepted_at, inside_at, enough_at}
+use Rattle.record_script.proofs.Holding.{accepted_at, inside_at, enough_at, no_day_at}
 use Rattle.record_script.proofs.Readings.{few_placed, line_fits, numbers_of, read_err_at, read_ok_of, numbers_at}
 use Rattle.record_script.proofs.reading.read_script.Goals as goal
 
@@ -64,6 +64,13 @@ returns-clause-inside c =
 pub returns-clause-plans : goal.returns-clause-plans
 returns-clause-plans c =
     enough_at c.args.text.now c.as_slice.result.now c.as_slice-in-None.result.now
+    (c.as_slice.ensures ∙ (c.place_rows.ensures ∙ ap (placed_from place.Nothing) c.in_ok-rows.ensures))
+    (c.as_slice-in-None.ensures ∙ (c.place_rows.ensures ∙ ap (placed_from place.Nothing) c.in_ok-rows.ensures))
+    (sym c.in_ok-line.ensures ∙ c.in-None.is) c.in_ok-script-in-None.ensures
+
+pub returns-clause-days : goal.returns-clause-days
+returns-clause-days c =
+    no_day_at c.args.text.now c.as_slice.result.now c.as_slice-in-None.result.now
     (c.as_slice.ensures ∙ (c.place_rows.ensures ∙ ap (placed_from place.Nothing) c.in_ok-rows.ensures))
     (c.as_slice-in-None.ensures ∙ (c.place_rows.ensures ∙ ap (placed_from place.Nothing) c.in_ok-rows.ensures))
     (sym c.in_ok-line.ensures ∙ c.in-None.is) c.in_ok-script-in-None.ensures

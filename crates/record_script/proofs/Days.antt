@@ -1,6 +1,6 @@
 -- A record without definitions takes no plan of a day.
-use Rattle.std.proofs.Common.{◌≡◌, ℕ, ◌+◌, Bool, true, false, ◌||◌, List, [], ◌∷◌, Option, Some, None, refl, ap, sym, ◌∙◌}
-use Rattle.std.specs.List.{list_any, enumerate_from}
+use Rattle.std.proofs.Common.{◌≡◌, ℕ, ◌+◌, Bool, true, false, ◌||◌, List, [], ◌∷◌, None, refl, ap, ◌∙◌}
+use Rattle.std.specs.List.{list_any}
 use Rattle.record_rows.specs.declared.rows.Row.{Row}
 use Rattle.record_rows.specs.declared.rows.Row.TheVariants as row
 use Rattle.record_rows.specs.declared.rows.StepRow.{StepRow}
@@ -19,7 +19,6 @@ use Rattle.record_script.specs.Steps.{own_step, cut_step, step_form, steps_from,
 use Rattle.record_script.specs.Inside.{takes_day}
 use Rattle.record_script.specs.Scripts.{is_definitions, fault_of, placed}
 use Rattle.record_script.specs.declared.scripts.StepForm.TheVariants as form
-use Rattle.record_script.specs.declared.scripts.ScriptStep.{ScriptStep}
 use Rattle.record_script.proofs.Readings.{no_fault}
 use Rattle.record_script.proofs.Whole.{no_definitions}
 

@@ -1,25 +1,23 @@
 -- The workstations, resources and prompts of the network of a record without faults stand once each.
-use Rattle.std.proofs.Common.{◌≡◌, ◌⊎◌, ◌<◌, ◌≤◌, ◌+◌, ℕ, zero, suc, Bool, true, false, ◌&&◌, ◌||◌, not, List, [], ◌∷◌, ◌++◌, Option, Some, None}
+use Rattle.std.proofs.Common.{◌≡◌, ◌<◌, ◌≤◌, ℕ, Bool, true, false, ◌&&◌, ◌||◌, not, List, [], ◌∷◌, ◌++◌, Option, Some, None}
 use Rattle.std.proofs.Common.{length, refl, ap, sym, subst, ◌∙◌, inl, inr, arith, bytes_eq, eqb, slice_get, cond}
 use Rattle.std.specs.Prelude.{filter_map, find, nat_le, nat_lt}
 use Rattle.std.specs.List.{cons_option, list_any}
-use Rattle.std.specs.Option.{option_map_or}
 use Rattle.std.proofs.lemmas.List.Elements.{filter_map-append}
 use Rattle.std.proofs.lemmas.List.Folds.{list_any-append}
 use Rattle.std.proofs.lemmas.Bool.Decides.{eqb_tells, nat_tests}
 use Rattle.std.proofs.lemmas.Slice.Eq.{bytes_eq-Decides}
-use Rattle.model.specs.Types.{Net, Node, PromptDef, Resource}
-use Rattle.model.specs.Network.{node_count}
-use Rattle.network_tree.specs.Faults.{are_one_prompt, are_one_resource, have_one_name, is_bad_resource}
+use Rattle.model.specs.Types.{Node, PromptDef, Resource}
+use Rattle.network_tree.specs.Faults.{are_one_prompt, are_one_resource, have_one_name}
 use Rattle.record_rows.specs.declared.rows.Row.{Row}
 use Rattle.record_rows.specs.declared.rows.Row.TheVariants as row
-use Rattle.record_faults.specs.Known.{Station, station_at, station_name, resource_of, prompt_of, stations, is_station, key_eq}
+use Rattle.record_faults.specs.Known.{Station, station_name, resource_of, prompt_of, stations, is_station, key_eq}
 use Rattle.record_faults.specs.Faults.{lacks_station}
-use Rattle.record_script.specs.Counted.{AreNew, AreNumbers}
+use Rattle.record_script.specs.Counted.{AreNew}
 use Rattle.record_script.specs.Numbers.{Numbered, numbered, ws_no, within}
 use Rattle.record_script.specs.Networks.{node_of, resource_def, prompt_def}
-use Rattle.record_script.proofs.Picked.{Around, around, few_picked, same_length}
-use Rattle.record_script.proofs.Trees.{found_no, bytes_sym, node_each}
+use Rattle.record_script.proofs.Picked.{Around, around, same_length}
+use Rattle.record_script.proofs.Trees.{found_no, node_each}
 
 -- of rows that are picked in two ways, each once: what is new in one way is new in the other
 pub new_too : {A B : Type 0} (eq : A → A → Bool) (same : B → B → Bool) (f : Row → Option A) (g : Row → Option B)
@@ -65,8 +63,8 @@ pub new_nodes : (n : Numbered) (rows : List Row) → AreNew bytes_eq (filter_map
 new_nodes n rows new =
     new_too bytes_eq have_one_name station_name (node_of n) rows (node_each n) new
     (λ above below here a b whole is picked free.
-      nodes_named n b.name above
-      ∙ subst (λ x. list_any (bytes_eq x) (filter_map station_name above) ≡ false) (node_name n here a b is picked) free)
+    nodes_named n b.name above
+    ∙ subst (λ x. list_any (bytes_eq x) (filter_map station_name above) ≡ false) (node_name n here a b is picked) free)
 
 prompts_named : (x : List ℕ) (rows : List Row)
     → list_any (λ (a : PromptDef). bytes_eq x a.name) (filter_map prompt_def rows)
@@ -88,8 +86,8 @@ pub new_prompts : (rows : List Row) → AreNew bytes_eq (filter_map prompt_of ro
 new_prompts rows new =
     new_too bytes_eq are_one_prompt prompt_of prompt_def rows prompt_each new
     (λ above below here a b whole is picked free.
-      prompts_named b.name above
-      ∙ subst (λ x. list_any (bytes_eq x) (filter_map prompt_of above) ≡ false) (prompt_name here a b is picked) free)
+    prompts_named b.name above
+    ∙ subst (λ x. list_any (bytes_eq x) (filter_map prompt_of above) ≡ false) (prompt_name here a b is picked) free)
 
 -- Resources, by the numbers of their workstations, which are known.
 

@@ -1,6 +1,6 @@
 -- What holds of each record that is read, as the call has it.
 use Rattle.std.proofs.Common.{◌≡◌, ◌≤◌, ℕ, List, None, ap, sym, subst, ◌∙◌, length, true, false}
-use Rattle.std.specs.Prelude.{IsTrue, count_by}
+use Rattle.std.specs.Prelude.{count_by}
 use Rattle.std.specs.List.{list_all, list_any}
 use Rattle.network_tree.specs.Faults.{net_fault}
 use Rattle.record_rows.specs.declared.rows.Row.{Row}

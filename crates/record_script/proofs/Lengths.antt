@@ -1,7 +1,7 @@
 -- How many rows a text has, and on which lines faults stand.
-use Rattle.std.proofs.Common.{◌≡◌, ◌⊎◌, ◌<◌, ◌≤◌, ◌+◌, ◌-◌, ℕ, zero, suc, Bool, true, false, List, [], ◌∷◌, ◌++◌, Option, Some, None, length}
+use Rattle.std.proofs.Common.{◌≡◌, ◌⊎◌, ◌<◌, ◌≤◌, ◌+◌, ◌-◌, ℕ, suc, Bool, true, false, List, [], ◌∷◌, ◌++◌, Option, Some, None, length}
 use Rattle.std.proofs.Common.{refl, ap, sym, subst, ◌∙◌, inl, inr, arith, cond, eqb, take, option_map, if◌then◌else◌, length-append}
-use Rattle.std.specs.Prelude.{map, nat_le, nat_lt, count_by, slice_index}
+use Rattle.std.specs.Prelude.{nat_le, nat_lt, count_by, slice_index}
 use Rattle.std.specs.List.{position, position_or_len, slice_split}
 use Rattle.std.specs.Option.{option_map_or}
 use Rattle.std.proofs.lemmas.List.{length-map, length-take-le}
@@ -12,12 +12,11 @@ use Rattle.syntax.specs.Splits.{lines_of, without_last_feed}
 use Rattle.record_rows.specs.declared.rows.Row.{Row}
 use Rattle.record_rows.specs.Rows.{row_of, rows_of}
 use Rattle.record_faults.specs.declared.places.Place.{Place}
-use Rattle.record_faults.specs.declared.places.Place.TheVariants as place
 use Rattle.record_faults.specs.declared.kinds.ScriptKind.{ScriptKind}
 use Rattle.record_faults.specs.declared.kinds.ScriptKind.TheVariants as kind
 use Rattle.record_faults.specs.Places.{placed_from, row_at, below_row}
 use Rattle.record_faults.specs.Known.{Named, named_in}
-use Rattle.record_faults.specs.Faults.{Placed, fault_of, fault_from, first_fault}
+use Rattle.record_faults.specs.Faults.{fault_of, fault_from, first_fault}
 use Rattle.record_script.specs.Scripts as spec
 use Rattle.record_script.proofs.Picked.{last_split}
 use Rattle.record_script.specs.Scripts.{is_definitions, definitions_line, with_definitions, placed}
@@ -28,6 +27,7 @@ count_most p (x ∷ xs) = go (p x) (count_most p xs)
   where
     one : count_by p (x ∷ xs) ≡ count_by p (x ∷ []) + count_by p xs
     one = sum_by-append (λ y. cond (p y) 1 0) (x ∷ []) xs
+
     go : (b : Bool) → count_by p xs ≤ length xs → count_by p (x ∷ xs) ≤ length (x ∷ xs)
     go b h = let e = one in let few : count_by p (x ∷ []) ≤ 1 = at_most (p x) in omega (arith, e, few, h)
       where
@@ -76,6 +76,7 @@ few_lines text = go (eqb (length text) 0) refl
         let all = length-slice_split (λ c. eqb c 10) text in
         let few = fewer text some last in
         omega (arith, all, few)
+
     go : (b : Bool) → eqb (length text) 0 ≡ b
         → length (if b then [] else slice_split (λ c. eqb c 10) (without_last_feed text)) ≤ length text
     go true is = omega arith

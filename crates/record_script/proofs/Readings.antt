@@ -32,6 +32,7 @@ no_fault rows e = go (definitions_line rows) refl (first_fault (named_in rows) r
       where
         is : (if nat_le f.0 d then Some f else Some (d, kind.NotBuilt)) ≡ None
         is = sym (ap (λ o. with_definitions o (first_fault (named_in rows) rows)) a ∙ ap (with_definitions (Some d)) b) ∙ e
+
         on : (c : Bool) → nat_le f.0 d ≡ c → (definitions_line rows ≡ None) × (first_fault (named_in rows) rows ≡ None)
         on true h = absurd (let some : Some f ≡ None = sym (ap (λ c. if c then Some f else Some (d, kind.NotBuilt)) h) ∙ is in cc)
         on false h = absurd (let some : Some (d, kind.NotBuilt) ≡ None = sym (ap (λ c. if c then Some f else Some (d, kind.NotBuilt)) h) ∙ is in cc)

@@ -132,9 +132,10 @@ master_from : (p : Place) (raw above below : List Row) (m : List ℕ)
     → placed_from p raw ≡ above ++ row.Master m ∷ below → (early p ≡ true) × (filter_map station_name above ≡ [])
 unfolding placed_from
 master_from p [] above below m e = absurd (no_middle above below (row.Master m) e)
-master_from p (r ∷ raw) [] below m e =
-    (row_master p r m (fate_of p r) refl (heads (row_at p r) (row.Master m) (placed_from (below_row p (row_at p r)) raw) below e),
-    refl)
+master_from p (r ∷ raw) [] below m e = (
+  row_master p r m (fate_of p r) refl (heads (row_at p r) (row.Master m) (placed_from (below_row p (row_at p r)) raw) below e),
+  refl,
+)
 master_from p (r ∷ raw) (y ∷ above) below m e =
     let here : row_at p r ≡ y = heads (row_at p r) y (placed_from (below_row p (row_at p r)) raw) (above ++ row.Master m ∷ below) e in
     let rest = tails (row_at p r) y (placed_from (below_row p (row_at p r)) raw) (above ++ row.Master m ∷ below) e in

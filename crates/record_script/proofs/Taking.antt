@@ -1,8 +1,7 @@
 -- The steps of a record without faults take no more plans than there are.
-use Rattle.std.proofs.Common.{◌≡◌, ◌<◌, ◌≤◌, ◌+◌, ℕ, Bool, true, false, ◌&&◌, List, [], ◌∷◌, ◌++◌, Option, Some, None, length, refl, ap, sym, subst, ◌∙◌, arith, cond}
-use Rattle.std.specs.Prelude.{filter_map, count_by, map, nat_le}
-use Rattle.std.specs.List.{cons_option, enumerate_from}
-use Rattle.std.specs.Option.{option_map_or}
+use Rattle.std.proofs.Common.{◌≡◌, ◌<◌, ◌≤◌, ◌+◌, ℕ, Bool, true, false, ◌&&◌, List, [], ◌∷◌, Option, Some, None, length, refl, ap, sym, ◌∙◌, arith, cond}
+use Rattle.std.specs.Prelude.{count_by, nat_le}
+use Rattle.std.specs.List.{cons_option}
 use Rattle.std.proofs.lemmas.List.{length-map}
 use Rattle.std.proofs.lemmas.List.Sums.{sum_by-append}
 use Rattle.std.proofs.lemmas.Bool.Decides.{nat_tests}
@@ -15,12 +14,11 @@ use Rattle.record_rows.specs.declared.rows.OwnRow.{OwnRow}
 use Rattle.record_rows.specs.declared.rows.OwnRow.TheVariants as own
 use Rattle.record_script.specs.declared.scripts.StepForm.TheVariants as form
 use Rattle.record_faults.specs.Known.{above_of, is_next, is_plan, named_in}
-use Rattle.record_faults.specs.Faults.{first_fault, has_no_plan}
+use Rattle.record_faults.specs.Faults.{first_fault}
 use Rattle.record_script.specs.Numbers.{Numbered, numbered, ws_no}
 use Rattle.record_script.specs.Plans.{each, section_in, plans_of}
-use Rattle.record_script.specs.Steps.{own_step, cut_step, step_form, step_at, steps_from, steps_of}
+use Rattle.record_script.specs.Steps.{own_step, cut_step, step_form, steps_from, steps_of}
 use Rattle.record_script.specs.Inside.{takes_plan}
-use Rattle.record_script.specs.declared.scripts.ScriptStep.{ScriptStep}
 use Rattle.record_script.specs.Scripts.{fault_of, placed}
 use Rattle.record_script.proofs.Picked.{Around, few_picked, picked_count}
 use Rattle.record_script.proofs.Walked.{each_passes}

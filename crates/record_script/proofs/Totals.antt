@@ -1,5 +1,5 @@
 -- No resource of a text has a total above 1,024 that counts as within its range.
-use Rattle.std.proofs.Common.{◌≡◌, ◌<◌, ◌≤◌, ℕ, Bool, true, false, ◌||◌, List, [], ◌∷◌, Option, Some, None, refl, ap, sym, ◌∙◌, arith, option_map, unwrap_or, option_and_then, if◌then◌else◌, length}
+use Rattle.std.proofs.Common.{◌≡◌, ℕ, Bool, true, false, ◌||◌, List, [], ◌∷◌, Option, Some, None, refl, ap, ◌∙◌, arith, option_map, unwrap_or, option_and_then, if◌then◌else◌}
 use Rattle.std.specs.Prelude.{map, nat_le, nat_lt, codes}
 use Rattle.std.specs.List.{list_any}
 use Rattle.std.specs.Option.{option_map_or}
@@ -10,7 +10,6 @@ use Rattle.syntax.specs.Numbers.{is_number}
 use Rattle.syntax.specs.Splits.{lines_of, words_of, first_word, after_word}
 use Rattle.record_rows.specs.declared.rows.Row.{Row}
 use Rattle.record_rows.specs.declared.rows.Row.TheVariants as row
-use Rattle.record_rows.specs.declared.rows.Ranged.{Ranged}
 use Rattle.record_rows.specs.declared.rows.Ranged.TheVariants.{Within, OutOfRange}
 use Rattle.record_rows.specs.Words.{up_to, ◌is◌}
 use Rattle.record_rows.specs.Rows as rows
@@ -22,7 +21,6 @@ use Rattle.record_faults.specs.declared.places.Place.TheVariants as place
 use Rattle.record_faults.specs.declared.places.Fate.{Fate}
 use Rattle.record_faults.specs.declared.places.Fate.TheVariants as fate
 use Rattle.record_faults.specs.Places.{fate_of, settled, placed_from, row_at, below_row}
-use Rattle.record_script.specs.Numbers.{within}
 use Rattle.record_script.proofs.Defined.{is_great}
 
 -- of a row that may be there
@@ -73,6 +71,7 @@ total_small word w n = go (is_number word)
         → is_great (row.Resource w n (if b then Within (digits_value 10 word) else OutOfRange)) ≡ false
     inside true h = let low : nat_lt 1024 (digits_value 10 word) ≡ false = grind (arith, nat_tests) in low
     inside false h = refl
+
     go : (b : Bool) → great (option_and_then (λ t. Some (row.Resource w n t)) (if b then Some (if nat_le (digits_value 10 word) 1024 then Within (digits_value 10 word) else OutOfRange) else None)) ≡ false
     go true = inside (nat_le (digits_value 10 word) 1024) refl
     go false = refl

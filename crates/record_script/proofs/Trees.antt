@@ -1,16 +1,15 @@
 -- The network of a record without faults is accepted: a tree, whose names stand once each, within its ranges.
-use Rattle.std.proofs.Common.{◌≡◌, ◌≢◌, ◌⊎◌, ◌<◌, ◌≤◌, ◌+◌, ℕ, zero, suc, Bool, true, false, ◌&&◌, ◌||◌, not, List, [], ◌∷◌, ◌++◌, Option, Some, None}
-use Rattle.std.proofs.Common.{length, refl, ap, sym, subst, ◌∙◌, inl, inr, arith, bytes_eq, option_map, option_and_then, slice_get, unwrap_or, take, cond, length-append}
+use Rattle.std.proofs.Common.{◌≡◌, ◌<◌, ◌+◌, ℕ, zero, suc, Bool, true, false, ◌&&◌, not, List, [], ◌∷◌, ◌++◌, Option, Some, None}
+use Rattle.std.proofs.Common.{length, refl, ap, sym, subst, ◌∙◌, arith, bytes_eq, option_map, option_and_then, slice_get, unwrap_or, cond}
 use Rattle.std.specs.Prelude.{filter_map, find, map, nat_lt}
-use Rattle.std.specs.List.{cons_option, list_any, position, position_or_len}
+use Rattle.std.specs.List.{cons_option, position_or_len}
 use Rattle.std.specs.Option.{option_map_or}
 use Rattle.std.proofs.lemmas.List.Elements.{filter_map-append}
 use Rattle.std.proofs.lemmas.Slice.Eq.{bytes_eq-Decides}
 use Rattle.std.proofs.lemmas.Bool.Decides.{nat_tests}
 use Rattle.std.proofs.lemmas.Option.{slice_get_within}
 use Rattle.model.specs.Types.{Net, Node}
-use Rattle.model.specs.Network.{IsTree, chain, hop, is_manager, node_count}
-use Rattle.model.specs.Words.{last_or}
+use Rattle.model.specs.Network.{IsTree, hop, is_manager, node_count}
 use Rattle.network_tree.proofs.Climbs.{up}
 use Rattle.record_rows.specs.declared.rows.Row.{Row}
 use Rattle.record_rows.specs.declared.rows.StationRow.{StationRow}
@@ -22,7 +21,7 @@ use Rattle.record_faults.specs.Known as known
 use Rattle.record_faults.specs.Faults.{first_fault, is_bad_tree}
 use Rattle.record_script.specs.Numbers.{Numbered, numbered, ws_no, place_of}
 use Rattle.record_script.specs.Networks.{node_of, net_with, net_of}
-use Rattle.record_script.proofs.Picked.{Around, around, same_length}
+use Rattle.record_script.proofs.Picked.{around, same_length}
 use Rattle.record_script.proofs.Chains.{short, ends_there}
 use Rattle.record_script.proofs.Shapes.{above_master, first_is_master}
 use Rattle.record_script.proofs.Walked.{Passes, each_passes}
@@ -221,9 +220,11 @@ both_by raw above below (row.Station s) a w whole at_ is p =
       manages = refl;
       root = λ e. absurd (cc);
       tree = λ h e.
-          let same : s.hop ≡ h = cc in
-          (below_master raw above below s w whole at_, subst (λ x. known.is_manager (stations rows) x ≡ true) same good.0,
-          subst (λ x. ends_at_master (stations rows) x ≡ true) same good.1);
+          let same : s.hop ≡ h = cc in (
+            below_master raw above below s w whole at_,
+            subst (λ x. known.is_manager (stations rows) x ≡ true) same good.0,
+            subst (λ x. ends_at_master (stations rows) x ≡ true) same good.1,
+          );
     }
 both_by raw above below r a w whole at_ is p = absurd (cc)
 
@@ -266,9 +267,10 @@ module _ (raw : List Row) (f : Faultless raw) where
   named_both : (name : List ℕ) (st : Station) → station_at (stations rows) name ≡ Some st
       → (no name < node_count net) × ((b : Both rows (no name)) → b.station ≡ st)
   named_both name st e =
-      let at_ = found_no rows name st e in
-      (subst (λ n. no name < n) stations_are at_.0,
-      λ b. same_some (slice_get (stations rows) (no name)) b.station st b.in_stations at_.1)
+      let at_ = found_no rows name st e in (
+        subst (λ n. no name < n) stations_are at_.0,
+        λ b. same_some (slice_get (stations rows) (no name)) b.station st b.in_stations at_.1,
+      )
 
   manager_in : (name : List ℕ) → known.is_manager (stations rows) name ≡ true
       → (no name < node_count net) × (is_manager net (no name) ≡ true)
@@ -280,9 +282,11 @@ module _ (raw : List Row) (f : Faultless raw) where
       go (Some st) is =
           let manages : st.manager ≡ true = sym (ap (λ q. option_map_or (λ (s : Station). s.manager) q false) is) ∙ e in
           let there = named_both name st is in
-          let b = at_no (no name) there.0 in
-          (there.0, ap (λ q. option_map_or (λ (n : Node). n.manager) q false) b.in_nodes ∙ b.manages
-          ∙ ap (λ (s : Station). s.manager) (there.1 b) ∙ manages)
+          let b = at_no (no name) there.0 in (
+            there.0,
+            ap (λ q. option_map_or (λ (n : Node). n.manager) q false) b.in_nodes ∙ b.manages
+                ∙ ap (λ (s : Station). s.manager) (there.1 b) ∙ manages,
+          )
 
   up_by : (n : ℕ) (name : List ℕ) → reaches (stations rows) n name ≡ true → (j : ℕ) × (up net j (no name) ≡ Some 0)
   up_by zero name e = absurd (cc)
@@ -295,6 +299,7 @@ module _ (raw : List Row) (f : Faultless raw) where
       on (Some h) r each b is =
           let further = each h r in
           (suc further.0, ap (option_and_then (up net further.0)) (hop_at (no name) b ∙ ap (option_map no) is) ∙ further.1)
+
       go : (o : Option Station) → station_at (stations rows) name ≡ o
           → ((v : List ℕ) → reaches (stations rows) n v ≡ true → (j : ℕ) × (up net j (no v) ≡ Some 0))
           → (j : ℕ) × (up net j (no name) ≡ Some 0)
@@ -335,9 +340,10 @@ module _ (raw : List Row) (f : Faultless raw) where
   root_hop low = go (at_no 0 low).station.hop refl
     where
       go : (h : Option (List ℕ)) → (at_no 0 low).station.hop ≡ h → (hop net 0 ≡ None) × (is_manager net 0 ≡ true)
-      go None is =
-          (hop_at 0 (at_no 0 low) ∙ ap (option_map no) is,
-          ap (λ q. option_map_or (λ (n : Node). n.manager) q false) (at_no 0 low).in_nodes ∙ (at_no 0 low).manages ∙ ((at_no 0 low).root is).1)
+      go None is = (
+        hop_at 0 (at_no 0 low) ∙ ap (option_map no) is,
+        ap (λ q. option_map_or (λ (n : Node). n.manager) q false) (at_no 0 low).in_nodes ∙ (at_no 0 low).manages ∙ ((at_no 0 low).root is).1,
+      )
       go (Some h) is = absurd (omega (arith, ((at_no 0 low).tree h is).0))
 
   hop_manages : (w : ℕ) → 0 < w → w < node_count net → option_map_or (is_manager net) (hop net w) false ≡ true

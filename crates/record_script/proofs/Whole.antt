@@ -1,26 +1,24 @@
 -- What is known of each record that is read: its network is accepted, and its steps stay inside it.
-use Rattle.std.proofs.Common.{◌≡◌, ◌⊎◌, ◌<◌, ◌≤◌, ◌+◌, ℕ, suc, Bool, true, false, ◌&&◌, ◌||◌, not, List, [], ◌∷◌, ◌++◌, Option, Some, None, inl, inr}
-use Rattle.std.proofs.Common.{length, refl, ap, sym, subst, ◌∙◌, arith, cond, bytes_eq, option_map}
-use Rattle.std.specs.Prelude.{filter_map, nat_le, nat_lt}
-use Rattle.std.specs.List.{list_any, list_all, position, position_or_len}
+use Rattle.std.proofs.Common.{◌≡◌, ◌⊎◌, ◌<◌, ◌≤◌, ◌+◌, ℕ, suc, Bool, true, false, ◌||◌, not, List, [], ◌∷◌, ◌++◌, Some, None, inl, inr}
+use Rattle.std.proofs.Common.{length, refl, ap, sym, ◌∙◌, arith, cond, option_map}
+use Rattle.std.specs.Prelude.{filter_map, nat_lt}
+use Rattle.std.specs.List.{list_any, list_all, position_or_len}
 use Rattle.std.proofs.lemmas.Bool.Decides.{nat_tests}
-use Rattle.model.specs.Types.{Net, Resource}
 use Rattle.model.specs.Network.{node_count}
-use Rattle.network_tree.specs.Faults.{net_fault, have_one_name, are_one_resource, are_one_prompt, is_bad_resource}
+use Rattle.network_tree.specs.Faults.{net_fault}
 use Rattle.record_rows.specs.declared.rows.Row.{Row}
 use Rattle.record_rows.specs.Rows.{rows_of}
 use Rattle.record_faults.specs.declared.places.Place.TheVariants as place
 use Rattle.record_faults.specs.Places.{placed_from}
 use Rattle.record_faults.specs.Known.{station_name, stations, named_in, is_steps}
 use Rattle.record_faults.specs.Faults.{first_fault, lacks_station}
-use Rattle.record_script.specs.Counted.{AreNumbers}
 use Rattle.record_script.specs.Numbers.{numbered}
-use Rattle.record_script.specs.Networks.{node_of, resource_def, prompt_def, net_with, net_of}
+use Rattle.record_script.specs.Networks.{net_with, net_of}
 use Rattle.record_script.specs.Scripts.{is_definitions, definitions_line, fault_of, placed}
 use Rattle.record_script.specs.Steps.{steps_of}
 use Rattle.record_script.specs.Inside.{is_inside}
-use Rattle.record_script.proofs.Picked.{last_split, same_length}
-use Rattle.record_script.proofs.Walked.{Passes, each_passes, some_rows}
+use Rattle.record_script.proofs.Picked.{last_split}
+use Rattle.record_script.proofs.Walked.{each_passes, some_rows}
 use Rattle.record_script.proofs.Shapes.{no_steps}
 use Rattle.record_script.proofs.Distinct.{few_stations, numbers}
 use Rattle.record_script.proofs.Readings.{no_fault}

@@ -1,5 +1,5 @@
 -- What a step names and takes.
-use Rattle.std.specs.Prelude.{ℕ, ◌&&◌, Bool, true, false, List, [], ◌∷◌, nat_lt}
+use Rattle.std.specs.Prelude.{ℕ, Bool, true, false, List, [], ◌∷◌, nat_lt}
 use Rattle.std.specs.List.{list_all}
 use Rattle.model.specs.Types.{Net}
 use Rattle.model.specs.Network.{node_count}

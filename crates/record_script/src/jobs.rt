@@ -11,9 +11,7 @@ use crate::deps::draft_deps;
 use crate::numbers::Numbers;
 use crate::spans::until_object;
 use crate::values::{text_within, within};
-use base_types::{
-    Cond, Copied, Items, JobDraft, JobDrafts, NoMemory, Recovery, Text, Work,
-};
+use base_types::{Cond, Copied, Items, JobDraft, JobDrafts, NoMemory, Recovery, Text, Work};
 use rc_conditions::{CondFault, read_cond};
 use record_rows::{JobRow, PartRow, Row, StreamRow};
 use std::alloc::Global;

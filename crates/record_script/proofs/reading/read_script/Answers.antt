@@ -1,13 +1,8 @@
-use Rattle.std.proofs.Common.{◌≡◌, ◌<◌, ℕ, List, Some, None, ap, sym, ◌∙◌, arith}
-use Rattle.std.specs.Prelude.{Ok, Err}
-use Rattle.record_rows.specs.declared.rows.Row.{Row}
+use Rattle.std.proofs.Common.{ap, sym, ◌∙◌, arith}
 use Rattle.record_faults.specs.declared.places.Place.TheVariants as place
 use Rattle.record_faults.specs.Places.{placed_from}
-use Rattle.record_script.specs.Scripts.{fault_of, placed, read_of, script_of}
-use Rattle.std.specs.Prelude.{count_by, length}
-use Rattle.std.specs.List.{list_all}
 use Rattle.record_script.proofs.Holding.{accepted_at, inside_at, enough_at, no_day_at}
-use Rattle.record_script.proofs.Readings.{few_placed, line_fits, numbers_of, read_err_at, read_ok_of, numbers_at}
+use Rattle.record_script.proofs.Readings.{few_placed, line_fits, read_err_at, read_ok_of, numbers_at}
 use Rattle.record_script.proofs.reading.read_script.Goals as goal
 
 pub fault-requires : goal.fault-requires

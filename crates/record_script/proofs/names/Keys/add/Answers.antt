@@ -1,4 +1,4 @@
-use Rattle.std.proofs.Common.{List, ℕ, ap, ◌∙◌, ◌++◌, ◌∷◌, [], bytes_eq}
+use Rattle.std.proofs.Common.{List, ap, ◌∙◌, ◌++◌, ◌∷◌, []}
 use Rattle.std.specs.List.{list_any}
 use Rattle.record_faults.specs.Known.{Key, key_eq}
 use Rattle.record_faults.proofs.Kept.{any_viewed, pair}

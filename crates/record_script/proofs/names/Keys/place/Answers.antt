@@ -1,4 +1,4 @@
-use Rattle.std.proofs.Common.{◌≡◌, List, ℕ, Option, ap, sym, ◌∙◌, bytes_eq, unwrap_or}
+use Rattle.std.proofs.Common.{List, ℕ, Option, ap, sym, ◌∙◌, unwrap_or}
 use Rattle.std.specs.List.{position}
 use Rattle.record_faults.specs.Known.{Key, key_eq}
 use Rattle.record_faults.proofs.Kept.{pair}

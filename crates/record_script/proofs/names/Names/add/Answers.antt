@@ -1,6 +1,5 @@
 use Rattle.std.proofs.Common.{List, ℕ, ap, ◌∙◌, ◌++◌, ◌∷◌, [], bytes_eq}
 use Rattle.std.specs.List.{list_any}
-use Rattle.record_faults.specs.Known.{Key, key_eq}
 use Rattle.record_faults.proofs.Kept.{any_viewed, text}
 use Rattle.record_script.proofs.Viewed.{add_viewed}
 use Rattle.record_script.proofs.names.Names.add.Goals.{in-Ok, in-Err}

@@ -1,6 +1,5 @@
-use Rattle.std.proofs.Common.{◌≡◌, List, ℕ, Option, ap, sym, ◌∙◌, bytes_eq, unwrap_or}
+use Rattle.std.proofs.Common.{List, ℕ, Option, ap, sym, ◌∙◌, bytes_eq, unwrap_or}
 use Rattle.std.specs.List.{position}
-use Rattle.record_faults.specs.Known.{Key, key_eq}
 use Rattle.record_faults.proofs.Kept.{text}
 use Rattle.record_script.proofs.Viewed.{position_viewed}
 use Rattle.record_script.proofs.names.Names.place.Goals as goal

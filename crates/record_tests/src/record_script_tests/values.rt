@@ -9,7 +9,8 @@ use std::alloc::Global;
 use std::test::Fail;
 
 /// A record with each line of a network and of a plan. A `|` stands for a line feed.
-const NIGHT: &str = "$NETWORK|ws M|ws A P|ws P M manager on|res A R 3|prompt Q \"ready?\"|carryforward all|\
+const NIGHT: &str =
+    "$NETWORK|ws M|ws A P|ws P M manager on|res A R 3|prompt Q \"ready?\"|carryforward all|\
 $PLAN|stream M S prio 20 limit 2 carry|at 100|job A B prio 30|do \"run\"|logon \"batch\"|succ \"RC <= 4\"|\
 recovery rerun|until 200 cont|needs 2 R|ask Q|job M C|follows B|follows P#T.D|follows P#T|deadline 7|opens \"f\"|\
 stream P T|$PLAN|$STEPS|next|flow A M|reap A -1|crash P|crash M kept next|crash P lost deliver A P 4|\
@@ -48,7 +49,11 @@ fn are_its_resources_and_prompts(script: &Script) -> bool {
 fn a_network_is_read(rt: HostRuntime) -> Result<(), Fail> {
     let script = night(rt.alloc())?;
     assert!(rt; script.as_ref().map_or(false, |s| are_its_nodes(s)));
-    assert!(rt; script.as_ref().map_or(false, |s| are_its_resources_and_prompts(s)));
+    assert!(rt;
+        script
+            .as_ref()
+            .map_or(false, |s| are_its_resources_and_prompts(s))
+    );
     Ok(())
 }
 
@@ -62,25 +67,34 @@ fn is_first_job(job: &JobDraft) -> bool {
             DraftDep::Plain(Dep::Until(t, passed)),
             DraftDep::Plain(Dep::Needs(resource, units)),
             DraftDep::Plain(Dep::Prompt(PromptRef::Global(prompt))),
-        ] => t.0 == 200 && *passed == OnUntil::Cont && *resource == 1 && *units == 2 && *prompt == 1,
+        ] => t.0 == 200
+            && *passed == OnUntil::Cont
+            && *resource == 1
+            && *units == 2
+            && *prompt == 1,
         _ => false,
     };
     let parts = job.logon.as_str() == "batch" && job.cond.len() == 1;
-    work && deps && parts && job.ws == Ws(1) && job.priority == 30 && job.recovery == Recovery::Rerun
+    work && deps
+        && parts
+        && job.ws == Ws(1)
+        && job.priority == 30
+        && job.recovery == Recovery::Rerun
 }
 
 fn is_second_job(job: &JobDraft) -> bool {
     let follows = match job.deps.as_slice() {
         [
             DraftDep::Follows(a, own, Some(b)),
-            DraftDep::Follows(p, _, Some(d)),
+            DraftDep::Follows(p, other, Some(d)),
             DraftDep::Follows(q, t, None),
-            DraftDep::Plain(Dep::Deadline(_)),
-            DraftDep::Plain(Dep::Outside(_)),
+            DraftDep::Plain(Dep::Deadline(seven)),
+            DraftDep::Plain(Dep::Outside(file)),
         ] => {
             let first = *a == Ws(0) && own.as_str() == "S" && b.as_str() == "B";
             let others = *p == Ws(2) && d.as_str() == "D" && *q == Ws(2) && t.as_str() == "T";
-            first && others
+            let times = other.as_str() == "T" && seven.0 == 7 && file.as_str() == "f";
+            first && others && times
         }
         _ => false,
     };
@@ -91,7 +105,10 @@ fn is_its_stream(stream: &StreamDraft) -> bool {
     let [b, c] = stream.jobs.as_slice() else {
         return false;
     };
-    let own = stream.ws == Ws(0) && stream.priority == 20 && stream.limit == Some(2) && stream.carry;
+    let own = stream.ws == Ws(0)
+        && stream.priority == 20
+        && stream.limit == Some(2)
+        && stream.carry;
     own && stream.deps.len() == 1 && is_first_job(b) && is_second_job(c)
 }
 
@@ -119,9 +136,7 @@ fn is_own_step(step: &OneStep, i: usize) -> bool {
         OneStep::Typed(w, Line::Fence(of, p)) => {
             i == 6 && *w == Ws(1) && of.as_str() == "A" && *p == 9
         }
-        OneStep::Fulfil(w, Obj::Job(j), d) => {
-            i == 7 && *w == Ws(0) && *j == JobNo(2) && *d == 4
-        }
+        OneStep::Fulfil(w, Obj::Job(j), d) => { i == 7 && *w == Ws(0) && *j == JobNo(2) && *d == 4 }
         _ => false,
     }
 }
@@ -156,6 +171,11 @@ fn is_step(script: &Script, i: usize) -> bool {
 #[test]
 fn steps_are_read(rt: HostRuntime) -> Result<(), Fail> {
     let script = night(rt.alloc())?;
-    assert!(rt; script.as_ref().map_or(false, |s| s.steps.len() == 9 && (0..9).all(|i| is_step(s, i))));
+    assert!(rt;
+        script.as_ref().map_or(
+            false,
+            |s| s.steps.len() == 9 && (0..9).all(|i| is_step(s, i))
+        )
+    );
     Ok(())
 }

@@ -7,3 +7,5 @@
 mod record_faults_tests;
 #[cfg(test)]
 mod record_rows_tests;
+#[cfg(test)]
+mod record_script_tests;

@@ -1,0 +1,3 @@
+//! Whole records, and what is read of each.
+mod refusals;
+mod values;

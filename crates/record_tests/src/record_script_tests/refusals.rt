@@ -1,0 +1,94 @@
+//! Records beside the line and the kind with which they are refused. A `|` stands for a line feed.
+use record_script::{ScriptFault, ScriptKind, read_script};
+use std::alloc::Global;
+use std::test::Fail;
+
+/// The text with its line feeds.
+pub fn lined(alloc: Global, text: &str) -> Result<String, Fail> {
+    let mut lines = String::new(alloc);
+    for c in text.chars() {
+        lines.push(if c == '|' { '\n' } else { c })?;
+    }
+    Ok(lines)
+}
+
+/// With which line and kind the record is refused; None where it is read.
+fn refusal(alloc: Global, text: &str) -> Result<Option<(u32, ScriptKind)>, Fail> {
+    let lines = lined(alloc, text)?;
+    if lines.len() > 4096 {
+        return Ok(None);
+    }
+    match read_script(alloc, &lines) {
+        Ok(_) => Ok(None),
+        Err(ScriptFault::At(line, kind)) => Ok(Some((line, kind))),
+        Err(ScriptFault::NoMemory) => Ok(Some((0, ScriptKind::NotBuilt))),
+    }
+}
+
+/// The first of the records that is not refused as it stands beside it; 0 stands for one that is read.
+fn first_other<'a>(
+    alloc: Global,
+    table: &[(&'a str, u32, ScriptKind)],
+) -> Result<Option<&'a str>, Fail> {
+    for (text, line, kind) in table {
+        let is = match refusal(alloc, text)? {
+            Some((at, why)) => at == *line && why == *kind,
+            None => *line == 0,
+        };
+        if !is {
+            return Ok(Some(*text));
+        }
+    }
+    Ok(None)
+}
+
+const REFUSED: [(&str, u32, ScriptKind); 14] = [
+    ("", 1, ScriptKind::BadLine),
+    ("$NETWORK|ws M|", 2, ScriptKind::BadLine),
+    (
+        "$NETWORK|ws M|$PLAN|stream M S|job M A|do \"echo a\"|$STEPS|next|next|",
+        9,
+        ScriptKind::NoPlan,
+    ),
+    (
+        "$NETWORK|ws M|carryforward all|carryforward no|$STEPS|",
+        4,
+        ScriptKind::Duplicate,
+    ),
+    (
+        "$NETWORK|ws M|$STEPS|next 11/03/2003|",
+        4,
+        ScriptKind::BadLine,
+    ),
+    (
+        "$NETWORK|ws M|$PLAN|stream X S|$STEPS|",
+        4,
+        ScriptKind::UnknownName,
+    ),
+    (
+        "$NETWORK|ws M|res M R 1025|$STEPS|",
+        3,
+        ScriptKind::OutOfRange,
+    ),
+    (
+        "$NETWORK|ws M|ws P M|ws Q P|$STEPS|",
+        4,
+        ScriptKind::BadTree,
+    ),
+    ("$NETWORK|ws M|$STEPS|turn M 1|", 0, ScriptKind::BadLine),
+    (
+        "$DEFINITIONS|CPUNAME M|$STEPS|next 11/03/2003|",
+        1,
+        ScriptKind::NotBuilt,
+    ),
+    ("|# a|$DEFINITIONS|$STEPS|next|", 3, ScriptKind::NotBuilt),
+    ("x|$DEFINITIONS|$STEPS|", 1, ScriptKind::BadLine),
+    ("$DEFINITIONS", 1, ScriptKind::BadLine),
+    ("$DEFINITIONS|CPUNAME M", 1, ScriptKind::NotBuilt),
+];
+
+#[test]
+fn records_are_refused_at_their_lines(rt: HostRuntime) -> Result<(), Fail> {
+    assert_eq!(rt; first_other(rt.alloc(), &REFUSED)?, None);
+    Ok(())
+}

@@ -152,6 +152,9 @@ fn is_cut_step(ws: Ws, kept: bool, step: &OneStep, i: usize) -> bool {
 }
 
 fn is_step(script: &Script, i: usize) -> bool {
+    if i > 8 {
+        return false;
+    }
     let Some(step) = script.steps.get(i) else {
         return false;
     };

@@ -1,0 +1,7 @@
+use Rattle.network_world.proofs.Stopped.{station_new}
+use Rattle.network_world.proofs.stations.Station.new.Goals as goal
+
+pub returns : goal.returns
+returns c =
+    station_new c.args.net.now c.args.w c.in_ok-node.node c.in_ok-lanes.lanes c.count.result c.in_ok-node.ensures
+    c.in_ok-lanes.ensures c.count.ensures.value

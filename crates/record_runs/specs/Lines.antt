@@ -18,6 +18,8 @@ use Rattle.record_script.specs.declared.OneStep.TheVariants as one
 use Rattle.record_script.specs.declared.StepForm.{StepForm}
 use Rattle.record_script.specs.declared.StepForm.TheVariants as form
 use Rattle.record_runs.specs.Causes.{Cause, names_nothing}
+use Rattle.record_runs.specs.declared.acts.Act.{Act}
+use Rattle.record_runs.specs.declared.acts.Act.TheVariants.{Delivery, Own}
 
 -- the drafts of a day, counted from 01/01/1970 as 0, or why there are none
 abbrev pub Day : Type 0
@@ -29,35 +31,38 @@ abbrev pub order_at : Net → World → ℕ → Line → Option (ℕ × Cmd)
 order_at net x w line = result_ok (due_order (present_net net (view_at x w)) (view_at x w) w line)
 
 -- it is typed at w, unless it names what is not there
-abbrev pub typed : ℕ → Option (ℕ × Cmd) → Result WorldStep Cause
+abbrev pub typed : ℕ → Option (ℕ × Cmd) → Result Act Cause
 typed w None = Err names_nothing
-typed w (Some order) = Ok (Take w (Typed order.0 order.1))
+typed w (Some order) = Ok (Own w (Typed order.0 order.1))
 
 -- the first of the plans that are left; a record that was read has one for each `next`
 abbrev pub next_plan : List (List StreamDraft) → List StreamDraft
 next_plan left = unwrap_or (slice_get left 0) []
 
--- Which step of the world a step of a record is, or why there is none.
-unfoldable pub one_step : Day → Net → World → List (List StreamDraft) → OneStep → Result WorldStep Cause
-one_step day net x left one.Next = Ok (Take 0 (Next (next_plan left)))
-one_step day net x left (one.NextDay d) = result_map (λ drafts. Take 0 (Next drafts)) (day d)
-one_step day net x left (one.Turn w t) = Ok (Take w (Turn t))
-one_step day net x left (one.Link a b) = Ok (Take a (Linked b))
-one_step day net x left (one.Unlink a b) = Ok (Take a (Unlinked b))
-one_step day net x left (one.Deliver a b k) = Ok (Deliver a b k)
-one_step day net x left (one.Started w j) = Ok (Take w (Local.Started j))
-one_step day net x left (one.Failed w j) = Ok (Take w (StartFailed j))
-one_step day net x left (one.Ended w j rc) = Ok (Take w (Local.Ended j rc))
-one_step day net x left (one.Typed w line) = typed w (order_at net x w line)
-one_step day net x left (one.Fulfil w o i) = Ok (Take w (Fulfil o i))
+-- What a step of a record is that is one step of the world: what happens at a node by itself, or a delivery. Or why it is
+-- none.
+unfoldable pub act : Day → Net → World → List (List StreamDraft) → OneStep → Result Act Cause
+act day net x left one.Next = Ok (Own 0 (Next (next_plan left)))
+act day net x left (one.NextDay d) = result_map (λ drafts. Own 0 (Next drafts)) (day d)
+act day net x left (one.Turn w t) = Ok (Own w (Turn t))
+act day net x left (one.Link a b) = Ok (Own a (Linked b))
+act day net x left (one.Unlink a b) = Ok (Own a (Unlinked b))
+act day net x left (one.Deliver a b k) = Ok (Delivery a b k)
+act day net x left (one.Started w j) = Ok (Own w (Local.Started j))
+act day net x left (one.Failed w j) = Ok (Own w (StartFailed j))
+act day net x left (one.Ended w j rc) = Ok (Own w (Local.Ended j rc))
+act day net x left (one.Typed w line) = typed w (order_at net x w line)
+act day net x left (one.Fulfil w o i) = Ok (Own w (Fulfil o i))
 
--- the step in which its node stops, with the entry of the step kept or not; a stop is one already
-abbrev pub cut_short : Bool → WorldStep → WorldStep
-cut_short kept (Take w l) = CrashTake w l kept
-cut_short kept (Deliver a b k) = CrashDeliver a b k kept
-cut_short kept (Crash w) = Crash w
-cut_short kept (CrashTake w l k) = CrashTake w l k
-cut_short kept (CrashDeliver a b n k) = CrashDeliver a b n k
+-- it is taken whole
+abbrev pub whole : Act → WorldStep
+whole (Own w l) = Take w l
+whole (Delivery a b k) = Deliver a b k
+
+-- its node stops in it, with the entry of the step kept or not
+abbrev pub cut_short : Bool → Act → WorldStep
+cut_short kept (Own w l) = CrashTake w l kept
+cut_short kept (Delivery a b k) = CrashDeliver a b k kept
 
 -- the numbers of the packets from a to b behind the greatest that was delivered, up to that of the last that was sent
 abbrev pub undelivered : World → ℕ → ℕ → List ℕ
@@ -78,12 +83,12 @@ only s = s ∷ []
 
 -- The table: which steps of the world a line is, all of them fixed in the world that stands before it.
 unfoldable pub line_steps : Day → Net → World → List (List StreamDraft) → StepForm → Result (List WorldStep) Cause
-line_steps day net x left (form.One o) = result_map only (one_step day net x left o)
+line_steps day net x left (form.One o) = result_map (λ a. only (whole a)) (act day net x left o)
 line_steps day net x left (form.Flow a b) = Ok (map (λ k. Deliver a b k) (undelivered x a b))
 line_steps day net x left (form.Reap w rc) = Ok (map (λ j. Take w (Local.Ended j rc)) (live_jobs x w))
 line_steps day net x left (form.Crash w) = Ok (only (Crash w))
 line_steps day net x left (form.CrashIn w kept o) =
-    result_map (λ s. only (cut_short kept s)) (one_step day net x left o)
+    result_map (λ a. only (cut_short kept a)) (act day net x left o)
 line_steps day net x left (form.Recover w) = Ok (advised w (advice (view_at x w) w))
 
 -- it takes a plan

@@ -12,12 +12,21 @@ use Rattle.agent_core.specs.declared.StepFault.TheVariants as fault
 use Rattle.carry_forward.specs.declared.CarryFault.{CarryFault}
 use Rattle.carry_forward.specs.declared.CarryFault.TheVariants as carry
 use Rattle.record_script.specs.declared.ScriptStep.{ScriptStep}
-use Rattle.record_runs.specs.Causes.{Cause, told, told_refused}
+use Rattle.conman_orders.specs.declared.ResolveFault.{ResolveFault}
+use Rattle.conman_orders.specs.declared.ResolveFault.TheVariants as unresolved
+use Rattle.record_runs.specs.Causes.{Cause, names_nothing, told, told_refused}
 use Rattle.record_runs.specs.Lines.{Day}
 use Rattle.record_runs.specs.Runs.{End, done, run_lines, stopped}
+use Rattle.record_runs.specs.declared.acts.Act.{Act}
+use Rattle.record_runs.specs.declared.acts.Act.TheVariants.{Delivery, Own}
 use Rattle.record_runs.specs.declared.stops.Halt.{Halt}
 use Rattle.record_runs.specs.declared.stops.Halt.TheVariants as halt
 use Rattle.record_runs.specs.declared.stops.Stop.{Stop}
+
+-- the workstations at whose nodes it happens
+abbrev pub ws_in_act : Act → List ℕ
+ws_in_act (Own w l) = w ∷ []
+ws_in_act (Delivery a b k) = a ∷ b ∷ []
 
 -- the refusal of the definitions that an answer tells, none for want of memory
 abbrev pub meant_carry : CarryFault → Option model.CarryFault
@@ -80,3 +89,9 @@ abbrev pub StopsIn : WorldState → Day → Net → List (List StreamDraft) → 
 StopsIn old day net left lines at_ =
     (x : World) → StandsFor old x
     → (c : Cause) × (run_lines day net x left lines ≡ stopped at_.0 c) × (told c ≡ at_.1)
+
+-- what halts where a line gives no command
+abbrev pub halts_order : ResolveFault → Halt
+halts_order (unresolved.UnknownName n) = halt.At (told names_nothing)
+halts_order unresolved.NotACommand = halt.At (told names_nothing)
+halts_order unresolved.NoMemory = halt.NoMemory

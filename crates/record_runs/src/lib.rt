@@ -10,6 +10,7 @@
 //! the numbers of the jobs that live, and `flow` keeps nothing.
 #![tactic(auto)]
 
+mod acts;
 mod lines;
 mod orders;
 mod plans;

@@ -14,9 +14,10 @@ ghost use Rattle.record_runs.specs.Runs as runs;
 ghost use Rattle.record_runs.specs.Runs.{take_steps};
 ghost use Rattle.record_runs.specs.Taken.{HaltsFor, Leads};
 
+use crate::acts::{act, cut_short, whole};
 use crate::orders::advised;
 use crate::plans::PlansLeft;
-use crate::steps::{cut_short, one_step, take_step};
+use crate::steps::take_step;
 use crate::stops::Halt;
 use base_types::{JobNo, Live, Local, NoMemory, WorldStep, Ws};
 use network_world::World;
@@ -39,8 +40,8 @@ fn take_one(
         (runs.take_line day world.old.net plans.old (StepForm.One one.now))) }
     ensures left { OnOk result (plans.new ≡ left_after plans.old (StepForm.One one.now)) }
 {
-    let step = one_step(alloc, world, plans, one)?;
-    take_step(world, &step)
+    let act = act(alloc, world, plans, one)?;
+    take_step(world, &whole(act))
 }
 
 /// A workstation stops in a step.
@@ -60,8 +61,8 @@ fn stop_in(
         (runs.take_line day world.old.net plans.old (StepForm.CrashIn w kept one.now))) }
     ensures left { OnOk result (plans.new ≡ left_after plans.old (StepForm.CrashIn w kept one.now)) }
 {
-    let step = one_step(alloc, world, plans, one)?;
-    take_step(world, &cut_short(step, kept))
+    let act = act(alloc, world, plans, one)?;
+    take_step(world, &cut_short(act, kept))
 }
 
 /// The packets behind the greatest that was delivered are delivered, up to the last that was sent before.

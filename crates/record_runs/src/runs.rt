@@ -17,21 +17,12 @@ use record_script::{Script, ScriptStep};
 use std::alloc::Global;
 
 /// How the run of a record ends.
+#[derive(Drop)]
 pub enum RunEnd {
     /// All lines were taken, and made this world.
     Done(World),
     /// The line of this number, from 1, cannot be taken.
     Stopped(u32, Stop),
-}
-
-/// Written out, so that dropping one is a call for whoever owns it.
-impl Drop for RunEnd {
-    fn drop(self) {
-        match self {
-            RunEnd::Done(_world) => {}
-            RunEnd::Stopped(_line, _stop) => {}
-        }
-    }
 }
 
 /// The world of a network in which nothing has happened yet.

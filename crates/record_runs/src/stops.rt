@@ -76,7 +76,7 @@ fn at_limit(limit: LimitName) -> Halt
 
 /// What halts where there is no plan.
 fn carry_halt(fault: CarryFault) -> Halt
-    ensures { result ≡ halts_at (option_map (λ f. Refusals.Step (Faults.Carry f)) (meant_carry fault)) }
+    ensures { result ≡ halts_at (option_map Refusals.Step (option_map Faults.Carry (meant_carry fault))) }
 {
     match fault {
         CarryFault::RunsSpent => at_limit(LimitName::Places),

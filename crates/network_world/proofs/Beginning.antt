@@ -17,7 +17,7 @@ use Rattle.agent_core.specs.Nodes.{NodeState}
 use Rattle.network_world.specs.Stations.{Journal, Lane, Station, WorldState}
 use Rattle.network_world.specs.Standing.{IsReached, IsWorld, JournalStandsFor, StandsFor, StationStandsFor}
 use Rattle.network_world.specs.Lanes as spec
-use Rattle.network_world.specs.Moves.{AreNew, IsAgain, IsNew}
+use Rattle.network_world.specs.Moves.{AreNew, IsAgain, IsNew, IsRestorable}
 use Rattle.network_world.specs.declared.lanes.Lane as raw
 use Rattle.network_world.proofs.Lists.{some_map}
 
@@ -92,13 +92,19 @@ lanes_seen net made h = (
       sym g.2 ∙ h.1 b g.0 g.1,
 )
 
--- nothing restores a node of the network
+-- a node of the network is restored from nothing
+pub nothing_restores : (net : Net) (w : ℕ) (kept : List Entry) → kept ≡ [] → w < node_count net
+    → restore_fault net w kept ≡ None
+unfolding restore_fault first_wrong
+nothing_restores net w kept e inside =
+    subst (λ (l : List Entry). restore_fault net w l ≡ None) (sym e) (rw (lt-ltb w (node_count net) inside) refl)
+
 none_held : (net : Net) (w : ℕ) (kept : List Entry) → kept ≡ [] → w < node_count net
     → HasKept net empty_world w kept
-unfolding list_of restore_fault first_wrong
+unfolding list_of
 none_held net w kept e inside =
     subst (λ (l : List Entry). HasKept net empty_world w l) (sym e)
-    (record { holds_them = λ f. refl; is_restored = rw (lt-ltb w (node_count net) inside) refl })
+    (record { holds_them = λ f. refl; is_restored = nothing_restores net w [] refl inside })
 
 none_reached : (net : Net) → IsReached net empty_world
 unfolding run
@@ -161,3 +167,19 @@ again_of n m net me kept r same at_net at_me at_kept h =
     (subst (λ (l : List Entry). IfOk r (λ a. IsAgain n.net n.me l a)) at_kept
     (subst (λ (w : ℕ). IfOk r (λ a. IsAgain n.net w kept a)) at_me
     (subst (λ (t : Net). IfOk r (λ a. IsAgain t me kept a)) at_net h)))
+
+pub again_restores : (n m : NodeState) (net : Net) (me : ℕ) (kept : List Entry) → n ≡ m → net ≡ n.net → me ≡ n.me
+    → kept ≡ n.kept → restore_fault m.net m.me m.kept ≡ None → restore_fault net me kept ≡ None
+again_restores n m net me kept same at_net at_me at_kept h =
+    subst (λ (l : List Entry). restore_fault net me l ≡ None) (sym at_kept)
+    (subst (λ (w : ℕ). restore_fault net w n.kept ≡ None) (sym at_me)
+    (subst (λ (t : Net). restore_fault t n.me n.kept ≡ None) (sym at_net)
+    (subst (λ (k : NodeState). restore_fault k.net k.me k.kept ≡ None) (sym same) h)))
+
+-- in a world each node is restored from what it holds
+pub stations_restore : (s : WorldState) (w : ℕ) → IsWorld s → (t : Station) → slice_get s.stations w ≡ Some t
+    → IsRestorable t
+stations_restore s w is t e =
+    let node = (is.stands.stations_ w t e).node_ in
+    subst (λ (net : Net). restore_fault net t.node.me t.node.kept ≡ None) (sym node.net_)
+    (subst (λ (v : ℕ). restore_fault s.net v t.node.kept ≡ None) (sym node.me_) node.kept_.is_restored)

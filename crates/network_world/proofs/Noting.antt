@@ -68,18 +68,6 @@ start_room_next w outs i out spare less h is room put =
     omega (arith, room, put, starts_left w outs i out h is)
 
 -- what is counted of a list that is gone through
-pub sends_yes : (outs : List Out) (i count : ℕ) (out : Out) → i < length outs → out ≡ get_or outs i out
-    → is_send out ≡ true → count ≡ count_by is_send (take i outs)
-    → count + 1 ≡ count_by is_send (take (i + 1) outs)
-sends_yes outs i count out h is send before =
-    ap (λ (n : ℕ). n + 1) before
-    ∙ sym (count_by_more_yes is_send outs i out h (subst (λ (o : Out). is_send o ≡ true) is send))
-
-pub sends_no : (outs : List Out) (i count : ℕ) (out : Out) → i < length outs → out ≡ get_or outs i out
-    → is_send out ≡ false → count ≡ count_by is_send (take i outs) → count ≡ count_by is_send (take (i + 1) outs)
-sends_no outs i count out h is send before =
-    before ∙ sym (count_by_more_no is_send outs i out h (subst (λ (o : Out). is_send o ≡ false) is send))
-
 pub sends_end : (outs : List Out) (i count : ℕ) → length outs ≤ i → count ≡ count_by is_send (take i outs)
     → count ≡ count_by is_send outs
 sends_end outs i count h e = e ∙ ap (count_by is_send) (take_all i outs h)
@@ -197,11 +185,3 @@ mailed_noted w outs made old mid kept h weighed =
       sent_ = h.sent_;
       kept_ = weighed;
     }
-
-pub is_one_send : (out : Out) (to : ℕ) (p : Packet) → out ≡ Send to p → is_send out ≡ true
-is_one_send out to p e = ap is_send e
-
-pub is_no_send : (out : Out) → ((to : ℕ) (p : Packet) → out ≡ Send to p → ⊥) → is_send out ≡ false
-is_no_send (Launch j n work) h = refl
-is_no_send (Out.Kill j n) h = refl
-is_no_send (Send to p) h = absurd (h to p refl)

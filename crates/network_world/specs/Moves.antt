@@ -3,6 +3,7 @@ use Rattle.std.specs.Option.{option_to_list}
 use Rattle.std.specs.Prelude.{◌≡◌, ◌++◌, [], ℕ, Bool, List, None, Ok, Err, Option, Some, length, max, slice_get, slice_set}
 use Rattle.model.specs.Types.{Entry, Input, Net, Out}
 use Rattle.model.specs.Network.{node_count}
+use Rattle.model.specs.Restore.{restore_fault}
 use Rattle.model.specs.Sessions.{restarted}
 use Rattle.model.specs.Step.{Effect}
 use Rattle.model.specs.World.{cut_short, packets_to}
@@ -20,6 +21,10 @@ pub record IsAgain (net : Net) (w : ℕ) (kept : List Entry) (node : NodeState) 
   pub me_ : node.me ≡ w
   pub kept_ : node.kept ≡ kept
   pub session_ : session_in node ≡ restarted
+
+-- what the node of a station holds restores it
+abbrev pub IsRestorable : Station → Type 0
+IsRestorable t = restore_fault t.node.net t.node.me t.node.kept ≡ None
 
 -- the station of w before anything has happened
 pub record IsNew (net : Net) (w : ℕ) (t : Station) : Type 0 where

@@ -2,7 +2,7 @@
 ghost use Rattle.std.specs.Prelude.{◌≡◌, ◌<◌, IfErr, IfOk, OnErr, OnOk, Some, length, slice_get};
 ghost use Rattle.network_world.specs.Journals.{HasRoom, seen};
 ghost use Rattle.network_world.specs.Stations.{Station as Seen};
-ghost use Rattle.network_world.specs.Moves.{HasRestartedAt, HasStoppedAt, HasTakenAt, IsInputDue, IsMarkedAt};
+ghost use Rattle.network_world.specs.Moves.{HasRestartedAt, HasStoppedAt, HasTakenAt, IsInputDue, IsMarkedAt, IsRestorable};
 
 use crate::journals::Journal;
 use crate::refusals::StepRefused;
@@ -43,7 +43,8 @@ pub(crate) fn stop_at(
     input: &Input,
     kept: bool,
 ) -> Result<Option<Entry>, StepRefused>
-    requires { w < length stations.old }
+    requires inside { w < length stations.old }
+    requires restorable { (t : Seen) → slice_get stations.old w ≡ Some t → IsRestorable t }
     ensures written { seen journal.new ≡ seen journal.old }
     ensures room { OnOk result (HasRoom journal.new) }
     ensures stopped { IfOk result (λ made. (t : Seen) → slice_get stations.old w ≡ Some t

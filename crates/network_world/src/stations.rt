@@ -1,16 +1,17 @@
 //! A node, and what it sent.
-ghost use Rattle.std.specs.Prelude.{◌≡◌, ◌<◌, IfErr, IfOk, OnErr, false, length, option_map, slice_get, true};
+ghost use Rattle.std.specs.Prelude.{◌≡◌, ◌<◌, IfErr, IfOk, None, OnErr, false, length, option_map, slice_get, true};
 ghost use Rattle.std.specs.Option.{option_copied};
 ghost use Rattle.model.specs.Network.{node_count};
+ghost use Rattle.model.specs.Restore.{restore_fault};
 ghost use Rattle.network_world.specs.Lanes as spec;
-ghost use Rattle.network_world.specs.Moves.{GoesOn, HasStopped, HasTaken, IsAgain, IsInputDue, IsMarkedTo, IsNew};
+ghost use Rattle.network_world.specs.Moves.{GoesOn, HasStopped, HasTaken, IsAgain, IsInputDue, IsMarkedTo, IsNew, IsRestorable};
 ghost use Rattle.network_world.specs.Moves as moves;
 
 use crate::copies::copied_entries;
 use crate::lanes::{Lane, make_room, mark_lane, put_sends};
 use crate::laws::lanes_get_few;
 use crate::refusals::{StepRefused, refusal};
-use agent_core::{Agent, Step};
+use agent_core::{Agent, RestoreFault, Step};
 use base_types::{Copied, Entry, Input, Items, NoMemory, Ws};
 use network_tree::Network;
 use std::alloc::Global;
@@ -53,16 +54,19 @@ fn new_lanes(alloc: Global, count: u16) -> Result<Items<Lane>, NoMemory>
     Ok(made)
 }
 
-/// A node of this network that holds these entries, with nothing live, linked or acknowledged. They are such as a node
-/// restores, so it is refused for want of memory alone.
+/// A node of this network that holds these entries, with nothing live, linked or acknowledged. They are such as restore
+/// a node, so want of memory is the only fault.
 fn restored(alloc: Global, net: &Network, w: Ws, kept: &[Entry]) -> Result<Agent, NoMemory>
+    requires { restore_fault net.now w kept.now ≡ None }
     ensures { IfOk result (λ a. IsAgain net.now w kept.now a) }
 {
     let entries = copied_entries(alloc, kept)?;
     let own = net.copy()?;
     match Agent::restore(alloc, own, w, &entries) {
         Ok(agent) => Ok(agent),
-        Err(_) => Err(NoMemory),
+        Err(RestoreFault::NotInNetwork) => unreachable!(),
+        Err(RestoreFault::NotNext(_)) => unreachable!(),
+        Err(RestoreFault::NoMemory) => Err(NoMemory),
     }
 }
 
@@ -110,6 +114,7 @@ impl Station {
 
     /// The node that begins again from what it holds.
     fn again(&self, alloc: Global) -> Result<Agent, NoMemory>
+        requires { IsRestorable self.now }
         ensures { IfOk result (λ a. IsAgain self.now.node.net self.now.node.me self.now.node.kept a) }
     {
         let node = &self.node;
@@ -138,6 +143,7 @@ impl Station {
 
     /// The node stops in the step on an input and begins again. Its entry is lost, and nothing goes out.
     fn stop_lost(&mut self, alloc: Global, input: &Input) -> Result<Option<Entry>, StepRefused>
+        requires { IsRestorable self.old }
         ensures stopped { IfOk result (λ made. HasStopped self.old input.now false made self.new) }
         ensures refused { IfErr result (λ r. IsInputDue self.old input.now r) }
         ensures err { OnErr result (self.new ≡ self.old) }
@@ -160,6 +166,7 @@ impl Station {
         input: &Input,
         kept: bool,
     ) -> Result<Option<Entry>, StepRefused>
+        requires { IsRestorable self.old }
         ensures stopped { IfOk result (λ made. HasStopped self.old input.now kept made self.new) }
         ensures refused { IfErr result (λ r. IsInputDue self.old input.now r) }
         ensures err { OnErr result (self.new ≡ self.old) }

@@ -27,9 +27,13 @@ job_places_in net V docs = map (λ p. job_number (job_state net V p)) (jobs_of V
 abbrev pub job_places : Net → View → List ℕ → List ℕ
 job_places net V numbers = flat_map (λ (d : StreamDoc). job_places_in net V d.jobs) (docs_of V numbers)
 
--- how often each of the first n numbers stands there, up to what a field holds
+-- how often a number stands there, up to what a field holds
+abbrev pub count_of : List ℕ → ℕ → ℕ
+count_of places k = min 4294967295 (count_by (λ p. p == k) places)
+
+-- the same of each of the first n numbers
 abbrev pub counts : ℕ → List ℕ → List ℕ
-counts n places = map (λ k. min 4294967295 (count_by (λ p. p == k) places)) (below n)
+counts n places = map (count_of places) (below n)
 
 -- The members by their states, from HOLD to CANCEL.
 unfoldable pub stream_counts : Net → View → List ℕ

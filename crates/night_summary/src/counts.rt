@@ -1,8 +1,6 @@
 //! Streams and jobs by their states.
-ghost use Rattle.std.specs.Prelude.{◌≡◌, ◌++◌, ◌==◌, ◌∷◌, ◌<◌, [], IfOk, OnOk, count_by, map, min};
-ghost use Rattle.model.specs.Types.{StreamDoc as Doc};
+ghost use Rattle.std.specs.Prelude.{◌≡◌, ◌++◌, ◌∷◌, [], IfOk, OnOk};
 ghost use Rattle.model.specs.History.{view_of};
-ghost use Rattle.model.specs.Catalogue.{members};
 ghost use Rattle.symphony_view.specs.Words.{job_number, stream_number, told_job, told_stream};
 ghost use Rattle.night_summary.specs.Counts as spec;
 
@@ -142,13 +140,14 @@ fn job_places(
 
 /// How often a place stands there, up to 4,294,967,295.
 fn count(places: &[u8], place: u8) -> u32
-    ensures { result ≡ min 4294967295 (count_by (λ p. p == place) places.now) }
+    ensures { result ≡ spec.count_of places.now place }
 {
     let count = places.iter().filter(|p| **p == place).count();
     count.min(4_294_967_295) as u32
 }
 
 /// How often each of the first places stands there.
+#[tactic(auto, using(crate::proofs::Belows::counted_more))]
 fn counts(alloc: Global, places: &[u8], number: u8) -> Result<Counts, NoMemory>
     ensures { IfOk result (λ counts. counts ≡ spec.counts number places.now) }
 {
@@ -159,17 +158,31 @@ fn counts(alloc: Global, places: &[u8], number: u8) -> Result<Counts, NoMemory>
     Ok(counts)
 }
 
+/// How many members of the plan are in each state.
+#[tactic(auto, unfolding(crate::specs::Counts::stream_counts))]
+fn stream_counts(alloc: Global, net: &Network, o: &Owners) -> Result<Counts, NoMemory>
+    ensures { IfOk result (λ counts. counts ≡ spec.stream_counts net.now (view_of o.now)) }
+{
+    let places = stream_places(alloc, net, o, o.members().as_slice())?;
+    counts(alloc, places.as_slice(), 7)
+}
+
+/// How many jobs of members are in each state.
+#[tactic(auto, unfolding(crate::specs::Counts::job_counts))]
+fn job_counts(alloc: Global, net: &Network, o: &Owners) -> Result<Counts, NoMemory>
+    ensures { IfOk result (λ counts. counts ≡ spec.job_counts net.now (view_of o.now)) }
+{
+    let places = job_places(alloc, net, o, o.members().as_slice())?;
+    counts(alloc, places.as_slice(), 9)
+}
+
 /// How many members of the plan that the entries of `o` make, and how many of their jobs, are in each state. A count is
 /// told up to 4,294,967,295. `NoMemory` where memory runs out.
-#[tactic(auto, unfolding(crate::specs::Counts::stream_counts, crate::specs::Counts::job_counts))]
 pub fn state_counts(alloc: Global, net: &Network, o: &Owners) -> Result<StateCounts, NoMemory>
     ensures streams { IfOk result (λ c. c.streams ≡ spec.stream_counts net.now (view_of o.now)) }
     ensures jobs { IfOk result (λ c. c.jobs ≡ spec.job_counts net.now (view_of o.now)) }
 {
-    let members = o.members().as_slice();
-    let stream_places = stream_places(alloc, net, o, members)?;
-    let job_places = job_places(alloc, net, o, members)?;
-    let streams = counts(alloc, stream_places.as_slice(), 7)?;
-    let jobs = counts(alloc, job_places.as_slice(), 9)?;
+    let streams = stream_counts(alloc, net, o)?;
+    let jobs = job_counts(alloc, net, o)?;
     Ok(StateCounts { streams, jobs })
 }

@@ -13,6 +13,7 @@ use Rattle.network_world.proofs.Taking.{noted_over, same_state, same_world, stat
 use Rattle.network_world.proofs.Delivering.{lane_after}
 use Rattle.network_world.proofs.Stopping.{brought_free, crash_deliver_not, crash_deliver_refused, crash_deliver_steps, stop_at_can_be_noted}
 use Rattle.network_world.proofs.Stopping.{stop_mark_inside}
+use Rattle.network_world.proofs.Beginning.{stations_restore}
 use Rattle.network_world.proofs.Exits.{if_err, on_err}
 use Rattle.network_world.proofs.worlds.World.crash_deliver.Goals as goal
 
@@ -32,8 +33,14 @@ returns-in_err-input-clause-refused c =
 
 pub stop_at-requires : goal.stop_at-requires
 stop_at-requires c =
-    subst (λ n. c.args.b < n) (sym c.self.invariant.stands.station_count)
-    (subst (λ (v : WorldState). c.args.b < node_count v.net) (sym c.self.view_is) c.requires.to)
+    let s : WorldState =
+    record { net = c.self.inside.net; stations = c.self.inside.stations; journal = seen c.self.inside.journal } in
+    record {
+      inside =
+          subst (λ n. c.args.b < n) (sym c.self.invariant.stands.station_count)
+          (subst (λ (v : WorldState). c.args.b < node_count v.net) (sym c.self.view_is) c.requires.to);
+      restorable = stations_restore s c.args.b c.self.invariant;
+    }
 
 pub invariant_of-self : goal.invariant_of-self
 invariant_of-self c =

@@ -7,6 +7,7 @@ use Rattle.network_world.specs.Journals.{seen}
 use Rattle.network_world.specs.Standing.{IsRefusalDue, Steps}
 use Rattle.network_world.proofs.Taking.{noted_over, refused_of, same_state, same_world, state, still_a_world, stopped_of}
 use Rattle.network_world.proofs.Stopping.{crash_take_limited, crash_take_refused, crash_take_steps, stop_at_can_be_noted}
+use Rattle.network_world.proofs.Beginning.{stations_restore}
 use Rattle.network_world.proofs.Exits.{if_err, on_err}
 use Rattle.network_world.proofs.worlds.World.crash_take.Goals as goal
 
@@ -21,8 +22,14 @@ returns-in_err-check-clause-refused c =
 
 pub stop_at-requires : goal.stop_at-requires
 stop_at-requires c =
-    subst (λ n. c.args.w < n) (sym c.self.invariant.stands.station_count)
-    (subst (λ (v : WorldState). c.args.w < node_count v.net) (sym c.self.view_is) c.requires)
+    let s : WorldState =
+    record { net = c.self.inside.net; stations = c.self.inside.stations; journal = seen c.self.inside.journal } in
+    record {
+      inside =
+          subst (λ n. c.args.w < n) (sym c.self.invariant.stands.station_count)
+          (subst (λ (v : WorldState). c.args.w < node_count v.net) (sym c.self.view_is) c.requires);
+      restorable = stations_restore s c.args.w c.self.invariant;
+    }
 
 pub invariant_of-self : goal.invariant_of-self
 invariant_of-self c =

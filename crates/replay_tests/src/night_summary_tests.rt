@@ -1,5 +1,5 @@
 //! What is counted of a night.
-use crate::records::{ALONE, AGENTS, Does, Night, ONE_STREAM, Step, TWO_STREAMS, reaches};
+use crate::records::{AGENTS, ALONE, Does, Night, ONE_STREAM, Step, TWO_STREAMS, reaches};
 use base_types::Recovery;
 use std::test::Fail;
 
@@ -31,7 +31,13 @@ fn a_job_that_was_launched_is_counted(rt: HostRuntime) -> Result<(), Fail> {
         priority: 10,
         steps: &[&RUNNING],
     };
-    assert!(rt; reaches(rt.alloc(), &night, "events 3\nstarts 1\nstreams EXEC 1\njobs INTRO 1\n")?);
+    assert!(rt;
+        reaches(
+            rt.alloc(),
+            &night,
+            "events 3\nstarts 1\nstreams EXEC 1\njobs INTRO 1\n"
+        )?
+    );
     Ok(())
 }
 
@@ -46,6 +52,12 @@ fn streams_and_jobs_are_counted_by_their_states(rt: HostRuntime) -> Result<(), F
         priority: 10,
         steps: &[&PLANNED],
     };
-    assert!(rt; reaches(rt.alloc(), &night, "events 1\nstarts 0\nstreams READY 2\njobs HOLD 2\n")?);
+    assert!(rt;
+        reaches(
+            rt.alloc(),
+            &night,
+            "events 1\nstarts 0\nstreams READY 2\njobs HOLD 2\n"
+        )?
+    );
     Ok(())
 }

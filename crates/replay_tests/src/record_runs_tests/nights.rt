@@ -1,7 +1,7 @@
 //! Worked nights.
 use crate::records::{
-    AGENTS, ALONE, DOMAIN, Does, FIRST_DAY, JOBS_BY_RANK, Night, ONE_AGENT, ONE_STREAM, SECOND_DAY, Step, TWO_STREAMS,
-    WITH_RECOVERY, reports,
+    AGENTS, ALONE, DOMAIN, Does, FIRST_DAY, JOBS_BY_RANK, Night, ONE_AGENT, ONE_STREAM, SECOND_DAY,
+    Step, TWO_STREAMS, WITH_RECOVERY, reports,
 };
 use base_types::Recovery;
 use std::test::Fail;
@@ -311,7 +311,12 @@ fn a_launch_that_was_kept_is_lost(rt: HostRuntime) -> Result<(), Fail> {
 }
 
 /// A workstation stops in a launch that is not kept.
-const LAUNCH_LOST: [Step; 4] = [NEXT, TURN, Step::CrashIn(0, false, Does::Turn(0, 100)), TURN];
+const LAUNCH_LOST: [Step; 4] = [
+    NEXT,
+    TURN,
+    Step::CrashIn(0, false, Does::Turn(0, 100)),
+    TURN,
+];
 
 const LAUNCH_LOST_REPORT: &str = "events 3
 M 1 newplan 1 cut - carried - fresh 1

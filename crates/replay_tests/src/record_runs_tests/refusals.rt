@@ -41,7 +41,14 @@ fn a_packet_that_was_not_sent_to_a_node_that_stops(rt: HostRuntime) -> Result<()
     let steps = [NEXT, Step::CrashIn(1, true, Does::Deliver(0, 1, 1))];
     let days: Days = [&ONE_STREAM, &ONE_STREAM];
     let parts: [&[Step]; 1] = [&steps];
-    assert!(rt; stops(rt.alloc(), &night(&ONE_AGENT, &days, &parts), 2, Stop::NoPacket)?);
+    assert!(rt;
+        stops(
+            rt.alloc(),
+            &night(&ONE_AGENT, &days, &parts),
+            2,
+            Stop::NoPacket
+        )?
+    );
     Ok(())
 }
 
@@ -50,7 +57,14 @@ fn the_end_of_a_job_that_does_not_live(rt: HostRuntime) -> Result<(), Fail> {
     let steps = [NEXT, TURN, Step::One(Does::Ended(0, 1, 0))];
     let days: Days = [&ONE_STREAM, &ONE_STREAM];
     let parts: [&[Step]; 1] = [&steps];
-    assert!(rt; stops(rt.alloc(), &night(&ALONE, &days, &parts), 3, Stop::NoProcess)?);
+    assert!(rt;
+        stops(
+            rt.alloc(),
+            &night(&ALONE, &days, &parts),
+            3,
+            Stop::NoProcess
+        )?
+    );
     Ok(())
 }
 
@@ -60,7 +74,14 @@ fn a_start_that_is_told_twice(rt: HostRuntime) -> Result<(), Fail> {
     let steps = [NEXT, TURN, TURN, started, started];
     let days: Days = [&ONE_STREAM, &ONE_STREAM];
     let parts: [&[Step]; 1] = [&steps];
-    assert!(rt; stops(rt.alloc(), &night(&ALONE, &days, &parts), 5, Stop::NoProcess)?);
+    assert!(rt;
+        stops(
+            rt.alloc(),
+            &night(&ALONE, &days, &parts),
+            5,
+            Stop::NoProcess
+        )?
+    );
     Ok(())
 }
 
@@ -78,7 +99,14 @@ fn a_link_of_a_workstation_to_itself(rt: HostRuntime) -> Result<(), Fail> {
     let steps = [Step::One(Does::Link(0, 1)), Step::One(Does::Link(1, 1))];
     let days: Days = [&ONE_STREAM, &ONE_STREAM];
     let parts: [&[Step]; 1] = [&steps];
-    assert!(rt; stops(rt.alloc(), &night(&ONE_AGENT, &days, &parts), 2, Stop::NotNeighbour)?);
+    assert!(rt;
+        stops(
+            rt.alloc(),
+            &night(&ONE_AGENT, &days, &parts),
+            2,
+            Stop::NotNeighbour
+        )?
+    );
     Ok(())
 }
 
@@ -91,7 +119,14 @@ fn a_name_that_the_own_node_does_not_know(rt: HostRuntime) -> Result<(), Fail> {
     ];
     let days: Days = [&ONE_STREAM, &ONE_STREAM];
     let parts: [&[Step]; 1] = [&steps];
-    assert!(rt; stops(rt.alloc(), &night(&ONE_AGENT, &days, &parts), 3, Stop::UnknownName)?);
+    assert!(rt;
+        stops(
+            rt.alloc(),
+            &night(&ONE_AGENT, &days, &parts),
+            3,
+            Stop::UnknownName
+        )?
+    );
     Ok(())
 }
 
@@ -104,7 +139,14 @@ fn a_domain_that_has_another_manager_now(rt: HostRuntime) -> Result<(), Fail> {
     ];
     let days: Days = [&ONE_STREAM, &ONE_STREAM];
     let parts: [&[Step]; 1] = [&steps];
-    assert!(rt; stops(rt.alloc(), &night(&DOMAIN, &days, &parts), 3, Stop::UnknownName)?);
+    assert!(rt;
+        stops(
+            rt.alloc(),
+            &night(&DOMAIN, &days, &parts),
+            3,
+            Stop::UnknownName
+        )?
+    );
     Ok(())
 }
 

@@ -98,7 +98,14 @@ fn summary(alloc: Global, world: &World) -> Result<Bytes, Fail> {
     let counts = state_counts(alloc, world.net(), master.owners())?;
     let events = world.history().len() as u32;
     let starts = world.starts().len() as u32;
-    Ok(print_summary(alloc, world.net().net(), &counts.streams, &counts.jobs, events, starts)?)
+    Ok(print_summary(
+        alloc,
+        world.net().net(),
+        &counts.streams,
+        &counts.jobs,
+        events,
+        starts,
+    )?)
 }
 
 /// Whether the run of a record takes all lines, and this is its report.

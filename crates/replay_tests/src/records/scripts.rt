@@ -1,9 +1,7 @@
 //! Records, made of rows.
 ghost use Rattle.std.specs.Prelude.{◌≡◌, IfOk};
 
-use base_types::{
-    Items, JobNo, Moment, Net, NoMemory, Obj, Recovery, StreamDrafts, Ws,
-};
+use base_types::{Items, JobNo, Moment, Net, NoMemory, Obj, Recovery, StreamDrafts, Ws};
 use conman_syntax::parse_command;
 use record_script::{OneStep, Plans, Script, ScriptStep, ScriptSteps, StepForm};
 use std::alloc::Global;

@@ -116,7 +116,7 @@ stop_halts day old left w kept o a st t made is h =
 -- one that is none
 pub no_act : (day : Day) (old : WorldState) (left : List (List StreamDraft)) (o : OneStep) (t : Halt)
     → IsNotMade old (λ x. act day old.net x left o) t → HaltsFor old (take_line day old.net left (form.One o)) t
-unfolding line_steps, take_line
+unfolding line_steps take_line
 no_act day old left o halt.NoMemory h = tt
 no_act day old left o (halt.At s) h = λ x b.
     let u = h x b in (
@@ -128,7 +128,7 @@ no_act day old left o (halt.At s) h = λ x b.
 pub no_stop : (day : Day) (old : WorldState) (left : List (List StreamDraft)) (w : ℕ) (kept : Bool) (o : OneStep) (t : Halt)
     → IsNotMade old (λ x. act day old.net x left o) t
     → HaltsFor old (take_line day old.net left (form.CrashIn w kept o)) t
-unfolding line_steps, take_line
+unfolding line_steps take_line
 no_stop day old left w kept o halt.NoMemory h = tt
 no_stop day old left w kept o (halt.At s) h = λ x b.
     let u = h x b in (

@@ -1,9 +1,11 @@
 //! Runs of records.
-ghost use Rattle.std.specs.Prelude.{◌≡◌, IfOk, IsTrue, None};
+ghost use Rattle.std.specs.Prelude.{◌≡◌, IfOk, None, nat_lt};
 ghost use Rattle.std.specs.List.{list_all};
 ghost use Rattle.model.specs.Network.{node_count};
 ghost use Rattle.network_tree.specs.Faults.{net_fault};
-ghost use Rattle.record_runs.specs.Ends.{AreLinesInside, AskNoDay};
+ghost use Rattle.record_runs.specs.Lines as spec;
+ghost use Rattle.record_runs.specs.Lines.{ws_in_form, ws_in_one};
+ghost use Rattle.record_runs.specs.Ends.{asks_no_day};
 
 use super::scripts::{Night, net, script};
 use base_types::{Bytes, Copied, Net, Ws};
@@ -16,15 +18,19 @@ use report_text::{print_report, print_summary};
 use std::alloc::Global;
 use std::test::Fail;
 
-/// A net that was tested.
-fn tested(alloc: Global, net: Net) -> Result<Net, Fail>
-    ensures { IfOk result (λ tested. net_fault tested ≡ None) }
+/// The network of a record, which was tested, and how many workstations it has.
+fn tested(alloc: Global, night: &Night) -> Result<(Net, u16), Fail>
+    ensures faultless { IfOk result (λ tested. net_fault tested.0 ≡ None) }
+    ensures count { IfOk result (λ tested. tested.1 ≡ node_count tested.0) }
 {
-    let network = Network::new(alloc, net)?;
-    Ok(network.net().copy()?)
+    let network = Network::new(alloc, net(alloc, night)?)?;
+    let net = network.net().copy()?;
+    Ok((net, network.count()))
 }
 
-fn is_one_inside(count: u16, one: &OneStep) -> bool {
+fn is_one_inside(count: u16, one: &OneStep) -> bool
+    ensures { result ≡ list_all (λ w. nat_lt w count) (ws_in_one one.now) }
+{
     match one {
         OneStep::Next | OneStep::NextDay(_) => true,
         OneStep::Turn(w, _) => w.0 < count,
@@ -38,7 +44,10 @@ fn is_one_inside(count: u16, one: &OneStep) -> bool {
     }
 }
 
-fn is_inside(count: u16, form: &StepForm) -> bool {
+/// Whether the workstations of a line are below a count.
+fn is_inside(count: u16, form: &StepForm) -> bool
+    ensures { result ≡ list_all (λ w. nat_lt w count) (ws_in_form form.now) }
+{
     match form {
         StepForm::One(one) => is_one_inside(count, one),
         StepForm::Flow(a, b) => a.0 < count && b.0 < count,
@@ -49,7 +58,10 @@ fn is_inside(count: u16, form: &StepForm) -> bool {
     }
 }
 
-fn asks_day(form: &StepForm) -> bool {
+/// Whether a line asks for the drafts of a day.
+fn asks_day(form: &StepForm) -> bool
+    ensures { result ≡ spec.asks_day form.now }
+{
     match form {
         StepForm::One(OneStep::NextDay(_)) => true,
         StepForm::CrashIn(_, _, OneStep::NextDay(_)) => true,
@@ -57,21 +69,27 @@ fn asks_day(form: &StepForm) -> bool {
     }
 }
 
-fn are_inside(count: u16, lines: &[ScriptStep]) -> bool {
-    for line in lines {
-        if !is_inside(count, &line.form) || asks_day(&line.form) {
-            return false;
-        }
-    }
-    true
+fn are_inside(count: u16, lines: &[ScriptStep]) -> bool
+    ensures { result ≡ list_all (λ s. list_all (λ w. nat_lt w count) (ws_in_form s.form)) lines.now }
+{
+    lines.iter().all(|line| is_inside(count, &line.form))
+}
+
+fn ask_no_day(lines: &[ScriptStep]) -> bool
+    ensures { result ≡ list_all asks_no_day lines.now }
+{
+    lines.iter().all(|line| !asks_day(&line.form))
 }
 
 /// How the run of a record ends.
 pub(crate) fn run(alloc: Global, night: &Night) -> Result<RunEnd, Fail> {
-    let net = tested(alloc, net(alloc, night)?)?;
+    let (net, count) = tested(alloc, night)?;
     let script = script(alloc, night, net)?;
-    if !are_inside(script.net.nodes.len() as u16, script.steps.as_slice()) {
-        return Err("a line that is not run")?;
+    if !are_inside(count, script.steps.as_slice()) {
+        return Err("a workstation outside")?;
+    }
+    if !ask_no_day(script.steps.as_slice()) {
+        return Err("a day")?;
     }
     Ok(run_script(alloc, script)?)
 }
@@ -96,8 +114,8 @@ fn summary(alloc: Global, world: &World) -> Result<Bytes, Fail> {
     }
     let master = world.node(Ws(0));
     let counts = state_counts(alloc, world.net(), master.owners())?;
-    let events = world.history().len() as u32;
-    let starts = world.starts().len() as u32;
+    let events = world.history().len().min(1_000_000) as u32;
+    let starts = world.starts().len().min(1_000_000) as u32;
     Ok(print_summary(
         alloc,
         world.net().net(),

@@ -21,7 +21,6 @@ use Rattle.record_runs.specs.declared.stops.Halt.TheVariants as halt
 
 module _ (day : Day) (old : WorldState) (left : List (List StreamDraft)) (f : StepForm) (steps : World → List WorldStep)
     (table : (x : World) → StandsFor old x → line_steps day old.net x left f ≡ Ok (steps x)) where
-
   -- a line that is these steps leads where they lead
   pub line_leads : (new : WorldState) → Leads old (λ x. take_steps old.net x (steps x)) new
       → Leads old (take_line day old.net left f) new

@@ -1,5 +1,10 @@
+use Rattle.std.proofs.Common.{[], refl}
+use Rattle.network_world.proofs.Beginning.{nothing_restores}
 use Rattle.network_world.proofs.Stopped.{station_new}
 use Rattle.network_world.proofs.stations.Station.new.Goals as goal
+
+pub restored-requires : goal.restored-requires
+restored-requires c = nothing_restores c.args.net.now c.args.w [] refl c.requires
 
 pub returns : goal.returns
 returns c =

@@ -46,7 +46,7 @@ fn take_lines(
 ) -> Result<Option<(u32, Stop)>, NoMemory>
     requires inside { AreLinesInside world.old.net lines.now }
     requires no_day { AskNoDay lines.now }
-    ensures net { world.new.net ≡ world.old.net }
+    ensures net { IfOk result (λ at. at ≡ None → world.new.net ≡ world.old.net) }
     ensures all { (day : Day) → IfOk result (λ at. at ≡ None
         → LeadsAll world.old day world.old.net plans.old lines.now world.new) }
     ensures stopped { (day : Day) → IfOk result (λ at. IfSome at

@@ -3,3 +3,4 @@ pub mod Ways
 pub mod Named
 pub mod Tables
 pub mod Nights
+pub mod Endings

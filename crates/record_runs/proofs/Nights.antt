@@ -4,7 +4,7 @@ use Rattle.std.proofs.Common.{length, not, refl, suc, subst, sym, true}
 use Rattle.std.proofs.lemmas.List.Elements.{recursion_from_All}
 use Rattle.std.proofs.lemmas.List.Sums.{AllPass-from_list_all}
 use Rattle.std.proofs.lemmas.Option.{slice_get_read}
-use Rattle.std.specs.Prelude.{Err, IfSome, IsTrue, Ok, Result, slice_get}
+use Rattle.std.specs.Prelude.{Err, IfOk, IfSome, IsTrue, Ok, Result, slice_get}
 use Rattle.std.specs.List.{AllByRecursion, list_all}
 use Rattle.model.specs.Types.{Net, StreamDraft}
 use Rattle.model.specs.World.{World, empty_world}
@@ -18,7 +18,10 @@ use Rattle.record_runs.specs.Causes.{Cause, told}
 use Rattle.record_runs.specs.Lines.{Day, are_inside, asks_day, left_after, ws_in_form}
 use Rattle.record_runs.specs.Runs.{End, done, run_lines, run_of, stopped, take_line, went_on}
 use Rattle.record_runs.specs.Ends.{AreLinesInside, AskNoDay, IsDone, IsStopped, asks_no_day, is_line_inside}
-use Rattle.record_runs.specs.Taken.{HaltsFor, Leads, LeadsAll, StopsAt, StopsIn}
+use Rattle.record_runs.specs.Taken.{HaltsFor, IsStopIn, Leads, LeadsAll, StopsAt, StopsIn}
+use Rattle.base_types.specs.declared.NoMemory.{NoMemory}
+use Rattle.record_runs.specs.declared.stops.Halt.{Halt}
+use Rattle.record_runs.specs.declared.stops.Halt.TheVariants as halt
 use Rattle.record_runs.specs.declared.stops.Stop.{Stop}
 
 -- so far: what is left of the lines, taken from the world that stands now, completes the whole
@@ -146,3 +149,31 @@ unfolding run_of
 script_stopped day script begun net plans lines at_ a b c stands h =
     let t = h empty_world stands in
     (t.0, sym (λ i. run_lines day (a i) empty_world (b i) (c i)) ∙ t.1, t.2)
+
+-- a stop is told, and no end of all lines
+pub stop_told : (now : WorldState) (made : World → Result World Cause) (line : ℕ) (h : Halt)
+    (r : Result (Option (ℕ × Stop)) NoMemory) (P : ℕ × Stop → Type 0) → IsStopIn line h r → HaltsFor now made h
+    → ((s : Stop) → StopsAt now made s → P (line, s)) → IfOk r (λ (o : Option (ℕ × Stop)). IfSome o P)
+stop_told now made line halt.NoMemory (Ok o) P is stops f = absurd is
+stop_told now made line halt.NoMemory (Err e) P is stops f = tt
+stop_told now made line (halt.At s) r P is stops f =
+    subst (λ (q : Result (Option (ℕ × Stop)) NoMemory). IfOk q (λ (o : Option (ℕ × Stop)). IfSome o P)) (sym is)
+    (f s stops)
+
+pub no_end : (line : ℕ) (h : Halt) (r : Result (Option (ℕ × Stop)) NoMemory) (Q : Type 0) → IsStopIn line h r
+    → IfOk r (λ (o : Option (ℕ × Stop)). o ≡ None → Q)
+no_end line halt.NoMemory (Ok o) Q is = absurd is
+no_end line halt.NoMemory (Err e) Q is = tt
+no_end line (halt.At s) r Q is =
+    subst (λ (q : Result (Option (ℕ × Stop)) NoMemory). IfOk q (λ (o : Option (ℕ × Stop)). o ≡ None → Q)) (sym is)
+    (λ e. absurd (not_there e))
+  where
+    not_there : {t : ℕ × Stop} → Some t ≡ None → ⊥
+    not_there e = cc
+
+-- what is told of the whole, where something is told
+pub all_of_it : (o : Option (ℕ × Stop)) (Q : Type 0) → o ≡ None → (o ≡ None → Q) → Q
+all_of_it o Q e f = f e
+
+pub some_of_it : (o : Option (ℕ × Stop)) (t : ℕ × Stop) (P : ℕ × Stop → Type 0) → o ≡ Some t → IfSome o P → P t
+some_of_it o t P e h = subst (λ (q : Option (ℕ × Stop)). IfSome q P) e h

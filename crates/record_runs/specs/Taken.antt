@@ -1,8 +1,9 @@
 -- What is owed on the way: of one line, of steps one by one.
-use Rattle.std.specs.Prelude.{◌≡◌, ◌∷◌, [], ℕ, Err, List, Ok, Option, None, Some, Result, option_map}
+use Rattle.std.specs.Prelude.{◌≡◌, ◌∷◌, [], ℕ, Err, IfOk, List, Ok, Option, None, Some, Result, option_map}
 use Rattle.model.specs.Types.{LimitName, Net, StreamDraft, WorldStep}
 use Rattle.model.specs.StepFaults as model
 use Rattle.model.specs.World.{StepRefused, World}
+use Rattle.base_types.specs.declared.NoMemory.{NoMemory}
 use Rattle.network_world.specs.Stations.{WorldState}
 use Rattle.network_world.specs.Standing.{StandsFor}
 use Rattle.network_world.specs.declared.StepRefused.{StepRefused as Answer}
@@ -96,3 +97,8 @@ abbrev pub halts_order : ResolveFault → Halt
 halts_order (unresolved.UnknownName n) = halt.At stop.UnknownName
 halts_order unresolved.NotACommand = halt.At stop.UnknownName
 halts_order unresolved.NoMemory = halt.NoMemory
+
+-- what halts in a line is told with its number, but for want of memory
+abbrev pub IsStopIn : ℕ → Halt → Result (Option (ℕ × Stop)) NoMemory → Type 0
+IsStopIn line halt.NoMemory result = IfOk result (λ at_. ⊥)
+IsStopIn line (halt.At s) result = result ≡ Ok (Some (line, s))

@@ -2,7 +2,7 @@
 ghost use Rattle.std.specs.Prelude.{◌≡◌, ◌∷◌, ◌<◌, [], IfErr, IfOk, IsTrue, Ok, OnOk, false, map};
 ghost use Rattle.model.specs.Types.{Deliver, Ended, LiveJob, Take};
 ghost use Rattle.model.specs.Types as types;
-ghost use Rattle.model.specs.Words.{ascending};
+ghost use Rattle.model.specs.Words.{ascending, insert_once};
 ghost use Rattle.model.specs.Network.{node_count};
 ghost use Rattle.model.specs.World as model;
 ghost use Rattle.model.specs.World.{view_at};
@@ -82,14 +82,22 @@ fn flow(world: &mut World, a: Ws, b: Ws) -> Result<(), Halt>
     Ok(())
 }
 
+/// Puts a job among others, where it is not there already.
+fn add_job(jobs: &mut BTreeSet<u32>, job: JobNo) -> Result<(), NoMemory>
+    ensures { OnOk result (jobs.new.keys ≡ insert_once job jobs.old.keys) }
+{
+    jobs.insert(job.0)?;
+    Ok(())
+}
+
 /// The jobs of launches, in ascending order.
-#[tactic(auto, using(batchman_core::proofs::Gatherings::with_one_more, batchman_core::proofs::Gatherings::all_gathered, batchman_core::proofs::Gatherings::key_inserted))]
+#[tactic(auto, using(batchman_core::proofs::Gatherings::all_gathered))]
 fn jobs_of(alloc: Global, live: &Live) -> Result<BTreeSet<u32>, NoMemory>
     ensures { IfOk result (λ jobs. jobs.keys ≡ ascending (map (λ (l : LiveJob). l.job) live.now)) }
 {
     let mut jobs = BTreeSet::new(alloc);
     for launch in live.as_slice() {
-        jobs.insert(launch.job.0)?;
+        add_job(&mut jobs, launch.job)?;
     }
     Ok(jobs)
 }

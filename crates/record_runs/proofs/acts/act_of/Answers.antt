@@ -61,3 +61,9 @@ unfolding act
 returns-in-Typed-clause-not_made c = λ day.
     subst (λ (o : OneStep). IfErr c.typed.result (IsNotMade c.args.world.now
         (λ x. act day c.args.world.now.net x c.args.plans.now o))) (sym c.in-Typed.is) c.typed.ensures.not_made
+
+pub returns-in-Next-clause-made : goal.returns-in-Next-clause-made
+unfolding act
+returns-in-Next-clause-made c = λ day x s.
+    ap (λ (o : OneStep). act day c.args.world.now.net x c.args.plans.now o) c.in-Next.is
+    ∙ (λ i. Ok (Own (sym c.master.ensures.value i) (Next (sym c.take.ensures.drafts i))))

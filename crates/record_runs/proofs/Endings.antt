@@ -1,5 +1,5 @@
 -- Jobs that end one after the other.
-use Rattle.std.proofs.Common.{◌≡◌, ◌∙◌, ◌∷◌, ◌+◌, ◌<◌, ℕ, ℤ, List, ap, arith, drop, drop-cons, get_or, length, map, subst, suc, sym}
+use Rattle.std.proofs.Common.{◌≡◌, ◌∙◌, ◌∷◌, ◌+◌, ◌<◌, ℕ, ℤ, List, ap, arith, drop, drop-cons, get_or, length, map, suc, sym}
 use Rattle.model.specs.Types.{WorldStep}
 use Rattle.model.specs.World.{World}
 use Rattle.network_world.specs.Stations.{WorldState}

@@ -1,12 +1,12 @@
 -- Names, by the own node's view.
-use Rattle.std.proofs.Common.{◌≡◌, ◌∙◌, ℕ, List, Option, Some, None, ap, refl, subst, sym}
-use Rattle.std.specs.Prelude.{Err, Ok, Result}
+use Rattle.std.proofs.Common.{◌≡◌, ◌∙◌, ℕ, List, ap, refl, subst, sym}
+use Rattle.std.specs.Prelude.{Err, Ok}
 use Rattle.std.specs.Result.{result_ok}
 use Rattle.model.specs.Types.{Cmd, Entry, Net, Typed}
-use Rattle.model.specs.History.{View, view_of}
+use Rattle.model.specs.History.{view_of}
 use Rattle.model.specs.PresentNet.{present_net}
 use Rattle.model.specs.World.{World, view_at}
-use Rattle.agent_core.specs.Nodes.{NodeState, present_in, view_in}
+use Rattle.agent_core.specs.Nodes.{NodeState, present_in}
 use Rattle.network_world.specs.Stations.{WorldState}
 use Rattle.network_world.specs.Standing.{NodeStandsFor, StandsFor}
 use Rattle.conman_syntax.specs.declared.Line.{Line}
@@ -14,7 +14,7 @@ use Rattle.conman_orders.specs.Orders.{Answer, HadMemory, due_order}
 use Rattle.conman_orders.specs.declared.ResolveFault.{ResolveFault}
 use Rattle.conman_orders.specs.declared.ResolveFault.TheVariants as unresolved
 use Rattle.recovery_watch.specs.Advice.{advice}
-use Rattle.record_runs.specs.Causes.{Cause, names_nothing, told}
+use Rattle.record_runs.specs.Causes.{names_nothing, told}
 use Rattle.record_runs.specs.Lines.{order_at, typed}
 use Rattle.record_runs.specs.Taken.{IsNotMade, halts_order}
 use Rattle.record_runs.specs.declared.acts.Act.{Act}
@@ -70,6 +70,7 @@ typed_nothing old w f t line node u K stands us are answer is =
       ap (typed w) (due_here old.net x w line node u K (stands x b) us are ∙ ap result_ok (sym (due had))),
       unknown,
     )
+
     go : (g : ResolveFault) → (HadMemory (Err g) → Err g ≡ due_order u (view_of K) w line)
         → IsNotMade old (λ x. typed w (order_at old.net x w line)) (halts_order g)
     go (unresolved.UnknownName n) due = none (unresolved.UnknownName n) due (λ e. cc)

@@ -1,11 +1,11 @@
 -- Lines that are taken one after the other.
-use Rattle.std.proofs.Common.{◌≡◌, ◌∙◌, ◌∷◌, ◌&&◌, ◌+◌, ◌<◌, ◌≤◌, [], ℕ, Bool, List, Option, Some, None, ap, arith, drop, drop-cons, false, get_or}
+use Rattle.std.proofs.Common.{◌≡◌, ◌∙◌, ◌∷◌, ◌+◌, ◌<◌, [], ℕ, Bool, List, Option, Some, None, ap, arith, drop, drop-cons, false, get_or}
 use Rattle.std.proofs.Common.{length, not, refl, suc, subst, sym, true}
 use Rattle.std.proofs.lemmas.List.Elements.{recursion_from_All}
 use Rattle.std.proofs.lemmas.List.Sums.{AllPass-from_list_all}
 use Rattle.std.proofs.lemmas.Option.{slice_get_read}
 use Rattle.std.specs.Prelude.{Err, IfOk, IfSome, IsTrue, Ok, Result, slice_get}
-use Rattle.std.specs.List.{AllByRecursion, list_all}
+use Rattle.std.specs.List.{list_all}
 use Rattle.model.specs.Types.{Net, StreamDraft}
 use Rattle.model.specs.World.{World, empty_world}
 use Rattle.model_laws.proofs.Options.{slice_get_all}
@@ -13,10 +13,9 @@ use Rattle.network_world.specs.Stations.{WorldState}
 use Rattle.network_world.specs.Standing.{StandsFor}
 use Rattle.record_script.specs.declared.Script.{Script}
 use Rattle.record_script.specs.declared.ScriptStep.{ScriptStep}
-use Rattle.record_script.specs.declared.StepForm.{StepForm}
 use Rattle.record_runs.specs.Causes.{Cause, told}
 use Rattle.record_runs.specs.Lines.{Day, are_inside, asks_day, left_after, ws_in_form}
-use Rattle.record_runs.specs.Runs.{End, done, run_lines, run_of, stopped, take_line, went_on}
+use Rattle.record_runs.specs.Runs.{run_lines, run_of, stopped, take_line, went_on}
 use Rattle.record_runs.specs.Ends.{AreLinesInside, AskNoDay, IsDone, IsStopped, asks_no_day, is_line_inside}
 use Rattle.record_runs.specs.Taken.{HaltsFor, IsStopIn, Leads, LeadsAll, StopsAt, StopsIn}
 use Rattle.base_types.specs.declared.NoMemory.{NoMemory}

@@ -1,5 +1,5 @@
 -- A line as the steps that it is.
-use Rattle.std.proofs.Common.{◌≡◌, ◌∙◌, ◌∷◌, ◌+◌, ◌-◌, ◌<◌, ◌≤◌, [], ℕ, ℤ, Bool, List, ap, arith, drop, drop-cons, get_or, length, map, refl, sym, subst, true, zero, suc}
+use Rattle.std.proofs.Common.{◌≡◌, ◌∙◌, ◌∷◌, ◌+◌, ◌-◌, ◌<◌, ◌≤◌, [], ℕ, ℤ, Bool, List, ap, arith, drop, drop-cons, get_or, length, map, refl, sym, subst, true, suc}
 use Rattle.std.proofs.lemmas.Bool.{lt-ltb}
 use Rattle.std.proofs.lemmas.List.{drop_all}
 use Rattle.std.specs.Result.{IsErrAnd}
@@ -235,7 +235,7 @@ pub one_more_job : (live items : List LiveJob) (i : ℕ) (l : LiveJob) (old new 
     → with_all (map (λ (p : LiveJob). p.job) (drop (i + 1) live)) new ≡ all
 one_more_job live items i l old new all same h is put before =
     let rest : drop i live ≡ l ∷ drop (i + 1) live =
-        subst (λ (ys : List LiveJob). drop i ys ≡ l ∷ drop (i + 1) ys) same (from_here items i l h is) in
+    subst (λ (ys : List LiveJob). drop i ys ≡ l ∷ drop (i + 1) ys) same (from_here items i l h is) in
     ap (with_all (map (λ (p : LiveJob). p.job) (drop (i + 1) live))) put
     ∙ (with_one_more (map (λ (p : LiveJob). p.job) (drop (i + 1) live)) l.job old
     ∙ (sym (ap (λ (ys : List LiveJob). with_all (map (λ (p : LiveJob). p.job) ys) old) rest) ∙ before))

@@ -1,7 +1,7 @@
 -- Steps that are taken one after the other.
-use Rattle.std.proofs.Common.{◌≡◌, ◌∙◌, ◌∷◌, [], ℕ, List, ap, refl, sym, subst}
-use Rattle.std.specs.Prelude.{Err, None, Ok, Option, Result, Some, option_map}
-use Rattle.model.specs.Types.{LimitName, Net, WorldStep}
+use Rattle.std.proofs.Common.{◌≡◌, ◌∙◌, ◌∷◌, [], List, ap, refl, sym, subst}
+use Rattle.std.specs.Prelude.{Err, Ok, Result, option_map}
+use Rattle.model.specs.Types.{Net, WorldStep}
 use Rattle.model.specs.StepFaults as model
 use Rattle.model.specs.World.{StepRefused, World, step}
 use Rattle.network_world.specs.Stations.{WorldState}
@@ -18,7 +18,6 @@ use Rattle.record_runs.specs.Runs.{and_then, as_cause, take_steps}
 use Rattle.record_runs.specs.Taken.{HaltsFor, Leads, StopsAt, halts_at, meant, meant_fault}
 use Rattle.record_runs.specs.declared.stops.Halt.{Halt}
 use Rattle.record_runs.specs.declared.stops.Halt.TheVariants as halt
-use Rattle.record_runs.specs.declared.stops.Stop.{Stop}
 
 -- the first of several steps
 pub first_taken : (net : Net) (x y : World) (st : WorldStep) (steps : List WorldStep) → step net x st ≡ Ok y

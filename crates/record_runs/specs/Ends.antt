@@ -1,6 +1,6 @@
 -- What the run of real nodes owes: the world that the run of the record reaches, or the line at which it stops.
 use Rattle.std.specs.List.{list_all}
-use Rattle.std.specs.Prelude.{◌≡◌, ℕ, Bool, IsTrue, List, None, Option, Some, not}
+use Rattle.std.specs.Prelude.{◌≡◌, ℕ, Bool, IsTrue, List, not}
 use Rattle.model.specs.Types.{Net}
 use Rattle.model.specs.World as model
 use Rattle.network_world.specs.Stations.{WorldState}

@@ -7,7 +7,6 @@ use Rattle.model.specs.Types.{Cmd, Crash, CrashDeliver, CrashTake, Deliver, Fulf
 use Rattle.model.specs.Types.{StartFailed, StreamDraft, Take, Turn, Typed, Unlinked, WorldStep}
 use Rattle.model.specs.Words.{ascending, numbers_from}
 use Rattle.model.specs.Network.{node_count}
-use Rattle.model.specs.History.{View}
 use Rattle.model.specs.PresentNet.{present_net}
 use Rattle.model.specs.World.{World, result_map, view_at}
 use Rattle.conman_syntax.specs.declared.Line.{Line}

@@ -1,6 +1,6 @@
 -- What is owed on the way: of one line, of steps one by one.
 use Rattle.std.specs.Prelude.{◌≡◌, ◌∷◌, [], ℕ, Err, IfOk, List, Ok, Option, None, Some, Result, option_map}
-use Rattle.model.specs.Types.{LimitName, Net, StreamDraft, WorldStep}
+use Rattle.model.specs.Types.{Net, StreamDraft}
 use Rattle.model.specs.StepFaults as model
 use Rattle.model.specs.World.{StepRefused, World}
 use Rattle.base_types.specs.declared.NoMemory.{NoMemory}
@@ -17,7 +17,7 @@ use Rattle.conman_orders.specs.declared.ResolveFault.{ResolveFault}
 use Rattle.conman_orders.specs.declared.ResolveFault.TheVariants as unresolved
 use Rattle.record_runs.specs.Causes.{Cause, told, told_refused}
 use Rattle.record_runs.specs.Lines.{Day}
-use Rattle.record_runs.specs.Runs.{End, done, run_lines, stopped}
+use Rattle.record_runs.specs.Runs.{done, run_lines, stopped}
 use Rattle.record_runs.specs.declared.acts.Act.{Act}
 use Rattle.record_runs.specs.declared.acts.Act.TheVariants.{Delivery, Own}
 use Rattle.record_runs.specs.declared.stops.Halt.{Halt}

@@ -15,6 +15,6 @@ pub returns-clause-stopped : goal.returns-clause-stopped
 returns-clause-stopped c =
     if_err _ _ c.end_jobs.result
     (λ t. halts_as c.args.world.now (λ x. map (ends c.args.w c.args.code.now) (live_jobs x c.args.w))
-        (λ x. map (ends c.args.w c.args.code.now) c.as_slice.result.now) t
-        (λ x s. ap (map (ends c.args.w c.args.code.now)) (sym (c.as_slice.ensures ∙ c.in_ok-jobs.ensures x s))))
+    (λ x. map (ends c.args.w c.args.code.now) c.as_slice.result.now) t
+    (λ x s. ap (map (ends c.args.w c.args.code.now)) (sym (c.as_slice.ensures ∙ c.in_ok-jobs.ensures x s))))
     c.end_jobs.ensures.stopped

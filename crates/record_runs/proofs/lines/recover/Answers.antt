@@ -1,4 +1,3 @@
-use Rattle.std.proofs.Common.{sym}
 use Rattle.model.specs.Types.{Take, Typed}
 use Rattle.model.specs.World.{view_at}
 use Rattle.recovery_watch.specs.Advice.{advice}
@@ -18,6 +17,6 @@ pub returns-in-Some-clause-stopped : goal.returns-in-Some-clause-stopped
 returns-in-Some-clause-stopped c =
     if_err _ _ c.take_step.result
     (λ t. halts_as c.args.world.now (λ x. advised c.args.w (advice (view_at x c.args.w) c.args.w))
-        (λ x. only (Take c.args.w (Typed c.args.w c.in-Some.command))) t
-        (λ x s. advised_this c.args.w c.in-Some.command (advice (view_at x c.args.w) c.args.w) (c.in-Some.ensures x s)))
+    (λ x. only (Take c.args.w (Typed c.args.w c.in-Some.command))) t
+    (λ x s. advised_this c.args.w c.in-Some.command (advice (view_at x c.args.w) c.args.w) (c.in-Some.ensures x s)))
     c.take_step.ensures.stopped

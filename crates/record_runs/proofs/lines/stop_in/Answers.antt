@@ -17,5 +17,5 @@ pub returns-clause-stopped : goal.returns-clause-stopped
 returns-clause-stopped c = λ day.
     if_err _ _ c.take_step.result
     (λ t. stop_halts day c.args.world.now c.args.plans.now c.args.w c.args.kept c.args.one.now c.in_ok-act.act c.cut_short.result t
-        (c.in_ok-act.ensures.made day) c.cut_short.ensures.value)
+    (c.in_ok-act.ensures.made day) c.cut_short.ensures.value)
     c.take_step.ensures.stopped

@@ -1,6 +1,6 @@
 use Rattle.std.proofs.Common.{map, sym, subst}
 use Rattle.std.specs.Prelude.{IfErr, OnOk}
-use Rattle.model.specs.Types.{Crash, Deliver, Take}
+use Rattle.model.specs.Types.{Crash, Deliver}
 use Rattle.model.specs.World.{view_at}
 use Rattle.recovery_watch.specs.Advice.{advice}
 use Rattle.record_script.specs.declared.StepForm.{StepForm}
@@ -14,19 +14,19 @@ use Rattle.record_runs.proofs.lines.take_line.Goals as goal
 pub returns-in-One-clause-stopped : goal.returns-in-One-clause-stopped
 returns-in-One-clause-stopped c = λ day.
     subst (λ (f : StepForm). IfErr c.take_one.result
-        (HaltsFor c.args.world.now (take_line day c.args.world.now.net c.args.plans.now f)))
+    (HaltsFor c.args.world.now (take_line day c.args.world.now.net c.args.plans.now f)))
     (sym c.in-One.is) (c.take_one.ensures.stopped day)
 
 pub returns-in-CrashIn-clause-stopped : goal.returns-in-CrashIn-clause-stopped
 returns-in-CrashIn-clause-stopped c = λ day.
     subst (λ (f : StepForm). IfErr c.stop_in.result
-        (HaltsFor c.args.world.now (take_line day c.args.world.now.net c.args.plans.now f)))
+    (HaltsFor c.args.world.now (take_line day c.args.world.now.net c.args.plans.now f)))
     (sym c.in-CrashIn.is) (c.stop_in.ensures.stopped day)
 
 pub returns-in-Flow-clause-taken : goal.returns-in-Flow-clause-taken
 returns-in-Flow-clause-taken c = λ day.
     subst (λ (f : StepForm). OnOk c.flow.result
-        (Leads c.args.world.now (take_line day c.args.world.now.net c.args.plans.now f) c.flow.new.world))
+    (Leads c.args.world.now (take_line day c.args.world.now.net c.args.plans.now f) c.flow.new.world))
     (sym c.in-Flow.is)
     (on_ok _ _ c.flow.result
     (line_leads day c.args.world.now c.args.plans.now (form.Flow c.in-Flow.a c.in-Flow.b)
@@ -36,7 +36,7 @@ returns-in-Flow-clause-taken c = λ day.
 pub returns-in-Flow-clause-stopped : goal.returns-in-Flow-clause-stopped
 returns-in-Flow-clause-stopped c = λ day.
     subst (λ (f : StepForm). IfErr c.flow.result
-        (HaltsFor c.args.world.now (take_line day c.args.world.now.net c.args.plans.now f)))
+    (HaltsFor c.args.world.now (take_line day c.args.world.now.net c.args.plans.now f)))
     (sym c.in-Flow.is)
     (if_err _ _ c.flow.result
     (line_halts day c.args.world.now c.args.plans.now (form.Flow c.in-Flow.a c.in-Flow.b)
@@ -45,7 +45,7 @@ returns-in-Flow-clause-stopped c = λ day.
 pub returns-in-Reap-clause-taken : goal.returns-in-Reap-clause-taken
 returns-in-Reap-clause-taken c = λ day.
     subst (λ (f : StepForm). OnOk c.reap.result
-        (Leads c.args.world.now (take_line day c.args.world.now.net c.args.plans.now f) c.reap.new.world))
+    (Leads c.args.world.now (take_line day c.args.world.now.net c.args.plans.now f) c.reap.new.world))
     (sym c.in-Reap.is)
     (on_ok _ _ c.reap.result
     (line_leads day c.args.world.now c.args.plans.now (form.Reap c.in-Reap.w c.in-Reap.code)
@@ -55,7 +55,7 @@ returns-in-Reap-clause-taken c = λ day.
 pub returns-in-Reap-clause-stopped : goal.returns-in-Reap-clause-stopped
 returns-in-Reap-clause-stopped c = λ day.
     subst (λ (f : StepForm). IfErr c.reap.result
-        (HaltsFor c.args.world.now (take_line day c.args.world.now.net c.args.plans.now f)))
+    (HaltsFor c.args.world.now (take_line day c.args.world.now.net c.args.plans.now f)))
     (sym c.in-Reap.is)
     (if_err _ _ c.reap.result
     (line_halts day c.args.world.now c.args.plans.now (form.Reap c.in-Reap.w c.in-Reap.code)
@@ -64,7 +64,7 @@ returns-in-Reap-clause-stopped c = λ day.
 pub returns-in-Crash-clause-taken : goal.returns-in-Crash-clause-taken
 returns-in-Crash-clause-taken c = λ day.
     subst (λ (f : StepForm). OnOk c.take_step.result
-        (Leads c.args.world.now (take_line day c.args.world.now.net c.args.plans.now f) c.take_step.new.world))
+    (Leads c.args.world.now (take_line day c.args.world.now.net c.args.plans.now f) c.take_step.new.world))
     (sym c.in-Crash.is)
     (on_ok _ _ c.take_step.result
     (line_leads day c.args.world.now c.args.plans.now (form.Crash c.in-Crash.w)
@@ -74,7 +74,7 @@ returns-in-Crash-clause-taken c = λ day.
 pub returns-in-Crash-clause-stopped : goal.returns-in-Crash-clause-stopped
 returns-in-Crash-clause-stopped c = λ day.
     subst (λ (f : StepForm). IfErr c.take_step.result
-        (HaltsFor c.args.world.now (take_line day c.args.world.now.net c.args.plans.now f)))
+    (HaltsFor c.args.world.now (take_line day c.args.world.now.net c.args.plans.now f)))
     (sym c.in-Crash.is)
     (if_err _ _ c.take_step.result
     (line_halts day c.args.world.now c.args.plans.now (form.Crash c.in-Crash.w)
@@ -83,7 +83,7 @@ returns-in-Crash-clause-stopped c = λ day.
 pub returns-in-Recover-clause-taken : goal.returns-in-Recover-clause-taken
 returns-in-Recover-clause-taken c = λ day.
     subst (λ (f : StepForm). OnOk c.recover.result
-        (Leads c.args.world.now (take_line day c.args.world.now.net c.args.plans.now f) c.recover.new.world))
+    (Leads c.args.world.now (take_line day c.args.world.now.net c.args.plans.now f) c.recover.new.world))
     (sym c.in-Recover.is)
     (on_ok _ _ c.recover.result
     (line_leads day c.args.world.now c.args.plans.now (form.Recover c.in-Recover.w)
@@ -93,7 +93,7 @@ returns-in-Recover-clause-taken c = λ day.
 pub returns-in-Recover-clause-stopped : goal.returns-in-Recover-clause-stopped
 returns-in-Recover-clause-stopped c = λ day.
     subst (λ (f : StepForm). IfErr c.recover.result
-        (HaltsFor c.args.world.now (take_line day c.args.world.now.net c.args.plans.now f)))
+    (HaltsFor c.args.world.now (take_line day c.args.world.now.net c.args.plans.now f)))
     (sym c.in-Recover.is)
     (if_err _ _ c.recover.result
     (line_halts day c.args.world.now c.args.plans.now (form.Recover c.in-Recover.w)

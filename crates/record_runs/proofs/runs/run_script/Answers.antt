@@ -1,5 +1,4 @@
 use Rattle.std.proofs.Common.{◌∙◌}
-use Rattle.record_runs.specs.Taken.{LeadsAll, StopsIn}
 use Rattle.record_runs.proofs.Nights.{all_of_it, script_done, script_stopped, some_of_it}
 use Rattle.record_runs.proofs.runs.run_script.Goals as goal
 

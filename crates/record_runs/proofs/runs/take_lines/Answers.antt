@@ -3,7 +3,7 @@ use Rattle.std.proofs.lemmas.List.{drop_all}
 use Rattle.std.specs.Prelude.{Err}
 use Rattle.record_runs.specs.Causes.{no_moment}
 use Rattle.record_runs.specs.Runs.{take_line}
-use Rattle.record_runs.specs.Taken.{LeadsAll, StopsIn}
+use Rattle.record_runs.specs.Taken.{StopsIn}
 use Rattle.record_runs.proofs.Nights.{all_taken, as_far_as, goes_further, no_end, rest_is, stop_told, stops_here}
 use Rattle.record_runs.proofs.runs.take_lines.Goals as goal
 
@@ -38,13 +38,13 @@ returns-in-Err-clause-stopped c = λ day.
     (StopsIn c.args.world.now day c.args.world.now.net c.args.plans.now c.args.lines.now) c.stopped_in.ensures
     (c.in-Err.ensures.stopped day)
     (λ stop.
-        stops_here c.args.world.now day c.args.world.now.net c.args.plans.now c.args.lines.now c.loop-line.world
-        c.loop-line.plans c.line-item.result (drop (c.loop-line.line-index + 1) c.args.lines.now) stop
-        c.loop-line.invariant.same
-        (as_far_as c.args.world.now day c.args.world.now.net c.args.plans.now c.args.lines.now c.loop-line.world
-        c.loop-line.plans _ _
-        (rest_is c.args.lines.now c.loop-line.line-index c.line-item.result c.loop-line-test.true c.line-item.is)
-        (c.loop-line.invariant.far day)))
+    stops_here c.args.world.now day c.args.world.now.net c.args.plans.now c.args.lines.now c.loop-line.world
+    c.loop-line.plans c.line-item.result (drop (c.loop-line.line-index + 1) c.args.lines.now) stop
+    c.loop-line.invariant.same
+    (as_far_as c.args.world.now day c.args.world.now.net c.args.plans.now c.args.lines.now c.loop-line.world
+    c.loop-line.plans _ _
+    (rest_is c.args.lines.now c.loop-line.line-index c.line-item.result c.loop-line-test.true c.line-item.is)
+    (c.loop-line.invariant.far day)))
 
 pub returns-clause-all : goal.returns-clause-all
 returns-clause-all c = λ day e.

@@ -1,4 +1,6 @@
 //! Records as they are read: a network, plans, and steps with their lines.
+ghost use Rattle.std.specs.Prelude.{◌≡◌};
+
 use base_types::{Items, JobNo, Moment, Net, Obj, StreamDrafts, Ws};
 use conman_syntax::Line;
 
@@ -106,5 +108,17 @@ impl Drop for Script {
             plans: _plans,
             steps: _steps,
         } = self;
+    }
+}
+
+impl Script {
+    /// The network, the plans and the steps, each by itself.
+    pub fn into_parts(self) -> (Net, Plans, ScriptSteps)
+        ensures net { result.0 ≡ self.net }
+        ensures plans { result.1 ≡ self.plans }
+        ensures steps { result.2 ≡ self.steps }
+    {
+        let Script { net, plans, steps } = self;
+        (net, plans, steps)
     }
 }

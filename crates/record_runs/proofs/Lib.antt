@@ -1,0 +1,6 @@
+pub mod Shifts
+pub mod Ways
+pub mod Named
+pub mod Tables
+pub mod Nights
+pub mod Endings

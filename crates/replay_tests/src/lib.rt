@@ -1,0 +1,11 @@
+//! Tests of the runs of whole records, at reports and summaries worked out by hand.
+//!
+//! Each module holds the tests of the crate that it is named after.
+#![tactic(auto)]
+
+#[cfg(test)]
+mod night_summary_tests;
+#[cfg(test)]
+mod record_runs_tests;
+#[cfg(test)]
+mod records;

@@ -1,0 +1,3 @@
+//! What the run of a record reaches, and where it stops.
+mod nights;
+mod refusals;

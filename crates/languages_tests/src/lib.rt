@@ -10,4 +10,6 @@ mod rc_conditions_tests;
 #[cfg(test)]
 mod report_text_tests;
 #[cfg(test)]
+mod sample_record_tests;
+#[cfg(test)]
 mod syntax_tests;

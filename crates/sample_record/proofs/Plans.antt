@@ -60,10 +60,10 @@ module _ (jobs seed before x y z host first count : ℕ) (hosts : List ℕ)
       more ∙ ap (λ m. m ++ jobs_part host y first count) wrote
       ∙ append_assoc out (head_part hosts x) (jobs_part host y first count)
       ∙ ap (λ p. out ++ p)
-        (ap (λ h. head_part h x ++ jobs_part host y first count) are
-        ∙ ap (λ v. head_part (hosts_of jobs seed before) v ++ jobs_part host y first count) begins
-        ∙ ap (λ h. head_part (hosts_of jobs seed before) b ++ jobs_part h y first count) (on ∙ ap host_of begins)
-        ∙ ap (λ v. head_part (hosts_of jobs seed before) b ++ jobs_part (host_of b) v first count) same_head
-        ∙ ap (λ n. head_part (hosts_of jobs seed before) b ++ jobs_part (host_of b) jobs_there n count) number_is
-        ∙ ap (λ n. head_part (hosts_of jobs seed before) b ++ jobs_part (host_of b) jobs_there (before * 10 + 1) n)
-          count_is)
+      (ap (λ h. head_part h x ++ jobs_part host y first count) are
+      ∙ ap (λ v. head_part (hosts_of jobs seed before) v ++ jobs_part host y first count) begins
+      ∙ ap (λ h. head_part (hosts_of jobs seed before) b ++ jobs_part h y first count) (on ∙ ap host_of begins)
+      ∙ ap (λ v. head_part (hosts_of jobs seed before) b ++ jobs_part (host_of b) v first count) same_head
+      ∙ ap (λ n. head_part (hosts_of jobs seed before) b ++ jobs_part (host_of b) jobs_there n count) number_is
+      ∙ ap (λ n. head_part (hosts_of jobs seed before) b ++ jobs_part (host_of b) jobs_there (before * 10 + 1) n)
+      count_is)

@@ -8,8 +8,8 @@ abbrev pub invariant-loop-further : goal.invariant-loop-further
 invariant-loop-further l = record {
   drawn : l.draws.x ≡ number l.initial.draws.x (l.further - 1);
   wrote :
-    l.initial.out.items
-    ++ flat_map (further_job l.host l.initial.draws.x l.first) (range_with_len 1 (l.count - 1))
-    ≡ l.out.items
-    ++ flat_map (further_job l.host l.initial.draws.x l.first) (range_with_len l.further (l.count - l.further));
+      l.initial.out.items
+      ++ flat_map (further_job l.host l.initial.draws.x l.first) (range_with_len 1 (l.count - 1))
+      ≡ l.out.items
+      ++ flat_map (further_job l.host l.initial.draws.x l.first) (range_with_len l.further (l.count - l.further));
 }

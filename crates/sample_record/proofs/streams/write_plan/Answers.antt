@@ -7,17 +7,17 @@ use Rattle.sample_record.proofs.streams.write_plan.Goals as goal
 pub write_stream-requires : goal.write_stream-requires
 write_stream-requires c =
     let same : length c.as_slice.result.now ≡ c.loop-before.before =
-        ap length (c.as_slice.ensures.value ∙ c.loop-before.invariant.hosts)
-        ∙ hosts_count c.args.jobs c.args.seed c.loop-before.before in
+    ap length (c.as_slice.ensures.value ∙ c.loop-before.invariant.hosts)
+    ∙ hosts_count c.args.jobs c.args.seed c.loop-before.before in
     omega arith
 
 pub loop-before-preserved : goal.loop-before-preserved
 loop-before-preserved c =
     let are = c.as_slice.ensures.value ∙ c.loop-before.invariant.hosts in
     let rest : c.args.jobs + 1 - (c.loop-before.before * 10 + 1) ≡ c.args.jobs - c.loop-before.before * 10 =
-        omega arith in
+    omega arith in
     let count_is : c.min-count.result ≡ job_count c.args.jobs c.loop-before.before =
-        c.min-count.ensures ∙ ap (min 10) rest in
+    c.min-count.ensures ∙ ap (min 10) rest in
     record {
       drawn =
           next_begins c.args.jobs c.args.seed c.loop-before.before _ _ _ _ _ _ _ c.loop-before.invariant.drawn are

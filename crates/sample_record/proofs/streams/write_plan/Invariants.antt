@@ -8,6 +8,6 @@ invariant-loop-before l = record {
   drawn : l.draws.x ≡ beginning l.jobs l.fn.seed l.before;
   hosts : l.hosts.items ≡ hosts_of l.jobs l.fn.seed l.before;
   wrote :
-    l.initial.out.items ++ flat_map (stream_part l.jobs l.fn.seed) (range_with_len 0 l.before-end)
-    ≡ l.out.items ++ flat_map (stream_part l.jobs l.fn.seed) (range_with_len l.before (l.before-end - l.before));
+      l.initial.out.items ++ flat_map (stream_part l.jobs l.fn.seed) (range_with_len 0 l.before-end)
+      ≡ l.out.items ++ flat_map (stream_part l.jobs l.fn.seed) (range_with_len l.before (l.before-end - l.before));
 }

@@ -1,0 +1,13 @@
+pub mod Lists
+pub mod Exits
+pub mod Sending
+pub mod Starting
+pub mod Noting
+pub mod Stopped
+pub mod After
+pub mod Effects
+pub mod Taking
+pub mod Delivering
+pub mod Stopping
+pub mod Beginning
+pub mod Showing

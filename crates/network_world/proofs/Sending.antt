@@ -1,0 +1,228 @@
+-- Packets that come to the ends of lanes.
+use Rattle.std.proofs.Common.{◌≡◌, ◌≢◌, ◌∷◌, ◌+◌, ◌<◌, ◌≤◌, ◌++◌, ◌∙◌, [], ℕ, Bool, List, None, Option, Some, ap, append-nil}
+use Rattle.std.proofs.Common.{append_assoc, arith, cond, drop, eqb, false, get_or, inl, inr, length, length-append, map, option_map}
+use Rattle.std.proofs.Common.{refl, subst, suc, sym, take, take_all, true, zero}
+use Rattle.std.proofs.lemmas.Bool.{eq-eqb}
+use Rattle.std.proofs.lemmas.Bool.Decides.{eqb_tells}
+use Rattle.std.proofs.lemmas.List.{length-map}
+use Rattle.std.proofs.lemmas.Option.{slice_get-map}
+use Rattle.std.specs.Prelude.{slice_get, slice_set}
+use Rattle.model.specs.Types.{Launch, Out, Packet, Send}
+use Rattle.model.specs.World.{packets_to}
+use Rattle.network_world.specs.Stations.{Lane}
+use Rattle.network_world.specs.Lanes.{AreNew, GetsPacket, HasMore, HasRoomAt, HaveMore, HaveRoom, HaveRoomFor, seen}
+use Rattle.network_world.specs.Moves.{LanesGrow}
+use Rattle.network_world.specs.declared.lanes.Lane as raw
+use Rattle.network_world.proofs.Lists.{drop_here, map_set_same, same_some, set_elsewhere, set_length, set_there, some_map}
+use Rattle.network_world.proofs.Lists.{take_more, there_is}
+
+pub packets_append : (b : ℕ) (xs ys : List Out) → packets_to b (xs ++ ys) ≡ packets_to b xs ++ packets_to b ys
+packets_append b [] ys = refl
+packets_append b (Launch j n work ∷ xs) ys = packets_append b xs ys
+packets_append b (Out.Kill j n ∷ xs) ys = packets_append b xs ys
+packets_append b (Send to p ∷ xs) ys = go (eqb to b) (packets_append b xs ys)
+  where
+    go : (c : Bool) → packets_to b (xs ++ ys) ≡ packets_to b xs ++ packets_to b ys
+        → cond c (p ∷ packets_to b (xs ++ ys)) (packets_to b (xs ++ ys))
+        ≡ cond c (p ∷ packets_to b xs) (packets_to b xs) ++ packets_to b ys
+    go true h = ap (λ (l : List Packet). p ∷ l) h
+    go false h = h
+
+count_append : (b : ℕ) (xs ys : List Out)
+    → length (packets_to b (xs ++ ys)) ≡ length (packets_to b xs) + length (packets_to b ys)
+count_append b xs ys = ap length (packets_append b xs ys) ∙ length-append (packets_to b xs) (packets_to b ys)
+
+sent_there : (b : ℕ) (p : Packet) → packets_to b (Send b p ∷ []) ≡ p ∷ []
+sent_there b p = rw (eq-eqb b b refl) refl
+
+sent_elsewhere : (to b : ℕ) (p : Packet) → to ≢ b → packets_to b (Send to p ∷ []) ≡ []
+sent_elsewhere to b p h =
+    elim (eqb_tells to b) [
+      | inl e ↦ absurd (h e.1)
+      | inr e ↦ rw e.0 refl
+    ]
+
+-- a lane that stays, and one to which more comes twice
+more_none : (l : raw.Lane) → HasMore [] l l
+more_none l =
+    record { packets_ = sym (append-nil l.packets.items); reached_ = refl; less = omega arith }
+
+more_both : (ps qs : List Packet) (l m n : raw.Lane) → HasMore ps l m → HasMore qs m n → HasMore (ps ++ qs) l n
+more_both ps qs l m n h k =
+    record {
+      packets_ =
+          k.packets_ ∙ ap (λ (l : List Packet). l ++ qs) h.packets_ ∙ append_assoc l.packets.items ps qs;
+      reached_ = k.reached_ ∙ h.reached_;
+      less = omega (arith, h.less, k.less, length-append ps qs);
+    }
+
+pub lanes_begin : (lanes : List raw.Lane) → HaveMore [] lanes lanes
+lanes_begin lanes = record { count = refl; each = λ b m e. (m, e, more_none m) }
+
+-- lanes after one out more
+pub lanes_next : (outs : List Out) (i : ℕ) (out : Out) (old mid new : List raw.Lane) → i < length outs
+    → out ≡ get_or outs i out → HaveMore (take i outs) old mid → HaveMore (out ∷ []) mid new
+    → HaveMore (take (i + 1) outs) old new
+lanes_next outs i out old mid new h is first more =
+    record {
+      count = more.count ∙ first.count;
+      each = λ b n e.
+          let k = more.each b n e in
+          let g = first.each b k.0 k.1 in (
+            g.0,
+            g.1,
+            subst (λ (ps : List Packet). HasMore ps g.0 n)
+                (sym (ap (packets_to b) (take_more outs i out h is) ∙ packets_append b (take i outs) (out ∷ [])))
+                (more_both (packets_to b (take i outs)) (packets_to b (out ∷ [])) g.0 k.0 n g.2 k.2),
+          );
+    }
+
+pub lanes_end : (outs : List Out) (i : ℕ) (old new : List raw.Lane) → length outs ≤ i
+    → HaveMore (take i outs) old new → HaveMore outs old new
+lanes_end outs i old new h more = subst (λ (os : List Out). HaveMore os old new) (take_all i outs h) more
+
+-- the room that is left
+left_count : (b : ℕ) (outs : List Out) (i : ℕ) (out : Out) → i < length outs → out ≡ get_or outs i out
+    → length (packets_to b (drop i outs))
+    ≡ length (packets_to b (out ∷ [])) + length (packets_to b (drop (i + 1) outs))
+left_count b outs i out h is =
+    ap (λ (os : List Out). length (packets_to b os)) (drop_here outs i out h is)
+    ∙ count_append b (out ∷ []) (drop (i + 1) outs)
+
+pub room_one : (outs : List Out) (i : ℕ) (out : Out) (lanes : List raw.Lane) → i < length outs
+    → out ≡ get_or outs i out → HaveRoomFor (drop i outs) lanes → HaveRoomFor (out ∷ []) lanes
+room_one outs i out lanes h is room = λ b l e. omega (arith, room b l e, left_count b outs i out h is)
+
+pub room_rest : (outs : List Out) (i : ℕ) (out : Out) (mid new : List raw.Lane) → i < length outs
+    → out ≡ get_or outs i out → HaveRoomFor (drop i outs) mid → HaveMore (out ∷ []) mid new
+    → HaveRoomFor (drop (i + 1) outs) new
+room_rest outs i out mid new h is room more =
+    λ b n e.
+    let k = more.each b n e in
+    omega (arith, room b k.0 k.1, k.2.less, left_count b outs i out h is)
+
+-- one out: a packet comes to the end of its lane, where there is one, and nothing else does anything
+pub packet_put : (lanes new : List raw.Lane) (to : ℕ) (p : Packet)
+    → ((l : raw.Lane) → slice_get lanes to ≡ Some l → GetsPacket lanes to p l new)
+    → (slice_get lanes to ≡ None → new ≡ lanes) → HaveMore (Send to p ∷ []) lanes new
+packet_put lanes new to p there none = go (slice_get lanes to) refl
+  where
+    nobody : slice_get lanes to ≡ None → HaveMore (Send to p ∷ []) lanes lanes
+    nobody e =
+        record {
+          count = refl;
+          each = λ b m at_b.
+              elim (eqb_tells to b) [
+                | inl same ↦ absurd (clash b m same.1 at_b)
+                | inr other ↦ (
+                  m,
+                  at_b,
+                  subst (λ (ps : List Packet). HasMore ps m m) (sym (sent_elsewhere to b p other.1)) (more_none m),
+                )
+              ];
+        }
+      where
+        clash : (b : ℕ) (m : raw.Lane) → to ≡ b → slice_get lanes b ≡ Some m → ⊥
+        clash b m same at_b = none_some (sym (subst (λ (c : ℕ). slice_get lanes c ≡ None) same e) ∙ at_b)
+          where
+            none_some : {X : Type 0} {x : X} → None ≡ Some x → ⊥
+            none_some c = cc
+
+    somebody : (l : raw.Lane) → slice_get lanes to ≡ Some l → GetsPacket lanes to p l new
+        → HaveMore (Send to p ∷ []) lanes new
+    somebody l e g =
+        record {
+          count = ap length g.1 ∙ set_length lanes to g.0;
+          each = λ b n at_b.
+              let seen_at : slice_get (slice_set lanes to g.0) b ≡ Some n =
+              ap (λ (ls : List raw.Lane). slice_get ls b) (sym g.1) ∙ at_b in
+              elim (eqb_tells to b) [
+                | inl same ↦ (
+                  l,
+                  subst (λ (c : ℕ). slice_get lanes c ≡ Some l) same.1 e,
+                  subst (λ (c : ℕ). HasMore (packets_to c (Send to p ∷ [])) l n) same.1
+                      (subst (λ (ps : List Packet). HasMore ps l n) (sym (sent_there to p))
+                      (subst (λ (m : raw.Lane). HasMore (p ∷ []) l m)
+                      (set_there lanes to g.0 n
+                      (subst (λ (c : ℕ). slice_get (slice_set lanes to g.0) c ≡ Some n) (sym same.1) seen_at)) g.2)),
+                )
+                | inr other ↦ (
+                  n,
+                  sym (set_elsewhere lanes to b g.0 (λ c. other.1 (sym c))) ∙ seen_at,
+                  subst (λ (ps : List Packet). HasMore ps n n) (sym (sent_elsewhere to b p other.1)) (more_none n),
+                )
+              ];
+        }
+
+    go : (o : Option raw.Lane) → slice_get lanes to ≡ o → HaveMore (Send to p ∷ []) lanes new
+    go None e = subst (λ (ls : List raw.Lane). HaveMore (Send to p ∷ []) lanes ls) (sym (none e)) (nobody e)
+    go (Some l) e = somebody l e (there l e)
+
+-- where room for one is needed there is some
+pub room_for_packet : (lanes : List raw.Lane) (to : ℕ) (p : Packet) → HaveRoomFor (Send to p ∷ []) lanes
+    → (l : raw.Lane) → slice_get lanes to ≡ Some l → 1 ≤ l.packets.spare
+room_for_packet lanes to p room l e = omega (arith, room to l e, ap length (sent_there to p))
+
+-- nothing goes to lanes by a launch or a kill
+pub launch_put : (lanes : List raw.Lane) (out : Out) → ((b : ℕ) → packets_to b (out ∷ []) ≡ [])
+    → HaveMore (out ∷ []) lanes lanes
+launch_put lanes out nothing =
+    record {
+      count = refl;
+      each = λ b m e. (m, e, subst (λ (ps : List Packet). HasMore ps m m) (sym (nothing b)) (more_none m));
+    }
+
+-- as the world sees it
+pub lanes_grow : (outs : List Out) (old new : List raw.Lane) → HaveMore outs old new
+    → LanesGrow outs (map seen old) (map seen new)
+lanes_grow outs old new h =
+    record {
+      count = length-map new seen ∙ h.count ∙ sym (length-map old seen);
+      each = λ b m e.
+          let g = some_map seen (slice_get new b) m (sym (slice_get-map seen new b) ∙ e) in
+          let k = h.each b g.0 g.1 in (
+            seen k.0,
+            slice_get-map seen old b ∙ ap (option_map seen) k.1,
+            ap (λ (l : Lane). l.packets) (sym g.2) ∙ k.2.packets_,
+            ap (λ (l : Lane). l.reached) (sym g.2) ∙ k.2.reached_,
+          );
+    }
+
+-- room in one lane more
+pub room_same : (lanes new : List raw.Lane) (i : ℕ) (l m : raw.Lane) → slice_get lanes i ≡ Some l
+    → HasRoomAt lanes i l m new → map seen new ≡ map seen lanes
+room_same lanes new i l m e h = ap (map seen) h.0 ∙ map_set_same seen lanes i l m e h.1
+
+abbrev pub HaveRoomBelow : ℕ → List raw.Lane → Type 0
+HaveRoomBelow i lanes = (b : ℕ) (l : raw.Lane) → b < i → slice_get lanes b ≡ Some l → 8 ≤ l.packets.spare
+
+pub room_next : (lanes new : List raw.Lane) (i : ℕ) (l m : raw.Lane) → HaveRoomBelow i lanes
+    → HasRoomAt lanes i l m new → 8 ≤ m.packets.spare → HaveRoomBelow (i + 1) new
+room_next lanes new i l m room h more = λ b n below e.
+    let seen_at : slice_get (slice_set lanes i m) b ≡ Some n =
+    ap (λ (ls : List raw.Lane). slice_get ls b) (sym h.0) ∙ e in
+    elim (eqb_tells b i) [
+      | inl same ↦ subst (λ (k : raw.Lane). 8 ≤ k.packets.spare)
+          (set_there lanes i m n (subst (λ (c : ℕ). slice_get (slice_set lanes i m) c ≡ Some n) same.1 seen_at)) more
+      | inr other ↦ room b n (omega (arith, below, other.1)) (sym (set_elsewhere lanes i b m other.1) ∙ seen_at)
+    ]
+
+pub room_all : (lanes : List raw.Lane) (i : ℕ) → length lanes ≤ i → HaveRoomBelow i lanes → HaveRoom 8 lanes
+room_all lanes i h room = λ b l e. room b l (omega (arith, h, within lanes b l e)) e
+  where
+    within : (lanes : List raw.Lane) (b : ℕ) (l : raw.Lane) → slice_get lanes b ≡ Some l → b < length lanes
+    within [] b l e = cc
+    within (k ∷ lanes) zero l e = omega arith
+    within (k ∷ lanes) (suc b) l e = omega (arith, within lanes b l e)
+
+-- room for eight is room for what a step sends
+pub room_enough : (outs : List Out) (lanes : List raw.Lane) → HaveRoom 8 lanes
+    → ((to : ℕ) → length (packets_to to outs) ≤ 8) → HaveRoomFor outs lanes
+room_enough outs lanes room few = λ b l e. omega (arith, room b l e, few b)
+
+-- what is no send goes to nobody
+pub sends_nothing : (out : Out) → ((to : ℕ) (p : Packet) → out ≡ Send to p → ⊥) → (b : ℕ)
+    → packets_to b (out ∷ []) ≡ []
+sends_nothing (Launch j n work) h b = refl
+sends_nothing (Out.Kill j n) h b = refl
+sends_nothing (Send to p) h b = absurd (h to p refl)

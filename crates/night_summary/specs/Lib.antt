@@ -1,0 +1,2 @@
+-- What is counted for the summary of a night.
+pub mod Counts

@@ -1,0 +1,5 @@
+pub mod Shifts
+pub mod Ways
+pub mod Named
+pub mod Tables
+pub mod Nights

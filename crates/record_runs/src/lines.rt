@@ -1,0 +1,159 @@
+//! The lines of a record.
+ghost use Rattle.std.specs.Prelude.{◌≡◌, ◌<◌, IfErr, IfOk, IsTrue, Ok, OnOk, false, map};
+ghost use Rattle.model.specs.Types.{Deliver, Ended, LiveJob, Take};
+ghost use Rattle.model.specs.Types as types;
+ghost use Rattle.model.specs.Words.{ascending};
+ghost use Rattle.model.specs.Network.{node_count};
+ghost use Rattle.model.specs.World as model;
+ghost use Rattle.model.specs.World.{view_at};
+ghost use Rattle.network_world.specs.Standing.{StandsFor};
+ghost use Rattle.recovery_watch.specs.Advice as advices;
+ghost use Rattle.record_runs.specs.Lines as spec;
+ghost use Rattle.record_runs.specs.Lines.{Day, are_inside, asks_day, asks_day_in, left_after, takes_plan_in, ws_in_form, ws_in_one};
+ghost use Rattle.record_runs.specs.Runs as runs;
+ghost use Rattle.record_runs.specs.Runs.{take_steps};
+ghost use Rattle.record_runs.specs.Taken.{HaltsFor, Leads};
+
+use crate::acts::{act, cut_short, whole};
+use crate::orders::advised;
+use crate::plans::PlansLeft;
+use crate::steps::take_step;
+use crate::stops::Halt;
+use base_types::{JobNo, Live, Local, NoMemory, WorldStep, Ws};
+use network_world::World;
+use record_script::{OneStep, StepForm};
+use std::alloc::Global;
+use std::collections::BTreeSet;
+
+/// A step that is one step of the world.
+fn take_one(
+    alloc: Global,
+    world: &mut World,
+    plans: &mut PlansLeft,
+    one: &OneStep,
+) -> Result<(), Halt>
+    requires inside { IsTrue (are_inside world.old.net (ws_in_one one.now)) }
+    requires no_day { asks_day_in one.now ≡ false }
+    ensures taken { (day : Day) → OnOk result (Leads world.old
+        (runs.take_line day world.old.net plans.old (StepForm.One one.now)) world.new) }
+    ensures stopped { (day : Day) → IfErr result (HaltsFor world.old
+        (runs.take_line day world.old.net plans.old (StepForm.One one.now))) }
+    ensures left { OnOk result (plans.new ≡ left_after plans.old (StepForm.One one.now)) }
+{
+    let act = act(alloc, world, plans, one)?;
+    take_step(world, &whole(act))
+}
+
+/// A workstation stops in a step.
+fn stop_in(
+    alloc: Global,
+    world: &mut World,
+    plans: &mut PlansLeft,
+    w: Ws,
+    kept: bool,
+    one: &OneStep,
+) -> Result<(), Halt>
+    requires inside { IsTrue (are_inside world.old.net (ws_in_one one.now)) }
+    requires no_day { asks_day_in one.now ≡ false }
+    ensures taken { (day : Day) → OnOk result (Leads world.old
+        (runs.take_line day world.old.net plans.old (StepForm.CrashIn w kept one.now)) world.new) }
+    ensures stopped { (day : Day) → IfErr result (HaltsFor world.old
+        (runs.take_line day world.old.net plans.old (StepForm.CrashIn w kept one.now))) }
+    ensures left { OnOk result (plans.new ≡ left_after plans.old (StepForm.CrashIn w kept one.now)) }
+{
+    let act = act(alloc, world, plans, one)?;
+    take_step(world, &cut_short(act, kept))
+}
+
+/// The packets behind the greatest that was delivered are delivered, up to the last that was sent before.
+fn flow(world: &mut World, a: Ws, b: Ws) -> Result<(), Halt>
+    requires from { a < node_count world.old.net }
+    requires to { b < node_count world.old.net }
+    ensures taken { OnOk result (Leads world.old
+        (λ x. take_steps world.old.net x (map (λ k. types.Deliver a b k) (spec.undelivered x a b))) world.new) }
+    ensures stopped { IfErr result (HaltsFor world.old
+        (λ x. take_steps world.old.net x (map (λ k. types.Deliver a b k) (spec.undelivered x a b)))) }
+{
+    let sent = world.packets(a, b);
+    for k in world.reached(a, b)..sent {
+        let step = WorldStep::Deliver(a, b, k + 1);
+        take_step(world, &step)?;
+    }
+    Ok(())
+}
+
+/// The jobs of launches, in ascending order.
+#[tactic(auto, using(batchman_core::proofs::Gatherings::with_one_more, batchman_core::proofs::Gatherings::all_gathered, batchman_core::proofs::Gatherings::key_inserted))]
+fn jobs_of(alloc: Global, live: &Live) -> Result<BTreeSet<u32>, NoMemory>
+    ensures { IfOk result (λ jobs. jobs.keys ≡ ascending (map (λ (l : LiveJob). l.job) live.now)) }
+{
+    let mut jobs = BTreeSet::new(alloc);
+    for launch in live.as_slice() {
+        jobs.insert(launch.job.0)?;
+    }
+    Ok(jobs)
+}
+
+/// The jobs that live at w, in ascending order.
+fn live_jobs(alloc: Global, world: &World, w: Ws) -> Result<BTreeSet<u32>, NoMemory>
+    requires { w < node_count world.now.net }
+    ensures { IfOk result (λ jobs. (x : model.World) → StandsFor world.now x → jobs.keys ≡ spec.live_jobs x w) }
+{
+    jobs_of(alloc, world.node(w).live())
+}
+
+/// The jobs that live at w end with a return code, the lowest first.
+fn reap(alloc: Global, world: &mut World, w: Ws, code: i32) -> Result<(), Halt>
+    requires { w < node_count world.old.net }
+    ensures taken { OnOk result (Leads world.old
+        (λ x. take_steps world.old.net x (map (λ j. types.Take w (types.Local.Ended j code)) (spec.live_jobs x w)))
+        world.new) }
+    ensures stopped { IfErr result (HaltsFor world.old
+        (λ x. take_steps world.old.net x (map (λ j. types.Take w (types.Local.Ended j code)) (spec.live_jobs x w)))) }
+{
+    let jobs = live_jobs(alloc, world, w)?;
+    for job in &jobs {
+        let step = WorldStep::Take(w, Local::Ended(JobNo(*job), code));
+        take_step(world, &step)?;
+    }
+    Ok(())
+}
+
+/// A workstation types its advice for itself, if there is one.
+fn recover(world: &mut World, w: Ws) -> Result<(), Halt>
+    requires { w < node_count world.old.net }
+    ensures taken { OnOk result (Leads world.old
+        (λ x. take_steps world.old.net x (spec.advised w (advices.advice (view_at x w) w))) world.new) }
+    ensures stopped { IfErr result (HaltsFor world.old
+        (λ x. take_steps world.old.net x (spec.advised w (advices.advice (view_at x w) w)))) }
+{
+    match advised(world, w) {
+        None => Ok(()),
+        Some(command) => take_step(world, &WorldStep::Take(w, Local::Typed(w, command))),
+    }
+}
+
+/// A line of a record.
+pub(crate) fn take_line(
+    alloc: Global,
+    world: &mut World,
+    plans: &mut PlansLeft,
+    form: &StepForm,
+) -> Result<(), Halt>
+    requires inside { IsTrue (are_inside world.old.net (ws_in_form form.now)) }
+    requires no_day { asks_day form.now ≡ false }
+    ensures taken { (day : Day) → OnOk result (Leads world.old
+        (runs.take_line day world.old.net plans.old form.now) world.new) }
+    ensures stopped { (day : Day) → IfErr result (HaltsFor world.old
+        (runs.take_line day world.old.net plans.old form.now)) }
+    ensures left { OnOk result (plans.new ≡ left_after plans.old form.now) }
+{
+    match form {
+        StepForm::One(one) => take_one(alloc, world, plans, one),
+        StepForm::Flow(a, b) => flow(world, *a, *b),
+        StepForm::Reap(w, code) => reap(alloc, world, *w, *code),
+        StepForm::Crash(w) => take_step(world, &WorldStep::Crash(*w)),
+        StepForm::CrashIn(w, kept, one) => stop_in(alloc, world, plans, *w, *kept, one),
+        StepForm::Recover(w) => recover(world, *w),
+    }
+}

@@ -1,0 +1,9 @@
+use Rattle.std.proofs.Common.{◌≡◌, ◌++◌, ◌+◌, drop, take}
+use Rattle.std.specs.Prelude.{filter_map, []}
+use Rattle.model.specs.Types.{Command, Recovery}
+use Rattle.record_script.specs.Networks.{first_or}
+use Rattle.record_script.specs.Plans as spec
+use Rattle.record_script.proofs.jobs.logon.Given as goal
+
+abbrev pub invariant-loop-row : goal.invariant-loop-row
+invariant-loop-row l = first_or [] spec.logon_in l.rows ≡ first_or [] spec.logon_in (drop l.row-index l.rows)

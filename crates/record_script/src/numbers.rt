@@ -1,0 +1,117 @@
+//! The numbers of what a record names.
+ghost use Rattle.std.specs.Prelude.{◌≡◌, IfOk, bytes_eq, filter_map};
+ghost use Rattle.record_faults.specs.Known as known;
+ghost use Rattle.record_script.specs.Numbers as spec;
+ghost use Rattle.record_script.specs.Counted.{AreNew, AreNumbers};
+
+use crate::names::{Keys, Names};
+use crate::picks::{prompt_of, resource_of, station_name};
+use base_types::{NoMemory, Text, Ws};
+use record_rows::Row;
+use std::alloc::Global;
+use std::marker::Model;
+
+/// The workstations, resources and prompts of a record, by their numbers.
+pub(crate) struct Numbers<'a> {
+    stations: Names<'a>,
+    resources: Keys<'a>,
+    prompts: Names<'a>,
+}
+
+impl<'a> Drop for Numbers<'a> {
+    fn drop(self) {
+        let Numbers {
+            stations: _stations,
+            resources: _resources,
+            prompts: _prompts,
+        } = self;
+    }
+}
+
+impl<'a> Model for Numbers<'a> {
+    ghost use Rattle.record_script.specs.Numbers.{Numbered};
+
+    ghost Value = { Numbered };
+
+    ghost view = { λ n. record { stations = n.stations; resources = n.resources; prompts = n.prompts } };
+}
+
+/// The workstations that rows define.
+fn stations<'a>(alloc: Global, rows: &'a [Row]) -> Result<Names<'a>, NoMemory>
+    requires { AreNew bytes_eq (filter_map known.station_name rows.now) }
+    ensures { IfOk result (λ names. names ≡ filter_map known.station_name rows.now) }
+{
+    let mut names = Names::new(alloc);
+    for row in rows {
+        if let Some(name) = station_name(row) {
+            names.add(name)?;
+        }
+    }
+    Ok(names)
+}
+
+/// The resources that rows define.
+fn resources<'a>(alloc: Global, rows: &'a [Row]) -> Result<Keys<'a>, NoMemory>
+    requires { AreNew known.key_eq (filter_map known.resource_of rows.now) }
+    ensures { IfOk result (λ keys. keys ≡ filter_map known.resource_of rows.now) }
+{
+    let mut keys = Keys::new(alloc);
+    for row in rows {
+        if let Some((ws, name)) = resource_of(row) {
+            keys.add(ws, name)?;
+        }
+    }
+    Ok(keys)
+}
+
+/// The prompts that rows define.
+fn prompts<'a>(alloc: Global, rows: &'a [Row]) -> Result<Names<'a>, NoMemory>
+    requires { AreNew bytes_eq (filter_map known.prompt_of rows.now) }
+    ensures { IfOk result (λ names. names ≡ filter_map known.prompt_of rows.now) }
+{
+    let mut names = Names::new(alloc);
+    for row in rows {
+        if let Some(name) = prompt_of(row) {
+            names.add(name)?;
+        }
+    }
+    Ok(names)
+}
+
+impl<'a> Numbers<'a> {
+    /// The numbers of what rows name. The only error is that memory ran out.
+    pub(crate) fn of_rows(alloc: Global, rows: &'a [Row]) -> Result<Numbers<'a>, NoMemory>
+        requires { AreNumbers rows.now }
+        ensures { IfOk result (λ n. n ≡ spec.numbered rows.now) }
+    {
+        let stations = stations(alloc, rows)?;
+        let resources = resources(alloc, rows)?;
+        let prompts = prompts(alloc, rows)?;
+        Ok(Numbers {
+            stations,
+            resources,
+            prompts,
+        })
+    }
+
+    /// The number of a workstation, from 0.
+    pub(crate) fn ws(&self, name: &'a Text) -> Ws
+        ensures { result ≡ spec.ws_no self.now name.now }
+    {
+        Ws(self.stations.place(name))
+    }
+
+    /// The number of a resource, from 1.
+    pub(crate) fn resource(&self, ws: &'a Text, name: &'a Text) -> u16
+        ensures { result ≡ spec.resource_no self.now (ws.now, name.now) }
+    {
+        self.resources.place(ws, name) + 1
+    }
+
+    /// The number of a prompt, from 1.
+    pub(crate) fn prompt(&self, name: &'a Text) -> u16
+        ensures { result ≡ spec.prompt_no self.now name.now }
+    {
+        self.prompts.place(name) + 1
+    }
+}

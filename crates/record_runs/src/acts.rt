@@ -23,7 +23,7 @@ pub(crate) enum Act {
 }
 
 /// What a step of a record is. A `next` takes its plan out of those that are left.
-pub(crate) fn act(
+pub(crate) fn act_of(
     alloc: Global,
     world: &World,
     plans: &mut PlansLeft,

@@ -14,7 +14,7 @@ ghost use Rattle.record_runs.specs.Runs as runs;
 ghost use Rattle.record_runs.specs.Runs.{take_steps};
 ghost use Rattle.record_runs.specs.Taken.{HaltsFor, Leads};
 
-use crate::acts::{act, cut_short, whole};
+use crate::acts::{act_of, cut_short, whole};
 use crate::orders::advised;
 use crate::plans::PlansLeft;
 use crate::steps::take_step;
@@ -40,7 +40,7 @@ fn take_one(
         (runs.take_line day world.old.net plans.old (StepForm.One one.now))) }
     ensures left { OnOk result (plans.new ≡ left_after plans.old (StepForm.One one.now)) }
 {
-    let act = act(alloc, world, plans, one)?;
+    let act = act_of(alloc, world, plans, one)?;
     take_step(world, &whole(act))
 }
 
@@ -61,7 +61,7 @@ fn stop_in(
         (runs.take_line day world.old.net plans.old (StepForm.CrashIn w kept one.now))) }
     ensures left { OnOk result (plans.new ≡ left_after plans.old (StepForm.CrashIn w kept one.now)) }
 {
-    let act = act(alloc, world, plans, one)?;
+    let act = act_of(alloc, world, plans, one)?;
     take_step(world, &cut_short(act, kept))
 }
 

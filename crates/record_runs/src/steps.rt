@@ -6,7 +6,7 @@ ghost use Rattle.record_runs.specs.Lines.{are_inside};
 ghost use Rattle.record_runs.specs.Runs.{take_steps};
 ghost use Rattle.record_runs.specs.Taken.{HaltsFor, Leads};
 
-use crate::stops::{Halt, halt};
+use crate::stops::{Halt, refusal_halt};
 use base_types::WorldStep;
 use network_world::World;
 
@@ -18,6 +18,6 @@ pub(crate) fn take_step(world: &mut World, step: &WorldStep) -> Result<(), Halt>
 {
     match world.step(step) {
         Ok(()) => Ok(()),
-        Err(refused) => Err(halt(refused)),
+        Err(refused) => Err(refusal_halt(refused)),
     }
 }

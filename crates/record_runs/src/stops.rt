@@ -104,7 +104,7 @@ fn fault_halt(fault: StepFault) -> Halt
 }
 
 /// What halts where a step of the world is refused.
-pub(crate) fn halt(refused: StepRefused) -> Halt
+pub(crate) fn refusal_halt(refused: StepRefused) -> Halt
     ensures { result ≡ halts_at (meant refused) }
 {
     match refused {

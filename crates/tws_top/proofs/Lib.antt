@@ -1,0 +1,3 @@
+mod Replies
+mod Dues
+mod Rows

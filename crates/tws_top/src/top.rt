@@ -21,10 +21,44 @@ use crate::replies::Silence;
 use crate::samples::reply_to_sample;
 use crate::says::{Done, answer, say, silent};
 use crate::statuses::Status;
-use crate::words::{Asked, asked};
+use crate::words::{Asked, read_words};
 use base_types::Text;
 use outside::{Sink, Source};
 use std::alloc::Global;
+
+/// Does what the words ask for. All else that `tws` promises follows from these clauses.
+fn ended<I: Source, O: Sink>(
+    alloc: Global,
+    words: &[Text],
+    input: &mut I,
+    out: &mut O,
+) -> Done
+    ensures due { result.status ≢ 4 → result.status ≢ 9 → IsAnswer words.now (I.stream input.old) (I.stream input.new)
+        result.status result.world (O.written out.old) (O.written out.new) (O.faults out.old) (O.faults out.new) }
+    ensures source_failed { result.status ≡ 4 → Rose (I.faults input.old) (I.faults input.new) }
+    ensures silent { (result.status ≡ 4) ⊎ (result.status ≡ 9) → Keeps (O.written out.old) (O.written out.new) }
+    ensures alone { (result.status ≡ 4) ⊎ (result.status ≡ 9) → result.world ≡ None }
+    ensures input_untouched { asks_record (asked_of words.now) ≡ false → input.new ≡ input.old }
+    ensures memory { result.status ≡ 9 → asked_of words.now ≢ None }
+    ensures words_alone { asked_of words.now ≡ None → (result.status ≡ 2) ⊎ (result.status ≡ 5) }
+    ensures source_count { result.status ≢ 4 → I.faults input.new ≡ I.faults input.old }
+    ensures sink_count { result.status ≢ 5 → O.faults out.new ≡ O.faults out.old }
+{
+    match read_words(words) {
+        None => Done {
+            status: say(out, b"words refused\n", Status::WordsRefused),
+            world: None,
+        },
+        Some(Asked::Sample(jobs, seed)) => match reply_to_sample(alloc, jobs, seed) {
+            Ok(reply) => answer(out, reply),
+            Err(_) => silent(Silence::NoMemory),
+        },
+        Some(Asked::Night(telling)) => match reply_to_input(alloc, input, telling) {
+            Ok(reply) => answer(out, reply),
+            Err(why) => silent(why),
+        },
+    }
+}
 
 /// Does all that the program does, and ends with its exit status.
 ///
@@ -80,18 +114,5 @@ pub fn tws<I: Source, O: Sink>(alloc: Global, words: &[Text], input: &mut I, out
     ensures source_count { result.status ≢ 4 → I.faults input.new ≡ I.faults input.old }
     ensures sink_count { result.status ≢ 5 → O.faults out.new ≡ O.faults out.old }
 {
-    match asked(words) {
-        None => Done {
-            status: say(out, b"words refused\n", Status::WordsRefused),
-            world: None,
-        },
-        Some(Asked::Sample(jobs, seed)) => match reply_to_sample(alloc, jobs, seed) {
-            Ok(reply) => answer(out, reply),
-            Err(_) => silent(Silence::NoMemory),
-        },
-        Some(Asked::Night(telling)) => match reply_to_input(alloc, input, telling) {
-            Ok(reply) => answer(out, reply),
-            Err(why) => silent(why),
-        },
-    }
+    ended(alloc, words, input, out)
 }

@@ -25,7 +25,7 @@ pub enum Asked {
 
 /// What words ask for. None where they have no form.
 #[tactic(auto, unfolding(crate::specs::Words::asked_of))]
-pub(crate) fn asked(words: &[Text]) -> Option<Asked>
+pub(crate) fn read_words(words: &[Text]) -> Option<Asked>
     ensures form { result ≡ spec.asked_of words.now }
     ensures size { IfSome result spec.HasSize }
 {

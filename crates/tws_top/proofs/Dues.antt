@@ -1,0 +1,199 @@
+-- What is due is one status and one text, and it is what was said.
+use Rattle.std.proofs.Common.{◌≡◌, ◌≢◌, ◌+◌, ◌≤◌, ◌<◌, ◌++◌, ◌⊎◌, ℕ, List, Option, Some, None, Result, Ok, Err, ◌×◌, inl, inr}
+use Rattle.std.proofs.Common.{sym, ap, ◌∙◌, subst, refl, codes, length, append-nil, length-append, arith}
+use Rattle.outside.specs.Causes.{Rose}
+use Rattle.outside.specs.Streams.{Stream, TakesAll}
+use Rattle.std.specs.Io.KnownBytes.{Appends}
+use Rattle.whole_io.specs.Whole.{TakesCount}
+use Rattle.model.specs.World as model
+use Rattle.network_world.specs.Stations.{WorldState}
+use Rattle.record_faults.specs.declared.kinds.ScriptKind.{ScriptKind}
+use Rattle.record_runs.specs.Causes.{Cause, told}
+use Rattle.record_runs.specs.Ends.{run_of_script}
+use Rattle.record_runs.specs.Runs.{End}
+use Rattle.record_runs.specs.Runs as runs
+use Rattle.record_script.specs.declared.scripts.Script.{Script}
+use Rattle.sample_record.specs.Samples.{sample_of}
+use Rattle.tws_top.specs.declared.replies.Reply.{Reply}
+use Rattle.tws_top.specs.declared.statuses.Status.{Status}
+use Rattle.tws_top.specs.declared.statuses.Status.TheVariants.{Success, WordsRefused, RecordRefused, LimitPassed}
+use Rattle.tws_top.specs.declared.words.Telling.{Telling}
+use Rattle.tws_top.specs.declared.words.Asked.TheVariants as asks
+use Rattle.tws_top.specs.Lines.{refused_line, kind_word, stop_status, stop_line}
+use Rattle.tws_top.specs.Nights.{Night, no_days, read_bytes, told_at}
+use Rattle.tws_top.specs.Statuses.{number_of}
+use Rattle.tws_top.specs.Words.{asked_of}
+use Rattle.tws_top.specs.Dues.{CallsFor, ReadCallsFor, LeftCallsFor, Due, Says, IsReply, IsOf, IsAnswer}
+
+-- records that were read to one thing have one run
+one_run : (reading : Result Script (ℕ × ScriptKind)) (s t : Script) → reading ≡ Ok s → reading ≡ Ok t
+    → run_of_script no_days s ≡ run_of_script no_days t
+one_run reading s t e f =
+    let same : Ok s ≡ Ok t = sym e ∙ f in
+    let script : s ≡ t = cc in ap (run_of_script no_days) script
+
+-- what bytes call for is one status and one text
+calls_one : (telling : Telling) (reading : Result Script (ℕ × ScriptKind)) (a b : Status) (x y : List ℕ)
+    (n m : Option Night) → CallsFor telling reading a x n → CallsFor telling reading b y m → (a ≡ b) × (x ≡ y)
+calls_one telling reading a b x y n m (CallsFor.no_record l k e) (CallsFor.no_record l' k' e') =
+    let same : Err (l, k) ≡ Err (l', k') = sym e ∙ e' in
+    let pair : (l, k) ≡ (l', k') = cc in
+    (refl, ap (λ (p : ℕ × ScriptKind). refused_line p.0 (kind_word p.1)) pair)
+calls_one telling reading a b x y n m (CallsFor.no_record l k e) (CallsFor.stopped s l' c e' r) =
+    let clash : Err (l, k) ≡ Ok s = sym e ∙ e' in cc
+calls_one telling reading a b x y n m (CallsFor.no_record l k e) (CallsFor.ran s w e' r) =
+    let clash : Err (l, k) ≡ Ok s = sym e ∙ e' in cc
+calls_one telling reading a b x y n m (CallsFor.stopped s l c e r) (CallsFor.no_record l' k' e') =
+    let clash : Err (l', k') ≡ Ok s = sym e' ∙ e in cc
+calls_one telling reading a b x y n m (CallsFor.stopped s l c e r) (CallsFor.stopped s' l' c' e' r') =
+    let same : runs.stopped l c ≡ runs.stopped l' c' = sym r ∙ one_run reading s s' e e' ∙ r' in
+    let line : l ≡ l' = cc in
+    let cause : c ≡ c' = cc in
+    (ap (λ z. stop_status (told z)) cause,
+    ap (λ z. stop_line z (told c)) line ∙ ap (λ z. stop_line l' (told z)) cause)
+calls_one telling reading a b x y n m (CallsFor.stopped s l c e r) (CallsFor.ran s' w e' r') =
+    let clash : runs.stopped l c ≡ runs.done w = sym r ∙ one_run reading s s' e e' ∙ r' in cc
+calls_one telling reading a b x y n m (CallsFor.ran s w e r) (CallsFor.no_record l' k' e') =
+    let clash : Err (l', k') ≡ Ok s = sym e' ∙ e in cc
+calls_one telling reading a b x y n m (CallsFor.ran s w e r) (CallsFor.stopped s' l' c' e' r') =
+    let clash : runs.done w ≡ runs.stopped l' c' = sym r ∙ one_run reading s s' e e' ∙ r' in cc
+calls_one telling reading a b x y n m (CallsFor.ran s w e r) (CallsFor.ran s' w' e' r') =
+    let same : runs.done w ≡ runs.done w' = sym r ∙ one_run reading s s' e e' ∙ r' in
+    let world : w ≡ w' = cc in
+    let scripts : Ok s ≡ Ok s' = sym e ∙ e' in
+    let script : s ≡ s' = cc in
+    (refl, ap (λ (z : Script). told_at telling z.net w) script ∙ ap (told_at telling s'.net) world)
+
+-- what was left of a source that was read to its end
+left_read : (source : Stream) (new : Option Stream) (bytes : List ℕ) → TakesAll (Some source) new bytes
+    → source.left ≡ bytes
+left_read source None bytes all = absurd all.takes
+left_read source (Some s) bytes all = all.takes.1 ∙ ap (λ l. bytes ++ l) all.end ∙ append-nil bytes
+
+left_long : (source : Stream) (new : Option Stream) → TakesCount 16777217 (Some source) new
+    → 16777216 < length source.left
+left_long source None h = absurd h.2
+left_long source (Some s) h =
+    let whole : length source.left ≡ length h.0 + length s.left = ap length h.2.1 ∙ length-append h.0 s.left in
+    let count : length h.0 ≡ 16777217 = h.1 in
+    omega arith
+
+-- what was read calls for what was left calls for
+read_left : (telling : Telling) (source : Stream) (new : Option Stream) (a b : Status) (x y : List ℕ) (n m : Option Night)
+    → ReadCallsFor telling (Some source) new a x n → LeftCallsFor telling source.left b y m → (a ≡ b) × (x ≡ y)
+read_left telling source new a b x y n m (ReadCallsFor.too_long h) (LeftCallsFor.too_long long) = (refl, refl)
+read_left telling source new a b x y n m (ReadCallsFor.too_long h) (LeftCallsFor.read short k) =
+    let long = left_long source new h in absurd (let never : ⊥ = omega arith in never)
+read_left telling source new a b x y n m (ReadCallsFor.read bytes all short h) (LeftCallsFor.too_long long) =
+    let same : length source.left ≡ length bytes = ap length (left_read source new bytes all) in
+    absurd (let never : ⊥ = omega arith in never)
+read_left telling source new a b x y n m (ReadCallsFor.read bytes all short h) (LeftCallsFor.read few k) =
+    let P : List ℕ → Type 0 = λ l. CallsFor telling (read_bytes l) b y m in
+    calls_one telling (read_bytes bytes) a b x y n m h (subst P (left_read source new bytes all) k)
+
+says_other : (a b : Status) (x y : List ℕ) (result : ℕ) (written written' : Option (List ℕ)) (faults faults' : ℕ)
+    → (a ≡ b) × (x ≡ y) → Says a x result written written' faults faults' → Says b y result written written' faults faults'
+says_other a b x y result written written' faults faults' same says = rw (← same.0, ← same.1) says
+
+-- what is answered
+module _ (words : List (List ℕ)) (old new : Option Stream) (result : ℕ) (handed : Option WorldState)
+    (written written' : Option (List ℕ)) (faults faults' : ℕ) where
+  pub answer_words : asked_of words ≡ None
+      → Says WordsRefused (codes "words refused\n") result written written' faults faults' → handed ≡ None
+      → IsAnswer words old new result handed written written' faults faults'
+  answer_words e says none =
+      let P : Option WorldState → Type 0 = λ w. IsOf w None in record {
+        status = WordsRefused;
+        text = codes "words refused\n";
+        night = None;
+        due = Due.other_words e;
+        says = says;
+        whole = λ _. subst P (sym none) tt;
+        alone = λ _. none;
+      }
+
+  pub answer_sample : (jobs seed : ℕ) (r : Reply) → asked_of words ≡ Some (asks.Sample jobs seed) → r.status ≡ Success
+      → r.text ≡ sample_of jobs seed → r.world ≡ None → Says r.status r.text result written written' faults faults'
+      → (result ≢ 5 → handed ≡ r.world) → (result ≡ 5 → handed ≡ None)
+      → IsAnswer words old new result handed written written' faults faults'
+  answer_sample jobs seed r e is said none says with_it without =
+      let P : Option WorldState → Type 0 = λ w. IsOf w None in record {
+        status = Success;
+        text = sample_of jobs seed;
+        night = None;
+        due = Due.sampled jobs seed e;
+        says =
+            says_other r.status Success r.text (sample_of jobs seed) result written written' faults faults' (is, said)
+            says;
+        whole = λ ne. subst P (sym (with_it ne ∙ none)) tt;
+        alone = without;
+      }
+
+  pub answer_night : (telling : Telling) (r : Reply) → asked_of words ≡ Some (asks.Night telling)
+      → IsReply (ReadCallsFor telling old new) r → Says r.status r.text result written written' faults faults'
+      → (result ≢ 5 → handed ≡ r.world) → (result ≡ 5 → handed ≡ None)
+      → IsAnswer words old new result handed written written' faults faults'
+  answer_night telling r e reply says with_it without =
+      let P : Option WorldState → Type 0 = λ w. IsOf w reply.night in record {
+        status = r.status;
+        text = r.text;
+        night = reply.night;
+        due = Due.by_input telling e reply.called;
+        says = says;
+        whole = λ ne. subst P (sym (with_it ne)) reply.world_;
+        alone = without;
+      }
+
+  -- of words that ask for a night, what was read calls for what was said
+  input_due : (telling : Telling) (status : Status) (text : List ℕ) (night : Option Night)
+      → asked_of words ≡ Some (asks.Night telling) → Due words old new status text night
+      → ReadCallsFor telling old new status text night
+  input_due telling status text night asked (Due.other_words e) =
+      let clash : None ≡ Some (asks.Night telling) = sym e ∙ asked in cc
+  input_due telling status text night asked (Due.sampled jobs seed e) =
+      let clash : Some (asks.Sample jobs seed) ≡ Some (asks.Night telling) = sym e ∙ asked in cc
+  input_due telling status text night asked (Due.by_input t e read) =
+      let same : Some (asks.Night t) ≡ Some (asks.Night telling) = sym e ∙ asked in
+      let one : t ≡ telling = cc in
+      let P : Telling → Type 0 = λ z. ReadCallsFor z old new status text night in subst P one read
+
+  pub exact_said : (source : Stream) (telling : Telling) → old ≡ Some source
+      → asked_of words ≡ Some (asks.Night telling) → (status : Status) (text : List ℕ) (night : Option Night)
+      → LeftCallsFor telling source.left status text night
+      → IsAnswer words old new result handed written written' faults faults'
+      → Says status text result written written' faults faults'
+  exact_said source telling told_ asked status text night left a =
+      let read = input_due telling a.status a.text a.night asked a.due in
+      let P : Option Stream → Type 0 = λ o. ReadCallsFor telling o new a.status a.text a.night in
+      says_other a.status status a.text text result written written' faults faults'
+      (read_left telling source new a.status status a.text text a.night night (subst P told_ read) left) a.says
+
+  pub complete_said : (source : Stream) (telling : Telling) (s : Script) (x : model.World) → old ≡ Some source
+      → asked_of words ≡ Some (asks.Night telling) → length source.left ≤ 16777216 → read_bytes source.left ≡ Ok s
+      → run_of_script no_days s ≡ runs.done x → (Rose faults faults' → ⊥)
+      → IsAnswer words old new result handed written written' faults faults' → result ≡ 0
+  complete_said source telling s x told_ asked short is run calm a =
+      let says = exact_said source telling told_ asked Success (told_at telling s.net x)
+      (Some (record { net = s.net; world = x })) (LeftCallsFor.read short (CallsFor.ran s x is run)) a in
+      (says.all (λ e. calm (says.fault e))).0
+
+  -- of words that ask for a sample
+  sample_due : (jobs seed : ℕ) (status : Status) (text : List ℕ) (night : Option Night)
+      → asked_of words ≡ Some (asks.Sample jobs seed) → Due words old new status text night
+      → (status ≡ Success) × (text ≡ sample_of jobs seed)
+  sample_due jobs seed status text night asked (Due.other_words e) =
+      let clash : None ≡ Some (asks.Sample jobs seed) = sym e ∙ asked in cc
+  sample_due jobs seed status text night asked (Due.sampled j k e) =
+      let same : Some (asks.Sample j k) ≡ Some (asks.Sample jobs seed) = sym e ∙ asked in
+      let one : j ≡ jobs = cc in
+      let other : k ≡ seed = cc in
+      (refl, ap (λ z. sample_of z k) one ∙ ap (sample_of jobs) other)
+  sample_due jobs seed status text night asked (Due.by_input t e read) =
+      let clash : Some (asks.Night t) ≡ Some (asks.Sample jobs seed) = sym e ∙ asked in cc
+
+  pub sample_said : (jobs seed : ℕ) → asked_of words ≡ Some (asks.Sample jobs seed)
+      → IsAnswer words old new result handed written written' faults faults'
+      → Says Success (sample_of jobs seed) result written written' faults faults'
+  sample_said jobs seed asked a =
+      says_other a.status Success a.text (sample_of jobs seed) result written written' faults faults'
+      (sample_due jobs seed a.status a.text a.night asked a.due) a.says

@@ -1,5 +1,5 @@
 -- What streams are drawn.
-use Rattle.std.proofs.Common.{◌≡◌, ◌==◌, ◌+◌, ◌-◌, ◌*◌, ◌<◌, ◌≤◌, ℕ, suc, zero, List, [], ◌∷◌, ◌++◌, length, map, false}
+use Rattle.std.proofs.Common.{◌≡◌, ◌==◌, ◌+◌, ◌-◌, ◌*◌, ◌<◌, ℕ, suc, zero, List, [], ◌∷◌, ◌++◌, length, map, false}
 use Rattle.std.proofs.Common.{ap, sym, ◌∙◌, refl, append_assoc, zero-add, arith}
 use Rattle.std.specs.List.{range_with_len}
 use Rattle.std.proofs.lemmas.List.{map-append}

@@ -1,6 +1,6 @@
 -- The steps: the plan is made, the links go up, and then each round has a turn of the master and of each agent, the good
 -- end of what runs, and all packets.
-use Rattle.std.specs.Prelude.{ℕ, List, [], ◌∷◌, ◌++◌, ◌+◌, ◌*◌, flat_map, codes}
+use Rattle.std.specs.Prelude.{ℕ, List, ◌++◌, ◌+◌, ◌*◌, flat_map, codes}
 use Rattle.std.specs.Fmt.{decimal}
 use Rattle.std.specs.List.{range_with_len}
 use Rattle.sample_record.specs.Agents.{agents, each}

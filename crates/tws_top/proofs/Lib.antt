@@ -1,3 +1,4 @@
+mod Tellings
 mod Replies
 mod Dues
 mod Rows

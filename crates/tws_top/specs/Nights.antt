@@ -1,6 +1,6 @@
 -- Records of nights: what bytes are, and what is told of the world that their steps make.
 use Rattle.std.specs.Prelude.{ℕ, ◌+◌, ◌==◌, List, Result, Ok, Err, count_by, take, length, if◌then◌else◌}
-use Rattle.std.specs.Str.{utf8_valid_len}
+use Rattle.std.specs.Str.Lossy.{utf8_valid_len}
 use Rattle.base_types.specs.declared.Net.{Net}
 use Rattle.model.specs.World as model
 use Rattle.model.specs.World.{view_at}

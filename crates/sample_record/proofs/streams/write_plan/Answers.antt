@@ -1,6 +1,6 @@
-use Rattle.std.proofs.Common.{◌≡◌, ◌+◌, ◌-◌, ◌*◌, ◌∙◌, ◌++◌, ◌∷◌, [], length, min, sym, ap, refl, append_assoc, arith}
+use Rattle.std.proofs.Common.{◌≡◌, ◌+◌, ◌-◌, ◌*◌, ◌∙◌, ◌++◌, ◌∷◌, [], length, min, sym, ap, refl, arith}
 use Rattle.sample_record.specs.Streams.{stream_part, job_count}
-use Rattle.sample_record.proofs.Counting.{further, at_end}
+use Rattle.sample_record.proofs.Counting.{further}
 use Rattle.sample_record.proofs.Plans.{hosts_count, next_begins, next_hosts, whole}
 use Rattle.sample_record.proofs.streams.write_plan.Goals as goal
 

@@ -1,9 +1,15 @@
 -- A line as the steps that it is.
-use Rattle.std.proofs.Common.{◌≡◌, ◌∙◌, ◌∷◌, ◌+◌, ◌-◌, ◌<◌, ◌≤◌, [], ℕ, Bool, List, ap, arith, length, map, refl, sym, subst, zero, suc}
-use Rattle.std.specs.Prelude.{Err, None, Ok, Option, Result, Some}
+use Rattle.std.proofs.Common.{◌≡◌, ◌∙◌, ◌∷◌, ◌+◌, ◌-◌, ◌<◌, ◌≤◌, [], ℕ, ℤ, Bool, List, ap, arith, drop, drop-cons, get_or, length, map, refl, sym, subst, true, zero, suc}
+use Rattle.std.proofs.lemmas.Bool.{lt-ltb}
+use Rattle.std.proofs.lemmas.List.{drop_all}
+use Rattle.std.specs.Result.{IsErrAnd}
+use Rattle.std.specs.Prelude.{Err, IfErr, IsTrue, None, Ok, OnOk, Option, Result, Some}
 use Rattle.model.specs.Types.{Crash, Deliver, LiveJob, Local, Net, StreamDraft, Take, Typed, WorldStep, Cmd}
-use Rattle.model.specs.Words.{ascending, numbers_from}
+use Rattle.model.specs.Words.{ascending, insert_once, numbers_from}
+use Rattle.model.specs.Network.{node_count}
 use Rattle.model.specs.World.{World, result_map, view_at}
+use Rattle.batchman_core.specs.Gathered.{with_all}
+use Rattle.batchman_core.proofs.Gatherings.{with_one_more}
 use Rattle.agent_core.specs.Nodes.{NodeState}
 use Rattle.network_world.specs.Stations.{WorldState}
 use Rattle.network_world.specs.Standing.{NodeStandsFor, StandsFor}
@@ -12,7 +18,7 @@ use Rattle.record_script.specs.declared.OneStep.{OneStep}
 use Rattle.record_script.specs.declared.StepForm.{StepForm}
 use Rattle.record_script.specs.declared.StepForm.TheVariants as form
 use Rattle.record_runs.specs.Causes.{Cause, told}
-use Rattle.record_runs.specs.Lines.{Day, act, advised, cut_short, line_steps, live_jobs, only, undelivered, whole}
+use Rattle.record_runs.specs.Lines.{Day, act, advised, are_inside, cut_short, line_steps, live_jobs, only, undelivered, whole}
 use Rattle.record_runs.specs.Runs.{and_then, take_line, take_steps}
 use Rattle.record_runs.specs.Taken.{HaltsFor, IsMade, IsNotMade, Leads}
 use Rattle.record_runs.specs.declared.acts.Act.{Act}
@@ -170,3 +176,77 @@ advised_nothing w o h = ap (advised w) (sym h)
 
 pub advised_this : (w : ℕ) (c : Cmd) (o : Option Cmd) → Some c ≡ o → advised w o ≡ only (Take w (Typed w c))
 advised_this w c o h = ap (advised w) (sym h)
+
+-- the same steps by another name
+pub leads_as : (old new : WorldState) (steps others : World → List WorldStep)
+    → ((x : World) → StandsFor old x → steps x ≡ others x) → Leads old (λ x. take_steps old.net x (others x)) new
+    → Leads old (λ x. take_steps old.net x (steps x)) new
+leads_as old new steps others same h =
+    record {
+      net_ = h.net_;
+      leads_ = λ x s. let t = h.leads_ x s in (t.0, ap (take_steps old.net x) (same x s) ∙ t.1, t.2);
+    }
+
+pub halts_as : (old : WorldState) (steps others : World → List WorldStep) (t : Halt)
+    → ((x : World) → StandsFor old x → steps x ≡ others x) → HaltsFor old (λ x. take_steps old.net x (others x)) t
+    → HaltsFor old (λ x. take_steps old.net x (steps x)) t
+halts_as old steps others halt.NoMemory same h = tt
+halts_as old steps others (halt.At s) same h = λ x b.
+    let u = h x b in (u.0, ap (take_steps old.net x) (same x b) ∙ u.1, u.2)
+
+-- what holds of one answer holds of the other
+pub on_ok : {T E : Type 0} (P Q : Type 0) (r : Result T E) → (P → Q) → OnOk r P → OnOk r Q
+on_ok P Q (Ok t) f h = f h
+on_ok P Q (Err e) f h = tt
+
+pub if_err : {T E : Type 0} (P Q : E → Type 0) (r : Result T E) → ((e : E) → P e → Q e) → IfErr r P → IfErr r Q
+if_err P Q (Ok t) f h = tt
+if_err P Q (Err e) f h = f e h
+
+-- two workstations of the network
+pub both_inside : (net : Net) (now : WorldState) (a b : ℕ) → now.net ≡ net → a < node_count net → b < node_count net
+    → IsTrue (are_inside now.net (a ∷ b ∷ []))
+both_inside net now a b same in_a in_b =
+    subst (λ (n : Net). are_inside n (a ∷ b ∷ []) ≡ true) (sym same)
+    (rw (lt-ltb a (node_count net) in_a, lt-ltb b (node_count net) in_b) refl)
+
+pub one_inside : (net : Net) (now : WorldState) (a : ℕ) → now.net ≡ net → a < node_count net
+    → IsTrue (are_inside now.net (a ∷ []))
+one_inside net now a same in_a =
+    subst (λ (n : Net). are_inside n (a ∷ []) ≡ true) (sym same) (rw (lt-ltb a (node_count net) in_a) refl)
+
+-- an error that is handed on
+pub handed_on : {T E : Type 0} (P : E → Type 0) (e : E) (r : Result T E) → IsErrAnd r (λ f. f ≡ e) → P e → IfErr r P
+handed_on P e (Ok t) told h = tt
+handed_on P e (Err f) told h = subst P (sym told) h
+
+-- the item at an index, and those behind it
+pub from_here : {X : Type 0} (xs : List X) (i : ℕ) (x : X) → i < length xs → x ≡ get_or xs i x
+    → drop i xs ≡ x ∷ drop (i + 1) xs
+from_here {X} xs i x h is =
+    let one : suc i ≡ i + 1 = omega arith in
+    drop-cons xs i x h
+    ∙ (ap (λ (y : X). y ∷ drop (suc i) xs) (sym is) ∙ ap (λ (k : ℕ). x ∷ drop k xs) one)
+
+-- one live job more is put among the others
+pub one_more_job : (live items : List LiveJob) (i : ℕ) (l : LiveJob) (old new all : List ℕ) → items ≡ live
+    → i < length items → l ≡ get_or items i l → new ≡ insert_once l.job old
+    → with_all (map (λ (p : LiveJob). p.job) (drop i live)) old ≡ all
+    → with_all (map (λ (p : LiveJob). p.job) (drop (i + 1) live)) new ≡ all
+one_more_job live items i l old new all same h is put before =
+    let rest : drop i live ≡ l ∷ drop (i + 1) live =
+        subst (λ (ys : List LiveJob). drop i ys ≡ l ∷ drop (i + 1) ys) same (from_here items i l h is) in
+    ap (with_all (map (λ (p : LiveJob). p.job) (drop (i + 1) live))) put
+    ∙ (with_one_more (map (λ (p : LiveJob). p.job) (drop (i + 1) live)) l.job old
+    ∙ (sym (ap (λ (ys : List LiveJob). with_all (map (λ (p : LiveJob). p.job) ys) old) rest) ∙ before))
+
+-- the end of a job
+abbrev pub ends : ℕ → ℤ → ℕ → WorldStep
+ends w rc j = Take w (Local.Ended j rc)
+
+pub next_end : (w : ℕ) (rc : ℤ) (jobs : List ℕ) (i j : ℕ) → i < length jobs → j ≡ get_or jobs i j
+    → map (ends w rc) (drop i jobs) ≡ ends w rc j ∷ map (ends w rc) (drop (i + 1) jobs)
+next_end w rc jobs i j h is = ap (map (ends w rc)) (from_here jobs i j h is)
+
+pub no_more_ends : (w : ℕ) (rc : ℤ) (jobs : List ℕ) (i : ℕ) → length jobs ≤ i → map (ends w rc) (drop i jobs) ≡ []
+no_more_ends w rc jobs i h = ap (map (ends w rc)) (drop_all i jobs h)

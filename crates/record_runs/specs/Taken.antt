@@ -3,6 +3,7 @@ use Rattle.std.specs.Prelude.{◌≡◌, ◌∷◌, [], ℕ, Err, List, Ok, Opti
 use Rattle.model.specs.Types.{LimitName, Net, StreamDraft, WorldStep}
 use Rattle.model.specs.StepFaults as model
 use Rattle.model.specs.World.{StepRefused, World}
+use Rattle.base_types.specs.declared.NoMemory.{NoMemory}
 use Rattle.network_world.specs.Stations.{WorldState}
 use Rattle.network_world.specs.Standing.{StandsFor}
 use Rattle.network_world.specs.declared.StepRefused.{StepRefused as Answer}
@@ -14,7 +15,7 @@ use Rattle.carry_forward.specs.declared.CarryFault.TheVariants as carry
 use Rattle.record_script.specs.declared.ScriptStep.{ScriptStep}
 use Rattle.conman_orders.specs.declared.ResolveFault.{ResolveFault}
 use Rattle.conman_orders.specs.declared.ResolveFault.TheVariants as unresolved
-use Rattle.record_runs.specs.Causes.{Cause, names_nothing, told, told_refused}
+use Rattle.record_runs.specs.Causes.{Cause, told, told_refused}
 use Rattle.record_runs.specs.Lines.{Day}
 use Rattle.record_runs.specs.Runs.{End, done, run_lines, stopped}
 use Rattle.record_runs.specs.declared.acts.Act.{Act}
@@ -22,6 +23,7 @@ use Rattle.record_runs.specs.declared.acts.Act.TheVariants.{Delivery, Own}
 use Rattle.record_runs.specs.declared.stops.Halt.{Halt}
 use Rattle.record_runs.specs.declared.stops.Halt.TheVariants as halt
 use Rattle.record_runs.specs.declared.stops.Stop.{Stop}
+use Rattle.record_runs.specs.declared.stops.Stop.TheVariants as stop
 
 -- the workstations at whose nodes it happens
 abbrev pub ws_in_act : Act → List ℕ
@@ -92,6 +94,11 @@ StopsIn old day net left lines at_ =
 
 -- what halts where a line gives no command
 abbrev pub halts_order : ResolveFault → Halt
-halts_order (unresolved.UnknownName n) = halt.At (told names_nothing)
-halts_order unresolved.NotACommand = halt.At (told names_nothing)
+halts_order (unresolved.UnknownName n) = halt.At stop.UnknownName
+halts_order unresolved.NotACommand = halt.At stop.UnknownName
 halts_order unresolved.NoMemory = halt.NoMemory
+
+-- what halts in a line, told with its number
+abbrev pub stops_in : ℕ → Halt → Result (Option (ℕ × Stop)) NoMemory
+stops_in line halt.NoMemory = Err NoRoom
+stops_in line (halt.At s) = Ok (Some (line, s))

@@ -1,15 +1,18 @@
 //! Steps of a record that are one step of the world.
-ghost use Rattle.std.specs.Prelude.{◌≡◌, IfErr, IfOk, IsTrue, OnOk, drop, false, if◌then◌else◌};
+ghost use Rattle.std.specs.Prelude.{◌≡◌, ◌<◌, IfErr, IfOk, IsTrue, OnOk, drop, false, if◌then◌else◌};
+ghost use Rattle.model.specs.Types as types;
+ghost use Rattle.model.specs.Network.{node_count};
 ghost use Rattle.model.specs.World as model;
 ghost use Rattle.network_world.specs.Standing.{ws_in_step};
 ghost use Rattle.record_runs.specs.Lines as spec;
 ghost use Rattle.record_runs.specs.Lines.{Day, are_inside, asks_day_in, takes_plan_in, ws_in_one};
+ghost use Rattle.record_runs.specs.declared.acts.Act.TheVariants.{Own as Owned};
 ghost use Rattle.record_runs.specs.Taken.{IsMade, IsNotMade, ws_in_act};
 
 use crate::orders::typed;
 use crate::plans::PlansLeft;
 use crate::stops::Halt;
-use base_types::{Local, WorldStep, Ws};
+use base_types::{JobNo, Local, WorldStep, Ws};
 use network_world::World;
 use record_script::OneStep;
 use std::alloc::Global;
@@ -20,6 +23,22 @@ pub(crate) enum Act {
     Own(Ws, Local),
     /// The sender, the receiver, and the number of the packet.
     Delivery(Ws, Ws, u32),
+}
+
+/// The master, which each network has.
+fn master(world: &World) -> Ws
+    ensures value { result ≡ 0 }
+    ensures inside { 0 < node_count world.now.net }
+{
+    let _count = world.net().count();
+    Ws(0)
+}
+
+/// A job at w ended with a return code.
+fn ended(w: &Ws, job: &JobNo, code: &i32) -> Act
+    ensures { result ≡ Owned w.now (types.Local.Ended job.now code.now) }
+{
+    Act::Own(*w, Local::Ended(*job, *code))
 }
 
 /// What a step of a record is. A `next` takes its plan out of those that are left.
@@ -39,7 +58,7 @@ pub(crate) fn act_of(
     ensures left { OnOk result (plans.new ≡ (if takes_plan_in one.now then drop 1 plans.old else plans.old)) }
 {
     match one {
-        OneStep::Next => Ok(Act::Own(Ws(0), Local::Next(plans.take()))),
+        OneStep::Next => Ok(Act::Own(master(world), Local::Next(plans.take()))),
         OneStep::NextDay(_) => unreachable!(),
         OneStep::Turn(w, time) => Ok(Act::Own(*w, Local::Turn(*time))),
         OneStep::Link(a, b) => Ok(Act::Own(*a, Local::Linked(*b))),
@@ -47,7 +66,7 @@ pub(crate) fn act_of(
         OneStep::Deliver(a, b, k) => Ok(Act::Delivery(*a, *b, *k)),
         OneStep::Started(w, job) => Ok(Act::Own(*w, Local::Started(*job))),
         OneStep::Failed(w, job) => Ok(Act::Own(*w, Local::StartFailed(*job))),
-        OneStep::Ended(w, job, code) => Ok(Act::Own(*w, Local::Ended(*job, *code))),
+        OneStep::Ended(w, job, code) => Ok(ended(w, job, code)),
         OneStep::Typed(w, line) => typed(alloc, world, *w, line),
         OneStep::Fulfil(w, object, i) => Ok(Act::Own(*w, Local::Fulfil(*object, *i))),
     }

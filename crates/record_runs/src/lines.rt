@@ -1,12 +1,12 @@
 //! The lines of a record.
-ghost use Rattle.std.specs.Prelude.{◌≡◌, ◌<◌, IfErr, IfOk, IsTrue, Ok, OnOk, false, map};
+ghost use Rattle.std.specs.Prelude.{◌≡◌, ◌∷◌, ◌<◌, [], IfErr, IfOk, IsTrue, Ok, OnOk, false, map};
 ghost use Rattle.model.specs.Types.{Deliver, Ended, LiveJob, Take};
 ghost use Rattle.model.specs.Types as types;
-ghost use Rattle.model.specs.Words.{ascending};
+ghost use Rattle.model.specs.Words.{ascending, insert_once};
 ghost use Rattle.model.specs.Network.{node_count};
 ghost use Rattle.model.specs.World as model;
 ghost use Rattle.model.specs.World.{view_at};
-ghost use Rattle.network_world.specs.Standing.{StandsFor};
+ghost use Rattle.network_world.specs.Standing.{StandsFor, ws_in_step};
 ghost use Rattle.recovery_watch.specs.Advice as advices;
 ghost use Rattle.record_runs.specs.Lines as spec;
 ghost use Rattle.record_runs.specs.Lines.{Day, are_inside, asks_day, asks_day_in, left_after, takes_plan_in, ws_in_form, ws_in_one};
@@ -19,7 +19,7 @@ use crate::orders::advised;
 use crate::plans::PlansLeft;
 use crate::steps::take_step;
 use crate::stops::Halt;
-use base_types::{JobNo, Live, Local, NoMemory, WorldStep, Ws};
+use base_types::{Items, JobNo, Live, Local, NoMemory, WorldStep, Ws};
 use network_world::World;
 use record_script::{OneStep, StepForm};
 use std::alloc::Global;
@@ -82,41 +82,83 @@ fn flow(world: &mut World, a: Ws, b: Ws) -> Result<(), Halt>
     Ok(())
 }
 
+/// Puts a job among others, where it is not there already.
+fn add_job(jobs: &mut BTreeSet<u32>, job: JobNo) -> Result<(), NoMemory>
+    ensures { OnOk result (jobs.new.keys ≡ insert_once job jobs.old.keys) }
+{
+    jobs.insert(job.0)?;
+    Ok(())
+}
+
 /// The jobs of launches, in ascending order.
-#[tactic(auto, using(batchman_core::proofs::Gatherings::with_one_more, batchman_core::proofs::Gatherings::all_gathered, batchman_core::proofs::Gatherings::key_inserted))]
+#[tactic(auto, using(batchman_core::proofs::Gatherings::all_gathered))]
 fn jobs_of(alloc: Global, live: &Live) -> Result<BTreeSet<u32>, NoMemory>
     ensures { IfOk result (λ jobs. jobs.keys ≡ ascending (map (λ (l : LiveJob). l.job) live.now)) }
 {
     let mut jobs = BTreeSet::new(alloc);
     for launch in live.as_slice() {
-        jobs.insert(launch.job.0)?;
+        add_job(&mut jobs, launch.job)?;
     }
     Ok(jobs)
 }
 
-/// The jobs that live at w, in ascending order.
-fn live_jobs(alloc: Global, world: &World, w: Ws) -> Result<BTreeSet<u32>, NoMemory>
-    requires { w < node_count world.now.net }
-    ensures { IfOk result (λ jobs. (x : model.World) → StandsFor world.now x → jobs.keys ≡ spec.live_jobs x w) }
+/// The numbers of a set, in ascending order.
+fn listed(alloc: Global, numbers: &BTreeSet<u32>) -> Result<Items<u32>, NoMemory>
+    ensures { IfOk result (λ list. list ≡ numbers.now.keys) }
 {
-    jobs_of(alloc, world.node(w).live())
+    let mut list = Items::new(alloc);
+    for number in numbers {
+        list.push(*number)?;
+    }
+    Ok(list)
 }
 
-/// The jobs that live at w end with a return code, the lowest first.
-fn reap(alloc: Global, world: &mut World, w: Ws, code: i32) -> Result<(), Halt>
+/// The jobs that live at w, in ascending order.
+fn live_jobs(alloc: Global, world: &World, w: Ws) -> Result<Items<u32>, NoMemory>
+    requires { w < node_count world.now.net }
+    ensures { IfOk result (λ jobs. (x : model.World) → StandsFor world.now x → jobs ≡ spec.live_jobs x w) }
+{
+    let node = world.node(w);
+    let jobs = jobs_of(alloc, node.live())?;
+    let list = listed(alloc, &jobs)?;
+    Ok(list)
+}
+
+/// A job at w ends with a return code.
+fn ended(w: Ws, job: u32, code: &i32) -> WorldStep
+    ensures value { result ≡ types.Take w (types.Local.Ended job code.now) }
+    ensures names { ws_in_step result ≡ w ∷ [] }
+{
+    WorldStep::Take(w, Local::Ended(JobNo(job), *code))
+}
+
+/// Jobs at w end with a return code, one after the other.
+fn end_jobs(world: &mut World, w: Ws, code: &i32, jobs: &[u32]) -> Result<(), Halt>
     requires { w < node_count world.old.net }
     ensures taken { OnOk result (Leads world.old
-        (λ x. take_steps world.old.net x (map (λ j. types.Take w (types.Local.Ended j code)) (spec.live_jobs x w)))
+        (λ x. take_steps world.old.net x (map (λ j. types.Take w (types.Local.Ended j code.now)) jobs.now))
         world.new) }
     ensures stopped { IfErr result (HaltsFor world.old
-        (λ x. take_steps world.old.net x (map (λ j. types.Take w (types.Local.Ended j code)) (spec.live_jobs x w)))) }
+        (λ x. take_steps world.old.net x (map (λ j. types.Take w (types.Local.Ended j code.now)) jobs.now))) }
 {
-    let jobs = live_jobs(alloc, world, w)?;
-    for job in &jobs {
-        let step = WorldStep::Take(w, Local::Ended(JobNo(*job), code));
+    for job in jobs {
+        let step = ended(w, *job, code);
         take_step(world, &step)?;
     }
     Ok(())
+}
+
+/// The jobs that live at w end with a return code, the lowest first.
+fn reap(alloc: Global, world: &mut World, w: Ws, code: &i32) -> Result<(), Halt>
+    requires { w < node_count world.old.net }
+    ensures taken { OnOk result (Leads world.old
+        (λ x. take_steps world.old.net x (map (λ j. types.Take w (types.Local.Ended j code.now)) (spec.live_jobs x w)))
+        world.new) }
+    ensures stopped { IfErr result (HaltsFor world.old
+        (λ x. take_steps world.old.net x (map (λ j. types.Take w (types.Local.Ended j code.now)) (spec.live_jobs x w)))) }
+{
+    let jobs = live_jobs(alloc, world, w)?;
+    end_jobs(world, w, code, jobs.as_slice())
 }
 
 /// A workstation types its advice for itself, if there is one.
@@ -151,7 +193,7 @@ pub(crate) fn take_line(
     match form {
         StepForm::One(one) => take_one(alloc, world, plans, one),
         StepForm::Flow(a, b) => flow(world, *a, *b),
-        StepForm::Reap(w, code) => reap(alloc, world, *w, *code),
+        StepForm::Reap(w, code) => reap(alloc, world, *w, code),
         StepForm::Crash(w) => take_step(world, &WorldStep::Crash(*w)),
         StepForm::CrashIn(w, kept, one) => stop_in(alloc, world, plans, *w, *kept, one),
         StepForm::Recover(w) => recover(world, *w),

@@ -1,11 +1,13 @@
 //! What a workstation is told to do: an operator's line, and its own advice.
 ghost use Rattle.std.specs.Prelude.{◌≡◌, ◌∷◌, ◌<◌, [], IfErr, IfOk};
+ghost use Rattle.model.specs.Types as types;
 ghost use Rattle.model.specs.Network.{node_count};
 ghost use Rattle.model.specs.World as model;
 ghost use Rattle.model.specs.World.{view_at};
 ghost use Rattle.network_world.specs.Standing.{StandsFor};
 ghost use Rattle.recovery_watch.specs.Advice as advices;
 ghost use Rattle.record_runs.specs.Lines as spec;
+ghost use Rattle.record_runs.specs.declared.acts.Act.TheVariants.{Own as Owned};
 ghost use Rattle.record_runs.specs.Taken.{IsMade, IsNotMade, halts_order, ws_in_act};
 
 use crate::acts::Act;
@@ -28,6 +30,13 @@ fn order_halt(fault: ResolveFault) -> Halt
     }
 }
 
+/// A command is typed at w for a workstation.
+fn ordered(w: Ws, order: (Ws, Cmd)) -> Act
+    ensures { result ≡ Owned w (types.Typed order.0 order.1) }
+{
+    Act::Own(w, Local::Typed(order.0, order.1))
+}
+
 /// A line is typed at w. Its names are those of the node's own view.
 pub(crate) fn typed(alloc: Global, world: &World, w: Ws, line: &Line) -> Result<Act, Halt>
     requires { w < node_count world.now.net }
@@ -39,7 +48,7 @@ pub(crate) fn typed(alloc: Global, world: &World, w: Ws, line: &Line) -> Result<
 {
     let node = world.node(w);
     match resolve(alloc, node.net(), node.owners(), w, line) {
-        Ok((to, command)) => Ok(Act::Own(w, Local::Typed(to, command))),
+        Ok(order) => Ok(ordered(w, order)),
         Err(fault) => Err(order_halt(fault)),
     }
 }

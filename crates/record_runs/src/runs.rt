@@ -5,7 +5,7 @@ ghost use Rattle.network_tree.specs.Faults.{net_fault};
 ghost use Rattle.network_world.specs.Standing.{StandsFor};
 ghost use Rattle.record_runs.specs.Lines.{Day};
 ghost use Rattle.record_runs.specs.Ends.{AreLinesInside, AskNoDay, IsEnd, IsOver};
-ghost use Rattle.record_runs.specs.Taken.{LeadsAll, StopsIn};
+ghost use Rattle.record_runs.specs.Taken.{LeadsAll, StopsIn, stops_in};
 
 use crate::lines::take_line;
 use crate::plans::PlansLeft;
@@ -37,6 +37,16 @@ fn begun(alloc: Global, net: Net) -> Result<World, NoMemory>
     }
 }
 
+/// The line of this number and what is told of it, or that memory ran out.
+fn stopped_in(line: u32, halt: Halt) -> Result<Option<(u32, Stop)>, NoMemory>
+    ensures { result ≡ stops_in line halt }
+{
+    match halt {
+        Halt::NoMemory => Err(NoMemory),
+        Halt::At(stop) => Ok(Some((line, stop))),
+    }
+}
+
 /// Takes lines up to the first that cannot be taken, and tells its number and why.
 fn take_lines(
     alloc: Global,
@@ -46,7 +56,7 @@ fn take_lines(
 ) -> Result<Option<(u32, Stop)>, NoMemory>
     requires inside { AreLinesInside world.old.net lines.now }
     requires no_day { AskNoDay lines.now }
-    ensures net { world.new.net ≡ world.old.net }
+    ensures net { IfOk result (λ at. at ≡ None → world.new.net ≡ world.old.net) }
     ensures all { (day : Day) → IfOk result (λ at. at ≡ None
         → LeadsAll world.old day world.old.net plans.old lines.now world.new) }
     ensures stopped { (day : Day) → IfOk result (λ at. IfSome at
@@ -55,8 +65,7 @@ fn take_lines(
     for line in lines {
         match take_line(alloc, world, plans, &line.form) {
             Ok(()) => {}
-            Err(Halt::NoMemory) => return Err(NoMemory),
-            Err(Halt::At(stop)) => return Ok(Some((line.line, stop))),
+            Err(halt) => return stopped_in(line.line, halt),
         }
     }
     Ok(None)

@@ -12,7 +12,7 @@ use carry_forward::CarryFault;
 use network_world::StepRefused;
 
 /// Why a line of a record cannot be taken.
-#[derive(Clone, Copy, Debug, PartialEq, Eq)]
+#[derive(Clone, Copy, PartialEq, Eq)]
 pub enum Stop {
     /// No packet of this number was sent on this way.
     NoPacket,
@@ -35,7 +35,7 @@ pub enum Stop {
 }
 
 /// What ends a run before its last line.
-#[derive(Clone, Copy, Debug)]
+#[derive(Clone, Copy)]
 pub(crate) enum Halt {
     /// Memory ran out.
     NoMemory,

@@ -1,17 +1,15 @@
 -- The network of a record without faults is accepted.
-use Rattle.std.proofs.Common.{◌≡◌, ◌≢◌, ◌⊎◌, ◌<◌, ◌≤◌, ◌+◌, ℕ, zero, suc, Bool, true, false, ◌&&◌, ◌||◌, not, List, [], ◌∷◌, ◌++◌, Option, Some, None}
-use Rattle.std.proofs.Common.{length, refl, ap, sym, subst, ◌∙◌, inl, inr, arith, bytes_eq, eqb, option_map, slice_get, take, cond}
-use Rattle.std.specs.Prelude.{filter_map, find, map, nat_le, nat_lt}
+use Rattle.std.proofs.Common.{◌≡◌, ◌<◌, ◌≤◌, ◌+◌, ℕ, Bool, false, List, [], ◌∷◌, ◌++◌, Option, Some, None}
+use Rattle.std.proofs.Common.{length, refl, ap, sym, subst, ◌∙◌, inl, inr, arith, eqb, option_map, slice_get, take}
+use Rattle.std.specs.Prelude.{nat_lt}
 use Rattle.std.specs.Bool.{then_some}
-use Rattle.std.specs.List.{cons_option, list_any, position, position_or_len}
+use Rattle.std.specs.List.{list_any}
 use Rattle.std.specs.Option.{option_map_or}
 use Rattle.std.proofs.Math.Seq.{take-append_seam}
 use Rattle.std.proofs.lemmas.Bool.Decides.{eqb_tells, nat_tests}
 use Rattle.std.proofs.lemmas.Option.{slice_get_within}
-use Rattle.std.proofs.lemmas.Slice.Eq.{bytes_eq-Decides}
-use Rattle.model.specs.Types.{Net, Node, PromptDef, Resource}
+use Rattle.model.specs.Types.{Net}
 use Rattle.model.specs.Network.{IsTree, node_count}
-use Rattle.model.specs.Words.{below}
 use Rattle.network_tree.specs.Repeats.{has_repeat, stands_before}
 use Rattle.network_tree.specs.Faults.{are_one_prompt, are_one_resource, first_there, first_ws, has_bad_hop, have_one_name}
 use Rattle.network_tree.specs.Faults.{is_bad_resource, is_out_of_range, misses_the_master, net_fault, repeats_a_name}

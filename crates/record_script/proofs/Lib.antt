@@ -1,7 +1,17 @@
+pub mod Viewed
 pub mod Picked
 pub mod Chains
 pub mod Walked
 pub mod Shapes
 pub mod Distinct
+pub mod Lengths
+pub mod Readings
 pub mod Trees
 pub mod Accepted
+pub mod Defined
+pub mod Totals
+pub mod Stepping
+pub mod Whole
+pub mod Taking
+pub mod Days
+pub mod Holding

@@ -29,19 +29,35 @@ lean p = false
 -- Rows that stand.
 
 master_place : (p : Place) (m : List ℕ) → fate_of p (row.Master m) ≡ fate.Stands → early p ≡ true
-unfolding (fate_of, may_stand)
+unfolding fate_of may_stand
 master_place place.Header m is = refl
 master_place p m is = absurd (cc)
 
 stands_back : (p : Place) (r : Row) → fate_of p r ≡ fate.Stands → early (below_row p r) ≡ true
     → (early p ≡ true) × (station_name r ≡ None)
-unfolding (fate_of, may_stand, below_row)
+unfolding fate_of may_stand below_row
 stands_back place.Nothing row.Network is e = (refl, refl)
-stands_back p r is e = absurd (cc)
+stands_back place.Nothing r is e = absurd (cc)
+stands_back place.Header (row.Master m) is e = absurd (let wrong : false ≡ true = e in cc)
+stands_back place.Header r is e = absurd (cc)
+stands_back place.Definitions row.Network is e = absurd (cc)
+stands_back place.Definitions r is e = absurd (let wrong : false ≡ true = e in cc)
+stands_back place.Network row.Network is e = absurd (cc)
+stands_back place.Network r is e = absurd (let wrong : false ≡ true = e in cc)
+stands_back place.Plan row.Network is e = absurd (cc)
+stands_back place.Plan r is e = absurd (let wrong : false ≡ true = e in cc)
+stands_back place.Stream row.Network is e = absurd (cc)
+stands_back place.Stream r is e = absurd (let wrong : false ≡ true = e in cc)
+stands_back (place.Job last) row.Network is e = absurd (cc)
+stands_back (place.Job last) r is e = absurd (let wrong : false ≡ true = e in cc)
+stands_back place.Steps row.Network is e = absurd (cc)
+stands_back place.Steps r is e = absurd (let wrong : false ≡ true = e in cc)
+stands_back place.DaySteps row.Network is e = absurd (cc)
+stands_back place.DaySteps r is e = absurd (let wrong : false ≡ true = e in cc)
 
 stands_on : (p : Place) (r : Row) → lean p ≡ true → fate_of p r ≡ fate.Stands
     → ((lean (below_row p r) ≡ true) × (station_name r ≡ None)) ⊎ ((m : List ℕ) × (r ≡ row.Master m))
-unfolding (fate_of, may_stand, below_row)
+unfolding fate_of may_stand below_row
 stands_on place.Header (row.Master m) l is = inr (m, refl)
 stands_on place.Nothing row.Network l is = inl (refl, refl)
 stands_on place.Nothing row.Definitions l is = inl (refl, refl)
@@ -51,8 +67,10 @@ stands_on p r l is = absurd (cc)
 
 stands_early : (p : Place) (r : Row) → early p ≡ true → fate_of p r ≡ fate.Stands → station_name r ≡ None
     → is_definitions r ≡ false → (early (below_row p r) ≡ true) × (is_steps r ≡ false)
-unfolding (fate_of, may_stand, below_row)
+unfolding fate_of may_stand below_row
 stands_early place.Nothing row.Network l is none d = (refl, refl)
+stands_early place.Header (row.Master m) l is none d =
+    absurd (let wrong : Some m ≡ None = none in cc)
 stands_early p r l is none d = absurd (cc)
 
 -- Rows as they are where they stand.
@@ -114,9 +132,10 @@ master_from : (p : Place) (raw above below : List Row) (m : List ℕ)
     → placed_from p raw ≡ above ++ row.Master m ∷ below → (early p ≡ true) × (filter_map station_name above ≡ [])
 unfolding placed_from
 master_from p [] above below m e = absurd (no_middle above below (row.Master m) e)
-master_from p (r ∷ raw) [] below m e =
-    (row_master p r m (fate_of p r) refl (heads (row_at p r) (row.Master m) (placed_from (below_row p (row_at p r)) raw) below e),
-    refl)
+master_from p (r ∷ raw) [] below m e = (
+  row_master p r m (fate_of p r) refl (heads (row_at p r) (row.Master m) (placed_from (below_row p (row_at p r)) raw) below e),
+  refl,
+)
 master_from p (r ∷ raw) (y ∷ above) below m e =
     let here : row_at p r ≡ y = heads (row_at p r) y (placed_from (below_row p (row_at p r)) raw) (above ++ row.Master m ∷ below) e in
     let rest = tails (row_at p r) y (placed_from (below_row p (row_at p r)) raw) (above ++ row.Master m ∷ below) e in

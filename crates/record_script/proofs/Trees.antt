@@ -1,16 +1,15 @@
 -- The network of a record without faults is accepted: a tree, whose names stand once each, within its ranges.
-use Rattle.std.proofs.Common.{◌≡◌, ◌≢◌, ◌⊎◌, ◌<◌, ◌≤◌, ◌+◌, ℕ, zero, suc, Bool, true, false, ◌&&◌, ◌||◌, not, List, [], ◌∷◌, ◌++◌, Option, Some, None}
-use Rattle.std.proofs.Common.{length, refl, ap, sym, subst, ◌∙◌, inl, inr, arith, bytes_eq, option_map, option_and_then, slice_get, unwrap_or, take, cond, length-append}
+use Rattle.std.proofs.Common.{◌≡◌, ◌<◌, ◌+◌, ℕ, zero, suc, Bool, true, false, ◌&&◌, not, List, [], ◌∷◌, ◌++◌, Option, Some, None}
+use Rattle.std.proofs.Common.{length, refl, ap, sym, subst, ◌∙◌, arith, bytes_eq, option_map, option_and_then, slice_get, unwrap_or, cond}
 use Rattle.std.specs.Prelude.{filter_map, find, map, nat_lt}
-use Rattle.std.specs.List.{cons_option, list_any, position, position_or_len}
+use Rattle.std.specs.List.{cons_option, position_or_len}
 use Rattle.std.specs.Option.{option_map_or}
 use Rattle.std.proofs.lemmas.List.Elements.{filter_map-append}
 use Rattle.std.proofs.lemmas.Slice.Eq.{bytes_eq-Decides}
 use Rattle.std.proofs.lemmas.Bool.Decides.{nat_tests}
 use Rattle.std.proofs.lemmas.Option.{slice_get_within}
 use Rattle.model.specs.Types.{Net, Node}
-use Rattle.model.specs.Network.{IsTree, chain, hop, is_manager, node_count}
-use Rattle.model.specs.Words.{last_or}
+use Rattle.model.specs.Network.{IsTree, hop, is_manager, node_count}
 use Rattle.network_tree.proofs.Climbs.{up}
 use Rattle.record_rows.specs.declared.rows.Row.{Row}
 use Rattle.record_rows.specs.declared.rows.StationRow.{StationRow}
@@ -22,7 +21,7 @@ use Rattle.record_faults.specs.Known as known
 use Rattle.record_faults.specs.Faults.{first_fault, is_bad_tree}
 use Rattle.record_script.specs.Numbers.{Numbered, numbered, ws_no, place_of}
 use Rattle.record_script.specs.Networks.{node_of, net_with, net_of}
-use Rattle.record_script.proofs.Picked.{Around, around, same_length}
+use Rattle.record_script.proofs.Picked.{around, same_length}
 use Rattle.record_script.proofs.Chains.{short, ends_there}
 use Rattle.record_script.proofs.Shapes.{above_master, first_is_master}
 use Rattle.record_script.proofs.Walked.{Passes, each_passes}
@@ -78,20 +77,23 @@ found_at : (all : List Station) (name : List ℕ) (st : Station)
     → (position_or_len (bytes_eq name) (map station_title all) < length all)
     × (slice_get all (position_or_len (bytes_eq name) (map station_title all)) ≡ Some st)
 found_at [] name st e = absurd (cc)
-found_at (s ∷ all) name st e = go (bytes_eq s.name name) refl
+found_at (s ∷ all) name st e = go (bytes_eq s.name name) refl (found_at all name st)
   where
     go : (b : Bool) → bytes_eq s.name name ≡ b
+        → (find (λ (t : Station). bytes_eq t.name name) all ≡ Some st
+        → (position_or_len (bytes_eq name) (map station_title all) < length all)
+        × (slice_get all (position_or_len (bytes_eq name) (map station_title all)) ≡ Some st))
         → (position_or_len (bytes_eq name) (station_title s ∷ map station_title all) < length (s ∷ all))
         × (slice_get (s ∷ all) (position_or_len (bytes_eq name) (station_title s ∷ map station_title all)) ≡ Some st)
-    go true is =
+    go true is each =
         let same : Some s ≡ Some st = sym (ap (λ b. cond b (Some s) (find (λ (t : Station). bytes_eq t.name name) all)) is) ∙ e in
         let at_ : position_or_len (bytes_eq name) (station_title s ∷ map station_title all) ≡ 0 =
         ap (λ b. cond (not b) (1 + position_or_len (bytes_eq name) (map station_title all)) 0) (bytes_sym s.name name true is) in
         (omega (arith, at_), ap (slice_get (s ∷ all)) at_ ∙ same)
-    go false is =
+    go false is each =
         let less : find (λ (t : Station). bytes_eq t.name name) all ≡ Some st =
         sym (ap (λ b. cond b (Some s) (find (λ (t : Station). bytes_eq t.name name) all)) is) ∙ e in
-        let more = found_at all name st less in
+        let more = each less in
         let at_ : position_or_len (bytes_eq name) (station_title s ∷ map station_title all) ≡ suc (position_or_len (bytes_eq name) (map station_title all)) =
         ap (λ b. cond (not b) (1 + position_or_len (bytes_eq name) (map station_title all)) 0) (bytes_sym s.name name false is)
         ∙ omega arith in
@@ -124,7 +126,7 @@ length-map_title [] = refl
 length-map_title (s ∷ all) = ap suc (length-map_title all)
 
 -- the number of a name whose workstation is found
-found_no : (rows : List Row) (name : List ℕ) (st : Station) → station_at (stations rows) name ≡ Some st
+pub found_no : (rows : List Row) (name : List ℕ) (st : Station) → station_at (stations rows) name ≡ Some st
     → (ws_no (numbered rows) name < length (stations rows))
     × (slice_get (stations rows) (ws_no (numbered rows) name) ≡ Some st)
 found_no rows name st e =
@@ -161,7 +163,7 @@ station_each (row.Master n) = refl
 station_each (row.Station s) = refl
 station_each r = refl
 
-node_each : (n : Numbered) (r : Row) → length (cons_option (station_name r) []) ≡ length (cons_option (node_of n r) [])
+pub node_each : (n : Numbered) (r : Row) → length (cons_option (station_name r) []) ≡ length (cons_option (node_of n r) [])
 node_each n (row.Master m) = refl
 node_each n (row.Station s) = refl
 node_each n r = refl
@@ -218,9 +220,11 @@ both_by raw above below (row.Station s) a w whole at_ is p =
       manages = refl;
       root = λ e. absurd (cc);
       tree = λ h e.
-          let same : s.hop ≡ h = cc in
-          (below_master raw above below s w whole at_, subst (λ x. known.is_manager (stations rows) x ≡ true) same good.0,
-          subst (λ x. ends_at_master (stations rows) x ≡ true) same good.1);
+          let same : s.hop ≡ h = cc in (
+            below_master raw above below s w whole at_,
+            subst (λ x. known.is_manager (stations rows) x ≡ true) same good.0,
+            subst (λ x. ends_at_master (stations rows) x ≡ true) same good.1,
+          );
     }
 both_by raw above below r a w whole at_ is p = absurd (cc)
 
@@ -245,12 +249,12 @@ module _ (raw : List Row) (f : Faultless raw) where
   abbrev no : List ℕ → ℕ
   no name = ws_no (numbered rows) name
 
-  count_is : node_count net ≡ length (filter_map station_name rows)
+  pub count_is : node_count net ≡ length (filter_map station_name rows)
   count_is =
       ap length (nodes_are rows)
       ∙ sym (same_length station_name (node_of (numbered rows)) (node_each (numbered rows)) rows)
 
-  stations_are : length (stations rows) ≡ node_count net
+  pub stations_are : length (stations rows) ≡ node_count net
   stations_are = sym (same_length station_name station_of station_each rows) ∙ sym count_is
 
   at_no : (w : ℕ) → w < node_count net → Both rows w
@@ -263,9 +267,10 @@ module _ (raw : List Row) (f : Faultless raw) where
   named_both : (name : List ℕ) (st : Station) → station_at (stations rows) name ≡ Some st
       → (no name < node_count net) × ((b : Both rows (no name)) → b.station ≡ st)
   named_both name st e =
-      let at_ = found_no rows name st e in
-      (subst (λ n. no name < n) stations_are at_.0,
-      λ b. same_some (slice_get (stations rows) (no name)) b.station st b.in_stations at_.1)
+      let at_ = found_no rows name st e in (
+        subst (λ n. no name < n) stations_are at_.0,
+        λ b. same_some (slice_get (stations rows) (no name)) b.station st b.in_stations at_.1,
+      )
 
   manager_in : (name : List ℕ) → known.is_manager (stations rows) name ≡ true
       → (no name < node_count net) × (is_manager net (no name) ≡ true)
@@ -277,27 +282,33 @@ module _ (raw : List Row) (f : Faultless raw) where
       go (Some st) is =
           let manages : st.manager ≡ true = sym (ap (λ q. option_map_or (λ (s : Station). s.manager) q false) is) ∙ e in
           let there = named_both name st is in
-          let b = at_no (no name) there.0 in
-          (there.0, ap (λ q. option_map_or (λ (n : Node). n.manager) q false) b.in_nodes ∙ b.manages
-          ∙ ap (λ (s : Station). s.manager) (there.1 b) ∙ manages)
+          let b = at_no (no name) there.0 in (
+            there.0,
+            ap (λ q. option_map_or (λ (n : Node). n.manager) q false) b.in_nodes ∙ b.manages
+                ∙ ap (λ (s : Station). s.manager) (there.1 b) ∙ manages,
+          )
 
   up_by : (n : ℕ) (name : List ℕ) → reaches (stations rows) n name ≡ true → (j : ℕ) × (up net j (no name) ≡ Some 0)
   up_by zero name e = absurd (cc)
-  up_by (suc n) name e = go (station_at (stations rows) name) refl
+  up_by (suc n) name e = go (station_at (stations rows) name) refl (up_by n)
     where
       on : (h : Option (List ℕ)) → option_map_or (reaches (stations rows) n) h true ≡ true
+          → ((v : List ℕ) → reaches (stations rows) n v ≡ true → (j : ℕ) × (up net j (no v) ≡ Some 0))
           → (b : Both rows (no name)) → b.station.hop ≡ h → (j : ℕ) × (up net j (no name) ≡ Some 0)
-      on None r b is = (0, ap Some (b.root is).0)
-      on (Some h) r b is =
-          let further = up_by n h r in
+      on None r each b is = (0, ap Some (b.root is).0)
+      on (Some h) r each b is =
+          let further = each h r in
           (suc further.0, ap (option_and_then (up net further.0)) (hop_at (no name) b ∙ ap (option_map no) is) ∙ further.1)
-      go : (o : Option Station) → station_at (stations rows) name ≡ o → (j : ℕ) × (up net j (no name) ≡ Some 0)
-      go None is = absurd (let none : reaches (stations rows) (suc n) name ≡ false = ap (λ q. option_map_or (λ (s : Station). option_map_or (reaches (stations rows) n) s.hop true) q false) is in cc)
-      go (Some st) is =
+
+      go : (o : Option Station) → station_at (stations rows) name ≡ o
+          → ((v : List ℕ) → reaches (stations rows) n v ≡ true → (j : ℕ) × (up net j (no v) ≡ Some 0))
+          → (j : ℕ) × (up net j (no name) ≡ Some 0)
+      go None is each = absurd (let none : reaches (stations rows) (suc n) name ≡ false = ap (λ q. option_map_or (λ (s : Station). option_map_or (reaches (stations rows) n) s.hop true) q false) is in cc)
+      go (Some st) is each =
           let there = named_both name st is in
           let b = at_no (no name) there.0 in
           on st.hop (sym (ap (λ q. option_map_or (λ (s : Station). option_map_or (reaches (stations rows) n) s.hop true) q false) is) ∙ e)
-          b (ap (λ (s : Station). s.hop) (there.1 b))
+          each b (ap (λ (s : Station). s.hop) (there.1 b))
 
   to_master : (w : ℕ) → w < node_count net → (j : ℕ) × (up net j w ≡ Some 0)
   to_master w low = go (at_no w low).station.hop refl
@@ -329,9 +340,10 @@ module _ (raw : List Row) (f : Faultless raw) where
   root_hop low = go (at_no 0 low).station.hop refl
     where
       go : (h : Option (List ℕ)) → (at_no 0 low).station.hop ≡ h → (hop net 0 ≡ None) × (is_manager net 0 ≡ true)
-      go None is =
-          (hop_at 0 (at_no 0 low) ∙ ap (option_map no) is,
-          ap (λ q. option_map_or (λ (n : Node). n.manager) q false) (at_no 0 low).in_nodes ∙ (at_no 0 low).manages ∙ ((at_no 0 low).root is).1)
+      go None is = (
+        hop_at 0 (at_no 0 low) ∙ ap (option_map no) is,
+        ap (λ q. option_map_or (λ (n : Node). n.manager) q false) (at_no 0 low).in_nodes ∙ (at_no 0 low).manages ∙ ((at_no 0 low).root is).1,
+      )
       go (Some h) is = absurd (omega (arith, ((at_no 0 low).tree h is).0))
 
   hop_manages : (w : ℕ) → 0 < w → w < node_count net → option_map_or (is_manager net) (hop net w) false ≡ true

@@ -1,11 +1,10 @@
 -- What is known of each row of a record without faults.
-use Rattle.std.proofs.Common.{◌≡◌, ◌⊎◌, ℕ, ◌+◌, Bool, true, false, ◌||◌, not, List, [], ◌∷◌, ◌++◌, Option, Some, None, length}
-use Rattle.std.proofs.Common.{refl, ap, sym, subst, ◌∙◌, append-nil, append_assoc, cond}
+use Rattle.std.proofs.Common.{◌≡◌, ℕ, ◌+◌, Bool, true, false, ◌||◌, not, List, [], ◌∷◌, ◌++◌, Option, Some, None, length}
+use Rattle.std.proofs.Common.{refl, sym, subst, append-nil, append_assoc, cond}
 use Rattle.std.specs.Option.{option_map_or}
-use Rattle.model.specs.Words.{first_of_these}
 use Rattle.record_rows.specs.declared.rows.Row.{Row}
 use Rattle.record_rows.specs.Ranges.{in_range}
-use Rattle.record_faults.specs.Known.{Named, Above, above_of}
+use Rattle.record_faults.specs.Known.{Named, above_of}
 use Rattle.record_faults.specs.Faults.{Placed, fault_of, fault_from, first_fault, is_bad_line, is_duplicate, lacks_station}
 use Rattle.record_faults.specs.Faults.{lacks_item, items_around, lacks_condition, is_beyond, is_bad_tree, has_no_plan}
 use Rattle.record_faults.specs.Faults.{ends_too_soon}

@@ -1,5 +1,5 @@
 -- Names that stand once each, and are not too many to be numbered.
-use Rattle.std.specs.Prelude.{ℕ, ◌≤◌, ◌≡◌, Bool, List, ◌∷◌, ◌++◌, false, length, filter_map}
+use Rattle.std.specs.Prelude.{◌≤◌, ◌≡◌, Bool, List, ◌∷◌, ◌++◌, false, length, filter_map}
 use Rattle.std.specs.List.{list_any}
 use Rattle.std.specs.Str.{bytes_eq}
 use Rattle.record_rows.specs.declared.rows.Row.{Row}

@@ -4,3 +4,4 @@ pub mod Networks
 pub mod Plans
 pub mod Steps
 pub mod Scripts
+pub mod Inside

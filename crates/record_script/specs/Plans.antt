@@ -1,5 +1,5 @@
 -- The plans of a record: drafts of streams with their jobs and dependencies.
-use Rattle.std.specs.Prelude.{ℕ, ◌||◌, Bool, List, [], ◌∷◌, Option, Some, None, Unit, Result, Ok, Err, map, filter_map}
+use Rattle.std.specs.Prelude.{ℕ, ◌||◌, Bool, List, [], ◌∷◌, Option, Some, None, Result, Ok, Err, map, filter_map, length, nat_lt, if◌then◌else◌}
 use Rattle.std.specs.Option.{option_map_or}
 use Rattle.model.specs.Types.{StreamDraft, JobDraft, DraftDep, Follows, Plain, Needs, Prompt, Global, Own, At, Until}
 use Rattle.model.specs.Types.{Outside, Deadline, Work, Command, Script, CondOp, Recovery}
@@ -36,8 +36,12 @@ abbrev pub operations : Result (List CondOp) CondFault → List CondOp
 operations (Ok ops) = ops
 operations (Err f) = []
 
+-- what a text of at most 4,096 bytes says
+abbrev pub condition : List ℕ → List CondOp
+condition t = if nat_lt 4096 (length t) then [] else operations (read_of t)
+
 abbrev pub cond_in : Row → Option (List CondOp)
-cond_in (row.Part (part.Cond t)) = Some (operations (read_of (within [] t)))
+cond_in (row.Part (part.Cond t)) = Some (condition (within [] t))
 cond_in r = None
 
 abbrev pub recovery_in : Row → Option Recovery

@@ -1,5 +1,5 @@
 -- The steps of a record, with their lines.
-use Rattle.std.specs.Prelude.{ℕ, ℤ, List, Option, Some, None, filter_map, pos}
+use Rattle.std.specs.Prelude.{ℕ, List, Option, Some, None, filter_map, pos}
 use Rattle.std.specs.List.{enumerate_from}
 use Rattle.model.specs.Types.{Obj, Job, Stream}
 use Rattle.record_rows.specs.declared.rows.Row.{Row}

@@ -11,9 +11,7 @@ use crate::deps::draft_deps;
 use crate::numbers::Numbers;
 use crate::spans::until_object;
 use crate::values::{text_within, within};
-use base_types::{
-    Cond, Copied, Items, JobDraft, JobDrafts, NoMemory, Recovery, Text, Work,
-};
+use base_types::{Cond, Copied, Items, JobDraft, JobDrafts, NoMemory, Recovery, Text, Work};
 use rc_conditions::{CondFault, read_cond};
 use record_rows::{JobRow, PartRow, Row, StreamRow};
 use std::alloc::Global;
@@ -61,12 +59,22 @@ fn operations(alloc: Global, read: Result<Cond, CondFault>) -> Result<Cond, NoMe
 }
 
 /// The condition that a text is, and the empty one of a text that is none.
-fn condition(alloc: Global, text: &str) -> Result<Cond, NoMemory>
+fn read(alloc: Global, text: &str) -> Result<Cond, NoMemory>
     requires { length text.now ≤ 4096 }
     ensures { IfOk result (λ c. c ≡ spec.operations (read_of text.now)) }
 {
     let cond = operations(alloc, read_cond(alloc, text))?;
     Ok(cond)
+}
+
+/// The condition that a text of at most 4,096 bytes is, and the empty one of another text.
+fn condition(alloc: Global, text: &Text) -> Result<Cond, NoMemory>
+    ensures { IfOk result (λ c. c ≡ spec.condition text.now) }
+{
+    if text.len() > 4096 {
+        return Ok(Items::new(alloc));
+    }
+    read(alloc, text.as_str())
 }
 
 /// When an end of a job with these parts is a good one.
@@ -76,7 +84,7 @@ fn cond(alloc: Global, rows: &[Row]) -> Result<Cond, NoMemory>
     for row in rows {
         if let Row::Part(PartRow::Cond(text)) = row {
             let text = text_within(alloc, text)?;
-            return condition(alloc, text.as_str());
+            return condition(alloc, &text);
         }
     }
     Ok(Items::new(alloc))

@@ -1,9 +1,12 @@
 //! Reading a record.
 ghost use Rattle.std.specs.Prelude.{◌≡◌, ◌≤◌, ◌<◌, ◌^◌, ℕ, Ok, Err, IfOk, IfSome, None, length};
-ghost use Rattle.std.specs.List.{position};
+ghost use Rattle.std.specs.Prelude.{IsTrue, count_by, false};
+ghost use Rattle.std.specs.List.{list_all, list_any, position};
+ghost use Rattle.network_tree.specs.Faults.{net_fault};
 ghost use Rattle.record_faults.specs.declared.kinds.ScriptKind as kinds;
 ghost use Rattle.record_script.specs.declared.reading.ScriptFault.TheVariants.{At, NoMemory as NoRoom};
 ghost use Rattle.record_script.specs.Counted.{AreNumbers};
+ghost use Rattle.record_script.specs.Inside.{is_inside, takes_day, takes_plan};
 ghost use Rattle.record_script.specs.Scripts as spec;
 
 use crate::nets::net;
@@ -101,16 +104,23 @@ fn script(alloc: Global, rows: &[Row]) -> Result<Script, NoMemory>
 }
 
 /// The record that a text is, or its lowest faulty line with the first kind of its faults. The text has at most
-/// 4,294,967,295 bytes. It takes time in proportion to the text, and to its dependencies.
+/// 4,294,967,295 bytes.
+///
+/// The network of a record is one that `Network::new` accepts. Each workstation that stands in a step is in it, and no
+/// step takes the plan of a day, and there are at least as many plans as steps that take one.
 pub fn read_script(alloc: Global, text: &str) -> Result<Script, ScriptFault>
     requires { length text.now < 2 ^ 32 }
     ensures script { IfOk result (λ s. spec.read_of text.now ≡ Ok s) }
+    ensures accepted { IfOk result (λ s. net_fault s.net ≡ None) }
+    ensures inside { IfOk result (λ s. IsTrue (list_all (is_inside s.net) s.steps)) }
+    ensures plans { IfOk result (λ s. count_by takes_plan s.steps ≤ length s.plans) }
+    ensures days { IfOk result (λ s. list_any takes_day s.steps ≡ false) }
     ensures at { (n : ℕ) → (k : kinds.ScriptKind) → result ≡ Err (At n k) → spec.read_of text.now ≡ Err (n, k) }
 {
     let mut rows = read_rows(alloc, text)?;
     place_rows(&mut rows);
-    if let Some((line, kind)) = fault(alloc, rows.as_slice())? {
-        return Err(ScriptFault::At(line as u32, kind));
+    match fault(alloc, rows.as_slice())? {
+        Some((line, kind)) => Err(ScriptFault::At(line as u32, kind)),
+        None => Ok(script(alloc, rows.as_slice())?),
     }
-    Ok(script(alloc, rows.as_slice())?)
 }

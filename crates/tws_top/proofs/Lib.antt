@@ -1,3 +1,4 @@
+mod Bridges
 mod Tellings
 mod Replies
 mod Dues

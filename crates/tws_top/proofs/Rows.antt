@@ -4,6 +4,7 @@ use Rattle.std.proofs.Common.{sym, ap, ◌∙◌, subst, refl, length, arith}
 use Rattle.std.specs.Io.KnownBytes.{Appends}
 use Rattle.std.specs.Option.{is_some}
 use Rattle.std.proofs.lemmas.Bool.Decides.{Decides-eqb}
+use Rattle.outside.specs.Causes.{Rose}
 use Rattle.outside.specs.Streams.{Stream, TakesAll}
 use Rattle.model.specs.World as model
 use Rattle.network_world.specs.Stations.{WorldState}
@@ -295,3 +296,19 @@ module _ (words : List (List ℕ)) (old new : Option Stream) (result : ℕ) (han
       by_5 (WorldIsFor (asked_of words) result handed)
       (λ e. no_world (asked_of words) result handed (a.alone e) (λ f. let never : 5 ≡ 0 = sym e ∙ f in omega arith))
       (λ other. rw (a.says.all other).0 (world_due words old new a.status a.text a.night handed a.due (a.whole other)))
+
+  pub sink_said : result ≡ 5 → Rose faults faults'
+  sink_said e = a.says.fault e
+
+-- a number is one of those with which nothing is said, or neither
+pub by_silence : (result : ℕ) (Q : Type 0) → (result ≡ 4 → Q) → (result ≡ 9 → Q) → (result ≢ 4 → result ≢ 9 → Q) → Q
+by_silence result Q four nine other = go (result == 4) (result == 9) refl refl
+  where
+    go : (a b : Bool) → (result == 4) ≡ a → (result == 9) ≡ b → Q
+    go true b e f = four ((Decides-eqb result 4).0 e)
+    go false true e f = nine ((Decides-eqb result 9).0 f)
+    go false false e f =
+        other (λ i. let same = (Decides-eqb result 4).1 i in cc) (λ i. let same = (Decides-eqb result 9).1 i in cc)
+
+pub apart : (result n m : ℕ) → result ≡ n → (n ≡ m → ⊥) → result ≢ m
+apart result n m e other f = other (sym e ∙ f)

@@ -36,6 +36,7 @@ fn ended<I: Source, O: Sink>(
     ensures due { result.status ≢ 4 → result.status ≢ 9 → IsAnswer words.now (I.stream input.old) (I.stream input.new)
         result.status result.world (O.written out.old) (O.written out.new) (O.faults out.old) (O.faults out.new) }
     ensures source_failed { result.status ≡ 4 → Rose (I.faults input.old) (I.faults input.new) }
+    ensures source_asked { result.status ≡ 4 → IsTrue (asks_record (asked_of words.now)) }
     ensures silent { (result.status ≡ 4) ⊎ (result.status ≡ 9) → Keeps (O.written out.old) (O.written out.new) }
     ensures alone { (result.status ≡ 4) ⊎ (result.status ≡ 9) → result.world ≡ None }
     ensures input_untouched { asks_record (asked_of words.now) ≡ false → input.new ≡ input.old }
@@ -100,6 +101,7 @@ pub fn tws<I: Source, O: Sink>(alloc: Global, words: &[Text], input: &mut I, out
     ensures refused { result.status ≡ 3
         → Refuses (I.stream input.old) (I.stream input.new) (O.written out.old) (O.written out.new) }
     ensures source_failed { result.status ≡ 4 → Rose (I.faults input.old) (I.faults input.new) }
+    ensures source_asked { result.status ≡ 4 → IsTrue (asks_record (asked_of words.now)) }
     ensures sink_failed { result.status ≡ 5 → Rose (O.faults out.old) (O.faults out.new) }
     ensures limit { result.status ≡ 10
         → PassesLimit (I.stream input.old) (I.stream input.new) (O.written out.old) (O.written out.new) }

@@ -1,7 +1,5 @@
-use Rattle.std.proofs.Common.{◌≡◌, ◌++◌, ◌+◌, drop, take}
-use Rattle.std.specs.Prelude.{filter_map, []}
-use Rattle.model.specs.Types.{Command, Recovery}
-use Rattle.record_script.specs.Networks.{first_or}
+use Rattle.std.proofs.Common.{◌≡◌, ◌++◌, drop}
+use Rattle.std.specs.Prelude.{filter_map}
 use Rattle.record_script.specs.Plans as spec
 use Rattle.record_script.proofs.deps.draft_deps.Given as goal
 

@@ -1,4 +1,4 @@
-use Rattle.std.proofs.Common.{◌≡◌, ◌++◌, ◌+◌, drop, take}
+use Rattle.std.proofs.Common.{◌≡◌, drop}
 use Rattle.model.specs.Types.{Carry}
 use Rattle.record_script.specs.Networks as spec
 use Rattle.record_script.proofs.nets.carry.Given as goal

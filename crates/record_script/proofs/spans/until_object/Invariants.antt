@@ -1,6 +1,5 @@
-use Rattle.std.proofs.Common.{◌≡◌, ◌++◌, ◌+◌, drop, take}
+use Rattle.std.proofs.Common.{◌≡◌, ◌++◌, drop, take}
 use Rattle.record_faults.specs.Known as known
-use Rattle.record_script.specs.Plans.{ends_section}
 use Rattle.record_script.proofs.spans.until_object.Given as goal
 
 abbrev pub invariant-loop-i : goal.invariant-loop-i

@@ -1,4 +1,4 @@
-use Rattle.std.proofs.Common.{◌≡◌, ◌++◌, ◌+◌, drop, take}
+use Rattle.std.proofs.Common.{◌≡◌, ◌++◌, drop, take}
 use Rattle.record_faults.specs.Known as known
 use Rattle.record_script.specs.Plans.{ends_section}
 use Rattle.record_script.proofs.spans.until_section.Given as goal

@@ -1,7 +1,7 @@
 use Rattle.std.proofs.Common.{ap, ◌∙◌}
 use Rattle.record_script.specs.Plans.{operations}
 use Rattle.record_faults.proofs.ReadConditions.{all_told}
-use Rattle.record_script.proofs.jobs.condition.Goals as goal
+use Rattle.record_script.proofs.jobs.read.Goals as goal
 
 pub returns : goal.returns
 returns c =

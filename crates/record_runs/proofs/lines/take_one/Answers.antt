@@ -1,0 +1,21 @@
+use Rattle.record_runs.proofs.Tables.{handed_on, one_halts, if_err, on_ok, no_act, one_leads}
+use Rattle.record_runs.proofs.lines.take_one.Goals as goal
+
+pub returns-in_err-act-clause-stopped : goal.returns-in_err-act-clause-stopped
+returns-in_err-act-clause-stopped c = λ day.
+    handed_on _ c.in_err-act.field-0.0 c.from_residual.result c.from_residual.ensures.1
+    (no_act day c.args.world.now c.args.plans.now c.args.one.now c.in_err-act.field-0.0 (c.in_err-act.ensures.not_made day))
+
+pub returns-clause-taken : goal.returns-clause-taken
+returns-clause-taken c = λ day.
+    on_ok _ _ c.take_step.result
+    (one_leads day c.args.world.now c.take_step.new.world c.args.plans.now c.args.one.now c.in_ok-act.act
+    c.whole.result (c.in_ok-act.ensures.made day) c.whole.ensures.value)
+    c.take_step.ensures.taken
+
+pub returns-clause-stopped : goal.returns-clause-stopped
+returns-clause-stopped c = λ day.
+    if_err _ _ c.take_step.result
+    (λ t. one_halts day c.args.world.now c.args.plans.now c.args.one.now c.in_ok-act.act c.whole.result t
+        (c.in_ok-act.ensures.made day) c.whole.ensures.value)
+    c.take_step.ensures.stopped

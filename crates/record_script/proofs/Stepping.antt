@@ -1,0 +1,96 @@
+-- The steps of a record without faults name workstations of its network, and take no more plans than there are.
+use Rattle.std.proofs.Common.{◌≡◌, ◌<◌, ◌+◌, ℕ, Bool, true, false, ◌&&◌, ◌||◌, not, List, [], ◌∷◌, length, refl, ap, sym, subst, ◌∙◌, arith}
+use Rattle.std.specs.Prelude.{nat_lt}
+use Rattle.std.specs.List.{list_any, list_all}
+use Rattle.std.proofs.lemmas.Bool.Decides.{nat_tests}
+use Rattle.record_rows.specs.declared.rows.Row.{Row}
+use Rattle.record_rows.specs.declared.rows.Row.TheVariants as row
+use Rattle.record_rows.specs.declared.rows.StepRow.{StepRow}
+use Rattle.record_rows.specs.declared.rows.StepRow.TheVariants as step
+use Rattle.record_rows.specs.declared.rows.OwnRow.{OwnRow}
+use Rattle.record_rows.specs.declared.rows.OwnRow.TheVariants as own
+use Rattle.record_rows.specs.declared.rows.CutRow.{CutRow}
+use Rattle.record_rows.specs.declared.rows.CutRow.TheVariants as cut
+use Rattle.record_faults.specs.Known.{stations, is_station}
+use Rattle.record_faults.specs.Faults.{lacks_station, step_is_unknown}
+use Rattle.record_script.specs.Numbers.{numbered, ws_no}
+use Rattle.record_script.specs.Steps.{own_step, cut_step, step_form, steps_from}
+use Rattle.record_script.specs.Inside.{ws_in_one, ws_in}
+use Rattle.record_script.specs.declared.scripts.ScriptStep.{ScriptStep}
+use Rattle.record_script.proofs.Defined.{named_there, not_lacking}
+
+neither : (a b : Bool) → (a || b) ≡ false → (a ≡ false) × (b ≡ false)
+neither true b e = absurd (cc)
+neither false b e = (refl, e)
+
+both_hold : (a b : Bool) → a ≡ true → b ≡ true → (a && b) ≡ true
+both_hold a b e h = ap (λ x. x && b) e ∙ h
+
+is_low : (a b : ℕ) → a < b → nat_lt a b ≡ true
+is_low a b low = grind (arith, nat_tests)
+
+module _ (rows : List Row) (count : ℕ) (many : count ≡ length (stations rows)) where
+  abbrev no : List ℕ → ℕ
+  no w = ws_no (numbered rows) w
+
+  abbrev low : ℕ → Bool
+  low w = nat_lt w count
+
+  known_low : (w : List ℕ) → not (is_station (stations rows) w) ≡ false → low (no w) ≡ true
+  known_low w e =
+      let at_ = named_there rows w (not_lacking (is_station (stations rows) w) e) in
+      is_low (no w) count (subst (λ c. no w < c) (sym many) at_.1)
+
+  one_low : (w : List ℕ) → not (is_station (stations rows) w) ≡ false → list_all low (no w ∷ []) ≡ true
+  one_low w e = both_hold (low (no w)) true (known_low w e) refl
+
+  two_low : (a b : List ℕ) → (not (is_station (stations rows) a) || not (is_station (stations rows) b)) ≡ false
+      → list_all low (no a ∷ no b ∷ []) ≡ true
+  two_low a b e =
+      let parts = neither (not (is_station (stations rows) a)) (not (is_station (stations rows) b)) e in
+      both_hold (low (no a)) (low (no b) && true) (known_low a parts.0) (one_low b parts.1)
+
+  own_low : (w : List ℕ) (o : OwnRow) → not (is_station (stations rows) w) ≡ false
+      → list_all low (ws_in_one (own_step (no w) o)) ≡ true
+  unfolding own_step
+  own_low w (own.Turn t) e = one_low w e
+  own_low w (own.Started j) e = one_low w e
+  own_low w (own.Failed j) e = one_low w e
+  own_low w (own.Ended j rc) e = one_low w e
+  own_low w (own.Typed l) e = one_low w e
+
+  cut_low : (w : List ℕ) (k : Bool) (c : CutRow) → step_is_unknown (stations rows) (step.CrashIn w k c) ≡ false
+      → list_all low (no w ∷ ws_in_one (cut_step (numbered rows) (no w) c)) ≡ true
+  unfolding step_is_unknown cut_step
+  cut_low w k cut.Next e = one_low w e
+  cut_low w k (cut.NextDay d) e = one_low w e
+  cut_low w k (cut.Own o) e = both_hold (low (no w)) _ (known_low w e) (own_low w o e)
+  cut_low w k (cut.Deliver a n) e =
+      both_hold (low (no w)) _ (known_low w (neither (not (is_station (stations rows) a)) (not (is_station (stations rows) w)) e).1)
+      (two_low a w e)
+
+  step_low : (s : StepRow) → step_is_unknown (stations rows) s ≡ false
+      → list_all low (ws_in (step_form (numbered rows) s)) ≡ true
+  unfolding step_is_unknown step_form
+  step_low step.Next e = refl
+  step_low (step.NextDay d) e = refl
+  step_low (step.Own w o) e = own_low w o e
+  step_low (step.Link a b) e = two_low a b e
+  step_low (step.Unlink a b) e = two_low a b e
+  step_low (step.Deliver a b k) e = two_low a b e
+  step_low (step.Flow a b) e = two_low a b e
+  step_low (step.Reap w rc) e = one_low w e
+  step_low (step.Crash w) e = one_low w e
+  step_low (step.CrashIn w k c) e = cut_low w k c e
+  step_low (step.Fulfil w o i) e = one_low w e
+  step_low (step.Recover w) e = one_low w e
+
+  pub steps_low : (line : ℕ) (some : List Row) → list_any (lacks_station (stations rows)) some ≡ false
+      → list_all (λ (s : ScriptStep). list_all low (ws_in s.form)) (steps_from (numbered rows) line some) ≡ true
+  unfolding lacks_station
+  steps_low line [] e = refl
+  steps_low line (row.Step s ∷ some) e =
+      let parts = neither (step_is_unknown (stations rows) s) (list_any (lacks_station (stations rows)) some) e in
+      both_hold (list_all low (ws_in (step_form (numbered rows) s))) _ (step_low s parts.0) (steps_low (line + 1) some parts.1)
+  steps_low line (r ∷ some) e =
+      steps_low (line + 1) some (neither (lacks_station (stations rows) r) (list_any (lacks_station (stations rows)) some) e).1

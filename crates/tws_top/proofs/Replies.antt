@@ -1,6 +1,7 @@
 -- What a reply is, by the parts of which it is made.
 use Rattle.std.proofs.Common.{◌≡◌, ◌≢◌, ◌+◌, ◌≤◌, ◌<◌, ℕ, List, Option, Some, None, Result, Ok, Err, ◌×◌, sym, ap, ◌∙◌, subst, refl}
 use Rattle.std.proofs.Common.{codes, length, arith}
+use Rattle.std.specs.Result.{IfOk}
 use Rattle.base_types.specs.declared.LimitName.TheVariants as limit
 use Rattle.outside.specs.Streams.{Stream, TakesAll}
 use Rattle.whole_io.specs.Whole.{TakesCount}
@@ -119,3 +120,32 @@ pub reply_not_sink : (telling : Telling) (old new : Option Stream) (r : Reply) �
     → r.status ≢ SinkFailed
 reply_not_sink telling old new r h =
     not_sink r.status (read_of_record telling old new r.status r.text h.night h.called)
+
+-- the same of calls that may want memory
+module _ {E : Type 0} (telling : Telling) where
+  pub told_result : (script : Script) (w : WorldState) (r : Result Reply E) → IsDone no_days script w
+      → w.net ≡ script.net → IfOk r (λ (a : Reply). a.status ≡ Success)
+      → IfOk r (λ (a : Reply). (x : model.World) → StandsFor w x → a.text ≡ told_at telling w.net x)
+      → IfOk r (λ (a : Reply). a.world ≡ Some w)
+      → IfOk r (λ (a : Reply). IsSound w.net w.journal.history w.journal.starts)
+      → IfOk r (IsReply (CallsFor telling (Ok script)))
+  told_result script w (Ok r) h over is said some sound = told_reply telling script w r h over is said some sound
+  told_result script w (Err e) h over is said some sound = tt
+
+  pub stopped_result : (script : Script) (line : ℕ) (s : Stop) (r : Result Reply E) → IsStopped no_days script line s
+      → IfOk r (λ (a : Reply). a.status ≡ stop_status s) → IfOk r (λ (a : Reply). a.text ≡ stop_line line s)
+      → IfOk r (λ (a : Reply). a.world ≡ None) → IfOk r (IsReply (CallsFor telling (Ok script)))
+  stopped_result script line s (Ok r) h is said none = stopped_reply telling script r line s h is said none
+  stopped_result script line s (Err e) h is said none = tt
+
+  pub bad_line_result : (reading : Result Script (ℕ × ScriptKind)) (line : ℕ) (kind : ScriptKind) (r : Result Reply E)
+      → reading ≡ Err (line, kind) → IfOk r (λ (a : Reply). a.status ≡ RecordRefused)
+      → IfOk r (λ (a : Reply). a.text ≡ refused_line line (kind_word kind)) → IfOk r (λ (a : Reply). a.world ≡ None)
+      → IfOk r (IsReply (CallsFor telling reading))
+  bad_line_result reading line kind (Ok r) e is said none = bad_line_reply telling reading r line kind e is said none
+  bad_line_result reading line kind (Err e) f is said none = tt
+
+  pub reading_result : (a b : Result Script (ℕ × ScriptKind)) (r : Result Reply E) → a ≡ b
+      → IfOk r (IsReply (CallsFor telling a)) → IfOk r (IsReply (CallsFor telling b))
+  reading_result a b (Ok r) e h = reading_reply telling a b r e h
+  reading_result a b (Err f) e h = tt

@@ -518,7 +518,11 @@ jobs SUCC 1
 
 /// Records, their reports and their summaries.
 const NIGHTS: [(&str, &str, &str); 6] = [
-    (HELD_BY_MANAGER, HELD_BY_MANAGER_REPORT, HELD_BY_MANAGER_SUMMARY),
+    (
+        HELD_BY_MANAGER,
+        HELD_BY_MANAGER_REPORT,
+        HELD_BY_MANAGER_SUMMARY,
+    ),
     (DELIVERED, DELIVERED_REPORT, DELIVERED_SUMMARY),
     (REPEATED, REPEATED_REPORT, REPEATED_SUMMARY),
     (GAP, GAP_REPORT, GAP_SUMMARY),
@@ -530,8 +534,16 @@ const NIGHTS: [(&str, &str, &str); 6] = [
 fn nights_of_networks_are_told(rt: HostRuntime) -> Result<(), Fail> {
     let alloc = rt.alloc();
     for (record, report, summary) in &NIGHTS {
-        assert_eq!(rt; replays(alloc, record, report)?, (0, true, true), "the report of {record}");
-        assert_eq!(rt; sums_up(alloc, record, summary)?, (0, true, true), "the summary of {record}");
+        assert_eq!(rt;
+            replays(alloc, record, report)?,
+            (0, true, true),
+            "the report of {record}"
+        );
+        assert_eq!(rt;
+            sums_up(alloc, record, summary)?,
+            (0, true, true),
+            "the summary of {record}"
+        );
     }
     Ok(())
 }

@@ -141,8 +141,16 @@ $STEPS
 fn records_are_refused_at_their_line(rt: HostRuntime) -> Result<(), Fail> {
     let alloc = rt.alloc();
     for (record, line) in &REFUSED {
-        assert_eq!(rt; replays(alloc, record, line)?, (3, true, false), "the replay of {record}");
-        assert_eq!(rt; sums_up(alloc, record, line)?, (3, true, false), "the summary of {record}");
+        assert_eq!(rt;
+            replays(alloc, record, line)?,
+            (3, true, false),
+            "the replay of {record}"
+        );
+        assert_eq!(rt;
+            sums_up(alloc, record, line)?,
+            (3, true, false),
+            "the summary of {record}"
+        );
     }
     Ok(())
 }

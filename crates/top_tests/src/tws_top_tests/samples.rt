@@ -16,7 +16,7 @@ fn sampled(alloc: Global, words: &str) -> Result<Bytes, Fail> {
     let mut failing = Items::new(alloc);
     failing.push(1)?;
     let mut source = MemSource::new(Items::new(alloc), failing);
-    let mut sink = MemSink::new(alloc, Items::new(alloc), 4096)?;
+    let mut sink = MemSink::new(alloc, Items::new(alloc), 65_536)?;
     let _done = tws(alloc, list.as_slice(), &mut source, &mut sink);
     Ok(listed(alloc, sink.bytes())?)
 }

@@ -377,8 +377,16 @@ const NIGHTS: [(&str, &str, &str); 9] = [
 fn nights_of_one_workstation_are_told(rt: HostRuntime) -> Result<(), Fail> {
     let alloc = rt.alloc();
     for (record, report, summary) in &NIGHTS {
-        assert_eq!(rt; replays(alloc, record, report)?, (0, true, true), "the report of {record}");
-        assert_eq!(rt; sums_up(alloc, record, summary)?, (0, true, true), "the summary of {record}");
+        assert_eq!(rt;
+            replays(alloc, record, report)?,
+            (0, true, true),
+            "the report of {record}"
+        );
+        assert_eq!(rt;
+            sums_up(alloc, record, summary)?,
+            (0, true, true),
+            "the summary of {record}"
+        );
     }
     Ok(())
 }

@@ -30,7 +30,7 @@ fn main(rt: HostRuntime) -> ExitCode {
     let mut input = StdSource::new(rt.reader());
     let mut out = StdSink::new(io::writer(&rt));
     let status = match words(&rt) {
-        Ok(words) => tws(rt.alloc(), words.as_slice(), &mut input, &mut out),
+        Ok(words) => tws(rt.alloc(), words.as_slice(), &mut input, &mut out).status,
         Err(AllocError) => NO_MEMORY,
     };
     ExitCode::from(status)

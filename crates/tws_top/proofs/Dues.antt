@@ -1,99 +1,68 @@
--- What is called for by the bytes of an input, and what is due by what was read of it.
-use Rattle.std.proofs.Common.{◌≡◌, ◌==◌, ◌+◌, ◌<◌, ◌≤◌, ◌≢◌, ◌⊎◌, inl, inr, ℕ, Bool, List, ◌++◌, length, codes}
-use Rattle.std.proofs.Common.{Option, Some, None, true, false, sym, ap, ◌∙◌, subst, refl, append-nil, length-append}
-use Rattle.std.proofs.Common.{arith}
-use Rattle.std.specs.Prelude.{nat_le}
-use Rattle.std.specs.Io.KnownBytes.{Appends}
-use Rattle.std.proofs.lemmas.Bool.Decides.{nat_tests, Decides-eqb}
+-- What is due is one status and one text, and it is what was said.
+use Rattle.std.proofs.Common.{◌≡◌, ◌≢◌, ◌+◌, ◌≤◌, ◌<◌, ◌++◌, ◌⊎◌, ℕ, List, Option, Some, None, Result, Ok, Err, ◌×◌, inl, inr}
+use Rattle.std.proofs.Common.{sym, ap, ◌∙◌, subst, refl, codes, length, append-nil, length-append, arith}
 use Rattle.outside.specs.Causes.{Rose}
 use Rattle.outside.specs.Streams.{Stream, TakesAll}
+use Rattle.std.specs.Io.KnownBytes.{Appends}
 use Rattle.whole_io.specs.Whole.{TakesCount}
-use Rattle.tws_top.specs.declared.record.Record.{Record}
-use Rattle.tws_top.specs.declared.night.world.World.{World}
-use Rattle.tws_top.specs.declared.night.world.Outcome.{Outcome}
-use Rattle.tws_top.specs.declared.night.world.Outcome.TheVariants.{Ran, Refused, OutOfSteps}
-use Rattle.tws_top.specs.Record.{IsRecord}
-use Rattle.tws_top.specs.Night.Steps.{run_of}
-use Rattle.tws_top.specs.Report.{report_of}
-use Rattle.tws_top.specs.Answer.{is_replay, IsRefused, CallsFor, ReadCallsFor, Due, Says, Replays, Refuses}
-use Rattle.tws_top.specs.Answer.{PassesLimit, LeftCallsFor}
-use Rattle.tws_top.specs.Answer.IsRefused.{no_record, bad_step}
-use Rattle.tws_top.specs.Answer.CallsFor.{refused, too_many_steps, ran}
-use Rattle.tws_top.proofs.Nights.Words.{left, right}
-use Rattle.tws_top.proofs.Nights.Soundness.{night_sound}
-use Rattle.tws_top.proofs.RecordText.{unique}
+use Rattle.model.specs.World as model
+use Rattle.network_world.specs.Stations.{WorldState}
+use Rattle.record_faults.specs.declared.kinds.ScriptKind.{ScriptKind}
+use Rattle.record_runs.specs.Causes.{Cause, told}
+use Rattle.record_runs.specs.Ends.{run_of_script}
+use Rattle.record_runs.specs.Runs.{End}
+use Rattle.record_runs.specs.Runs as runs
+use Rattle.record_script.specs.declared.scripts.Script.{Script}
+use Rattle.sample_record.specs.Samples.{sample_of}
+use Rattle.tws_top.specs.declared.replies.Reply.{Reply}
+use Rattle.tws_top.specs.declared.statuses.Status.{Status}
+use Rattle.tws_top.specs.declared.statuses.Status.TheVariants.{Success, WordsRefused, RecordRefused, LimitPassed}
+use Rattle.tws_top.specs.declared.words.Telling.{Telling}
+use Rattle.tws_top.specs.declared.words.Asked.TheVariants as asks
+use Rattle.tws_top.specs.Lines.{refused_line, kind_word, stop_status, stop_line}
+use Rattle.tws_top.specs.Nights.{Night, no_days, read_bytes, told_at}
+use Rattle.tws_top.specs.Statuses.{number_of}
+use Rattle.tws_top.specs.Words.{asked_of}
+use Rattle.tws_top.specs.Dues.{CallsFor, ReadCallsFor, LeftCallsFor, Due, Says, IsReply, IsOf, IsAnswer}
 
-pub few_jobs : (bytes : List ℕ) (r : Record) → IsRecord bytes r → length r.jobs ≤ 64
-few_jobs bytes r h =
-    let few = left (nat_le (length r.jobs) 64) _ (right (nat_le 1 (length r.jobs)) _ h.bounds) in
-    grind (arith, nat_tests)
-
--- a reply that has the status and the text of what is called for
-pub calls_refused : (bytes text : List ℕ) (status : ℕ) → (status ≡ 3) × (text ≡ codes "record refused\n")
-    → IsRefused bytes → CallsFor bytes status text
-calls_refused bytes text status is h = rw (is.0, is.1) (refused h)
-
-pub calls_steps : (bytes text : List ℕ) (status : ℕ) (r : Record)
-    → (status ≡ 10) × (text ≡ codes "limit: steps 200000\n")
-    → IsRecord bytes r → run_of r ≡ OutOfSteps → CallsFor bytes status text
-calls_steps bytes text status r is spelled h = rw (is.0, is.1) (too_many_steps r spelled h)
-
-pub calls_ran : (bytes text : List ℕ) (r : Record) (w : World) → text ≡ report_of r w → IsRecord bytes r
-    → run_of r ≡ Ran w → CallsFor bytes 0 text
-calls_ran bytes text r w is spelled h = rw is (ran r w spelled h)
-
-pub calls_too_long : (old new : Option Stream) (text : List ℕ) (status : ℕ)
-    → (status ≡ 10) × (text ≡ codes "limit: input 16777216\n")
-    → TakesCount 16777217 old new → ReadCallsFor old new status text
-calls_too_long old new text status is h = rw (is.0, is.1) (ReadCallsFor.too_long h)
-
--- the statuses of what an input calls for
-pub data IsStatus : ℕ → Type 0 where
-  is_0 : IsStatus 0
-  is_3 : IsStatus 3
-  is_10 : IsStatus 10
-
-call_status : (bytes text : List ℕ) (status : ℕ) → CallsFor bytes status text → IsStatus status
-call_status bytes text status (refused h) = is_3
-call_status bytes text status (too_many_steps r i h) = is_10
-call_status bytes text status (ran r w i h) = is_0
-
-pub status_of : (old new : Option Stream) (text : List ℕ) (status : ℕ) → ReadCallsFor old new status text
-    → IsStatus status
-status_of old new text status (ReadCallsFor.too_long h) = is_10
-status_of old new text status (ReadCallsFor.read bytes all short h) = call_status bytes text status h
-
-pub not_5 : (status : ℕ) → IsStatus status → status ≢ 5
-not_5 status is_0 e = omega arith
-not_5 status is_3 e = omega arith
-not_5 status is_10 e = omega arith
-
--- bytes are one record at most, so they come to one outcome
-same_run : (bytes : List ℕ) (r q : Record) → IsRecord bytes r → IsRecord bytes q → run_of r ≡ run_of q
-same_run bytes r q i j = ap run_of (unique bytes r q i j)
-
-not_refused : (bytes : List ℕ) (r : Record) (o : Outcome) → IsRefused bytes → IsRecord bytes r → run_of r ≡ o
-    → (o ≡ Refused → ⊥) → ⊥
-not_refused bytes r o (no_record none) i e other = none r i
-not_refused bytes r o (bad_step q j f) i e other = other (sym e ∙ same_run bytes r q i j ∙ f)
+-- records that were read to one thing have one run
+one_run : (reading : Result Script (ℕ × ScriptKind)) (s t : Script) → reading ≡ Ok s → reading ≡ Ok t
+    → run_of_script no_days s ≡ run_of_script no_days t
+one_run reading s t e f =
+    let same : Ok s ≡ Ok t = sym e ∙ f in
+    let script : s ≡ t = cc in ap (run_of_script no_days) script
 
 -- what bytes call for is one status and one text
-calls_one : (bytes x y : List ℕ) (s t : ℕ) → CallsFor bytes s x → CallsFor bytes t y → (s ≡ t) × (x ≡ y)
-calls_one bytes x y s t (refused h) (refused k) = (refl, refl)
-calls_one bytes x y s t (refused h) (too_many_steps r i e) = absurd (not_refused bytes r OutOfSteps h i e (λ f. cc))
-calls_one bytes x y s t (refused h) (ran r w i e) = absurd (not_refused bytes r (Ran w) h i e (λ f. cc))
-calls_one bytes x y s t (too_many_steps r i e) (refused k) = absurd (not_refused bytes r OutOfSteps k i e (λ f. cc))
-calls_one bytes x y s t (too_many_steps r i e) (too_many_steps q j f) = (refl, refl)
-calls_one bytes x y s t (too_many_steps r i e) (ran q v j f) =
-    let clash : OutOfSteps ≡ Ran v = sym e ∙ same_run bytes r q i j ∙ f in cc
-calls_one bytes x y s t (ran r w i e) (refused k) = absurd (not_refused bytes r (Ran w) k i e (λ f. cc))
-calls_one bytes x y s t (ran r w i e) (too_many_steps q j f) =
-    let clash : Ran w ≡ OutOfSteps = sym e ∙ same_run bytes r q i j ∙ f in cc
-calls_one bytes x y s t (ran r w i e) (ran q v j f) =
-    let record_ = unique bytes r q i j in
-    let runs : Ran w ≡ Ran v = sym e ∙ ap run_of record_ ∙ f in
-    let world : w ≡ v = cc in
-    (refl, ap (λ p. report_of p w) record_ ∙ ap (λ u. report_of q u) world)
+calls_one : (telling : Telling) (reading : Result Script (ℕ × ScriptKind)) (a b : Status) (x y : List ℕ)
+    (n m : Option Night) → CallsFor telling reading a x n → CallsFor telling reading b y m → (a ≡ b) × (x ≡ y)
+calls_one telling reading a b x y n m (CallsFor.no_record l k e) (CallsFor.no_record l' k' e') =
+    let same : Err (l, k) ≡ Err (l', k') = sym e ∙ e' in
+    let pair : (l, k) ≡ (l', k') = cc in
+    (refl, ap (λ (p : ℕ × ScriptKind). refused_line p.0 (kind_word p.1)) pair)
+calls_one telling reading a b x y n m (CallsFor.no_record l k e) (CallsFor.stopped s l' c e' r) =
+    let clash : Err (l, k) ≡ Ok s = sym e ∙ e' in cc
+calls_one telling reading a b x y n m (CallsFor.no_record l k e) (CallsFor.ran s w e' r) =
+    let clash : Err (l, k) ≡ Ok s = sym e ∙ e' in cc
+calls_one telling reading a b x y n m (CallsFor.stopped s l c e r) (CallsFor.no_record l' k' e') =
+    let clash : Err (l', k') ≡ Ok s = sym e' ∙ e in cc
+calls_one telling reading a b x y n m (CallsFor.stopped s l c e r) (CallsFor.stopped s' l' c' e' r') =
+    let same : runs.stopped l c ≡ runs.stopped l' c' = sym r ∙ one_run reading s s' e e' ∙ r' in
+    let line : l ≡ l' = cc in
+    let cause : c ≡ c' = cc in
+    (ap (λ z. stop_status (told z)) cause,
+    ap (λ z. stop_line z (told c)) line ∙ ap (λ z. stop_line l' (told z)) cause)
+calls_one telling reading a b x y n m (CallsFor.stopped s l c e r) (CallsFor.ran s' w e' r') =
+    let clash : runs.stopped l c ≡ runs.done w = sym r ∙ one_run reading s s' e e' ∙ r' in cc
+calls_one telling reading a b x y n m (CallsFor.ran s w e r) (CallsFor.no_record l' k' e') =
+    let clash : Err (l', k') ≡ Ok s = sym e' ∙ e in cc
+calls_one telling reading a b x y n m (CallsFor.ran s w e r) (CallsFor.stopped s' l' c' e' r') =
+    let clash : runs.done w ≡ runs.stopped l' c' = sym r ∙ one_run reading s s' e e' ∙ r' in cc
+calls_one telling reading a b x y n m (CallsFor.ran s w e r) (CallsFor.ran s' w' e' r') =
+    let same : runs.done w ≡ runs.done w' = sym r ∙ one_run reading s s' e e' ∙ r' in
+    let world : w ≡ w' = cc in
+    let scripts : Ok s ≡ Ok s' = sym e ∙ e' in
+    let script : s ≡ s' = cc in
+    (refl, ap (λ (z : Script). told_at telling z.net w) script ∙ ap (told_at telling s'.net) world)
 
 -- what was left of a source that was read to its end
 left_read : (source : Stream) (new : Option Stream) (bytes : List ℕ) → TakesAll (Some source) new bytes
@@ -110,165 +79,121 @@ left_long source (Some s) h =
     omega arith
 
 -- what was read calls for what was left calls for
-pub read_left : (source : Stream) (new : Option Stream) (x y : List ℕ) (s t : ℕ)
-    → ReadCallsFor (Some source) new s x → LeftCallsFor source.left t y → (s ≡ t) × (x ≡ y)
-read_left source new x y s t (ReadCallsFor.too_long h) (LeftCallsFor.too_long long) = (refl, refl)
-read_left source new x y s t (ReadCallsFor.too_long h) (LeftCallsFor.read short k) =
+read_left : (telling : Telling) (source : Stream) (new : Option Stream) (a b : Status) (x y : List ℕ) (n m : Option Night)
+    → ReadCallsFor telling (Some source) new a x n → LeftCallsFor telling source.left b y m → (a ≡ b) × (x ≡ y)
+read_left telling source new a b x y n m (ReadCallsFor.too_long h) (LeftCallsFor.too_long long) = (refl, refl)
+read_left telling source new a b x y n m (ReadCallsFor.too_long h) (LeftCallsFor.read short k) =
     let long = left_long source new h in absurd (let never : ⊥ = omega arith in never)
-read_left source new x y s t (ReadCallsFor.read bytes all short h) (LeftCallsFor.too_long long) =
-    let same : length source.left ≡ length bytes = ap length (left_read source new bytes all) in absurd
-    (let never : ⊥ = omega arith in never)
-read_left source new x y s t (ReadCallsFor.read bytes all short h) (LeftCallsFor.read few k) =
-    let P : List ℕ → Type 0 = λ b. CallsFor b t y in
-    calls_one bytes x y s t h (subst P (left_read source new bytes all) k)
+read_left telling source new a b x y n m (ReadCallsFor.read bytes all short h) (LeftCallsFor.too_long long) =
+    let same : length source.left ≡ length bytes = ap length (left_read source new bytes all) in
+    absurd (let never : ⊥ = omega arith in never)
+read_left telling source new a b x y n m (ReadCallsFor.read bytes all short h) (LeftCallsFor.read few k) =
+    let P : List ℕ → Type 0 = λ l. CallsFor telling (read_bytes l) b y m in
+    calls_one telling (read_bytes bytes) a b x y n m h (subst P (left_read source new bytes all) k)
 
-pub says_other : (s t : ℕ) (x y : List ℕ) (result : ℕ) (written written' : Option (List ℕ)) (faults faults' : ℕ)
-    → (s ≡ t) × (x ≡ y) → Says s x result written written' faults faults'
-    → Says t y result written written' faults faults'
-says_other s t x y result written written' faults faults' same says = rw (← same.0, ← same.1) says
+says_other : (a b : Status) (x y : List ℕ) (result : ℕ) (written written' : Option (List ℕ)) (faults faults' : ℕ)
+    → (a ≡ b) × (x ≡ y) → Says a x result written written' faults faults' → Says b y result written written' faults faults'
+says_other a b x y result written written' faults faults' same says = rw (← same.0, ← same.1) says
 
--- the answer of a result that is not 5
-answered : (status : ℕ) (text : List ℕ) (result : ℕ) (written written' : Option (List ℕ)) (faults faults' n : ℕ)
-    → Says status text result written written' faults faults' → n ≢ 5 → result ≡ n
-    → (status ≡ n) × Appends written written' text
-answered status text result written written' faults faults' n says other is =
-    let all = says.all (λ e. other (sym is ∙ e)) in (sym all.0 ∙ is, all.1)
-
--- what was read, and what was written
-module _ (old new : Option Stream) (written written' : Option (List ℕ)) where
-  done_bytes : (bytes : List ℕ) (status : ℕ) (text : List ℕ) → TakesAll old new bytes → length bytes ≤ 16777216
-      → CallsFor bytes status text → status ≡ 0 → Appends written written' text → Replays old new written written'
-  done_bytes bytes s text all short (refused h) e wrote = absurd (let never : ⊥ = omega arith in never)
-  done_bytes bytes s text all short (too_many_steps r i h) e wrote = absurd (let never : ⊥ = omega arith in never)
-  done_bytes bytes s text all short (ran r w i h) e wrote =
-      record {
-        bytes = bytes;
-        «record» = r;
-        world = w;
-        read = all;
-        short = short;
-        is_record = i;
-        run = h;
-        wrote = wrote;
-        sound = night_sound r w h;
+-- what is answered
+module _ (words : List (List ℕ)) (old new : Option Stream) (result : ℕ) (handed : Option WorldState)
+    (written written' : Option (List ℕ)) (faults faults' : ℕ) where
+  pub answer_words : asked_of words ≡ None
+      → Says WordsRefused (codes "words refused\n") result written written' faults faults' → handed ≡ None
+      → IsAnswer words old new result handed written written' faults faults'
+  answer_words e says none =
+      let P : Option WorldState → Type 0 = λ w. IsOf w None in record {
+        status = WordsRefused;
+        text = codes "words refused\n";
+        night = None;
+        due = Due.other_words e;
+        says = says;
+        whole = λ _. subst P (sym none) tt;
+        alone = λ _. none;
       }
 
-  refused_bytes : (bytes : List ℕ) (status : ℕ) (text : List ℕ) → TakesAll old new bytes → CallsFor bytes status text
-      → status ≡ 3 → Appends written written' text → Refuses old new written written'
-  refused_bytes bytes s text all (refused h) e wrote =
-      record { bytes = bytes; read = all; refused = h; wrote = wrote }
-  refused_bytes bytes s text all (too_many_steps r i h) e wrote = absurd (let never : ⊥ = omega arith in never)
-  refused_bytes bytes s text all (ran r w i h) e wrote = absurd (let never : ⊥ = omega arith in never)
+  pub answer_sample : (jobs seed : ℕ) (r : Reply) → asked_of words ≡ Some (asks.Sample jobs seed) → r.status ≡ Success
+      → r.text ≡ sample_of jobs seed → r.world ≡ None → Says r.status r.text result written written' faults faults'
+      → (result ≢ 5 → handed ≡ r.world) → (result ≡ 5 → handed ≡ None)
+      → IsAnswer words old new result handed written written' faults faults'
+  answer_sample jobs seed r e is said none says with_it without =
+      let P : Option WorldState → Type 0 = λ w. IsOf w None in record {
+        status = Success;
+        text = sample_of jobs seed;
+        night = None;
+        due = Due.sampled jobs seed e;
+        says =
+            says_other r.status Success r.text (sample_of jobs seed) result written written' faults faults' (is, said)
+            says;
+        whole = λ ne. subst P (sym (with_it ne ∙ none)) tt;
+        alone = without;
+      }
 
-  limit_bytes : (bytes : List ℕ) (status : ℕ) (text : List ℕ) → TakesAll old new bytes → CallsFor bytes status text
-      → status ≡ 10 → Appends written written' text → PassesLimit old new written written'
-  limit_bytes bytes s text all (refused h) e wrote = absurd (let never : ⊥ = omega arith in never)
-  limit_bytes bytes s text all (too_many_steps r i h) e wrote = PassesLimit.of_steps bytes r all i h wrote
-  limit_bytes bytes s text all (ran r w i h) e wrote = absurd (let never : ⊥ = omega arith in never)
+  pub answer_night : (telling : Telling) (r : Reply) → asked_of words ≡ Some (asks.Night telling)
+      → IsReply (ReadCallsFor telling old new) r → Says r.status r.text result written written' faults faults'
+      → (result ≢ 5 → handed ≡ r.world) → (result ≡ 5 → handed ≡ None)
+      → IsAnswer words old new result handed written written' faults faults'
+  answer_night telling r e reply says with_it without =
+      let P : Option WorldState → Type 0 = λ w. IsOf w reply.night in record {
+        status = r.status;
+        text = r.text;
+        night = reply.night;
+        due = Due.by_input telling e reply.called;
+        says = says;
+        whole = λ ne. subst P (sym (with_it ne)) reply.world_;
+        alone = without;
+      }
 
-  done_read : (status : ℕ) (text : List ℕ) → ReadCallsFor old new status text → status ≡ 0
-      → Appends written written' text → Replays old new written written'
-  done_read s text (ReadCallsFor.too_long h) e wrote = absurd (let never : ⊥ = omega arith in never)
-  done_read s text (ReadCallsFor.read bytes all short h) e wrote = done_bytes bytes s text all short h e wrote
+  -- of words that ask for a night, what was read calls for what was said
+  input_due : (telling : Telling) (status : Status) (text : List ℕ) (night : Option Night)
+      → asked_of words ≡ Some (asks.Night telling) → Due words old new status text night
+      → ReadCallsFor telling old new status text night
+  input_due telling status text night asked (Due.other_words e) =
+      let clash : None ≡ Some (asks.Night telling) = sym e ∙ asked in cc
+  input_due telling status text night asked (Due.sampled jobs seed e) =
+      let clash : Some (asks.Sample jobs seed) ≡ Some (asks.Night telling) = sym e ∙ asked in cc
+  input_due telling status text night asked (Due.by_input t e read) =
+      let same : Some (asks.Night t) ≡ Some (asks.Night telling) = sym e ∙ asked in
+      let one : t ≡ telling = cc in
+      let P : Telling → Type 0 = λ z. ReadCallsFor z old new status text night in subst P one read
 
-  refused_read : (status : ℕ) (text : List ℕ) → ReadCallsFor old new status text → status ≡ 3
-      → Appends written written' text → Refuses old new written written'
-  refused_read s text (ReadCallsFor.too_long h) e wrote = absurd (let never : ⊥ = omega arith in never)
-  refused_read s text (ReadCallsFor.read bytes all short h) e wrote = refused_bytes bytes s text all h e wrote
+  pub exact_said : (source : Stream) (telling : Telling) → old ≡ Some source
+      → asked_of words ≡ Some (asks.Night telling) → (status : Status) (text : List ℕ) (night : Option Night)
+      → LeftCallsFor telling source.left status text night
+      → IsAnswer words old new result handed written written' faults faults'
+      → Says status text result written written' faults faults'
+  exact_said source telling told_ asked status text night left a =
+      let read = input_due telling a.status a.text a.night asked a.due in
+      let P : Option Stream → Type 0 = λ o. ReadCallsFor telling o new a.status a.text a.night in
+      says_other a.status status a.text text result written written' faults faults'
+      (read_left telling source new a.status status a.text text a.night night (subst P told_ read) left) a.says
 
-  limit_read : (status : ℕ) (text : List ℕ) → ReadCallsFor old new status text → status ≡ 10
-      → Appends written written' text → PassesLimit old new written written'
-  limit_read s text (ReadCallsFor.too_long h) e wrote = PassesLimit.of_input h wrote
-  limit_read s text (ReadCallsFor.read bytes all short h) e wrote = limit_bytes bytes s text all h e wrote
+  pub complete_said : (source : Stream) (telling : Telling) (s : Script) (x : model.World) → old ≡ Some source
+      → asked_of words ≡ Some (asks.Night telling) → length source.left ≤ 16777216 → read_bytes source.left ≡ Ok s
+      → run_of_script no_days s ≡ runs.done x → (Rose faults faults' → ⊥)
+      → IsAnswer words old new result handed written written' faults faults' → result ≡ 0
+  complete_said source telling s x told_ asked short is run calm a =
+      let says = exact_said source telling told_ asked Success (told_at telling s.net x)
+      (Some (record { net = s.net; world = x })) (LeftCallsFor.read short (CallsFor.ran s x is run)) a in
+      (says.all (λ e. calm (says.fault e))).0
 
-  done_at : (words : List (List ℕ)) (status : ℕ) (text : List ℕ) → Due words old new status text → status ≡ 0
-      → Appends written written' text → Replays old new written written'
-  done_at words s text (Due.wrong_words h) e wrote = absurd (let never : ⊥ = omega arith in never)
-  done_at words s text (Due.by_input replay called) e wrote = done_read s text called e wrote
+  -- of words that ask for a sample
+  sample_due : (jobs seed : ℕ) (status : Status) (text : List ℕ) (night : Option Night)
+      → asked_of words ≡ Some (asks.Sample jobs seed) → Due words old new status text night
+      → (status ≡ Success) × (text ≡ sample_of jobs seed)
+  sample_due jobs seed status text night asked (Due.other_words e) =
+      let clash : None ≡ Some (asks.Sample jobs seed) = sym e ∙ asked in cc
+  sample_due jobs seed status text night asked (Due.sampled j k e) =
+      let same : Some (asks.Sample j k) ≡ Some (asks.Sample jobs seed) = sym e ∙ asked in
+      let one : j ≡ jobs = cc in
+      let other : k ≡ seed = cc in
+      (refl, ap (λ z. sample_of z k) one ∙ ap (sample_of jobs) other)
+  sample_due jobs seed status text night asked (Due.by_input t e read) =
+      let clash : Some (asks.Night t) ≡ Some (asks.Sample jobs seed) = sym e ∙ asked in cc
 
-  refused_at : (words : List (List ℕ)) (status : ℕ) (text : List ℕ) → Due words old new status text → status ≡ 3
-      → Appends written written' text → Refuses old new written written'
-  refused_at words s text (Due.wrong_words h) e wrote = absurd (let never : ⊥ = omega arith in never)
-  refused_at words s text (Due.by_input replay called) e wrote = refused_read s text called e wrote
-
-  limit_at : (words : List (List ℕ)) (status : ℕ) (text : List ℕ) → Due words old new status text → status ≡ 10
-      → Appends written written' text → PassesLimit old new written written'
-  limit_at words s text (Due.wrong_words h) e wrote = absurd (let never : ⊥ = omega arith in never)
-  limit_at words s text (Due.by_input replay called) e wrote = limit_read s text called e wrote
-
-words_at : (words : List (List ℕ)) (old new : Option Stream) (status : ℕ) (text : List ℕ)
-    → Due words old new status text → status ≡ 2 → is_replay words ≡ false
-words_at words old new status text (Due.wrong_words h) e = h
-words_at words old new status text (Due.by_input replay called) e =
-    by_status status (status_of old new text status called) e
-  where
-    by_status : (n : ℕ) → IsStatus n → n ≡ 2 → is_replay words ≡ false
-    by_status n is_0 f = absurd (let never : ⊥ = omega arith in never)
-    by_status n is_3 f = absurd (let never : ⊥ = omega arith in never)
-    by_status n is_10 f = absurd (let never : ⊥ = omega arith in never)
-
--- the statuses that are said
-pub data IsSaid : ℕ → Type 0 where
-  said_0 : IsSaid 0
-  said_2 : IsSaid 2
-  said_3 : IsSaid 3
-  said_10 : IsSaid 10
-
-said_at : (words : List (List ℕ)) (old new : Option Stream) (status : ℕ) (text : List ℕ)
-    → Due words old new status text → IsSaid status
-said_at words old new status text (Due.wrong_words h) = said_2
-said_at words old new status text (Due.by_input replay called) =
-    by_status status (status_of old new text status called)
-  where
-    by_status : (n : ℕ) → IsStatus n → IsSaid n
-    by_status n is_0 = said_0
-    by_status n is_3 = said_3
-    by_status n is_10 = said_10
-
--- what holds of a result that says what is due
-module _ (words : List (List ℕ)) (old new : Option Stream) (status : ℕ) (text : List ℕ) (result : ℕ)
-    (written written' : Option (List ℕ)) (faults faults' : ℕ) (due : Due words old new status text)
-    (says : Says status text result written written' faults faults') where
-  five : (n : ℕ) → n ≢ 5 → result ≡ n → (status ≡ n) × Appends written written' text
-  five n other is = answered status text result written written' faults faults' n says other is
-
-  pub done_said : result ≡ 0 → Replays old new written written'
-  done_said e = let a = five 0 (λ f. omega arith) e in done_at old new written written' words status text due a.0 a.1
-
-  pub words_said : result ≡ 2 → is_replay words ≡ false
-  words_said e = let a = five 2 (λ f. omega arith) e in words_at words old new status text due a.0
-
-  pub refused_said : result ≡ 3 → Refuses old new written written'
-  refused_said e =
-      let a = five 3 (λ f. omega arith) e in refused_at old new written written' words status text due a.0 a.1
-
-  pub limit_said : result ≡ 10 → PassesLimit old new written written'
-  limit_said e =
-      let a = five 10 (λ f. omega arith) e in limit_at old new written written' words status text due a.0 a.1
-
-  by_5 : (Q : Type 0) → (result ≡ 5 → Q) → (result ≡ status → Q) → Q
-  by_5 Q is other = go (result == 5) refl
-    where
-      go : (b : Bool) → (result == 5) ≡ b → Q
-      go true e = is ((Decides-eqb result 5).0 e)
-      go false e = other (says.all (λ f. let same = (Decides-eqb result 5).1 f in cc)).0
-
-  pub said_statuses : (result ≡ 5) ⊎ IsSaid result
-  said_statuses =
-      by_5 ((result ≡ 5) ⊎ IsSaid result) (λ e. inl e) (λ e. inr (rw e (said_at words old new status text due)))
-
--- what an input calls for is due, whichever way its text is written down
-pub due_input : (words : List (List ℕ)) (old new : Option Stream) (status : ℕ) (text said : List ℕ)
-    → is_replay words ≡ true → ReadCallsFor old new status text → said ≡ text → Due words old new status said
-due_input words old new status text said replay called same = rw same (Due.by_input replay called)
-
--- a report that is due is said, where the sink does not fail
-pub report_said : (source : Stream) (new : Option Stream) (r : Record) (w : World) (text : List ℕ) (status result : ℕ)
-    (written written' : Option (List ℕ)) (faults faults' : ℕ)
-    → ReadCallsFor (Some source) new status text → length source.left ≤ 16777216 → IsRecord source.left r
-    → run_of r ≡ Ran w
-    → Says status text result written written' faults faults' → (Rose faults faults' → ⊥) → result ≡ 0
-report_said source new r w text status result written written' faults faults' called short spelled run says calm =
-    let due = read_left source new text (report_of r w) status 0 called
-    (LeftCallsFor.read short (ran r w spelled run)) in
-    (says.all (λ e. calm (says.fault e))).0 ∙ due.0
+  pub sample_said : (jobs seed : ℕ) → asked_of words ≡ Some (asks.Sample jobs seed)
+      → IsAnswer words old new result handed written written' faults faults'
+      → Says Success (sample_of jobs seed) result written written' faults faults'
+  sample_said jobs seed asked a =
+      says_other a.status Success a.text (sample_of jobs seed) result written written' faults faults'
+      (sample_due jobs seed a.status a.text a.night asked a.due) a.says

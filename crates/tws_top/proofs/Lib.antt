@@ -1,5 +1,5 @@
-pub mod Dues
-pub mod Nights
-pub mod RecordLoop
-pub mod RecordSpelling
-pub mod RecordText
+mod Bridges
+mod Tellings
+mod Replies
+mod Dues
+mod Rows

@@ -1,6 +1,7 @@
-pub mod Answer
-pub mod Night
-pub mod Record
-pub mod RecordLine
-pub mod RecordPlaces
-pub mod Report
+-- What the program answers to its words and its input, what it writes, and what it hands back.
+pub mod Words
+pub mod Statuses
+pub mod Lines
+pub mod Nights
+pub mod Dues
+pub mod Rows

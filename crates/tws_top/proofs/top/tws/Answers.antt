@@ -1,47 +1,90 @@
-use Rattle.std.proofs.Common.{◌∙◌, sym, inl}
-use Rattle.tws_top.specs.Answer.Due.{wrong_words}
-use Rattle.tws_top.proofs.Dues.{due_input, read_left, says_other, done_said, refused_said, limit_said, report_said}
+use Rattle.std.proofs.Common.{◌≡◌, ◌≢◌, ◌∙◌, ◌⊎◌, ℕ, sym, ap, inl, inr, true, false, arith, rules}
+use Rattle.tws_top.specs.Words.{asked_of, asks_record}
+use Rattle.tws_top.proofs.Dues.{exact_said, complete_said, sample_said}
+use Rattle.tws_top.proofs.Rows.{IsSaid, said_0, said_2, said_3, said_10, WorldIsFor, no_world, done_said, words_said}
+use Rattle.tws_top.proofs.Rows.{refused_said, limit_said, said_statuses, world_said, sink_said, by_silence, apart}
 use Rattle.tws_top.proofs.top.tws.Goals as goal
 
-pub returns-then-not-is_replay-clause-due : goal.returns-then-not-is_replay-clause-due
-returns-then-not-is_replay-clause-due g c =
-    λ _ _. (2, _, wrong_words (sym c.is_replay.ensures ∙ c.if-not-is_replay.true), c.say.ensures.said)
+pub returns-clause-exact : goal.returns-clause-exact
+returns-clause-exact g c = λ source telling told_ asked status text night left other_4 other_9.
+    exact_said _ _ _ _ _ _ _ _ _ source telling told_ asked status text night left
+    (c.ended.ensures.due other_4 other_9)
 
-pub returns-in-Ok-clause-due : goal.returns-in-Ok-clause-due
-returns-in-Ok-clause-due g c = λ _ _. (
-  _,
-  _,
-  due_input _ _ _ _ _ _ (sym c.is_replay.ensures ∙ c.if-not-is_replay.false) c.in-Ok.ensures.called
-      (c.as_bytes.ensures.value ∙ c.as_str.ensures),
-  c.say-in-Ok.ensures.said,
-)
+pub returns-clause-complete : goal.returns-clause-complete
+returns-clause-complete g c = λ source telling s x told_ asked short is run calm_source calm_sink.
+    by_silence c.ended.result.status ((c.ended.result.status ≡ 0) ⊎ (c.ended.result.status ≡ 9))
+    (λ e. absurd (calm_source (c.ended.ensures.source_failed e))) (λ e. inr e)
+    (λ other_4 other_9. inl
+    (complete_said _ _ _ _ _ _ _ _ _ source telling s x told_ asked short is run calm_sink
+    (c.ended.ensures.due other_4 other_9)))
 
-pub returns-in-Ok-clause-exact : goal.returns-in-Ok-clause-exact
-returns-in-Ok-clause-exact g c = λ source told replay status text left _ _.
-    let said = rw (c.as_bytes.ensures.value ∙ c.as_str.ensures) at c.say-in-Ok.ensures.said in
-    let called = rw told at c.in-Ok.ensures.called in
-    says_other _ _ _ _ _ _ _ _ _ (read_left source _ _ _ _ _ called left) said
+pub returns-clause-complete_sample : goal.returns-clause-complete_sample
+returns-clause-complete_sample g c = λ jobs seed asked calm.
+    by_silence c.ended.result.status ((c.ended.result.status ≡ 0) ⊎ (c.ended.result.status ≡ 9))
+    (λ e. let never : false ≡ true = sym (ap asks_record asked) ∙ c.ended.ensures.source_asked e in cc) (λ e. inr e)
+    (λ other_4 other_9.
+    let says = sample_said _ _ _ _ _ _ _ _ _ jobs seed asked (c.ended.ensures.due other_4 other_9) in
+    inl (says.all (λ e. calm (says.fault e))).0)
 
-pub returns-in-Ok-clause-complete : goal.returns-in-Ok-clause-complete
-returns-in-Ok-clause-complete g c = λ source r w told replay short spelled run _ calm.
-    let said = rw (c.as_bytes.ensures.value ∙ c.as_str.ensures) at c.say-in-Ok.ensures.said in
-    let called = rw told at c.in-Ok.ensures.called in
-    inl (report_said source _ r w _ _ _ _ _ _ _ called short spelled run said calm)
+pub returns-clause-done : goal.returns-clause-done
+returns-clause-done g c = λ e telling asked.
+    let due = c.ended.ensures.due (apart _ 0 4 e (λ f. omega arith)) (apart _ 0 9 e (λ f. omega arith)) in
+    done_said _ _ _ _ _ _ _ _ _ due e telling asked
 
-pub returns-in-Ok-clause-done : goal.returns-in-Ok-clause-done
-returns-in-Ok-clause-done g c =
-    done_said c.args.words.now _ _ _ _ _ _ _ _ _
-    (due_input _ _ _ _ _ _ (sym c.is_replay.ensures ∙ c.if-not-is_replay.false) c.in-Ok.ensures.called
-    (c.as_bytes.ensures.value ∙ c.as_str.ensures)) c.say-in-Ok.ensures.said
+pub returns-clause-sampled : goal.returns-clause-sampled
+returns-clause-sampled g c = λ e jobs seed asked.
+    let due = c.ended.ensures.due (apart _ 0 4 e (λ f. omega arith)) (apart _ 0 9 e (λ f. omega arith)) in
+    let says = sample_said _ _ _ _ _ _ _ _ _ jobs seed asked due in
+    (says.all (apart _ 0 5 e (λ f. omega arith))).1
 
-pub returns-in-Ok-clause-refused : goal.returns-in-Ok-clause-refused
-returns-in-Ok-clause-refused g c =
-    refused_said c.args.words.now _ _ _ _ _ _ _ _ _
-    (due_input _ _ _ _ _ _ (sym c.is_replay.ensures ∙ c.if-not-is_replay.false) c.in-Ok.ensures.called
-    (c.as_bytes.ensures.value ∙ c.as_str.ensures)) c.say-in-Ok.ensures.said
+pub returns-clause-words : goal.returns-clause-words
+returns-clause-words g c = λ e.
+    words_said _ _ _ _ _ _ _ _ _
+    (c.ended.ensures.due (apart _ 2 4 e (λ f. omega arith)) (apart _ 2 9 e (λ f. omega arith))) e
 
-pub returns-in-Ok-clause-limit : goal.returns-in-Ok-clause-limit
-returns-in-Ok-clause-limit g c =
-    limit_said c.args.words.now _ _ _ _ _ _ _ _ _
-    (due_input _ _ _ _ _ _ (sym c.is_replay.ensures ∙ c.if-not-is_replay.false) c.in-Ok.ensures.called
-    (c.as_bytes.ensures.value ∙ c.as_str.ensures)) c.say-in-Ok.ensures.said
+pub returns-clause-refused : goal.returns-clause-refused
+returns-clause-refused g c = λ e.
+    refused_said _ _ _ _ _ _ _ _ _
+    (c.ended.ensures.due (apart _ 3 4 e (λ f. omega arith)) (apart _ 3 9 e (λ f. omega arith))) e
+
+pub returns-clause-limit : goal.returns-clause-limit
+returns-clause-limit g c = λ e.
+    limit_said _ _ _ _ _ _ _ _ _
+    (c.ended.ensures.due (apart _ 10 4 e (λ f. omega arith)) (apart _ 10 9 e (λ f. omega arith))) e
+
+pub returns-clause-sink_failed : goal.returns-clause-sink_failed
+returns-clause-sink_failed g c = λ e.
+    sink_said _ _ _ _ _ _ _ _ _
+    (c.ended.ensures.due (apart _ 5 4 e (λ f. omega arith)) (apart _ 5 9 e (λ f. omega arith))) e
+
+Statuses : ℕ → Type 0
+Statuses n = (n ≡ 0) ⊎ (n ≡ 2) ⊎ (n ≡ 3) ⊎ (n ≡ 4) ⊎ (n ≡ 5) ⊎ (n ≡ 9) ⊎ (n ≡ 10)
+
+one_of : (n : ℕ) → (n ≡ 5) ⊎ IsSaid n → Statuses n
+unfolding Statuses
+one_of n (inl e) = search rules depth 12
+one_of n (inr h) = by_said n h
+  where
+    by_said : (n : ℕ) → IsSaid n → (n ≡ 0) ⊎ (n ≡ 2) ⊎ (n ≡ 3) ⊎ (n ≡ 4) ⊎ (n ≡ 5) ⊎ (n ≡ 9) ⊎ (n ≡ 10)
+    by_said n said_0 = search rules depth 12
+    by_said n said_2 = search rules depth 12
+    by_said n said_3 = search rules depth 12
+    by_said n said_10 = search rules depth 12
+
+pub returns-clause-statuses : goal.returns-clause-statuses
+unfolding Statuses
+returns-clause-statuses g c =
+    by_silence c.ended.result.status (Statuses c.ended.result.status) (λ e. search rules depth 12)
+    (λ e. search rules depth 12)
+    (λ other_4 other_9. one_of c.ended.result.status
+    (said_statuses _ _ _ _ _ _ _ _ _ (c.ended.ensures.due other_4 other_9)))
+
+pub returns-clause-world : goal.returns-clause-world
+returns-clause-world g c =
+    let w : WorldIsFor (asked_of c.args.words.now) c.ended.result.status c.ended.result.world =
+        by_silence c.ended.result.status
+        (WorldIsFor (asked_of c.args.words.now) c.ended.result.status c.ended.result.world)
+        (λ e. no_world _ _ _ (c.ended.ensures.alone (inl e)) (apart _ 4 0 e (λ f. omega arith)))
+        (λ e. no_world _ _ _ (c.ended.ensures.alone (inr e)) (apart _ 9 0 e (λ f. omega arith)))
+        (λ other_4 other_9. world_said _ _ _ _ _ _ _ _ _ (c.ended.ensures.due other_4 other_9)) in
+    (λ has. (w.only_0 has, w.only_records has), λ both. w.there both.0 both.1)

@@ -1,0 +1,151 @@
+-- What a reply is, by the parts of which it is made.
+use Rattle.std.proofs.Common.{◌≡◌, ◌≢◌, ◌+◌, ◌≤◌, ◌<◌, ℕ, List, Option, Some, None, Result, Ok, Err, ◌×◌, sym, ap, ◌∙◌, subst, refl}
+use Rattle.std.proofs.Common.{codes, length, arith}
+use Rattle.std.specs.Result.{IfOk}
+use Rattle.base_types.specs.declared.LimitName.TheVariants as limit
+use Rattle.outside.specs.Streams.{Stream, TakesAll}
+use Rattle.whole_io.specs.Whole.{TakesCount}
+use Rattle.model.specs.Sound.{IsSound}
+use Rattle.model.specs.World as model
+use Rattle.network_world.specs.Stations.{WorldState}
+use Rattle.network_world.specs.Standing.{StandsFor}
+use Rattle.record_faults.specs.declared.kinds.ScriptKind.{ScriptKind}
+use Rattle.record_runs.specs.Causes.{Cause, told}
+use Rattle.record_runs.specs.Ends.{IsDone, IsStopped, run_of_script}
+use Rattle.record_runs.specs.Runs as runs
+use Rattle.record_runs.specs.declared.stops.Stop.{Stop}
+use Rattle.record_runs.specs.declared.stops.Stop.TheVariants as stop
+use Rattle.record_script.specs.declared.scripts.Script.{Script}
+use Rattle.tws_top.specs.declared.replies.Reply.{Reply}
+use Rattle.tws_top.specs.declared.statuses.Status.{Status}
+use Rattle.tws_top.specs.declared.statuses.Status.TheVariants.{Success, RecordRefused, LimitPassed, SinkFailed}
+use Rattle.tws_top.specs.declared.words.Telling.{Telling}
+use Rattle.tws_top.specs.Lines.{refused_line, limit_line, limit_word, kind_word, stop_status, stop_line}
+use Rattle.tws_top.specs.Nights.{Night, no_days, read_bytes, told_at}
+use Rattle.tws_top.specs.Dues.{CallsFor, ReadCallsFor, IsReply, IsOf, IsThatOf}
+
+-- a reply with these parts
+parts : (C : Status → List ℕ → Option Night → Type 0) (r : Reply) (status : Status) (text : List ℕ) (night : Option Night)
+    → r.status ≡ status → r.text ≡ text → IsOf r.world night → C status text night → IsReply C r
+parts C r status text night is said of called =
+    let P : Status → Type 0 = λ s. C s r.text night in
+    let Q : List ℕ → Type 0 = λ t. C status t night in
+    record { night = night; called = subst P (sym is) (subst Q (sym said) called); world_ = of }
+
+-- no world is handed back
+alone : (r : Reply) → r.world ≡ None → IsOf r.world None
+alone r e = let P : Option WorldState → Type 0 = λ w. IsOf w None in subst P (sym e) tt
+
+pub bad_line_reply : (telling : Telling) (reading : Result Script (ℕ × ScriptKind)) (r : Reply) (line : ℕ)
+    (kind : ScriptKind) → reading ≡ Err (line, kind) → r.status ≡ RecordRefused
+    → r.text ≡ refused_line line (kind_word kind) → r.world ≡ None → IsReply (CallsFor telling reading) r
+bad_line_reply telling reading r line kind e is said none =
+    parts (CallsFor telling reading) r RecordRefused (refused_line line (kind_word kind)) None is said (alone r none)
+    (CallsFor.no_record line kind e)
+
+pub stopped_reply : (telling : Telling) (script : Script) (r : Reply) (line : ℕ) (s : Stop)
+    → IsStopped no_days script line s → r.status ≡ stop_status s → r.text ≡ stop_line line s → r.world ≡ None
+    → IsReply (CallsFor telling (Ok script)) r
+stopped_reply telling script r line s h is said none =
+    parts (CallsFor telling (Ok script)) r (stop_status (told h.0)) (stop_line line (told h.0)) None
+    (is ∙ ap stop_status (sym h.2)) (said ∙ ap (stop_line line) (sym h.2)) (alone r none)
+    (CallsFor.stopped script line h.0 refl h.1)
+
+pub told_reply : (telling : Telling) (script : Script) (w : WorldState) (r : Reply) → IsDone no_days script w
+    → w.net ≡ script.net → r.status ≡ Success
+    → ((x : model.World) → StandsFor w x → r.text ≡ told_at telling w.net x) → r.world ≡ Some w
+    → IsSound w.net w.journal.history w.journal.starts → IsReply (CallsFor telling (Ok script)) r
+told_reply telling script w r h over is said some sound =
+    let night : Night = record { net = script.net; world = h.0 } in
+    let that : IsThatOf w night = record { net_ = over; stands = h.2; sound = sound } in
+    let P : Option WorldState → Type 0 = λ v. IsOf v (Some night) in
+    parts (CallsFor telling (Ok script)) r Success (told_at telling script.net h.0) (Some night) is
+    (said h.0 h.2 ∙ ap (λ n. told_at telling n h.0) over) (subst P (sym some) that)
+    (CallsFor.ran script h.0 refl h.1)
+
+pub too_long_reply : (telling : Telling) (old new : Option Stream) (r : Reply) → TakesCount 16777217 old new
+    → r.status ≡ LimitPassed → r.text ≡ limit_line (limit_word limit.Input) 16777216 → r.world ≡ None
+    → IsReply (ReadCallsFor telling old new) r
+too_long_reply telling old new r takes is said none =
+    parts (ReadCallsFor telling old new) r LimitPassed (limit_line (limit_word limit.Input) 16777216) None is said
+    (alone r none) (ReadCallsFor.too_long takes)
+
+pub read_reply : (telling : Telling) (old new : Option Stream) (bytes : List ℕ) (r : Reply) → TakesAll old new bytes
+    → length bytes ≤ 16777216 → IsReply (CallsFor telling (read_bytes bytes)) r → IsReply (ReadCallsFor telling old new) r
+read_reply telling old new bytes r all short h =
+    record { night = h.night; called = ReadCallsFor.read bytes all short h.called; world_ = h.world_ }
+
+-- the reading of a reply by another name
+pub reading_reply : (telling : Telling) (a b : Result Script (ℕ × ScriptKind)) (r : Reply) → a ≡ b
+    → IsReply (CallsFor telling a) r → IsReply (CallsFor telling b) r
+reading_reply telling a b r e h =
+    let P : Result Script (ℕ × ScriptKind) → Type 0 = λ x. CallsFor telling x r.status r.text h.night in
+    record { night = h.night; called = subst P e h.called; world_ = h.world_ }
+
+-- the statuses with which records are answered
+pub data IsOfRecord : Status → Type 0 where
+  success : IsOfRecord Success
+  refused : IsOfRecord RecordRefused
+  limit_ : IsOfRecord LimitPassed
+
+pub stop_of_record : (s : Stop) → IsOfRecord (stop_status s)
+stop_of_record stop.NoPacket = refused
+stop_of_record stop.NoProcess = refused
+stop_of_record stop.NoDep = refused
+stop_of_record stop.NotNeighbour = refused
+stop_of_record stop.UnknownName = refused
+stop_of_record stop.OutOfRange = refused
+stop_of_record stop.NotInNetwork = refused
+stop_of_record stop.NotMaster = refused
+stop_of_record (stop.Limit name number) = limit_
+
+pub called_of_record : (telling : Telling) (reading : Result Script (ℕ × ScriptKind)) (status : Status) (text : List ℕ)
+    (night : Option Night) → CallsFor telling reading status text night → IsOfRecord status
+called_of_record telling reading status text night (CallsFor.no_record line kind e) = refused
+called_of_record telling reading status text night (CallsFor.stopped s line cause e run) = stop_of_record (told cause)
+called_of_record telling reading status text night (CallsFor.ran s x e run) = success
+
+pub read_of_record : (telling : Telling) (old new : Option Stream) (status : Status) (text : List ℕ)
+    (night : Option Night) → ReadCallsFor telling old new status text night → IsOfRecord status
+read_of_record telling old new status text night (ReadCallsFor.too_long takes) = limit_
+read_of_record telling old new status text night (ReadCallsFor.read bytes all short called) =
+    called_of_record telling (read_bytes bytes) status text night called
+
+not_sink : (status : Status) → IsOfRecord status → status ≢ SinkFailed
+not_sink status success e = cc
+not_sink status refused e = cc
+not_sink status limit_ e = cc
+
+pub reply_not_sink : (telling : Telling) (old new : Option Stream) (r : Reply) → IsReply (ReadCallsFor telling old new) r
+    → r.status ≢ SinkFailed
+reply_not_sink telling old new r h =
+    not_sink r.status (read_of_record telling old new r.status r.text h.night h.called)
+
+-- the same of calls that may want memory
+module _ {E : Type 0} (telling : Telling) where
+  pub told_result : (script : Script) (w : WorldState) (r : Result Reply E) → IsDone no_days script w
+      → w.net ≡ script.net → IfOk r (λ (a : Reply). a.status ≡ Success)
+      → IfOk r (λ (a : Reply). (x : model.World) → StandsFor w x → a.text ≡ told_at telling w.net x)
+      → IfOk r (λ (a : Reply). a.world ≡ Some w)
+      → IfOk r (λ (a : Reply). IsSound w.net w.journal.history w.journal.starts)
+      → IfOk r (IsReply (CallsFor telling (Ok script)))
+  told_result script w (Ok r) h over is said some sound = told_reply telling script w r h over is said some sound
+  told_result script w (Err e) h over is said some sound = tt
+
+  pub stopped_result : (script : Script) (line : ℕ) (s : Stop) (r : Result Reply E) → IsStopped no_days script line s
+      → IfOk r (λ (a : Reply). a.status ≡ stop_status s) → IfOk r (λ (a : Reply). a.text ≡ stop_line line s)
+      → IfOk r (λ (a : Reply). a.world ≡ None) → IfOk r (IsReply (CallsFor telling (Ok script)))
+  stopped_result script line s (Ok r) h is said none = stopped_reply telling script r line s h is said none
+  stopped_result script line s (Err e) h is said none = tt
+
+  pub bad_line_result : (reading : Result Script (ℕ × ScriptKind)) (line : ℕ) (kind : ScriptKind) (r : Result Reply E)
+      → reading ≡ Err (line, kind) → IfOk r (λ (a : Reply). a.status ≡ RecordRefused)
+      → IfOk r (λ (a : Reply). a.text ≡ refused_line line (kind_word kind)) → IfOk r (λ (a : Reply). a.world ≡ None)
+      → IfOk r (IsReply (CallsFor telling reading))
+  bad_line_result reading line kind (Ok r) e is said none = bad_line_reply telling reading r line kind e is said none
+  bad_line_result reading line kind (Err e) f is said none = tt
+
+  pub reading_result : (a b : Result Script (ℕ × ScriptKind)) (r : Result Reply E) → a ≡ b
+      → IfOk r (IsReply (CallsFor telling a)) → IfOk r (IsReply (CallsFor telling b))
+  reading_result a b (Ok r) e h = reading_reply telling a b r e h
+  reading_result a b (Err f) e h = tt

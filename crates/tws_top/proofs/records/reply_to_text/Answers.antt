@@ -1,0 +1,20 @@
+use Rattle.std.proofs.Common.{ap, sym, Err}
+use Rattle.tws_top.proofs.Bridges.{lines_inside, lines_ask_no_day}
+use Rattle.tws_top.proofs.Replies.{bad_line_result, reading_result}
+use Rattle.tws_top.proofs.records.reply_to_text.Goals as goal
+
+pub reply_to_script-requires-clause-inside : goal.reply_to_script-requires-clause-inside
+reply_to_script-requires-clause-inside c = lines_inside _ _ c.in-Ok.ensures.inside
+
+pub reply_to_script-requires-clause-no_day : goal.reply_to_script-requires-clause-no_day
+reply_to_script-requires-clause-no_day c = lines_ask_no_day _ c.in-Ok.ensures.days
+
+pub returns-in-Ok : goal.returns-in-Ok
+returns-in-Ok c =
+    reading_result c.args.telling _ _ c.reply_to_script.result (sym c.in-Ok.ensures.script) c.reply_to_script.ensures
+
+pub returns-in-Err-At : goal.returns-in-Err-At
+returns-in-Err-At c =
+    bad_line_result c.args.telling _ c.in-Err-At.line c.in-Err-At.kind c.bad_line.result
+    (c.in-Err-At.ensures.at c.in-Err-At.line c.in-Err-At.kind (ap Err c.in-Err-At.field-0-is))
+    c.bad_line.ensures.status c.bad_line.ensures.text c.bad_line.ensures.world

@@ -1,0 +1,101 @@
+-- What is due for words and input, and what saying it is.
+use Rattle.std.specs.Prelude.{◌≡◌, ◌≢◌, ◌<◌, ◌≤◌, ℕ, List, Option, Some, None, Result, Ok, Err, length, codes}
+use Rattle.std.specs.Io.KnownBytes.{Appends}
+use Rattle.base_types.specs.declared.LimitName.TheVariants as limit
+use Rattle.outside.specs.Causes.{Rose}
+use Rattle.outside.specs.Streams.{Stream, TakesAll}
+use Rattle.whole_io.specs.Whole.{TakesCount, WritesFront}
+use Rattle.model.specs.Sound.{IsSound}
+use Rattle.model.specs.World as model
+use Rattle.network_world.specs.Stations.{WorldState}
+use Rattle.network_world.specs.Standing.{StandsFor}
+use Rattle.record_faults.specs.declared.kinds.ScriptKind.{ScriptKind}
+use Rattle.record_runs.specs.Causes.{Cause, told}
+use Rattle.record_runs.specs.Ends.{run_of_script}
+use Rattle.record_runs.specs.Runs as runs
+use Rattle.record_script.specs.declared.scripts.Script.{Script}
+use Rattle.sample_record.specs.Samples.{sample_of}
+use Rattle.tws_top.specs.declared.replies.Reply.{Reply}
+use Rattle.tws_top.specs.declared.statuses.Status.{Status}
+use Rattle.tws_top.specs.declared.statuses.Status.TheVariants.{Success, WordsRefused, RecordRefused, LimitPassed}
+use Rattle.tws_top.specs.declared.words.Telling.{Telling}
+use Rattle.tws_top.specs.declared.words.Asked.TheVariants as asks
+use Rattle.tws_top.specs.Words.{asked_of}
+use Rattle.tws_top.specs.Statuses.{number_of}
+use Rattle.tws_top.specs.Lines.{refused_line, limit_line, limit_word, kind_word, stop_status, stop_line}
+use Rattle.tws_top.specs.Nights.{Night, no_days, read_bytes, told_at}
+
+-- What the bytes of an input call for, by what they are: 3 with the first faulty line, 3 or 10 with the line that
+-- cannot be taken or the limit, and 0 with what is told of the world that the steps make.
+pub data CallsFor (telling : Telling) (reading : Result Script (ℕ × ScriptKind)) : Status → List ℕ → Option Night → Type 0
+  where
+  no_record : (line : ℕ) (kind : ScriptKind) → reading ≡ Err (line, kind)
+      → CallsFor telling reading RecordRefused (refused_line line (kind_word kind)) None
+  stopped : (s : Script) (line : ℕ) (cause : Cause) → reading ≡ Ok s
+      → run_of_script no_days s ≡ runs.stopped line cause
+      → CallsFor telling reading (stop_status (told cause)) (stop_line line (told cause)) None
+  ran : (s : Script) (x : model.World) → reading ≡ Ok s → run_of_script no_days s ≡ runs.done x
+      → CallsFor telling reading Success (told_at telling s.net x) (Some (record { net = s.net; world = x }))
+
+-- What an input calls for, by what was read of it: more bytes than the limit call for 10, and fewer for what they are.
+pub data ReadCallsFor (telling : Telling) (old new : Option Stream) : Status → List ℕ → Option Night → Type 0 where
+  too_long : TakesCount 16777217 old new
+      → ReadCallsFor telling old new LimitPassed (limit_line (limit_word limit.Input) 16777216) None
+  read : {status : Status} {text : List ℕ} {night : Option Night} → (bytes : List ℕ) → TakesAll old new bytes
+      → length bytes ≤ 16777216 → CallsFor telling (read_bytes bytes) status text night
+      → ReadCallsFor telling old new status text night
+
+-- The status, the text and the night that are due, in the order of the causes: the words, then the input.
+pub data Due (words : List (List ℕ)) (old new : Option Stream) : Status → List ℕ → Option Night → Type 0 where
+  other_words : asked_of words ≡ None → Due words old new WordsRefused (codes "words refused\n") None
+  sampled : (jobs seed : ℕ) → asked_of words ≡ Some (asks.Sample jobs seed)
+      → Due words old new Success (sample_of jobs seed) None
+  by_input : {status : Status} {text : List ℕ} {night : Option Night} → (telling : Telling)
+      → asked_of words ≡ Some (asks.Night telling) → ReadCallsFor telling old new status text night
+      → Due words old new status text night
+
+-- what the bytes that a source still has call for
+pub data LeftCallsFor (telling : Telling) (left : List ℕ) : Status → List ℕ → Option Night → Type 0 where
+  too_long : 16777216 < length left
+      → LeftCallsFor telling left LimitPassed (limit_line (limit_word limit.Input) 16777216) None
+  read : {status : Status} {text : List ℕ} {night : Option Night} → length left ≤ 16777216
+      → CallsFor telling (read_bytes left) status text night → LeftCallsFor telling left status text night
+
+-- The status is answered and the whole text was written; or 5 is answered, the sink failed, and a front of the text was
+-- written.
+pub record Says (status : Status) (text : List ℕ) (result : ℕ) (written written' : Option (List ℕ)) (faults faults' : ℕ)
+    : Type 0 where
+  pub all : result ≢ 5 → (result ≡ number_of status) × Appends written written' text
+  pub fault : result ≡ 5 → Rose faults faults'
+  pub front : result ≡ 5 → WritesFront written written' text
+
+-- A world of the program is that of a night: it stands for its world over its network, and its own history and starts are
+-- sound.
+pub record IsThatOf (w : WorldState) (night : Night) : Type 0 where
+  pub net_ : w.net ≡ night.net
+  pub stands : StandsFor w night.world
+  pub sound : IsSound w.net w.journal.history w.journal.starts
+
+-- the world of a night where there is one, and else none
+abbrev pub IsOf : Option WorldState → Option Night → Type 0
+IsOf None None = Unit {0}
+IsOf (Some w) (Some night) = IsThatOf w night
+IsOf None (Some night) = ⊥
+IsOf (Some w) None = ⊥
+
+-- a reply has the status, the text and the world of what is called for
+pub record IsReply (C : Status → List ℕ → Option Night → Type 0) (r : Reply) : Type 0 where
+  pub night : Option Night
+  pub called : C r.status r.text night
+  pub world_ : IsOf r.world night
+
+-- What is due was said, and its world is handed back: none with 5.
+pub record IsAnswer (words : List (List ℕ)) (old new : Option Stream) (result : ℕ) (handed : Option WorldState)
+    (written written' : Option (List ℕ)) (faults faults' : ℕ) : Type 0 where
+  pub status : Status
+  pub text : List ℕ
+  pub night : Option Night
+  pub due : Due words old new status text night
+  pub says : Says status text result written written' faults faults'
+  pub whole : result ≢ 5 → IsOf handed night
+  pub alone : result ≡ 5 → handed ≡ None

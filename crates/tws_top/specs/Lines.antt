@@ -1,0 +1,54 @@
+-- The lines of refusals, and the statuses with which they come.
+use Rattle.std.specs.Prelude.{ℕ, List, ◌++◌, codes}
+use Rattle.std.specs.Fmt.{decimal}
+use Rattle.base_types.specs.declared.LimitName.{LimitName}
+use Rattle.base_types.specs.declared.LimitName.TheVariants as limit
+use Rattle.record_faults.specs.declared.kinds.ScriptKind.{ScriptKind}
+use Rattle.record_faults.specs.declared.kinds.ScriptKind.TheVariants as kind
+use Rattle.record_runs.specs.declared.stops.Stop.{Stop}
+use Rattle.record_runs.specs.declared.stops.Stop.TheVariants as stop
+use Rattle.tws_top.specs.declared.statuses.Status.{Status}
+use Rattle.tws_top.specs.declared.statuses.Status.TheVariants as status
+
+abbrev pub refused_line : ℕ → List ℕ → List ℕ
+refused_line line kind_ = codes "record refused: line " ++ decimal line ++ codes " " ++ kind_ ++ codes "\n"
+
+abbrev pub limit_line : List ℕ → ℕ → List ℕ
+limit_line name number = codes "limit: " ++ name ++ codes " " ++ decimal number ++ codes "\n"
+
+-- the faults of lines
+abbrev pub kind_word : ScriptKind → List ℕ
+kind_word kind.BadLine = codes "BadLine"
+kind_word kind.NotBuilt = codes "NotBuilt"
+kind_word kind.Duplicate = codes "Duplicate"
+kind_word kind.UnknownName = codes "UnknownName"
+kind_word kind.OutOfRange = codes "OutOfRange"
+kind_word kind.BadTree = codes "BadTree"
+kind_word kind.NoPlan = codes "NoPlan"
+
+abbrev pub limit_word : LimitName → List ℕ
+limit_word limit.Input = codes "input"
+limit_word limit.Steps = codes "steps"
+limit_word limit.Packets = codes "packets"
+limit_word limit.Bytes = codes "bytes"
+limit_word limit.Plan = codes "plan"
+limit_word limit.Entry = codes "entry"
+limit_word limit.File = codes "file"
+limit_word limit.Places = codes "places"
+
+-- a step that cannot be taken refuses the record, and a limit is told as one
+abbrev pub stop_status : Stop → Status
+stop_status (stop.Limit name number) = status.LimitPassed
+stop_status other = status.RecordRefused
+
+-- the line for a line of the record whose step cannot be taken
+abbrev pub stop_line : ℕ → Stop → List ℕ
+stop_line line stop.NoPacket = refused_line line (codes "NoPacket")
+stop_line line stop.NoProcess = refused_line line (codes "NoProcess")
+stop_line line stop.NoDep = refused_line line (codes "NoDep")
+stop_line line stop.NotNeighbour = refused_line line (codes "NotNeighbour")
+stop_line line stop.UnknownName = refused_line line (codes "UnknownName")
+stop_line line stop.OutOfRange = refused_line line (codes "OutOfRange")
+stop_line line stop.NotInNetwork = refused_line line (codes "NotInNetwork")
+stop_line line stop.NotMaster = refused_line line (codes "NotMaster")
+stop_line line (stop.Limit name number) = limit_line (limit_word name) number

@@ -1,0 +1,64 @@
+-- The statuses of records one by one.
+use Rattle.std.specs.Prelude.{◌≡◌, ◌≤◌, ℕ, List, Option, Some, Ok, Err, length}
+use Rattle.std.specs.Io.KnownBytes.{Appends}
+use Rattle.base_types.specs.declared.LimitName.TheVariants as limit
+use Rattle.outside.specs.Streams.{Stream, TakesAll}
+use Rattle.whole_io.specs.Whole.{TakesCount}
+use Rattle.model.specs.Sound.{IsSound}
+use Rattle.model.specs.World as model
+use Rattle.network_world.specs.Stations.{WorldState}
+use Rattle.network_world.specs.Standing.{StandsFor}
+use Rattle.record_faults.specs.declared.kinds.ScriptKind.{ScriptKind}
+use Rattle.record_runs.specs.Causes.{Cause, told}
+use Rattle.record_runs.specs.Ends.{run_of_script}
+use Rattle.record_runs.specs.Runs as runs
+use Rattle.record_script.specs.declared.scripts.Script.{Script}
+use Rattle.tws_top.specs.declared.statuses.Status.TheVariants.{RecordRefused, LimitPassed}
+use Rattle.tws_top.specs.declared.words.Telling.{Telling}
+use Rattle.tws_top.specs.Lines.{refused_line, limit_line, limit_word, kind_word, stop_status, stop_line}
+use Rattle.tws_top.specs.Nights.{no_days, read_bytes, told_at}
+
+-- The input was read to its end as a record whose steps all were taken; what is told of that run was written and nothing
+-- else; and the world that is handed back is the one that they made, with a history and starts of its own that are sound.
+pub record Tells (telling : Telling) (old new : Option Stream) (written written' : Option (List ℕ))
+    (handed : Option WorldState) : Type 0 where
+  pub bytes : List ℕ
+  pub script : Script
+  pub reached : model.World
+  pub world : WorldState
+  pub read : TakesAll old new bytes
+  pub short : length bytes ≤ 16777216
+  pub is_record : read_bytes bytes ≡ Ok script
+  pub run : run_of_script no_days script ≡ runs.done reached
+  pub wrote : Appends written written' (told_at telling script.net reached)
+  pub handed_ : handed ≡ Some world
+  pub net_ : world.net ≡ script.net
+  pub stands : StandsFor world reached
+  pub sound : IsSound world.net world.journal.history world.journal.starts
+
+-- The bytes are refused with this line: one of them is no line of a record, or has a step that cannot be taken.
+pub data IsRefused (bytes : List ℕ) : List ℕ → Type 0 where
+  no_record : (line : ℕ) (kind : ScriptKind) → read_bytes bytes ≡ Err (line, kind)
+      → IsRefused bytes (refused_line line (kind_word kind))
+  bad_step : (s : Script) (line : ℕ) (cause : Cause) → read_bytes bytes ≡ Ok s
+      → run_of_script no_days s ≡ runs.stopped line cause → stop_status (told cause) ≡ RecordRefused
+      → IsRefused bytes (stop_line line (told cause))
+
+-- The input was read to its end, its bytes are refused, and nothing but the line was written.
+pub record Refuses (old new : Option Stream) (written written' : Option (List ℕ)) : Type 0 where
+  pub bytes : List ℕ
+  pub line : List ℕ
+  pub read : TakesAll old new bytes
+  pub refused : IsRefused bytes line
+  pub wrote : Appends written written' line
+
+-- The input passes its limit, or a limit is passed in its run or refuses a step of it, and nothing but the line was
+-- written.
+pub data PassesLimit (old new : Option Stream) (written written' : Option (List ℕ)) : Type 0 where
+  of_input : TakesCount 16777217 old new
+      → Appends written written' (limit_line (limit_word limit.Input) 16777216)
+      → PassesLimit old new written written'
+  of_run : (bytes : List ℕ) (s : Script) (line : ℕ) (cause : Cause) → TakesAll old new bytes
+      → read_bytes bytes ≡ Ok s → run_of_script no_days s ≡ runs.stopped line cause
+      → stop_status (told cause) ≡ LimitPassed → Appends written written' (stop_line line (told cause))
+      → PassesLimit old new written written'

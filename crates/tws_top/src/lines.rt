@@ -1,0 +1,116 @@
+//! The lines of refusals.
+ghost use Rattle.std.specs.Prelude.{◌≡◌, ◌++◌, None, IfOk, OnOk, codes};
+ghost use Rattle.std.specs.Fmt.{decimal};
+ghost use Rattle.tws_top.specs.Lines as spec;
+ghost use Rattle.tws_top.specs.declared.statuses.Status.TheVariants as status;
+
+use crate::replies::Reply;
+use crate::statuses::Status;
+use base_types::{Items, LimitName, NoMemory};
+use record_runs::Stop;
+use record_script::ScriptKind;
+use std::alloc::Global;
+use std::io::{self, Write};
+
+fn write_refused(out: &mut Vec<u8>, line: u32, kind: &str) -> io::Result<()>
+    ensures { OnOk result (out.new.items ≡ out.old.items ++ spec.refused_line line kind.now) }
+{
+    write!(out, "record refused: line {line} {kind}\n")
+}
+
+fn write_limit(out: &mut Vec<u8>, name: &str, number: u32) -> io::Result<()>
+    ensures { OnOk result (out.new.items ≡ out.old.items ++ spec.limit_line name.now number) }
+{
+    write!(out, "limit: {name} {number}\n")
+}
+
+/// A record that is refused at a line.
+fn refused(alloc: Global, line: u32, kind: &str) -> Result<Reply, NoMemory>
+    ensures status { IfOk result (λ r. r.status ≡ status.RecordRefused) }
+    ensures text { IfOk result (λ r. r.text ≡ spec.refused_line line kind.now) }
+    ensures world { IfOk result (λ r. r.world ≡ None) }
+{
+    let mut out = Vec::new(alloc);
+    match write_refused(&mut out, line, kind) {
+        Ok(()) => Ok(Reply {
+            status: Status::RecordRefused,
+            text: Items::of_vec(out),
+            world: None,
+        }),
+        Err(_) => Err(NoMemory),
+    }
+}
+
+/// A limit that is passed, or that refuses a step.
+pub(crate) fn limit(alloc: Global, name: LimitName, number: u32) -> Result<Reply, NoMemory>
+    ensures status { IfOk result (λ r. r.status ≡ status.LimitPassed) }
+    ensures text { IfOk result (λ r. r.text ≡ spec.limit_line (spec.limit_word name) number) }
+    ensures world { IfOk result (λ r. r.world ≡ None) }
+{
+    let mut out = Vec::new(alloc);
+    match write_limit(&mut out, limit_word(name), number) {
+        Ok(()) => Ok(Reply {
+            status: Status::LimitPassed,
+            text: Items::of_vec(out),
+            world: None,
+        }),
+        Err(_) => Err(NoMemory),
+    }
+}
+
+/// A line of the record that is none.
+pub(crate) fn bad_line(alloc: Global, line: u32, kind: ScriptKind) -> Result<Reply, NoMemory>
+    ensures status { IfOk result (λ r. r.status ≡ status.RecordRefused) }
+    ensures text { IfOk result (λ r. r.text ≡ spec.refused_line line (spec.kind_word kind)) }
+    ensures world { IfOk result (λ r. r.world ≡ None) }
+{
+    refused(alloc, line, kind_word(kind))
+}
+
+/// A line whose step cannot be taken, or is refused by a limit.
+pub(crate) fn stopped(alloc: Global, line: u32, stop: Stop) -> Result<Reply, NoMemory>
+    ensures status { IfOk result (λ r. r.status ≡ spec.stop_status stop) }
+    ensures text { IfOk result (λ r. r.text ≡ spec.stop_line line stop) }
+    ensures world { IfOk result (λ r. r.world ≡ None) }
+{
+    match stop {
+        Stop::NoPacket => refused(alloc, line, "NoPacket"),
+        Stop::NoProcess => refused(alloc, line, "NoProcess"),
+        Stop::NoDep => refused(alloc, line, "NoDep"),
+        Stop::NotNeighbour => refused(alloc, line, "NotNeighbour"),
+        Stop::UnknownName => refused(alloc, line, "UnknownName"),
+        Stop::OutOfRange => refused(alloc, line, "OutOfRange"),
+        Stop::NotInNetwork => refused(alloc, line, "NotInNetwork"),
+        Stop::NotMaster => refused(alloc, line, "NotMaster"),
+        Stop::Limit(name, number) => limit(alloc, name, number),
+    }
+}
+
+fn kind_word(kind: ScriptKind) -> &'static str
+    ensures { result.now ≡ spec.kind_word kind }
+{
+    match kind {
+        ScriptKind::BadLine => "BadLine",
+        ScriptKind::NotBuilt => "NotBuilt",
+        ScriptKind::Duplicate => "Duplicate",
+        ScriptKind::UnknownName => "UnknownName",
+        ScriptKind::OutOfRange => "OutOfRange",
+        ScriptKind::BadTree => "BadTree",
+        ScriptKind::NoPlan => "NoPlan",
+    }
+}
+
+fn limit_word(name: LimitName) -> &'static str
+    ensures { result.now ≡ spec.limit_word name }
+{
+    match name {
+        LimitName::Input => "input",
+        LimitName::Steps => "steps",
+        LimitName::Packets => "packets",
+        LimitName::Bytes => "bytes",
+        LimitName::Plan => "plan",
+        LimitName::Entry => "entry",
+        LimitName::File => "file",
+        LimitName::Places => "places",
+    }
+}

@@ -1,0 +1,39 @@
+//! Exit statuses.
+ghost use Rattle.std.specs.Prelude.{◌≡◌};
+ghost use Rattle.tws_top.specs.Statuses.{number_of};
+
+/// How a call ended.
+#[derive(Clone, Copy, Debug, PartialEq, Eq)]
+pub enum Status {
+    /// All is done.
+    Success,
+    /// The words have no form.
+    WordsRefused,
+    /// A line of the record is none, or its step cannot be taken.
+    RecordRefused,
+    /// The source failed.
+    SourceFailed,
+    /// The sink failed.
+    SinkFailed,
+    /// Memory ran out.
+    NoMemory,
+    /// What is counted passes its limit.
+    LimitPassed,
+}
+
+impl Status {
+    /// The number with which the program ends.
+    pub fn number(self) -> u8
+        ensures { result ≡ number_of self }
+    {
+        match self {
+            Status::Success => 0,
+            Status::WordsRefused => 2,
+            Status::RecordRefused => 3,
+            Status::SourceFailed => 4,
+            Status::SinkFailed => 5,
+            Status::NoMemory => 9,
+            Status::LimitPassed => 10,
+        }
+    }
+}

@@ -1,5 +1,5 @@
 -- What is due is one status and one text, and it is what was said.
-use Rattle.std.proofs.Common.{◌≡◌, ◌≢◌, ◌+◌, ◌≤◌, ◌<◌, ◌++◌, ◌⊎◌, ℕ, List, Option, Some, None, Result, Ok, Err, ◌×◌, inl, inr}
+use Rattle.std.proofs.Common.{◌≡◌, ◌≢◌, ◌+◌, ◌≤◌, ◌<◌, ◌++◌, ◌⊎◌, ℕ, List, Option, Some, None, Result, Ok, Err, inl, inr}
 use Rattle.std.proofs.Common.{sym, ap, ◌∙◌, subst, refl, codes, length, append-nil, length-append, arith}
 use Rattle.outside.specs.Causes.{Rose}
 use Rattle.outside.specs.Streams.{Stream, TakesAll}
@@ -48,9 +48,10 @@ calls_one telling reading a b x y n m (CallsFor.stopped s l c e r) (CallsFor.no_
 calls_one telling reading a b x y n m (CallsFor.stopped s l c e r) (CallsFor.stopped s' l' c' e' r') =
     let same : runs.stopped l c ≡ runs.stopped l' c' = sym r ∙ one_run reading s s' e e' ∙ r' in
     let line : l ≡ l' = cc in
-    let cause : c ≡ c' = cc in
-    (ap (λ z. stop_status (told z)) cause,
-    ap (λ z. stop_line z (told c)) line ∙ ap (λ z. stop_line l' (told z)) cause)
+    let cause : c ≡ c' = cc in (
+      ap (λ z. stop_status (told z)) cause,
+      ap (λ z. stop_line z (told c)) line ∙ ap (λ z. stop_line l' (told z)) cause,
+    )
 calls_one telling reading a b x y n m (CallsFor.stopped s l c e r) (CallsFor.ran s' w e' r') =
     let clash : runs.stopped l c ≡ runs.done w = sym r ∙ one_run reading s s' e e' ∙ r' in cc
 calls_one telling reading a b x y n m (CallsFor.ran s w e r) (CallsFor.no_record l' k' e') =

@@ -1,5 +1,5 @@
 mod Bridges
 mod Tellings
-mod Replies
+mod Calling
 mod Dues
 mod Rows

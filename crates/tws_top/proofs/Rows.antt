@@ -25,7 +25,7 @@ use Rattle.tws_top.specs.Statuses.{number_of}
 use Rattle.tws_top.specs.Words.{asked_of, asks_record}
 use Rattle.tws_top.specs.Dues.{CallsFor, ReadCallsFor, Due, Says, IsOf, IsThatOf, IsAnswer}
 use Rattle.tws_top.specs.Rows.{Tells, IsRefused, Refuses, PassesLimit}
-use Rattle.tws_top.proofs.Replies.{IsOfRecord, success, refused, limit_, stop_of_record, read_of_record}
+use Rattle.tws_top.proofs.Calling.{IsOfRecord, success, refused, limit_, stop_of_record, read_of_record}
 
 -- a status that a step is answered with is one of two, by its number
 record_or_limit : (status : Status) → IsOfRecord status → (number_of status ≡ 3 → status ≡ RecordRefused)
@@ -312,3 +312,21 @@ by_silence result Q four nine other = go (result == 4) (result == 9) refl refl
 
 pub apart : (result n m : ℕ) → result ≡ n → (n ≡ m → ⊥) → result ≢ m
 apart result n m e other f = other (sym e ∙ f)
+
+not_4 : (s : Status) → IsOfRecord s → number_of s ≡ 4 → ⊥
+not_4 s success e = omega arith
+not_4 s refused e = omega arith
+not_4 s limit_ e = omega arith
+
+not_9 : (s : Status) → IsOfRecord s → number_of s ≡ 9 → ⊥
+not_9 s success e = omega arith
+not_9 s refused e = omega arith
+not_9 s limit_ e = omega arith
+
+-- a reply is never silent
+pub no_silence : (status : Status) (text : List ℕ) (result : ℕ) (written written' : Option (List ℕ)) (faults faults' : ℕ)
+    → IsOfRecord status → Says status text result written written' faults faults' → (result ≡ 4) ⊎ (result ≡ 9) → ⊥
+no_silence status text result written written' faults faults' is says (inl e) =
+    not_4 status is (sym (says.all (apart result 4 5 e (λ f. omega arith))).0 ∙ e)
+no_silence status text result written written' faults faults' is says (inr e) =
+    not_9 status is (sym (says.all (apart result 9 5 e (λ f. omega arith))).0 ∙ e)

@@ -40,23 +40,23 @@ pub summary_told : (w : WorldState) (x : World) (net : Net) (node : NodeState) (
 summary_told w x net node kept streams jobs events starts text stands at_ over is s j e t said =
     let view : view_of kept ≡ view_at x 0 = ap view_of is ∙ held w.net x 0 node at_ in
     let s' : streams ≡ stream_counts w.net (view_at x 0) =
-        s ∙ ap (λ n. stream_counts n (view_of kept)) over ∙ ap (stream_counts w.net) view in
+    s ∙ ap (λ n. stream_counts n (view_of kept)) over ∙ ap (stream_counts w.net) view in
     let j' : jobs ≡ job_counts w.net (view_at x 0) =
-        j ∙ ap (λ n. job_counts n (view_of kept)) over ∙ ap (job_counts w.net) view in
+    j ∙ ap (λ n. job_counts n (view_of kept)) over ∙ ap (job_counts w.net) view in
     let e' : events ≡ length x.history = e ∙ ap length stands.journal_.history_ in
     let t' : starts ≡ length x.starts = t ∙ ap length stands.journal_.starts_ in
     said ∙ ap (λ z. summary_of z jobs events starts) s'
     ∙ ap (λ z. summary_of (stream_counts w.net (view_at x 0)) z events starts) j'
     ∙ ap (λ z. summary_of (stream_counts w.net (view_at x 0)) (job_counts w.net (view_at x 0)) z starts) e'
     ∙ ap
-      (λ z. summary_of (stream_counts w.net (view_at x 0)) (job_counts w.net (view_at x 0)) (length x.history) z) t'
+    (λ z. summary_of (stream_counts w.net (view_at x 0)) (job_counts w.net (view_at x 0)) (length x.history) z) t'
 
 -- bytes that are a text are read as it is
 pub text_read : (bytes text : List ℕ) → text ≡ bytes → IsUtf8 bytes → read_of text ≡ read_bytes bytes
 text_read bytes text same is =
     ap read_of same
     ∙ ap (λ b. if b then read_of bytes else Err (bad_byte_line bytes, BadLine))
-      (sym (eq-eqb (utf8_valid_len bytes) (length bytes) (utf8_valid_len-IsUtf8 bytes is)))
+    (sym (eq-eqb (utf8_valid_len bytes) (length bytes) (utf8_valid_len-IsUtf8 bytes is)))
 
 -- other bytes are refused at the line of the first that is no part of a text
 pub no_text_read : (bytes : List ℕ) (n line : ℕ) → IsValidUpTo bytes n

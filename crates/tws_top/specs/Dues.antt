@@ -29,13 +29,13 @@ use Rattle.tws_top.specs.Nights.{Night, no_days, read_bytes, told_at}
 -- cannot be taken or the limit, and 0 with what is told of the world that the steps make.
 pub data CallsFor (telling : Telling) (reading : Result Script (ℕ × ScriptKind)) : Status → List ℕ → Option Night → Type 0
   where
-  no_record : (line : ℕ) (kind : ScriptKind) → reading ≡ Err (line, kind)
-      → CallsFor telling reading RecordRefused (refused_line line (kind_word kind)) None
-  stopped : (s : Script) (line : ℕ) (cause : Cause) → reading ≡ Ok s
-      → run_of_script no_days s ≡ runs.stopped line cause
-      → CallsFor telling reading (stop_status (told cause)) (stop_line line (told cause)) None
-  ran : (s : Script) (x : model.World) → reading ≡ Ok s → run_of_script no_days s ≡ runs.done x
-      → CallsFor telling reading Success (told_at telling s.net x) (Some (record { net = s.net; world = x }))
+    no_record : (line : ℕ) (kind : ScriptKind) → reading ≡ Err (line, kind)
+        → CallsFor telling reading RecordRefused (refused_line line (kind_word kind)) None
+    stopped : (s : Script) (line : ℕ) (cause : Cause) → reading ≡ Ok s
+        → run_of_script no_days s ≡ runs.stopped line cause
+        → CallsFor telling reading (stop_status (told cause)) (stop_line line (told cause)) None
+    ran : (s : Script) (x : model.World) → reading ≡ Ok s → run_of_script no_days s ≡ runs.done x
+        → CallsFor telling reading Success (told_at telling s.net x) (Some (record { net = s.net; world = x }))
 
 -- What an input calls for, by what was read of it: more bytes than the limit call for 10, and fewer for what they are.
 pub data ReadCallsFor (telling : Telling) (old new : Option Stream) : Status → List ℕ → Option Night → Type 0 where

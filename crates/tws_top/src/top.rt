@@ -1,5 +1,5 @@
 //! The top call.
-ghost use Rattle.std.specs.Prelude.{◌≡◌, ◌≢◌, ◌⊎◌, ◌↔◌, ◌≤◌, ℕ, List, Ok, length, Some, None, IsSome, IsTrue, false};
+ghost use Rattle.std.specs.Prelude.{◌≡◌, ◌≢◌, ◌⊎◌, ◌↔◌, ◌≤◌, ℕ, List, Ok, Option, length, Some, None, IsSome, IsTrue, false};
 ghost use Rattle.std.specs.Io.KnownBytes.{Appends, Keeps};
 ghost use Rattle.outside.specs.Causes.{Rose};
 ghost use Rattle.outside.specs.Streams.{Stream};
@@ -27,12 +27,7 @@ use outside::{Sink, Source};
 use std::alloc::Global;
 
 /// Does what the words ask for. All else that `tws` promises follows from these clauses.
-fn ended<I: Source, O: Sink>(
-    alloc: Global,
-    words: &[Text],
-    input: &mut I,
-    out: &mut O,
-) -> Done
+fn ended<I: Source, O: Sink>(alloc: Global, words: &[Text], input: &mut I, out: &mut O) -> Done
     ensures due { result.status ≢ 4 → result.status ≢ 9 → IsAnswer words.now (I.stream input.old) (I.stream input.new)
         result.status result.world (O.written out.old) (O.written out.new) (O.faults out.old) (O.faults out.new) }
     ensures source_failed { result.status ≡ 4 → Rose (I.faults input.old) (I.faults input.new) }

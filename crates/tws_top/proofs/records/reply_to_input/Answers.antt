@@ -1,5 +1,5 @@
 use Rattle.std.proofs.Common.{ap, Err}
-use Rattle.tws_top.proofs.Replies.{read_reply, too_long_reply}
+use Rattle.tws_top.proofs.Calling.{read_reply, too_long_reply}
 use Rattle.tws_top.proofs.records.reply_to_input.Goals as goal
 
 pub returns-in_ok-reply_to_bytes-in-Ok-clause-called : goal.returns-in_ok-reply_to_bytes-in-Ok-clause-called

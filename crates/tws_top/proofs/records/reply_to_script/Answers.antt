@@ -1,5 +1,5 @@
 use Rattle.tws_top.specs.Nights.{no_days}
-use Rattle.tws_top.proofs.Replies.{told_result, stopped_result}
+use Rattle.tws_top.proofs.Calling.{told_result, stopped_result}
 use Rattle.tws_top.proofs.records.reply_to_script.Goals as goal
 
 pub returns-in-Done : goal.returns-in-Done

@@ -1,6 +1,10 @@
-use Rattle.std.proofs.Common.{ap, sym, Err}
+use Rattle.std.proofs.Common.{◌≡◌, ℕ, ap, sym, Err}
+use Rattle.std.specs.Result.{IfOk}
+use Rattle.record_faults.specs.declared.kinds.ScriptKind.{ScriptKind}
+use Rattle.tws_top.specs.declared.replies.Reply.{Reply}
+use Rattle.tws_top.specs.Lines.{refused_line, kind_word}
 use Rattle.tws_top.proofs.Bridges.{lines_inside, lines_ask_no_day}
-use Rattle.tws_top.proofs.Replies.{bad_line_result, reading_result}
+use Rattle.tws_top.proofs.Calling.{bad_line_result, by_two, reading_result}
 use Rattle.tws_top.proofs.records.reply_to_text.Goals as goal
 
 pub reply_to_script-requires-clause-inside : goal.reply_to_script-requires-clause-inside
@@ -17,4 +21,6 @@ pub returns-in-Err-At : goal.returns-in-Err-At
 returns-in-Err-At c =
     bad_line_result c.args.telling _ c.in-Err-At.line c.in-Err-At.kind c.bad_line.result
     (c.in-Err-At.ensures.at c.in-Err-At.line c.in-Err-At.kind (ap Err c.in-Err-At.field-0-is))
-    c.bad_line.ensures.status c.bad_line.ensures.text c.bad_line.ensures.world
+    c.bad_line.ensures.status
+    (by_two (λ (l : ℕ) (k : ScriptKind). IfOk c.bad_line.result (λ (a : Reply). a.text ≡ refused_line l (kind_word k)))
+    _ _ _ _ (sym c.in-Err-At.line-is) (sym c.in-Err-At.kind-is) c.bad_line.ensures.text) c.bad_line.ensures.world

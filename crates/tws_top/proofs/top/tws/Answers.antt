@@ -82,9 +82,9 @@ returns-clause-statuses g c =
 pub returns-clause-world : goal.returns-clause-world
 returns-clause-world g c =
     let w : WorldIsFor (asked_of c.args.words.now) c.ended.result.status c.ended.result.world =
-        by_silence c.ended.result.status
-        (WorldIsFor (asked_of c.args.words.now) c.ended.result.status c.ended.result.world)
-        (λ e. no_world _ _ _ (c.ended.ensures.alone (inl e)) (apart _ 4 0 e (λ f. omega arith)))
-        (λ e. no_world _ _ _ (c.ended.ensures.alone (inr e)) (apart _ 9 0 e (λ f. omega arith)))
-        (λ other_4 other_9. world_said _ _ _ _ _ _ _ _ _ (c.ended.ensures.due other_4 other_9)) in
+    by_silence c.ended.result.status
+    (WorldIsFor (asked_of c.args.words.now) c.ended.result.status c.ended.result.world)
+    (λ e. no_world _ _ _ (c.ended.ensures.alone (inl e)) (apart _ 4 0 e (λ f. omega arith)))
+    (λ e. no_world _ _ _ (c.ended.ensures.alone (inr e)) (apart _ 9 0 e (λ f. omega arith)))
+    (λ other_4 other_9. world_said _ _ _ _ _ _ _ _ _ (c.ended.ensures.due other_4 other_9)) in
     (λ has. (w.only_0 has, w.only_records has), λ both. w.there both.0 both.1)

@@ -1,5 +1,5 @@
 -- What a reply is, by the parts of which it is made.
-use Rattle.std.proofs.Common.{◌≡◌, ◌≢◌, ◌+◌, ◌≤◌, ◌<◌, ℕ, List, Option, Some, None, Result, Ok, Err, ◌×◌, sym, ap, ◌∙◌, subst, refl}
+use Rattle.std.proofs.Common.{◌≡◌, ◌≢◌, ◌+◌, ◌≤◌, ◌<◌, ℕ, List, Option, Some, None, Result, Ok, Err, sym, ap, ◌∙◌, subst, refl}
 use Rattle.std.proofs.Common.{codes, length, arith}
 use Rattle.std.specs.Result.{IfOk}
 use Rattle.base_types.specs.declared.LimitName.TheVariants as limit
@@ -120,6 +120,19 @@ pub reply_not_sink : (telling : Telling) (old new : Option Stream) (r : Reply) �
     → r.status ≢ SinkFailed
 reply_not_sink telling old new r h =
     not_sink r.status (read_of_record telling old new r.status r.text h.night h.called)
+
+pub reply_of_record : (telling : Telling) (old new : Option Stream) (r : Reply) → IsReply (ReadCallsFor telling old new) r
+    → IsOfRecord r.status
+reply_of_record telling old new r h = read_of_record telling old new r.status r.text h.night h.called
+
+-- the same of other names of a value, of two values
+pub by_value : {A : Type 0} (P : A → Type 0) (a b : A) → a ≡ b → P b → P a
+by_value P a b e h = subst P (sym e) h
+
+pub by_two : {A B : Type 0} (P : A → B → Type 0) (a b : A) (c d : B) → a ≡ b → c ≡ d → P b d → P a c
+by_two {A = A} {B = B} P a b c d e f h =
+    let Q : A → Type 0 = λ x. P x d in
+    let R : B → Type 0 = λ y. P a y in subst R (sym f) (subst Q (sym e) h)
 
 -- the same of calls that may want memory
 module _ {E : Type 0} (telling : Telling) where

@@ -19,13 +19,13 @@ all_same f g same (x ∷ xs) = ap (λ b. b && list_all f xs) (same x) ∙ ap (λ
 none_all : {A : Type 0} (f g : A → Bool) → ((a : A) → g a ≡ not (f a)) → (xs : List A) → list_any f xs ≡ false
     → list_all g xs ≡ true
 none_all f g same [] none = refl
-none_all f g same (x ∷ xs) none = go (f x) refl
+none_all f g same (x ∷ xs) none = go (f x) refl (none_all f g same xs)
   where
-    go : (b : Bool) → f x ≡ b → list_all g (x ∷ xs) ≡ true
-    go true e = let never : true ≡ false = sym (ap (λ b. b || list_any f xs) e) ∙ none in cc
-    go false e =
+    go : (b : Bool) → f x ≡ b → (list_any f xs ≡ false → list_all g xs ≡ true) → list_all g (x ∷ xs) ≡ true
+    go true e more = let never : true ≡ false = sym (ap (λ b. b || list_any f xs) e) ∙ none in cc
+    go false e more =
         let rest : list_any f xs ≡ false = sym (ap (λ b. b || list_any f xs) e) ∙ none in
-        ap (λ b. b && list_all g xs) (same x ∙ ap not e) ∙ none_all f g same xs rest
+        ap (λ b. b && list_all g xs) (same x ∙ ap not e) ∙ more rest
 
 inside_one : (net : Net) (line : ℕ) (o : OneStep) → is_inside net (record { line = line; form = form.One o })
     ≡ is_line_inside net (record { line = line; form = form.One o })

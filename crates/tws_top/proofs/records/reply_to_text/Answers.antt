@@ -8,10 +8,10 @@ use Rattle.tws_top.proofs.Calling.{bad_line_result, by_two, reading_result}
 use Rattle.tws_top.proofs.records.reply_to_text.Goals as goal
 
 pub reply_to_script-requires-clause-inside : goal.reply_to_script-requires-clause-inside
-reply_to_script-requires-clause-inside c = lines_inside _ _ c.in-Ok.ensures.inside
+reply_to_script-requires-clause-inside c = lines_inside c.in-Ok.script.net c.in-Ok.script.steps c.in-Ok.ensures.inside
 
 pub reply_to_script-requires-clause-no_day : goal.reply_to_script-requires-clause-no_day
-reply_to_script-requires-clause-no_day c = lines_ask_no_day _ c.in-Ok.ensures.days
+reply_to_script-requires-clause-no_day c = lines_ask_no_day c.in-Ok.script.steps c.in-Ok.ensures.days
 
 pub returns-in-Ok : goal.returns-in-Ok
 returns-in-Ok c =

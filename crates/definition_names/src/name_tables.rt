@@ -171,7 +171,7 @@ impl<'a> Names<'a> {
     /// The place of the stream of this workstation and name. Streams without a workstation are together on a nameless
     /// one where there is no one master.
     pub fn stream(&self, ws: Option<&'a Text>, name: &'a Text) -> Option<usize>
-        ensures { result ≡ streams.stream_at self.now (option_copied ws) name.now }
+        ensures { result ≡ streams.stream_at self.now (option_copied ws.entry) name.now }
     {
         self.streams.at(ws, name)
     }

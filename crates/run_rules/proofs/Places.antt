@@ -1,9 +1,9 @@
 -- Where days stand in months, and that each day stands in one.
 use Rattle.std.proofs.Common.{◌≡◌, ◌≢◌, ℕ, zero, suc, ◌+◌, ◌-◌, ◌*◌, ◌/◌, ◌%◌, ◌<◌, ◌≤◌, Bool, true, false, ◌&&◌, ◌||◌, ◌==◌, nat_le, nat_lt}
-use Rattle.std.proofs.Common.{inl, inr, List, ◌∷◌, Option, Some, None, option_and_then, refl, ap, sym, ◌∙◌, subst, arith, ℤ, pos, negsuc, neg_ℤ, ◌≤ℤ◌, ◌<ℤ◌}
+use Rattle.std.proofs.Common.{inl, inr, List, ◌∷◌, Option, Some, None, option_and_then, refl, ap, sym, ◌∙◌, subst, arith, ℤ, pos, negsuc, neg_ℤ, unsigned_abs, to_z, of_z, SFits, w16, ◌≤ℤ◌, ◌<ℤ◌}
 use Rattle.std.proofs.lemmas.Bool.Decides.{eqb_tells, nat_tests}
 use Rattle.std.proofs.lemmas.Bool.{cases_order}
-use Rattle.std.proofs.lemmas.Int.{by_lt_z}
+use Rattle.std.proofs.lemmas.Int.{by_lt_z, to_z-of_z}
 use Rattle.std.proofs.lemmas.Nat.{mod_below}
 use Rattle.std.specs.List.{list_any}
 use Rattle.std.specs.Option.{option_map_or}
@@ -327,6 +327,9 @@ from_1970 d day is =
         absurd (omega (arith, signed_arith, before, is, days_from_civil-day_count d.year d.month d.day, day_count-epoch)))
     (λ late. late)
 
+fits_year : (y : ℕ) → y ≤ 9999 → SFits w16 (pos y)
+fits_year y h = record { sfits = omega (arith, h) }
+
 -- so many years later, with the month of the year and the day of the month
 module _ (d : Date) (day : ℕ) (is : epoch_day d ≡ pos day) (place : MonthPlace) where
   at_year : (y : ℕ) → d.year ≡ pos y → 1970 ≤ y → place.month ≡ (y - 1970) * 12 + (d.month - 1) → place.day ≡ d.day
@@ -336,7 +339,8 @@ module _ (d : Date) (day : ℕ) (is : epoch_day d ≡ pos day) (place : MonthPla
       let one : 1 ≤ d.month = in_.1.0 in
       let twelve : d.month ≤ 12 = in_.1.1 in
       let first : 1 ≤ d.day = in_.2.0 in
-      let late : y ≤ 9999 = subst (λ (z : ℤ). z ≤ℤ pos 9999) year in_.0.1 in
+      let most : pos y ≤ℤ pos 9999 = subst (λ (z : ℤ). z ≤ℤ pos 9999) year in_.0.1 in
+      let late : y ≤ 9999 = omega (arith, signed_arith, most) in
       let quotient : place.month / 12 ≡ y - 1970 = omega (arith, month, one, twelve) in
       let rest : place.month % 12 ≡ d.month - 1 = omega (arith, month, one, twelve) in
       let the_year : year_of place.month ≡ y = omega (arith, quotient, from) in
@@ -355,3 +359,22 @@ module _ (d : Date) (day : ℕ) (is : epoch_day d ≡ pos day) (place : MonthPla
         within = omega (arith, within, day_, length_);
         lasts = length_ ∙ sym length_is;
       }
+
+  -- the year as a number without a sign
+  pub at_date : pos 1970 ≤ℤ d.year → place.month ≡ (unsigned_abs (to_z w16 (of_z w16 d.year)) - 1970) * 12 + (d.month - 1)
+      → place.day ≡ d.day → place.length ≡ jiff_length (to_z w16 (of_z w16 d.year)) d.month → IsPlaceOf place day
+  at_date from month day_ length_ = go d.year refl
+    where
+      go : (z : ℤ) → d.year ≡ z → IsPlaceOf place day
+      go (pos y) e =
+          let signed : pos 1970 ≤ℤ pos y = subst (λ (z : ℤ). pos 1970 ≤ℤ z) e from in
+          let late : 1970 ≤ y = omega (arith, signed_arith, signed) in
+          let most : pos y ≤ℤ pos 9999 = let in_ = civil d in subst (λ (z : ℤ). z ≤ℤ pos 9999) e in_.0.1 in
+          let low : y ≤ 9999 = omega (arith, signed_arith, most) in
+          let same : to_z w16 (of_z w16 d.year) ≡ pos y =
+              ap (λ (z : ℤ). to_z w16 (of_z w16 z)) e ∙ to_z-of_z w16 (pos y) (fits_year y low) in
+          at_year y e late (month ∙ ap (λ (z : ℤ). (unsigned_abs z - 1970) * 12 + (d.month - 1)) same) day_
+          (length_ ∙ ap (λ (z : ℤ). jiff_length z d.month) same)
+      go (negsuc n) e =
+          let signed : pos 1970 ≤ℤ negsuc n = subst (λ (z : ℤ). pos 1970 ≤ℤ z) e from in
+          absurd (omega (arith, signed_arith, signed))

@@ -48,5 +48,5 @@ pub(crate) fn is_kth(place: &MonthPlace, k: i32) -> bool
     if k > 0 {
         return place.day == k as u32;
     }
-    k < 0 && place.day + k.unsigned_abs() == place.length + 1
+    k < 0 && u64::from(place.day) + u64::from(k.unsigned_abs()) == u64::from(place.length) + 1
 }

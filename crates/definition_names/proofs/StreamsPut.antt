@@ -43,17 +43,20 @@ pub entries_more : (schedules : List (Lined ScheduleDef)) (n : ℕ) (s : Lined S
     (old new : List ((ℕ × Bor (List ℕ)) × ℕ)) → slice_get schedules n ≡ Some s
     → ((m : ℕ) (name : List ℕ) → entry_in old m name ≡ before_place schedules n m name)
     → ((m : ℕ) (name : List ℕ) → (m == n) ≡ false → entry_in new m name ≡ entry_in old m name)
-    → ((name : List ℕ) → entry_in old n name ≡ None → entry_in new n name ≡ entry_at s.item name)
+    → (it : ScheduleDef)
+    → ((name : List ℕ) → entry_in old n name ≡ None → entry_in new n name ≡ entry_at it name)
+    → it ≡ s.item
     → (m : ℕ) (name : List ℕ) → entry_in new m name ≡ before_place schedules (n + 1) m name
-entries_more schedules n s old new got before others own m name =
+entries_more schedules n s old new got before others it own same m name =
     elim (eqb_tells m n)
     [ inl e ↦
         let here : n < n + 1 = omega arith in
         subst (λ (k : ℕ). entry_in new k name ≡ before_place schedules (n + 1) k name) (sym e.1)
         (own name
             (before n name ∙ ap (λ (b : Bool). cond b (entry_among schedules n name) None) (not_below n))
+        ∙ (ap (λ (x : ScheduleDef). entry_at x name) same
         ∙ (sym (ap (option_and_then (λ (x : Lined ScheduleDef). entry_at x.item name)) got)
-        ∙ sym (ap (λ (b : Bool). cond b (entry_among schedules n name) None) (is_below n (n + 1) here))))
+        ∙ sym (ap (λ (b : Bool). cond b (entry_among schedules n name) None) (is_below n (n + 1) here)))))
     | inr o ↦
         others m name o.0
         ∙ (before m name ∙ sym (ap (λ (b : Bool). cond b (entry_among schedules m name) None) (same_below m n o.1))) ]

@@ -1,6 +1,6 @@
 -- The days between two on which a stream runs.
 use Rattle.std.proofs.Common.{◌≡◌, ◌≢◌, ℕ, zero, suc, ◌+◌, ◌-◌, ◌<◌, ◌≤◌, ◌&&◌, ◌||◌, ◌==◌, not, Bool, true, false, cond, nat_le, nat_lt, min}
-use Rattle.std.proofs.Common.{List, ◌∷◌, filter, inl, inr, Option, Some, None, option_map, Result, Ok, Err, IfOk, slice_get, refl, sym, ap, ◌∙◌, arith}
+use Rattle.std.proofs.Common.{List, [], ◌∷◌, ◌++◌, append-nil, filter, inl, inr, Option, Some, None, option_map, Result, Ok, Err, IfOk, slice_get, refl, sym, ap, ◌∙◌, arith}
 use Rattle.std.proofs.lemmas.Bool.Decides.{eqb_tells, nat_tests}
 use Rattle.std.specs.List.{range_with_len}
 use Rattle.std.specs.Option.{option_map_or}
@@ -113,7 +113,7 @@ dates_of d n from to day set items list len is same all told =
     ∙ (ap (λ (l : List ℕ). has l day) (same ∙ all)
     ∙ (in_filter (runs d n) len from day
     ∙ bounds_same from to last_day len day
-        (option_map_or (λ (s : Lined ScheduleDef). runs_of d s.item day) (slice_get d.schedules n) false) is))
+    (option_map_or (λ (s : Lined ScheduleDef). runs_of d s.item day) (slice_get d.schedules n) false) is))
 
 -- a stream at its place
 same_free : (a b : FreeDays) → Some a ≡ Some b → a ≡ b
@@ -125,13 +125,13 @@ pub runs_in : (d : Defs) (n day : ℕ) (b : Bool) (free : FreeDays) (s : Lined S
     → b ≡ runs d n day
 runs_in d n day b free s low got given told =
     let own : free ≡ free_of_stream d s.item =
-        same_free free (free_of_stream d s.item)
-        (given ∙ ap (option_map (λ (x : Lined ScheduleDef). free_of_stream d x.item)) got) in
+    same_free free (free_of_stream d s.item)
+    (given ∙ ap (option_map (λ (x : Lined ScheduleDef). free_of_stream d x.item)) got) in
     let test : nat_le day last_day ≡ true = grind (arith, nat_tests) in
     told
     ∙ (ap (λ (f : FreeDays). any_gives d f s.item.ons false day && not (any_gives d f s.item.ons true day)) own
     ∙ sym (λ i. test i
-        && option_map_or (λ (x : Lined ScheduleDef). runs_of d x.item day) (got i) false))
+    && option_map_or (λ (x : Lined ScheduleDef). runs_of d x.item day) (got i) false))
 
 pub runs_late : (d : Defs) (n day : ℕ) → last_day < day → false ≡ runs d n day
 runs_late d n day late =
@@ -146,3 +146,50 @@ runs_none d n day none =
     and_false : (c : Bool) → (c && false) ≡ false
     and_false true = refl
     and_false false = refl
+
+-- the days of a range with one more
+filter_range : (p : ℕ → Bool) (n a : ℕ) → filter p (range_with_len a (suc n))
+    ≡ filter p (range_with_len a n) ++ cond (p (a + n)) ((a + n) ∷ []) []
+filter_range p zero a =
+    let here : a ≡ a + 0 = omega arith in ap (λ (k : ℕ). cond (p k) (k ∷ []) []) here
+filter_range p (suc n) a = go (p a) (filter_range p n (a + 1))
+  where
+    next : a + 1 + n ≡ a + suc n
+    next = omega arith
+
+    go : (b : Bool) → filter p (range_with_len (a + 1) (suc n))
+        ≡ filter p (range_with_len (a + 1) n) ++ cond (p (a + 1 + n)) ((a + 1 + n) ∷ []) []
+        → cond b (a ∷ filter p (range_with_len (a + 1) (suc n))) (filter p (range_with_len (a + 1) (suc n)))
+        ≡ cond b (a ∷ filter p (range_with_len (a + 1) n)) (filter p (range_with_len (a + 1) n))
+        ++ cond (p (a + suc n)) ((a + suc n) ∷ []) []
+    go true h =
+        ap (λ (l : List ℕ). a ∷ l)
+        (h ∙ ap (λ (k : ℕ). filter p (range_with_len (a + 1) n) ++ cond (p k) (k ∷ []) []) next)
+    go false h = h ∙ ap (λ (k : ℕ). filter p (range_with_len (a + 1) n) ++ cond (p k) (k ∷ []) []) next
+
+one_more : (p : ℕ → Bool) (from day : ℕ) → from ≤ day → filter p (range_with_len from (day + 1 - from))
+    ≡ filter p (range_with_len from (day - from)) ++ cond (p day) (day ∷ []) []
+one_more p from day low =
+    let steps : day + 1 - from ≡ suc (day - from) = omega (arith, low) in
+    let at_ : from + (day - from) ≡ day = omega (arith, low) in
+    ap (λ (k : ℕ). filter p (range_with_len from k)) steps
+    ∙ (filter_range p (day - from) from
+    ∙ ap (λ (k : ℕ). filter p (range_with_len from (day - from)) ++ cond (p k) (k ∷ []) []) at_)
+
+pub put_day : (p : ℕ → Bool) (from day : ℕ) (old new : List ℕ) → from ≤ day
+    → old ≡ filter p (range_with_len from (day - from)) → new ≡ old ++ day ∷ [] → p day ≡ true
+    → new ≡ filter p (range_with_len from (day + 1 - from))
+put_day p from day old new low before grown runs_ =
+    grown
+    ∙ (ap (λ (l : List ℕ). l ++ day ∷ []) before
+    ∙ sym (one_more p from day low
+    ∙ ap (λ b. filter p (range_with_len from (day - from)) ++ cond b (day ∷ []) []) runs_))
+
+pub skip_day : (p : ℕ → Bool) (from day : ℕ) (old : List ℕ) → from ≤ day
+    → old ≡ filter p (range_with_len from (day - from)) → p day ≡ false
+    → old ≡ filter p (range_with_len from (day + 1 - from))
+skip_day p from day old low before runs_ =
+    before
+    ∙ sym (one_more p from day low
+    ∙ (ap (λ b. filter p (range_with_len from (day - from)) ++ cond b (day ∷ []) []) runs_
+    ∙ append-nil (filter p (range_with_len from (day - from)))))

@@ -14,6 +14,7 @@ use workload_defs::Workload;
 
 /// Whether a stream runs on a day: one of its ONs gives the day, and none of its EXCEPTs. Streams are told by their places
 /// among the streams of the definitions, counted from 0. On days after 12/31/9999 none runs.
+#[tactic(auto, using(crate::proofs::Dates::runs_late, crate::proofs::Dates::runs_none))]
 pub fn runs_on(w: &Workload, stream: u32, day: u32) -> bool
     requires { stream < length w.now.schedules }
     ensures { result ≡ spec.runs w.now stream day }

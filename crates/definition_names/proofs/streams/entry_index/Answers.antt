@@ -8,9 +8,10 @@ loop-n-preserved c =
     entries_more c.args.schedules.now c.loop-n.n c.index-schedules-n.result c.loop-n.index.entries
     c.put_entries.new.index.entries
     (slice_get_read c.args.schedules.now (length c.args.schedules.now) c.loop-n.n c.index-schedules-n.result refl
-        c.loop-n-test.true c.index-schedules-n.is)
-    c.loop-n.invariant c.in_ok-put_entries.ensures.others _ c.in_ok-put_entries.ensures.own
-    (let e = c.index-schedules-n.is in cc)
+    c.loop-n-test.true c.index-schedules-n.is)
+    c.loop-n.invariant c.in_ok-put_entries.ensures.others
+    c.index-schedules-n.result.item c.in_ok-put_entries.ensures.own
+    refl
 
 pub returns : goal.returns
 returns c =

@@ -8,7 +8,7 @@ use Rattle.definition_names.proofs.name_tables.Names.of.Goals as goal
 pub invariant_of-result : goal.invariant_of-result
 invariant_of-result c =
     let master : option_copied c.master_of-master.result ≡ master_of c.args.defs.now =
-        c.master_of-master.ensures ∙ ap master_among c.as_slice.ensures in
+    c.master_of-master.ensures ∙ ap master_among c.as_slice.ensures in
     record {
       master_ = master;
       alone_ = c.in_ok-alone.ensures;

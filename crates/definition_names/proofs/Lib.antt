@@ -1,0 +1,3 @@
+pub mod Masters
+pub mod Inserted
+pub mod Steps

@@ -1,0 +1,4 @@
+pub mod Leasts
+pub mod Within
+pub mod Downs
+pub mod Reaching

@@ -1,0 +1,4 @@
+pub mod Walks
+pub mod Nexts
+pub mod Prevs
+pub mod Shifted

@@ -1,0 +1,5 @@
+pub mod Told
+pub mod Faultless
+pub mod Puts
+pub mod Frees
+pub mod Sets

@@ -1,6 +1,7 @@
 -- Steps up the domains, one behind the other.
-use Rattle.std.proofs.Common.{◌≡◌, ◌⊎◌, ℕ, zero, suc, ◌+◌, ◌*◌, ◌<◌, ◌≤◌, List, [], ◌∷◌, map, length, get_or, Option, Some, None}
+use Rattle.std.proofs.Common.{◌≡◌, ◌⊎◌, ℕ, zero, suc, ◌+◌, ◌*◌, ◌/◌, ◌%◌, ◌<◌, ◌≤◌, List, [], ◌∷◌, map, length, get_or, Option, Some, None}
 use Rattle.std.proofs.Common.{refl, sym, ap, ◌∙◌, arith, inl, inr, slice_get, option_and_then, unwrap_or}
+use Rattle.std.proofs.Math.Nat.{add-mul, mul-add, suc-mul}
 use Rattle.std.proofs.lemmas.Bool.{cases_lt}
 use Rattle.std.proofs.lemmas.List.{get_or_past}
 use Rattle.std.proofs.lemmas.Option.{slice_get_past}
@@ -9,7 +10,7 @@ use Rattle.composer_parser.specs.declared.Defs.{Defs}
 use Rattle.composer_parser.specs.declared.DomainDef.{DomainDef}
 use Rattle.model.specs.Words.{below}
 use Rattle.definition_names.specs.Names.{domain_at}
-use Rattle.definition_faults.specs.Chains.{climb, parent_of, place_in}
+use Rattle.definition_faults.specs.Chains.{climb, is_top, parent_of, place_in}
 use Rattle.definition_faults.proofs.Belows.{map_below_at, length_map_below}
 
 -- so many steps and so many more
@@ -64,3 +65,29 @@ no_steps d (p ∷ ps) = ap (λ l. p ∷ l) (no_steps d ps)
 pub one_step : (d : Defs) (places : List ℕ) → map (parent_of d) places ≡ map (climb d 1) places
 one_step d [] = refl
 one_step d (p ∷ ps) = ap (λ l. parent_of d p ∷ l) (one_step d ps)
+
+pub tops_climbed : (d : Defs) (n : ℕ) (places : List ℕ)
+    → map (is_top d) (map (climb d n) places) ≡ map (λ i. is_top d (climb d n i)) places
+tops_climbed d n [] = refl
+tops_climbed d n (p ∷ ps) = ap (λ l. is_top d (climb d n p) ∷ l) (tops_climbed d n ps)
+
+-- so many steps by the half of what is left, each twice as long
+by_half : (h each : ℕ) → (2 * h) * each ≡ h * (each + each)
+by_half h each =
+    let twice : 2 * h ≡ h + h = omega arith in
+    ap (λ n. n * each) twice ∙ (add-mul h h each ∙ sym (mul-add h each each))
+
+pub even_half : (done left each n : ℕ) → ¬ (left % 2 ≡ 1) → done + left * each ≡ n → done + (left / 2) * (each + each) ≡ n
+even_half done left each n even all =
+    let halves : left ≡ 2 * (left / 2) = omega (arith, even) in
+    ap (λ m. done + m) (sym (ap (λ m. m * each) halves ∙ by_half (left / 2) each)) ∙ all
+
+pub odd_half : (done left each n : ℕ) → left % 2 ≡ 1 → done + left * each ≡ n
+    → (done + each) + (left / 2) * (each + each) ≡ n
+odd_half done left each n odd all =
+    let halves : left ≡ suc (2 * (left / 2)) = omega (arith, odd) in
+    let parts : left * each ≡ (left / 2) * (each + each) + each =
+        ap (λ m. m * each) halves ∙ (suc-mul (2 * (left / 2)) each ∙ ap (λ m. m + each) (by_half (left / 2) each)) in
+    let total = left * each in
+    let half = (left / 2) * (each + each) in
+    omega (arith, parts, all)

@@ -63,7 +63,7 @@ abbrev pub told : ℕ → Option (List ℕ) → List (ℕ × List ℕ)
 told line None = []
 told line (Some text) = (line, text) ∷ []
 
-first_pair : (line l : ℕ) (text other : List ℕ) → Contains ((line, text) ∷ []) (l, other) → (l ≡ line) × (other ≡ text)
+first_pair : (line l : ℕ) (text other : List ℕ) → Contains {X = ℕ × List ℕ} ((line, text) ∷ []) (l, other) → (l ≡ line) × (other ≡ text)
 first_pair line l text other (zero, less, is) =
     (ap (λ (p : ℕ × List ℕ). p.0) (sym is), ap (λ (p : ℕ × List ℕ). p.1) (sym is))
 first_pair line l text other (suc k, less, is) = absurd (omega (arith, less))
@@ -186,3 +186,10 @@ stream_more jobs schedules i s before found low at h more =
                 | inr there ↦ more.1 l (inr there)
               ],
         )
+
+-- all of a list
+pub take_whole : {X : Type 0} (xs : List X) (i : ℕ) → length xs ≤ i → take i xs ≡ xs
+take_whole [] zero past = refl
+take_whole [] (suc i) past = refl
+take_whole (x ∷ xs) zero past = absurd (omega (arith, past))
+take_whole (x ∷ xs) (suc i) past = ap (λ l. x ∷ l) (take_whole xs i (omega (arith, past)))

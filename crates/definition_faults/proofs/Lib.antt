@@ -9,3 +9,4 @@ pub mod Least
 pub mod Walks
 pub mod Places
 pub mod Tens
+pub mod Counts

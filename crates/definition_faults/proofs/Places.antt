@@ -1,11 +1,12 @@
 -- The places of streams and entries, and what they follow.
 use Rattle.std.proofs.Common.{◌≡◌, ◌⊎◌, ℕ, zero, suc, ◌+◌, ◌<◌, ◌≤◌, Bool, true, false, ◌&&◌, cond, List, [], ◌∷◌, ◌++◌, map, length, take, drop, get_or}
-use Rattle.std.proofs.Common.{Option, Some, None, option_map, option_and_then, option_or, slice_get, filter_map, flat_map, refl, sym, ap, subst, ◌∙◌, arith, inl, inr}
+use Rattle.std.proofs.Common.{Option, Some, None, option_map, option_and_then, slice_get, filter_map, flat_map, refl, sym, ap, subst, ◌∙◌, arith, inl, inr}
 use Rattle.std.proofs.lemmas.List.{drop_more, append_assoc}
 use Rattle.std.proofs.lemmas.List.Elements.{filter_map-append}
 use Rattle.std.proofs.lemmas.List.Sums.{sum_by_more}
 use Rattle.std.proofs.lemmas.Option.{slice_get_within}
 use Rattle.std.specs.List.{position_from}
+use Rattle.std.specs.Option.{option_or, option_to_list}
 use Rattle.composer_parser.specs.declared.Lined.{Lined}
 use Rattle.composer_parser.specs.declared.Clause.{Clause}
 use Rattle.composer_parser.specs.declared.Defs.{Defs}
@@ -68,11 +69,12 @@ where_so false o t h = cc
 position_within : {X : Type 0} (test : X → Bool) (from : ℕ) (xs : List X) (k : ℕ) → position_from test from xs ≡ Some k
     → k < from + length xs
 position_within test from [] k h = cc
-position_within test from (x ∷ xs) k h = go (test x) h
+position_within test from (x ∷ xs) k h = go (test x) h (λ e. position_within test (from + 1) xs k e)
   where
-    go : (b : Bool) → cond b (Some from) (position_from test (from + 1) xs) ≡ Some k → k < from + length (x ∷ xs)
-    go true e = let same : from ≡ k = cc in omega (arith, same)
-    go false e = let later = position_within test (from + 1) xs k e in omega (arith, later)
+    go : (b : Bool) → cond b (Some from) (position_from test (from + 1) xs) ≡ Some k
+        → (position_from test (from + 1) xs ≡ Some k → k < (from + 1) + length xs) → k < from + length (x ∷ xs)
+    go true e later = let same : from ≡ k = cc in omega (arith, same)
+    go false e later = let low = later e in omega (arith, low)
 
 part_inside : (d : Defs) (p : PredPart) (k : ℕ) (t : Target) → k < length d.schedules → part_at d p k ≡ Some t → IsInside d t
 part_inside d part.Plain k t low h = subst (IsInside d) (some_is (Stream k) t h) low
@@ -95,6 +97,14 @@ target_inside d n inside p t h =
         (let low = position_within (is_stream (master_of d) (ws_of_pred d n p) p.name) 0 d.schedules there.0 there.1 in omega (arith, low))
         there.2
     ]
+
+-- the place of what one FOLLOWS stands for
+pub followed_is : (d : Defs) (n : ℕ) (inside : Bool) (p : Pred) (t : Target) (table : List ℕ) (place : ℕ)
+    → table ≡ map (begin_of d) (below (length d.schedules)) → target_of d n inside p ≡ Some t → place ≡ place_in table t
+    → place ∷ [] ≡ option_to_list (followed_by d n inside p)
+followed_is d n inside p t table place is there at =
+    ap (λ k. k ∷ []) (at ∙ placed_in_table d t table is (target_inside d n inside p t there))
+    ∙ ap (λ o. option_to_list (option_map (place_of d) o)) (sym there)
 
 -- one clause further
 pub followed_more : (d : Defs) (n : ℕ) (inside : Bool) (cs : List (Lined Clause)) (i : ℕ) (c : Lined Clause) (all now new : List ℕ)

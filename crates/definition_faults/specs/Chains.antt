@@ -26,6 +26,10 @@ is_top d i = option_map_or (λ (x : Lined DomainDef). is_none x.item.parent) (sl
 abbrev pub ends : Defs → ℕ → Bool
 ends d i = is_top d (climb d (length d.domains) i)
 
+-- whether the chain of each domain does
+abbrev pub all_ends : Defs → List Bool
+all_ends d = map (ends d) (below (length d.domains))
+
 -- where the chain of each domain has come then
 abbrev pub all_climbed : Defs → List ℕ
 all_climbed d = map (climb d (length d.domains)) (below (length d.domains))

@@ -55,10 +55,6 @@ domain_rows d i strays x =
     ∷ (strays, Tree)
     ∷ []
 
--- whether the chain of each domain ends at one without a parent
-abbrev pub all_ends : Defs → List Bool
-all_ends d = map (ends d) (below (length d.domains))
-
 -- where some domain has no parent, a chain strays that does not end at such a one
 abbrev pub strays : Defs → ℕ → Bool
 strays d i = has_top d && not (ends d i)

@@ -1,5 +1,5 @@
 //! The clauses of a stream or of an entry.
-ghost use Rattle.std.specs.Prelude.{◌≡◌, ◌+◌, ◌≤◌, min};
+ghost use Rattle.std.specs.Prelude.{◌≡◌, ◌+◌, ◌≤◌, ◌&&◌, nat_le, nat_lt, min};
 ghost use Rattle.std.specs.List.{list_any};
 ghost use Rattle.std.specs.Option.{option_copied};
 ghost use Rattle.model.specs.Words.{first_of_these};
@@ -33,7 +33,7 @@ pub(crate) fn in_clauses<'a>(
     let mut before: usize = 0;
     for clause in clauses {
         let count = with_more(before, dependency_count(&clause.item));
-        let passes = before <= MOST && count > MOST;
+        let passes = passes_most(before, count);
         first = noted(
             first,
             clause.line,
@@ -42,6 +42,13 @@ pub(crate) fn in_clauses<'a>(
         before = count;
     }
     first
+}
+
+/// Whether so many dependencies are not too many and so many are.
+fn passes_most(before: usize, count: usize) -> bool
+    ensures { result ≡ (nat_le before 64 && nat_lt 64 count) }
+{
+    before <= MOST && count > MOST
 }
 
 /// So many dependencies and more, counted up to 65.

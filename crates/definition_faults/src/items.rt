@@ -1,7 +1,8 @@
 //! Workstations, domains, calendars, prompts, resources and jobs.
-ghost use Rattle.std.specs.Prelude.{◌≡◌, slice_index_or, false};
+ghost use Rattle.std.specs.Prelude.{◌≡◌, ◌&&◌, not, slice_index_or, false};
 ghost use Rattle.model.specs.Words.{first_of_these};
 ghost use Rattle.definition_faults.specs.Orders.{earliest};
+ghost use Rattle.definition_faults.specs.Chains.{all_ends};
 ghost use Rattle.definition_faults.specs.Items as spec;
 
 use crate::kinds::{Fault, Kind, noted, stands_at};
@@ -55,14 +56,14 @@ fn is_bad_port(port: Option<u32>) -> bool
 /// The first fault of the domains, where `ends` says whether the chain of each one ends at a domain without a parent.
 #[tactic(auto, unfolding(crate::specs::Items::domain_faults))]
 pub(crate) fn in_domains<'a>(names: &Names<'a>, ends: &[bool]) -> Option<Fault>
-    requires { ends.now ≡ spec.all_ends names.now }
+    requires { ends.now ≡ all_ends names.now }
     ensures { result ≡ earliest (spec.domain_faults names.now) }
 {
     let has_top = has_top(names);
     let domains = names.defs().domains.as_slice();
     let mut first = None;
     for (i, domain) in domains.iter().enumerate() {
-        let strays = has_top && !ends_at(ends, i);
+        let strays = is_stray(has_top, ends, i);
         first = noted(
             first,
             domain.line,
@@ -70,6 +71,13 @@ pub(crate) fn in_domains<'a>(names: &Names<'a>, ends: &[bool]) -> Option<Fault>
         );
     }
     first
+}
+
+/// Whether the chain at a place does not end, where some domain has no parent.
+fn is_stray(has_top: bool, ends: &[bool], i: usize) -> bool
+    ensures { result ≡ (has_top && not (slice_index_or ends.now i false)) }
+{
+    has_top && !ends_at(ends, i)
 }
 
 fn ends_at(ends: &[bool], i: usize) -> bool

@@ -1,7 +1,8 @@
 //! How many streams and jobs a day has, and whether all its times have moments.
-ghost use Rattle.std.specs.Prelude.{◌≡◌, IfOk, nat_lt};
+ghost use Rattle.std.specs.Prelude.{◌≡◌, IfOk, Some, None, if◌then◌else◌, nat_lt};
 ghost use Rattle.model.specs.Words.{least};
 ghost use Rattle.plan_builder.specs.Limits as spec;
+ghost use Rattle.plan_builder.specs.Times as times;
 
 use crate::times::{PlanDay, is_timeless};
 use base_types::NoMemory;
@@ -96,18 +97,33 @@ fn in_clauses(before: Option<u32>, plan: &PlanDay, clauses: &[Lined<Clause>]) ->
 {
     let mut first = before;
     for clause in clauses {
-        if is_timeless(plan, &clause.item) {
-            first = lower(first, clause.line);
-        }
+        first = in_clause(first, plan, clause);
     }
     first
 }
 
-fn lower(first: Option<u32>, line: u32) -> Option<u32>
-    ensures { result ≡ spec.lower first (Some line) }
+/// The lower of a line and of that of a clause, where this has a time without a moment.
+fn in_clause(before: Option<u32>, plan: &PlanDay, clause: &Lined<Clause>) -> Option<u32>
+    ensures { result ≡ spec.lower before (if times.is_timeless plan.now clause.now.item then Some clause.now.line else None) }
+{
+    if is_timeless(plan, &clause.item) {
+        Some(lower(before, clause.line))
+    } else {
+        before
+    }
+}
+
+fn lower(first: Option<u32>, line: u32) -> u32
+    ensures { Some result ≡ spec.lower first (Some line) }
 {
     match first {
-        Some(other) if other <= line => Some(other),
-        _ => Some(line),
+        None => line,
+        Some(other) => {
+            if line < other {
+                line
+            } else {
+                other
+            }
+        }
     }
 }

@@ -3,3 +3,4 @@ pub mod Faultless
 pub mod Puts
 pub mod Frees
 pub mod Sets
+pub mod Fits

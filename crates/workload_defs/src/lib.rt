@@ -2,16 +2,13 @@
 //!
 //! `check` accepts definitions exactly where they have no fault of `definition_faults::specs::Faults`, and else answers the
 //! first fault. A `Workload` is seen as the definitions that were checked. The network that they give is defined in
-//! `specs/Nets`, free days and the days of calendars in `specs/Days`. `checked_definitions_give_a_network` says that no
-//! such network is refused.
+//! `specs/Nets`, free days and the days of calendars in `specs/Days`.
 #![tactic(auto)]
 
 mod days;
-mod laws;
 mod nets;
 mod stations;
 mod workloads;
 
 pub use definition_faults::DefFault;
-pub use laws::checked_definitions_give_a_network;
 pub use workloads::{Workload, check};

@@ -1,5 +1,6 @@
 -- Walks from the last name to the first.
-use Rattle.std.proofs.Common.{ℕ, ◌+◌, ◌<◌, ◌∙◌, ◌∷◌, ◌≡◌, Bool, List, Option, Some, ap, cond, drop, get_or, length, map, sym}
+use Rattle.std.proofs.Common.{ℕ, ◌+◌, ◌<◌, ◌∙◌, ◌∷◌, ◌≡◌, ◌==◌, ◌&&◌, Bool, true, false, List, Option, Some, Result, Ok, Err, OnOk, ap, cond, drop, get_or, inl, inr, length, map, refl, sym}
+use Rattle.std.proofs.lemmas.Bool.Decides.{eqb_tells}
 use Rattle.std.proofs.lemmas.List.{drop_more}
 use Rattle.std.specs.List.{position_from}
 
@@ -18,3 +19,30 @@ pub put_at : {X Y : Type 0} (test : Y → Bool) (f : X → Y) (xs : List X) (i n
     → old ≡ position_from test n (map f (drop n xs)) → new ≡ position_from test i (map f (drop i xs))
 put_at test f xs i n x old new next low at put before =
     put ∙ (ap (cond (test (f x)) (Some i)) before ∙ first_from test f xs i n x next low at)
+
+-- the same where the items themselves are tested
+pub put_on : {X : Type 0} (test : X → Bool) (xs : List X) (i n : ℕ) (x : X) (old new : Option ℕ)
+    → i + 1 ≡ n → i < length xs → x ≡ get_or xs i x → new ≡ cond (test x) (Some i) old
+    → old ≡ position_from test n (drop n xs) → new ≡ position_from test i (drop i xs)
+put_on test xs i n x old new next low at put before =
+    put
+    ∙ (ap (cond (test x) (Some i)) before
+    ∙ sym
+    (ap (λ l. position_from test i l) (drop_more xs i x low ∙ (λ p. sym at p ∷ drop (next p) xs))
+    ∙ ap (λ m. cond (test x) (Some i) (position_from test m (drop n xs))) next))
+
+-- an entry of another stream, and of the own one
+pub other_entry : (b t : Bool) (place old new : Option ℕ) → b ≡ false → new ≡ cond (b && t) place old → new ≡ old
+other_entry b t place old new apart put = put ∙ ap (λ c. cond (c && t) place old) apart
+
+pub own_entry : (b t : Bool) (place old new : Option ℕ) → b ≡ true → new ≡ cond (b && t) place old
+    → new ≡ cond t place old
+own_entry b t place old new same put = put ∙ ap (λ c. cond (c && t) place old) same
+
+pub same_number : (n : ℕ) → (n == n) ≡ true
+same_number n = elim (eqb_tells n n) [ inl e ↦ e.0 | inr o ↦ absurd (o.1 refl) ]
+
+-- what holds where a call succeeded
+pub on_ok : {T E P Q : Type 0} (r : Result T E) → (P → Q) → OnOk r P → OnOk r Q
+on_ok (Ok x) f h = f h
+on_ok (Err e) f h = tt

@@ -10,6 +10,8 @@ use Rattle.definition_names.specs.Names.{first_of, first_on, cpu_names, domain_n
 use Rattle.definition_names.specs.Names.{resource_names, job_names}
 use Rattle.definition_names.specs.Stations.{master_of}
 use Rattle.definition_names.specs.Streams.{stream_among, entry_among}
+use Rattle.definition_names.specs.declared.kinds.NameTables.{NameTables}
+use Rattle.definition_names.specs.declared.kinds.PairTables.{PairTables}
 use Rattle.definition_names.specs.declared.streams.StreamIndex.{StreamIndex}
 
 -- what an index has at a name
@@ -43,16 +45,20 @@ IsStreamIndex index schedules master =
     (ws : Option (List ℕ)) (name : List ℕ) → stream_in index ws name ≡ stream_among schedules master ws name
 
 -- the tables of the names of definitions
-pub record AreTables (d : Defs) (master : Option (List ℕ))
-    (cpus domains calendars prompts : List (Bor (List ℕ) × ℕ))
-    (resources jobs : List ((Bor (List ℕ) × Bor (List ℕ)) × ℕ))
+pub record AreNameTables (d : Defs) (tables : NameTables) : Type 0 where
+  pub cpus_ : IsIndex tables.cpus.entries (cpu_names d)
+  pub domains_ : IsIndex tables.domains.entries (domain_names d)
+  pub calendars_ : IsIndex tables.calendars.entries (calendar_names d)
+  pub prompts_ : IsIndex tables.prompts.entries (prompt_names d)
+
+pub record ArePairTables (d : Defs) (tables : PairTables) : Type 0 where
+  pub resources_ : IsPairIndex tables.resources.entries (resource_names d)
+  pub jobs_ : IsPairIndex tables.jobs.entries (job_names d)
+
+pub record AreTables (d : Defs) (master : Option (List ℕ)) (alone : NameTables) (placed : PairTables)
     (streams : StreamIndex) (entries : List ((ℕ × Bor (List ℕ)) × ℕ)) : Type 0 where
   pub master_ : master ≡ master_of d
-  pub cpus_ : IsIndex cpus (cpu_names d)
-  pub domains_ : IsIndex domains (domain_names d)
-  pub calendars_ : IsIndex calendars (calendar_names d)
-  pub prompts_ : IsIndex prompts (prompt_names d)
-  pub resources_ : IsPairIndex resources (resource_names d)
-  pub jobs_ : IsPairIndex jobs (job_names d)
+  pub alone_ : AreNameTables d alone
+  pub placed_ : ArePairTables d placed
   pub streams_ : IsStreamIndex streams d.schedules (master_of d)
   pub entries_ : IsEntryIndex entries d.schedules

@@ -8,6 +8,7 @@
 
 mod firsts;
 mod keys;
+mod kinds;
 mod name_tables;
 mod streams;
 mod targets;

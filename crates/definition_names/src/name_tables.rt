@@ -6,15 +6,11 @@ ghost use Rattle.definition_names.specs.Names as spec;
 ghost use Rattle.definition_names.specs.Streams as streams;
 ghost use Rattle.definition_names.specs.Targets as targets;
 
-use crate::firsts::{index, pair_index};
-use crate::keys::{
-    Pair, calendar_names, cpu_names, domain_names, job_names, prompt_names, resource_names,
-};
+use crate::kinds::{NameTables, PairTables, name_tables, pair_tables};
 use crate::streams::{EntryIndex, StreamIndex, entry_index, stream_ws};
 use crate::targets::Target;
 use base_types::{NoMemory, Text};
 use composer_parser::{Defs, DomainDef, EntryDef, Lined, Pred, PredPart, ScheduleDef};
-use indexmap::IndexMap;
 use std::alloc::Global;
 use std::marker::Model;
 
@@ -23,12 +19,8 @@ use std::marker::Model;
 pub struct Names<'a> {
     defs: &'a Defs,
     master: Option<&'a Text>,
-    cpus: IndexMap<&'a Text, usize>,
-    domains: IndexMap<&'a Text, usize>,
-    calendars: IndexMap<&'a Text, usize>,
-    prompts: IndexMap<&'a Text, usize>,
-    resources: IndexMap<Pair<'a>, usize>,
-    jobs: IndexMap<Pair<'a>, usize>,
+    alone: NameTables<'a>,
+    placed: PairTables<'a>,
     streams: StreamIndex<'a>,
     entries: EntryIndex<'a>,
 }
@@ -42,8 +34,7 @@ impl<'a> Model for Names<'a> {
 
     ghost view = { λ n. n.defs.now };
 
-    ghost invariant = { λ n. AreTables n.defs.now (option_copied n.master) n.cpus.entries n.domains.entries
-        n.calendars.entries n.prompts.entries n.resources.entries n.jobs.entries n.streams n.entries.entries };
+    ghost invariant = { λ n. AreTables n.defs.now (option_copied n.master) n.alone n.placed n.streams n.entries.entries };
 }
 
 /// The manager of the one domain without a parent. None where there is no such domain or several.
@@ -68,29 +59,17 @@ impl<'a> Names<'a> {
         ensures { IfOk result (λ names. names ≡ defs.now) }
     {
         let master = master_of(defs.domains.as_slice());
+        let alone = name_tables(alloc, defs)?;
+        let placed = pair_tables(alloc, defs)?;
+        let streams = StreamIndex::of(alloc, defs.schedules.as_slice(), master)?;
+        let entries = entry_index(alloc, defs.schedules.as_slice())?;
         Ok(Names {
             defs,
             master,
-            cpus: index(alloc, cpu_names(alloc, defs.cpus.as_slice())?.as_slice())?,
-            domains: index(
-                alloc,
-                domain_names(alloc, defs.domains.as_slice())?.as_slice(),
-            )?,
-            calendars: index(
-                alloc,
-                calendar_names(alloc, defs.calendars.as_slice())?.as_slice(),
-            )?,
-            prompts: index(
-                alloc,
-                prompt_names(alloc, defs.prompts.as_slice())?.as_slice(),
-            )?,
-            resources: pair_index(
-                alloc,
-                resource_names(alloc, defs.resources.as_slice())?.as_slice(),
-            )?,
-            jobs: pair_index(alloc, job_names(alloc, defs.jobs.as_slice())?.as_slice())?,
-            streams: StreamIndex::of(alloc, defs.schedules.as_slice(), master)?,
-            entries: entry_index(alloc, defs.schedules.as_slice())?,
+            alone,
+            placed,
+            streams,
+            entries,
         })
     }
 
@@ -113,42 +92,42 @@ impl<'a> Names<'a> {
     pub fn cpu(&self, name: &'a Text) -> Option<usize>
         ensures { result ≡ spec.cpu_at self.now name.now }
     {
-        self.cpus.get(&name).copied()
+        self.alone.cpus.get(&name).copied()
     }
 
     /// The place of the domain of this name.
     pub fn domain(&self, name: &'a Text) -> Option<usize>
         ensures { result ≡ spec.domain_at self.now name.now }
     {
-        self.domains.get(&name).copied()
+        self.alone.domains.get(&name).copied()
     }
 
     /// The place of the calendar of this name.
     pub fn calendar(&self, name: &'a Text) -> Option<usize>
         ensures { result ≡ spec.calendar_at self.now name.now }
     {
-        self.calendars.get(&name).copied()
+        self.alone.calendars.get(&name).copied()
     }
 
     /// The place of the prompt of this name.
     pub fn prompt(&self, name: &'a Text) -> Option<usize>
         ensures { result ≡ spec.prompt_at self.now name.now }
     {
-        self.prompts.get(&name).copied()
+        self.alone.prompts.get(&name).copied()
     }
 
     /// The place of the resource of this name on a workstation.
     pub fn resource(&self, ws: &'a Text, name: &'a Text) -> Option<usize>
         ensures { result ≡ spec.resource_at self.now ws.now name.now }
     {
-        self.resources.get(&(ws, name)).copied()
+        self.placed.resources.get(&(ws, name)).copied()
     }
 
     /// The place of the job of this name on a workstation, among those of `$JOBS`.
     pub fn job(&self, ws: &'a Text, name: &'a Text) -> Option<usize>
         ensures { result ≡ spec.job_at self.now ws.now name.now }
     {
-        self.jobs.get(&(ws, name)).copied()
+        self.placed.jobs.get(&(ws, name)).copied()
     }
 
     /// The workstation of a stream: the one that is written, or the master. None where there is no one master.
@@ -171,7 +150,7 @@ impl<'a> Names<'a> {
     /// The place of the stream of this workstation and name. Streams without a workstation are together on a nameless
     /// one where there is no one master.
     pub fn stream(&self, ws: Option<&'a Text>, name: &'a Text) -> Option<usize>
-        ensures { result ≡ streams.stream_at self.now (option_copied ws) name.now }
+        ensures { result ≡ streams.stream_at self.now (option_copied ws.entry) name.now }
     {
         self.streams.at(ws, name)
     }

@@ -25,7 +25,7 @@ pub(crate) type EntryIndex<'a> = IndexMap<(usize, &'a Text), usize>;
 
 /// The workstation of a stream: the one that is written, or the master.
 pub(crate) fn stream_ws<'a>(schedule: &'a ScheduleDef, master: Option<&'a Text>) -> Option<&'a Text>
-    ensures { option_copied result ≡ option_or schedule.now.ws (option_copied master) }
+    ensures { option_copied result ≡ option_or schedule.now.ws (option_copied master.entry) }
 {
     match &schedule.ws {
         Some(ws) => Some(ws),
@@ -40,7 +40,7 @@ impl<'a> StreamIndex<'a> {
         schedules: &'a [Lined<ScheduleDef>],
         master: Option<&'a Text>,
     ) -> Result<StreamIndex<'a>, NoMemory>
-        ensures { IfOk result (λ index. IsStreamIndex index schedules.now (option_copied master)) }
+        ensures { IfOk result (λ index. IsStreamIndex index schedules.now (option_copied master.entry)) }
     {
         let mut index = StreamIndex {
             placed: IndexMap::new(alloc),
@@ -57,7 +57,7 @@ impl<'a> StreamIndex<'a> {
     /// Puts a stream before the others: it takes the place of one of its workstation and name.
     fn put(&mut self, ws: Option<&'a Text>, name: &'a Text, place: usize) -> Result<(), NoMemory>
         ensures { OnOk result ((place_of : Option (List ℕ)) (n : List ℕ) →
-            stream_in self.new place_of n ≡ (if is_one_ws place_of (option_copied ws) && bytes_eq n name.now then Some place
+            stream_in self.new place_of n ≡ (if is_one_ws place_of (option_copied ws.entry) && bytes_eq n name.now then Some place
             else stream_in self.old place_of n)) }
     {
         match ws {
@@ -70,7 +70,7 @@ impl<'a> StreamIndex<'a> {
     pub(crate) fn at(&self, ws: Option<&'a Text>, name: &'a Text) -> Option<usize>
         ensures { (schedules : List (LinedOf Schedule)) (master : Option (List ℕ)) →
             IsStreamIndex self.now schedules master →
-            result ≡ stream_among schedules master (option_copied ws) name.now }
+            result ≡ stream_among schedules master (option_copied ws.entry) name.now }
     {
         match ws {
             Some(ws) => self.placed.get(&(ws, name)).copied(),

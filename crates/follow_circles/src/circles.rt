@@ -21,9 +21,10 @@ pub struct Follower {
 pub fn least_line(alloc: Global, objects: &[Follower]) -> Result<Option<u32>, NoMemory>
     ensures { IfOk result (λ found. IsLeastLine objects.now found) }
 {
-    let groups = groups_of(alloc, objects)?;
-    if are_groups(objects, groups.as_slice()) {
-        match least_within(objects, groups.as_slice()) {
+    let numbers = groups_of(alloc, objects)?;
+    let groups = numbers.as_slice();
+    if are_groups(objects, groups) {
+        match least_within(objects, groups) {
             None => return Ok(None),
             Some(v) => {
                 if is_on_circle(alloc, objects, v)? {

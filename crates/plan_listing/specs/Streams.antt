@@ -41,25 +41,31 @@ recovery_line Stop = codes ""
 recovery_line Continue = codes "recovery continue\n"
 recovery_line Rerun = codes "recovery rerun\n"
 
--- a job whose condition has this text
+-- the first line of a job
+unfoldable pub job_head : Net → JobDraft → List ℕ
+job_head net j = codes "job " ++ name_of net j.ws ++ codes " " ++ j.name ++ priority_part j.priority ++ codes "\n"
+
+-- what it runs, where its condition has this text
+unfoldable pub job_body : JobDraft → List ℕ → List ℕ
+job_body j cond =
+    work_line j.work ++ logon_line j.logon ++ cond_line (length j.cond == 0) cond ++ recovery_line j.recovery
+
+-- and its dependencies
 unfoldable pub job_lines : Net → JobDraft → List ℕ → List ℕ
-job_lines net j cond =
-    codes "job " ++ name_of net j.ws ++ codes " " ++ j.name ++ priority_part j.priority ++ codes "\n"
-    ++ work_line j.work
-    ++ logon_line j.logon
-    ++ cond_line (length j.cond == 0) cond
-    ++ recovery_line j.recovery
-    ++ flat_map (draft_dep_line net) j.deps
+job_lines net j cond = job_head net j ++ job_body j cond ++ flat_map (draft_dep_line net) j.deps
 
 abbrev pub job_text : Net → JobDraft → List ℕ
 job_text net j = job_lines net j (cond_text j.cond)
 
--- a stream and its dependencies
-unfoldable pub stream_lines : Net → StreamDraft → List ℕ
-stream_lines net s =
+-- the first line of a stream
+unfoldable pub stream_head : Net → StreamDraft → List ℕ
+stream_head net s =
     codes "stream " ++ name_of net s.ws ++ codes " " ++ s.name
     ++ priority_part s.priority ++ limit_part s.limit ++ carry_mark s.carry ++ codes "\n"
-    ++ flat_map (draft_dep_line net) s.deps
+
+-- and its dependencies
+unfoldable pub stream_lines : Net → StreamDraft → List ℕ
+stream_lines net s = stream_head net s ++ flat_map (draft_dep_line net) s.deps
 
 -- with its jobs
 unfoldable pub stream_text : Net → StreamDraft → List ℕ

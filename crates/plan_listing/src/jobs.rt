@@ -34,14 +34,31 @@ pub(crate) fn put_job(
 fn write_job(out: &mut Vec<u8>, net: &Net, job: &JobDraft, cond: &Text) -> io::Result<()>
     ensures { OnOk result (out.new.items ≡ out.old.items ++ spec.job_lines net.now job.now cond.now) }
 {
-    write!(out, "job {} {}", name(net, &job.ws), job.name)?;
+    write_job_head(out, net, job)?;
+    write_job_body(out, job, cond)?;
+    write_dependencies(out, net, job.deps.as_slice())
+}
+
+/// Writes the first line of a job.
+#[tactic(auto, unfolding(crate::specs::Streams::job_head))]
+fn write_job_head(out: &mut Vec<u8>, net: &Net, job: &JobDraft) -> io::Result<()>
+    ensures { OnOk result (out.new.items ≡ out.old.items ++ spec.job_head net.now job.now) }
+{
+    let ws = name(net, &job.ws);
+    write!(out, "job {ws} {}", job.name)?;
     write_priority(out, job.priority)?;
-    write!(out, "\n")?;
+    write!(out, "\n")
+}
+
+/// Writes what a job runs, where its condition has this text.
+#[tactic(auto, unfolding(crate::specs::Streams::job_body))]
+fn write_job_body(out: &mut Vec<u8>, job: &JobDraft, cond: &Text) -> io::Result<()>
+    ensures { OnOk result (out.new.items ≡ out.old.items ++ spec.job_body job.now cond.now) }
+{
     write_work(out, &job.work)?;
     write_logon(out, &job.logon)?;
     write_cond(out, job.cond.is_empty(), cond)?;
-    write_recovery(out, job.recovery)?;
-    write_dependencies(out, net, job.deps.as_slice())
+    write_recovery(out, job.recovery)
 }
 
 /// Writes a priority that is not 10.

@@ -44,11 +44,20 @@ fn put_stream(
 fn write_stream(out: &mut Vec<u8>, net: &Net, stream: &StreamDraft) -> io::Result<()>
     ensures { OnOk result (out.new.items ≡ out.old.items ++ spec.stream_lines net.now stream.now) }
 {
-    write!(out, "stream {} {}", name(net, &stream.ws), stream.name)?;
+    write_stream_head(out, net, stream)?;
+    write_dependencies(out, net, stream.deps.as_slice())
+}
+
+/// Writes the first line of a stream.
+#[tactic(auto, unfolding(crate::specs::Streams::stream_head))]
+fn write_stream_head(out: &mut Vec<u8>, net: &Net, stream: &StreamDraft) -> io::Result<()>
+    ensures { OnOk result (out.new.items ≡ out.old.items ++ spec.stream_head net.now stream.now) }
+{
+    let ws = name(net, &stream.ws);
+    write!(out, "stream {ws} {}", stream.name)?;
     write_priority(out, stream.priority)?;
     write_limit(out, stream.limit)?;
-    write!(out, "{}\n", carry_mark(stream.carry))?;
-    write_dependencies(out, net, stream.deps.as_slice())
+    write!(out, "{}\n", carry_mark(stream.carry))
 }
 
 fn write_limit(out: &mut Vec<u8>, limit: Option<u16>) -> io::Result<()>

@@ -35,10 +35,10 @@ is_day_of_month m day word = some_is (option_and_then (kth m) (signed_of word)) 
 abbrev pub counts_month : ℕ → ℕ → ℕ → Bool
 counts_month n from m = list_any (λ f. is_in_month f from && is_counted n f m) all_months
 
--- some month that counts has the day as one of these
+-- the month that has the day counts, and has it as one of these
 abbrev pub has_in_month : ℕ → List (List ℕ) → ℕ → ℕ → Bool
 has_in_month n words from day =
-    list_any (λ m. counts_month n from m && list_any (is_day_of_month m day) words) all_months
+    list_any (λ m. is_in_month m day && (counts_month n from m && list_any (is_day_of_month m day) words)) all_months
 
 -- the same of the place of a day in its month
 abbrev pub is_place : MonthPlace → List ℕ → Bool

@@ -4,7 +4,6 @@ use Rattle.std.specs.Prelude.{List, Option, ℤ, pos, negsuc}
 use Rattle.calendars.specs.Dates as dates
 use Rattle.calendars.specs.Dates.{day_of}
 use Rattle.calendars.specs.Nth.{below}
-use Rattle.jiff_core.specs.declared.civil.date.Date.{Date}
 use Rattle.run_rules.specs.declared.months.MonthPlace.{MonthPlace}
 
 -- all months, the last first
@@ -40,12 +39,6 @@ pub record IsPlaceOf (place : MonthPlace) (day : ℕ) : Type 0 where
   pub from_one : 1 ≤ place.day
   pub within : place.day ≤ place.length
   pub lasts : place.length ≡ length_of place.month
-
--- the same of a date from 1970 on, so many years later
-abbrev pub IsPlaceOfDate : MonthPlace → Date → Type 0
-IsPlaceOfDate place date =
-    (years : ℕ) × (date.year ≡ pos (1970 + years)) × (place.month ≡ 12 * years + (date.month - 1))
-    × (place.day ≡ date.day) × (place.length ≡ length_of place.month)
 
 -- a day at this place is the kth of its month, or the kth from its end for a k below 0
 abbrev pub is_kth : MonthPlace → ℤ → Bool

@@ -62,6 +62,7 @@ fn is_weekday(word: &str, weekday: u32) -> bool
 }
 
 /// Whether the day is one of these days of a month that counts.
+#[tactic(auto, using(crate::proofs::Places::in_month, crate::proofs::Places::no_first, crate::proofs::Places::no_month))]
 fn has_in_month(n: u32, list: &str, from: u32, day: u32) -> bool
     ensures { result ≡ spec.has_in_month n (slice_split (λ b. b == 44) list.now) from day }
 {

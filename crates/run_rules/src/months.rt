@@ -1,6 +1,7 @@
 //! The month of a day, and days counted from its beginning or its end.
-ghost use Rattle.std.specs.Prelude.{◌≡◌, ◌<◌, ◌≤◌, ◌↔◌, IfSome, IsNone};
+ghost use Rattle.std.specs.Prelude.{◌≡◌, ◌<◌, ◌↔◌, ℕ, IfSome, IsNone, pos, ◌≤ℤ◌};
 ghost use Rattle.calendars.specs.Dates.{last_day};
+ghost use Rattle.jiff_core.specs.Date.{epoch_day};
 ghost use Rattle.run_rules.specs.Months as spec;
 ghost use Rattle.run_rules.specs.Months.{IsPlaceOf};
 
@@ -30,8 +31,8 @@ pub(crate) fn place_of(day: u32) -> Option<MonthPlace>
 
 /// Where a date from 1970 on stands in its month.
 fn place_in_month(date: Date) -> MonthPlace
-    requires { 1970 ≤ date.year }
-    ensures { spec.IsPlaceOfDate result date }
+    requires { pos 1970 ≤ℤ date.year }
+    ensures { (day : ℕ) → epoch_day date ≡ pos day → IsPlaceOf result day }
 {
     MonthPlace {
         month: (date.year as u32 - 1970) * 12 + (u32::from(date.month) - 1),
@@ -47,5 +48,5 @@ pub(crate) fn is_kth(place: &MonthPlace, k: i32) -> bool
     if k > 0 {
         return place.day == k as u32;
     }
-    k < 0 && place.day + k.unsigned_abs() == place.length + 1
+    k < 0 && u64::from(place.day) + u64::from(k.unsigned_abs()) == u64::from(place.length) + 1
 }

@@ -10,50 +10,9 @@ use Rattle.indexmap.specs.IndexMap.{insert_entry}
 use Rattle.composer_parser.specs.declared.CpuDef.{CpuDef}
 use Rattle.composer_parser.specs.declared.Defs.{Defs}
 use Rattle.composer_parser.specs.declared.Lined.{Lined}
+use Rattle.definition_names.proofs.Inserted.{inserted}
 use Rattle.workload_defs.specs.Stations.{is_that, one_of, those}
-use Rattle.workload_defs.specs.Tables.{number_at, number_in}
-
--- a query finds what is inserted at its key, and all else that it found before
-module _ {K X A : Type 0} (f : K → A) (same : A → A → Bool) (tells : (a b : A) → same a b ≡ true → a ≡ b)
-    (itself : (a : A) → same a a ≡ true) where
-  collapse : (c : Bool) (x y z : Option X) → cond c z y ≡ cond c z (cond c x y)
-  collapse true x y z = refl
-  collapse false x y z = refl
-
-  swapped : (a : A) (k l : K) (x y z : Option X) → same (f k) (f l) ≡ false
-      → cond (same a (f l)) x (cond (same a (f k)) y z) ≡ cond (same a (f k)) y (cond (same a (f l)) x z)
-  swapped a k l x y z apart = go (same a (f k)) (same a (f l)) refl refl
-    where
-      go : (b c : Bool) → same a (f k) ≡ b → same a (f l) ≡ c → cond c x (cond b y z) ≡ cond b y (cond c x z)
-      go true true p q =
-          let one : f k ≡ f l = sym (tells a (f k) p) ∙ tells a (f l) q in
-          let both : same (f k) (f l) ≡ true = ap (same (f k)) (sym one) ∙ itself (f k) in
-          absurd (cc)
-      go true false p q = refl
-      go false true p q = refl
-      go false false p q = refl
-
-  inserted : (a : A) (es : List (K × X)) (k : K) (v : X)
-      → lookup (λ (l : K). same a (f l)) (insert_entry (λ (p q : K). same (f p) (f q)) es k v)
-      ≡ cond (same a (f k)) (Some v) (lookup (λ (l : K). same a (f l)) es)
-  inserted a [] k v = refl
-  inserted a (e ∷ es) k v = go (same (f k) (f e.0)) refl (inserted a es k v)
-    where
-      go : (b : Bool) → same (f k) (f e.0) ≡ b
-          → lookup (λ (l : K). same a (f l)) (insert_entry (λ (p q : K). same (f p) (f q)) es k v)
-          ≡ cond (same a (f k)) (Some v) (lookup (λ (l : K). same a (f l)) es)
-          → lookup (λ (l : K). same a (f l))
-          (cond b ((e.0, v) ∷ es) (e ∷ insert_entry (λ (p q : K). same (f p) (f q)) es k v))
-          ≡ cond (same a (f k)) (Some v)
-          (cond (same a (f e.0)) (Some e.1) (lookup (λ (l : K). same a (f l)) es))
-      go true q h =
-          collapse (same a (f e.0)) (Some e.1) (lookup (λ (l : K). same a (f l)) es) (Some v)
-          ∙ ap (λ (t : A). cond (same a t) (Some v)
-          (cond (same a (f e.0)) (Some e.1) (lookup (λ (l : K). same a (f l)) es)))
-          (sym (tells (f k) (f e.0) q))
-      go false q h =
-          ap (cond (same a (f e.0)) (Some e.1)) h
-          ∙ swapped a k e.0 (Some e.1) (Some v) (lookup (λ (l : K). same a (f l)) es) q
+use Rattle.workload_defs.specs.Tables.{cpus_seen, name_of, number_at, number_in}
 
 text_tells : (a b : List ℕ) → bytes_eq a b ≡ true → a ≡ b
 text_tells a b h = (bytes_decides a b).0 h
@@ -82,15 +41,17 @@ number_put es new k n grown key =
     ap (λ (l : List (ℕ × ℕ)). number_at l key) grown
     ∙ inserted (λ (m : ℕ). m) eqb same_number itself key es k n
 
--- the table from the next item on, with the name of the item at a place, is that from this place on
-pub put_at : {X : Type 0} (test : X → Bool) (xs : List X) (i n : ℕ) (x : X) (old new : Option ℕ) → i + 1 ≡ n
-    → i < length xs → x ≡ get_or xs i x → new ≡ cond (test x) (Some i) old
-    → old ≡ position_from test n (drop n xs) → new ≡ position_from test i (drop i xs)
-put_at test xs i n x old new next low at put before =
-    put
-    ∙ (ap (cond (test x) (Some i)) before
-    ∙ (ap (λ m. cond (test x) (Some i) (position_from test m (drop m xs))) (sym next)
-    ∙ sym (ap (position_from test i) (drop_more xs i x low ∙ ap (λ y. y ∷ drop (i + 1) xs) (sym at)))))
+-- the first of a name among workstations behind references
+pub among_seen : (name : List ℕ) (i : ℕ) (cpus : List (Bor CpuDef))
+    → position_from (bytes_eq name) i (map name_of cpus)
+    ≡ position_from (λ (c : CpuDef). bytes_eq name c.name) i (cpus_seen cpus)
+among_seen name i [] = refl
+among_seen name i (c ∷ cs) = ap (cond (bytes_eq name c.now.name) (Some i)) (among_seen name (i + 1) cs)
+
+-- what stands at a name that is a copy
+pub put_copy : (name own copied : List ℕ) (o p : Option ℕ) (new : Option ℕ) → copied ≡ own
+    → new ≡ cond (bytes_eq name copied) o p → new ≡ cond (bytes_eq name own) o p
+put_copy name own copied o p new same put = put ∙ ap (λ t. cond (bytes_eq name t) o p) same
 
 -- those of the workstations, one workstation further
 filter_one : (d : Defs) (masters : Bool) (c : CpuDef) (rest : List CpuDef)

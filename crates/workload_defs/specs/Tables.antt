@@ -22,6 +22,9 @@ use Rattle.workload_defs.specs.declared.days.FreeTable.{FreeTable}
 abbrev pub cpus_seen : List (Bor CpuDef) → List CpuDef
 cpus_seen cpus = map (λ (c : Bor CpuDef). c.now) cpus
 
+abbrev pub name_of : Bor CpuDef → List ℕ
+name_of c = c.now.name
+
 -- a table has the number of each name
 abbrev pub number_in : List (List ℕ × ℕ) → List ℕ → Option ℕ
 number_in table name = lookup (bytes_eq name) table

@@ -1,4 +1,4 @@
-use Rattle.std.proofs.Common.{◌≡◌, ℕ, List, bytes_eq, drop}
+use Rattle.std.proofs.Common.{◌≡◌, ℕ, List, bytes_eq, drop, map}
 use Rattle.std.specs.List.{position_from}
 use Rattle.composer_parser.specs.declared.CalendarDef.{CalendarDef}
 use Rattle.composer_parser.specs.declared.Lined.{Lined}
@@ -8,4 +8,4 @@ use Rattle.workload_defs.proofs.days.calendar_table.Given as goal
 abbrev pub invariant-loop-i : goal.invariant-loop-i
 invariant-loop-i l =
     (name : List ℕ) → number_in l.table.entries name
-    ≡ position_from (λ (c : Lined CalendarDef). bytes_eq name c.item.name) l.i (drop l.i l.calendars)
+    ≡ position_from (bytes_eq name) l.i (map (λ (c : Lined CalendarDef). c.item.name) (drop l.i l.calendars))

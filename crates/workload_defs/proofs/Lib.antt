@@ -1,4 +1,5 @@
 pub mod Told
+pub mod Checks
 pub mod Faultless
 pub mod Puts
 pub mod Frees

@@ -2,7 +2,7 @@
 use Rattle.std.proofs.Common.{◌≡◌, ◌⊎◌, ℕ, zero, suc, ◌+◌, ◌*◌, ◌<◌, ◌≤◌, Bool, true, false, cond, List, [], ◌∷◌, ◌++◌, bytes_eq, drop, eqb, filter, get_or, length, map, not, take}
 use Rattle.std.proofs.Common.{Bor, Option, Some, None, ap, arith, inl, inr, refl, slice_get, sym, subst, ◌∙◌}
 use Rattle.std.proofs.lemmas.Bool.Decides.{eqb_tells}
-use Rattle.std.proofs.lemmas.List.{append_assoc, drop_more}
+use Rattle.std.proofs.lemmas.List.{append-nil, append_assoc, drop_more, map-append}
 use Rattle.std.specs.Cmp.Lexicographic.{bytes_decides}
 use Rattle.std.specs.List.{position_from}
 use Rattle.std.specs.Map.{lookup}
@@ -71,3 +71,16 @@ those_more d masters cpus i c all now new low at put before =
     ∙ (ap (λ l. now ++ those d masters l) (drop_more cpus i c low ∙ ap (λ y. y ∷ drop (i + 1) cpus) (sym at))
     ∙ (ap (λ l. now ++ l) (filter_one d masters c.item rest)
     ∙ (sym (append_assoc now (one_of d masters c.item) rest) ∙ ap (λ l. l ++ rest) (sym put))))
+
+-- a workstation that is put, or left out
+pub seen_put : (d : Defs) (masters : Bool) (old new : List (Bor CpuDef)) (r : Bor CpuDef) → is_that d masters r.now ≡ true
+    → new ≡ old ++ r ∷ [] → cpus_seen new ≡ cpus_seen old ++ one_of d masters r.now
+seen_put d masters old new r that put =
+    ap cpus_seen put
+    ∙ (map-append (λ (c : Bor CpuDef). c.now) old (r ∷ [])
+    ∙ ap (λ b. cpus_seen old ++ cond b (r.now ∷ []) []) (sym that))
+
+pub seen_left : (d : Defs) (masters : Bool) (old : List (Bor CpuDef)) (c : CpuDef) → is_that d masters c ≡ false
+    → cpus_seen old ≡ cpus_seen old ++ one_of d masters c
+seen_left d masters old c other =
+    sym (append-nil (cpus_seen old)) ∙ ap (λ b. cpus_seen old ++ cond b (c ∷ []) []) (sym other)

@@ -1,4 +1,4 @@
-use Rattle.std.proofs.Common.{◌≡◌, ℕ, ◌+◌, ◌*◌, ◌/◌, ◌∙◌, ap, arith, length, map, sym}
+use Rattle.std.proofs.Common.{Global, Vec, ◌≡◌, ℕ, ◌+◌, ◌*◌, ◌/◌, ◌∙◌, ap, arith, length, map, sym}
 use Rattle.composer_parser.specs.declared.Defs.{Defs}
 use Rattle.model.specs.Words.{below}
 use Rattle.definition_faults.specs.Chains.{climb}
@@ -36,7 +36,7 @@ loop-left-preserved c =
         (
           done + each,
           each + each,
-          ap (λ v. v.items) w.places-is
+          ap (λ (v : Vec ℕ Global). v.items) w.places-is
           ∙ (w.in_ok-places-2.ensures
           ∙ steps_through d done each w.as_slice.result.now w.as_slice-then-left-eq1.result.now
           (w.as_slice.ensures.value ∙ steps) (w.as_slice-then-left-eq1.ensures.value ∙ so_far)),
@@ -47,7 +47,7 @@ loop-left-preserved c =
         (
           done,
           each + each,
-          ap (λ v. v.items) w.places-is ∙ so_far,
+          ap (λ (v : Vec ℕ Global). v.items) w.places-is ∙ so_far,
           powers,
           even_half done c.loop-left.left each (length d.domains) w.if-left-eq1.false c.loop-left.invariant.4,
         )

@@ -35,13 +35,12 @@ past_stays d i past =
 -- the table of so many steps leads so many steps further
 pub climbed_at : (d : Defs) (k place : ℕ) → place_in (map (climb d k) (below (length d.domains))) place ≡ climb d k place
 climbed_at d k place =
-    elim (cases_lt place (length d.domains))
-    [
-      inl low ↦ map_below_at (climb d k) (length d.domains) place place low
+    elim (cases_lt place (length d.domains)) [
+      | inl low ↦ map_below_at (climb d k) (length d.domains) place place low
       | inr past ↦
-        get_or_past (map (climb d k) (below (length d.domains))) place place
-        (let all = length_map_below (climb d k) (length d.domains) in omega (arith, all, past))
-        ∙ sym (climb-stays d k place (past_stays d place past))
+          get_or_past (map (climb d k) (below (length d.domains))) place place
+          (let all = length_map_below (climb d k) (length d.domains) in omega (arith, all, past))
+          ∙ sym (climb-stays d k place (past_stays d place past))
     ]
 
 map_through : (d : Defs) (m n : ℕ) (table places : List ℕ) → table ≡ map (climb d n) (below (length d.domains))
@@ -87,7 +86,7 @@ pub odd_half : (done left each n : ℕ) → left % 2 ≡ 1 → done + left * eac
 odd_half done left each n odd all =
     let halves : left ≡ suc (2 * (left / 2)) = omega (arith, odd) in
     let parts : left * each ≡ (left / 2) * (each + each) + each =
-        ap (λ m. m * each) halves ∙ (suc-mul (2 * (left / 2)) each ∙ ap (λ m. m + each) (by_half (left / 2) each)) in
+    ap (λ m. m * each) halves ∙ (suc-mul (2 * (left / 2)) each ∙ ap (λ m. m + each) (by_half (left / 2) each)) in
     let total = left * each in
     let half = (left / 2) * (each + each) in
     omega (arith, parts, all)

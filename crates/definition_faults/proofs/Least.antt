@@ -37,12 +37,11 @@ least_more Has Had (Some least) new h to from there = go (nat_le least new) refl
     go false e = (
       there,
       λ line has.
-          elim (to line has)
-          [
-            inl had ↦
-              let low : least ≤ line = h.1 line had in
-              let high : new ≤ least = grind (arith, nat_tests) in
-              omega (arith, low, high)
+          elim (to line has) [
+            | inl had ↦
+                let low : least ≤ line = h.1 line had in
+                let high : new ≤ least = grind (arith, nat_tests) in
+                omega (arith, low, high)
             | inr is ↦ omega (arith, is)
           ],
     )
@@ -136,11 +135,10 @@ entry_more first entries i entry before found low at h noted =
     (least_noted (λ line. (Some line ≡ first) ⊎ HasBad (done ++ new) line) (λ line. (Some line ≡ first) ⊎ HasBad done line)
     before found entry.line (cond_of_entry entry.item)
     (λ l has.
-        elim has
-        [
-          inl is ↦ inl (inl is)
-          | inr there ↦ elim (bad_either done new l there) [ inl had ↦ inl (inr had) | inr more ↦ inr more ]
-        ])
+    elim has [
+      | inl is ↦ inl (inl is)
+      | inr there ↦ elim (bad_either done new l there) [ inl had ↦ inl (inr had) | inr more ↦ inr more ]
+    ])
     (λ l had. elim had [ inl is ↦ inl is | inr there ↦ inr (bad_left done new l there) ])
     (λ l there. inr (bad_right done new l there)) h noted)
 
@@ -154,10 +152,10 @@ stream_more jobs schedules i s before found low at h more =
     let done = jobs ++ flat_map stream_conditions (take i schedules) in
     let new = conditions_of s.item.entries in
     let all : flat_map stream_conditions (take (i + 1) schedules)
-        ≡ flat_map stream_conditions (take i schedules) ++ new =
-        ap (flat_map stream_conditions) (take_more schedules i s low ∙ ap (λ y. take i schedules ++ y ∷ []) (sym at))
-        ∙ (flat_map-append stream_conditions (take i schedules) (s ∷ [])
-        ∙ ap (λ l. flat_map stream_conditions (take i schedules) ++ l) (append-nil new)) in
+    ≡ flat_map stream_conditions (take i schedules) ++ new =
+    ap (flat_map stream_conditions) (take_more schedules i s low ∙ ap (λ y. take i schedules ++ y ∷ []) (sym at))
+    ∙ (flat_map-append stream_conditions (take i schedules) (s ∷ [])
+    ∙ ap (λ l. flat_map stream_conditions (take i schedules) ++ l) (append-nil new)) in
     subst (λ (l : List (ℕ × List ℕ)). IsLeastOf (HasBad l) found)
     (append_assoc jobs (flat_map stream_conditions (take i schedules)) new ∙ ap (λ l. jobs ++ l) (sym all))
     (least_both before found done new h more)
@@ -169,23 +167,20 @@ stream_more jobs schedules i s before found low at h more =
         (λ l has. elim (bad_either done new l has) [ inl had ↦ absurd (h l had) | inr there ↦ inr there ])
         (λ l has. elim has [ inl is ↦ cc | inr there ↦ bad_right done new l there ])
     least_both (Some least) None done new h more = absurd (more least (inl refl))
-    least_both (Some least) (Some f) done new h more =
-        (
-          elim more.0
-          [
-            inl is ↦ bad_left done new f (subst (HasBad done) (let e : least ≡ f = cc in e) h.0)
-            | inr there ↦ bad_right done new f there
+    least_both (Some least) (Some f) done new h more = (
+      elim more.0 [
+        | inl is ↦ bad_left done new f (subst (HasBad done) (let e : least ≡ f = cc in e) h.0)
+        | inr there ↦ bad_right done new f there
+      ],
+      λ l has.
+          elim (bad_either done new l has) [
+            | inl had ↦
+                let low : f ≤ least = more.1 least (inl refl) in
+                let high : least ≤ l = h.1 l had in
+                omega (arith, low, high)
+            | inr there ↦ more.1 l (inr there)
           ],
-          λ l has.
-              elim (bad_either done new l has)
-              [
-                inl had ↦
-                  let low : f ≤ least = more.1 least (inl refl) in
-                  let high : least ≤ l = h.1 l had in
-                  omega (arith, low, high)
-                | inr there ↦ more.1 l (inr there)
-              ],
-        )
+    )
 
 -- all of a list
 pub take_whole : {X : Type 0} (xs : List X) (i : ℕ) → length xs ≤ i → take i xs ≡ xs

@@ -85,17 +85,16 @@ part_inside d (part.Job name) k t low h =
 -- what a FOLLOWS stands for is one of the streams, or in one
 pub target_inside : (d : Defs) (n : ℕ) (inside : Bool) (p : Pred) (t : Target) → target_of d n inside p ≡ Some t → IsInside d t
 target_inside d n inside p t h =
-    elim (of_two (of_own d n inside p) (of_stream d n p) t h)
-    [
-      inl own ↦
-        let found = of_map (Job n) (entry_of d n p.name) t (where_so (inside && is_bare p) (option_map (Job n) (entry_of d n p.name)) t own) in
-        let there = of_then (λ (s : Lined ScheduleDef). entry_at s.item p.name) (slice_get d.schedules n) found.0 found.1 in
-        subst (IsInside d) found.2 (slice_get_within d.schedules n there.0 there.1)
+    elim (of_two (of_own d n inside p) (of_stream d n p) t h) [
+      | inl own ↦
+          let found = of_map (Job n) (entry_of d n p.name) t (where_so (inside && is_bare p) (option_map (Job n) (entry_of d n p.name)) t own) in
+          let there = of_then (λ (s : Lined ScheduleDef). entry_at s.item p.name) (slice_get d.schedules n) found.0 found.1 in
+          subst (IsInside d) found.2 (slice_get_within d.schedules n there.0 there.1)
       | inr other ↦
-        let there = of_then (part_at d p.part) (stream_at d (ws_of_pred d n p) p.name) t other in
-        part_inside d p.part there.0 t
-        (let low = position_within (is_stream (master_of d) (ws_of_pred d n p) p.name) 0 d.schedules there.0 there.1 in omega (arith, low))
-        there.2
+          let there = of_then (part_at d p.part) (stream_at d (ws_of_pred d n p) p.name) t other in
+          part_inside d p.part there.0 t
+          (let low = position_within (is_stream (master_of d) (ws_of_pred d n p) p.name) 0 d.schedules there.0 there.1 in omega (arith, low))
+          there.2
     ]
 
 -- the place of what one FOLLOWS stands for

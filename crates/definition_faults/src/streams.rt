@@ -42,7 +42,10 @@ fn in_stream<'a>(names: &Names<'a>, n: usize, schedule: &'a Lined<ScheduleDef>) 
 fn of_title<'a>(names: &Names<'a>, n: usize, schedule: &'a ScheduleDef) -> Option<Kind>
     ensures { result ≡ first_of_these (spec.title_rows names.now n schedule.now) }
 {
-    if !stands_at(names.stream(names.ws_of_stream(schedule), &schedule.name), n) {
+    if !stands_at(
+        names.stream(names.ws_of_stream(schedule), &schedule.name),
+        n,
+    ) {
         return Some(Kind::Duplicate);
     }
     if is_unknown_ws(names, &schedule.ws) || lacks_free_calendar(names, schedule) {

@@ -118,12 +118,6 @@ fn lower(first: Option<u32>, line: u32) -> u32
 {
     match first {
         None => line,
-        Some(other) => {
-            if line < other {
-                line
-            } else {
-                other
-            }
-        }
+        Some(other) => { if line < other { line } else { other } }
     }
 }

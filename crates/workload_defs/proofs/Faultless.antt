@@ -43,9 +43,9 @@ none_at rows line xs i x low at h =
     let place : 0 + i ≡ i = omega arith in
     none_of (rows (i, x)) (line (i, x))
     (λ g there.
-        h g
-        (placed (λ p. faults_at (line p) (rows p)) 0 xs i x g low at
-        (subst (λ n. Contains (faults_at (line (n, x)) (rows (n, x))) g) (sym place) there)))
+    h g
+    (placed (λ p. faults_at (line p) (rows p)) 0 xs i x g low at
+    (subst (λ n. Contains (faults_at (line (n, x)) (rows (n, x))) g) (sym place) there)))
 
 module _ (a b c d e f g h i j : List Fault) (x : Fault) where
   second : Contains b x → Contains (a ++ b ++ c ++ d ++ e ++ f ++ g ++ h ++ i ++ j) x

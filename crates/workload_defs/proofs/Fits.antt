@@ -64,9 +64,8 @@ module _ (d : Defs) (sound : IsFaultless d) where
       go : (xs : List (Lined CpuDef)) → d.cpus ≡ xs → length d.cpus ≤ 256
       go [] is = let none = ap length is in omega (arith, none)
       go (x ∷ xs) is =
-          elim (cases_lt 256 (length d.cpus))
-          [
-            inl many ↦ absurd (there (x ∷ xs) is (subst (λ (l : List (Lined CpuDef)). 256 < length l) is many) x)
+          elim (cases_lt 256 (length d.cpus)) [
+            | inl many ↦ absurd (there (x ∷ xs) is (subst (λ (l : List (Lined CpuDef)). 256 < length l) is many) x)
             | inr few ↦ few
           ]
 

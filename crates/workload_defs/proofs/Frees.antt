@@ -51,7 +51,7 @@ places (Some m) (Some n) h = let e : m ≡ n = omega (arith, h) in ap Some e
 pub one_key : (d : Defs) (k l : FreeKind) → key_of k ≡ key_of l → free_of_kind d k ≡ free_of_kind d l
 one_key d k l h =
     let parts =
-        digits (option_map_or (λ p. p + 1) k.calendar 0) (option_map_or (λ p. p + 1) l.calendar 0) k.sa k.su l.sa l.su h in
+    digits (option_map_or (λ p. p + 1) k.calendar 0) (option_map_or (λ p. p + 1) l.calendar 0) k.sa k.su l.sa l.su h in
     let calendars = places k.calendar l.calendar parts.0 in
     λ j. record { dates = ascending (days_at d (calendars j)); sa = parts.1 j; su = parts.2 j }
 
@@ -87,7 +87,7 @@ made_added d old new was is kind key place made grown at own put = λ other foun
         → slice_get new found ≡ Some (free_of_kind d other)
     go other found (inl e) there =
         let here : Some place ≡ Some found =
-            sym (ap (λ b. cond b (Some place) (number_at was (key_of other))) e.0) ∙ there in
+        sym (ap (λ b. cond b (Some place) (number_at was (key_of other))) e.0) ∙ there in
         let same : place ≡ found = cc in
         ap (slice_get new) (sym same)
         ∙ (there_added old new (free_of_kind d kind) place grown at
@@ -117,22 +117,21 @@ pub days_more : (d : Defs) (i : ℕ) (s : Lined ScheduleDef) (kind : FreeKind) (
     → ((n : ℕ) → n < i → slice_get old (slice_index was n) ≡ free_of d n)
     → (n : ℕ) → n < i + 1 → slice_get new (slice_index is n) ≡ free_of d n
 days_more d i s kind old new was is place low at of_kind stay there put each before n less =
-    elim (cases_lt n i)
-    [
-      inl lower ↦
-        let inside : n < length d.schedules = omega (arith, lower, low) in
-        let s' = get_or d.schedules n s in
-        let own : free_of d n ≡ Some (free_of_stream d s'.item) =
-            ap (λ o. option_map (λ (x : Lined ScheduleDef). free_of_stream d x.item) o) (slice_get-get_or d.schedules n s inside) in
-        ap (slice_get new)
-        (ap (λ (l : List ℕ). slice_index l n) put ∙ get_before was place n (omega (arith, each, lower)))
-        ∙ (stay (slice_index was n) (free_of_stream d s'.item) (before n lower ∙ own) ∙ sym own)
+    elim (cases_lt n i) [
+      | inl lower ↦
+          let inside : n < length d.schedules = omega (arith, lower, low) in
+          let s' = get_or d.schedules n s in
+          let own : free_of d n ≡ Some (free_of_stream d s'.item) =
+          ap (λ o. option_map (λ (x : Lined ScheduleDef). free_of_stream d x.item) o) (slice_get-get_or d.schedules n s inside) in
+          ap (slice_get new)
+          (ap (λ (l : List ℕ). slice_index l n) put ∙ get_before was place n (omega (arith, each, lower)))
+          ∙ (stay (slice_index was n) (free_of_stream d s'.item) (before n lower ∙ own) ∙ sym own)
       | inr past ↦
-        let here : n ≡ length was = omega (arith, each, less, past) in
-        let index : n ≡ i = omega (arith, less, past) in
-        let own : free_of d i ≡ Some (free_of_stream d s.item) =
-            ap (λ o. option_map (λ (x : Lined ScheduleDef). free_of_stream d x.item) o)
-            (slice_get_read d.schedules (length d.schedules) i s refl low at) in
-        ap (slice_get new) (ap (λ (l : List ℕ). slice_index l n) put ∙ (ap (slice_index (was ++ place ∷ [])) here ∙ get_last was place))
-        ∙ (there ∙ (ap Some (kind_gives d s.item kind of_kind) ∙ (sym own ∙ ap (free_of d) (sym index))))
+          let here : n ≡ length was = omega (arith, each, less, past) in
+          let index : n ≡ i = omega (arith, less, past) in
+          let own : free_of d i ≡ Some (free_of_stream d s.item) =
+          ap (λ o. option_map (λ (x : Lined ScheduleDef). free_of_stream d x.item) o)
+          (slice_get_read d.schedules (length d.schedules) i s refl low at) in
+          ap (slice_get new) (ap (λ (l : List ℕ). slice_index l n) put ∙ (ap (slice_index (was ++ place ∷ [])) here ∙ get_last was place))
+          ∙ (there ∙ (ap Some (kind_gives d s.item kind of_kind) ∙ (sym own ∙ ap (free_of d) (sym index))))
     ]

@@ -36,13 +36,12 @@ first_below x y ys h =
 below_all : (x : ℕ) (xs : List ℕ) → IsStrictlyIncreasing (x ∷ xs) → (n : ℕ) → has xs n ≡ true → x < n
 below_all x [] h n there = cc
 below_all x (y ∷ ys) h n there =
-    elim (either (eqb n y) (has ys n) there)
-    [
-      inl e ↦ (let at : n ≡ y = is_same n y e in omega (arith, at, first_below x y ys h))
+    elim (either (eqb n y) (has ys n) there) [
+      | inl e ↦ (let at : n ≡ y = is_same n y e in omega (arith, at, first_below x y ys h))
       | inr e ↦
-        let low : x < y = first_below x y ys h in
-        let later : y < n = below_all y ys (tail_rises x (y ∷ ys) h) n e in
-        omega (arith, low, later)
+          let low : x < y = first_below x y ys h in
+          let later : y < n = below_all y ys (tail_rises x (y ∷ ys) h) n e in
+          omega (arith, low, later)
     ]
 
 rises_of : (xs : List ℕ) → IsStrictlyIncreasing xs → Rises xs
@@ -63,15 +62,13 @@ not_again x xs h = go (has xs x) refl
 one_first : (x y : ℕ) (xs ys : List ℕ) → ((n : ℕ) → has xs n ≡ true → x < n) → ((n : ℕ) → has ys n ≡ true → y < n)
     → ((n : ℕ) → has (x ∷ xs) n ≡ has (y ∷ ys) n) → x ≡ y
 one_first x y xs ys low high same =
-    elim (either (eqb x y) (has ys x) (sym (same x) ∙ has_first x xs))
-    [
-      inl e ↦ is_same x y e
+    elim (either (eqb x y) (has ys x) (sym (same x) ∙ has_first x xs)) [
+      | inl e ↦ is_same x y e
       | inr e ↦
-        elim (either (eqb y x) (has xs y) (same y ∙ has_first y ys))
-        [
-          inl f ↦ sym (is_same y x f)
-          | inr f ↦ absurd (let a : y < x = high x e in let b : x < y = low y f in omega (arith, a, b))
-        ]
+          elim (either (eqb y x) (has xs y) (same y ∙ has_first y ys)) [
+            | inl f ↦ sym (is_same y x f)
+            | inr f ↦ absurd (let a : y < x = high x e in let b : x < y = low y f in omega (arith, a, b))
+          ]
     ]
 
 pub one_list : (xs ys : List ℕ) → Rises xs → Rises ys → ((n : ℕ) → has xs n ≡ has ys n) → xs ≡ ys
@@ -85,13 +82,12 @@ one_list (x ∷ xs) (y ∷ ys) h k same =
   where
     rest : x ≡ y → (n : ℕ) → has xs n ≡ has ys n
     rest head n =
-        elim (eqb_tells n x)
-        [
-          inl e ↦
-            ap (has xs) e.1 ∙ (not_again x xs h.0 ∙ sym (ap (has ys) (e.1 ∙ head) ∙ not_again y ys k.0))
+        elim (eqb_tells n x) [
+          | inl e ↦
+              ap (has xs) e.1 ∙ (not_again x xs h.0 ∙ sym (ap (has ys) (e.1 ∙ head) ∙ not_again y ys k.0))
           | inr e ↦
-            let other : eqb n y ≡ false = subst (λ m. eqb n m ≡ false) head e.0 in
-            sym (ap (λ b. b || has xs n) e.0) ∙ (same n ∙ ap (λ b. b || has ys n) other)
+              let other : eqb n y ≡ false = subst (λ m. eqb n m ≡ false) head e.0 in
+              sym (ap (λ b. b || has xs n) e.0) ∙ (same n ∙ ap (λ b. b || has ys n) other)
         ]
 
 -- the ascending list of numbers
@@ -121,32 +117,27 @@ put_rises x (y ∷ ys) h = go (eqb x y) refl (nat_lt x y) refl (put_rises x ys h
   where
     go : (b : Bool) → eqb x y ≡ b → (c : Bool) → nat_lt x y ≡ c → Rises (insert_once x ys)
         → Rises (cond b (y ∷ ys) (cond c (x ∷ y ∷ ys) (y ∷ insert_once x ys)))
-    unfolding Rises
     go true e c f more = h
     go false e true f more =
-        let low : x < y = grind (arith, nat_tests) in
-        (
+        let low : x < y = grind (arith, nat_tests) in (
           λ n there.
-              elim (either (eqb n y) (has ys n) there)
-              [
-                inl at ↦ (let same : n ≡ y = is_same n y at in omega (arith, low, same))
+              elim (either (eqb n y) (has ys n) there) [
+                | inl at ↦ (let same : n ≡ y = is_same n y at in omega (arith, low, same))
                 | inr later ↦ (let high : y < n = h.0 n later in omega (arith, low, high))
               ],
           h,
         )
-    go false e false f more =
-        (
-          λ n there.
-              elim (either (eqb n x) (has ys n) (sym (has_put x ys n) ∙ there))
-              [
-                inl at ↦
-                  let same : n ≡ x = is_same n x at in
-                  let high : y < x = grind (arith, nat_tests) in
-                  omega (arith, same, high)
-                | inr later ↦ h.0 n later
-              ],
-          more,
-        )
+    go false e false f more = (
+      λ n there.
+          elim (either (eqb n x) (has ys n) (sym (has_put x ys n) ∙ there)) [
+            | inl at ↦
+                let same : n ≡ x = is_same n x at in
+                let high : y < x = grind (arith, nat_tests) in
+                omega (arith, same, high)
+            | inr later ↦ h.0 n later
+          ],
+      more,
+    )
 
 ascending_rises : (xs : List ℕ) → Rises (ascending xs)
 unfolding Rises

@@ -14,11 +14,11 @@ loop-clause-preserved c =
     let x = c.clause-item.result in
     let own = option_copied c.args.ws in
     let counted =
-        count_more cs i x c.loop-clause.before c.dependency_count.result c.with_more-count.result (omega arith)
-        c.clause-item.is c.loop-clause.invariant.counted c.dependency_count.ensures c.with_more-count.ensures in
+    count_more cs i x c.loop-clause.before c.dependency_count.result c.with_more-count.result (omega arith)
+    c.clause-item.is c.loop-clause.invariant.counted c.dependency_count.ensures c.with_more-count.ensures in
     let passed =
-        passes_is cs i c.loop-clause.before c.with_more-count.result c.passes_most-passes.result
-        c.passes_most-passes.ensures c.loop-clause.invariant.counted counted in
+    passes_is cs i c.loop-clause.before c.with_more-count.result c.passes_most-passes.result
+    c.passes_most-passes.ensures c.loop-clause.invariant.counted counted in
     record {
       counted = counted;
       found =

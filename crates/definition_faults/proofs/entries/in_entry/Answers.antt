@@ -15,9 +15,9 @@ returns c =
     let rows = entry_rows d c.args.stream c.args.i s e.item in
     let own = told_at e.line rows c.of_entry.result c.noted-own.result refl c.of_entry.ensures c.noted-own.ensures in
     let clauses : c.in_clauses-clauses.result
-        ≡ earliest (clause_faults d c.args.stream true (ws_of_entry d s e.item) e.item.clauses) =
-        c.in_clauses-clauses.ensures
-        ∙ (λ j. earliest (clause_faults d c.args.stream true (c.ws_of_entry-ws.ensures j) (c.as_slice.ensures j))) in
+    ≡ earliest (clause_faults d c.args.stream true (ws_of_entry d s e.item) e.item.clauses) =
+    c.in_clauses-clauses.ensures
+    ∙ (λ j. earliest (clause_faults d c.args.stream true (c.ws_of_entry-ws.ensures j) (c.as_slice.ensures j))) in
     c.earlier.ensures
     ∙ ((λ j. earlier_of (own j) (clauses j))
     ∙ sym

@@ -11,7 +11,7 @@ loop-schedule-preserved c =
     let i = c.loop-schedule.schedule-index in
     let s = c.schedule-item.result in
     let all : c.as_slice-schedules.result.now ≡ d.schedules =
-        c.as_slice-schedules.ensures ∙ ap (λ (x : Defs). x.schedules) c.defs.ensures in
+    c.as_slice-schedules.ensures ∙ ap (λ (x : Defs). x.schedules) c.defs.ensures in
     let same : length c.as_slice-schedules.result.now ≡ length d.schedules = ap length all in
     let low : i < length d.schedules = omega (arith, same) in
     record {

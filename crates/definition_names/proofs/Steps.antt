@@ -1,7 +1,7 @@
 -- Walks from the last name to the first.
-use Rattle.std.proofs.Common.{ℕ, ◌+◌, ◌<◌, ◌∙◌, ◌∷◌, ◌≡◌, ◌==◌, ◌&&◌, Bool, true, false, List, Option, Some, Result, Ok, Err, OnOk, ap, cond, drop, get_or, inl, inr, length, map, refl, sym}
+use Rattle.std.proofs.Common.{ℕ, ◌+◌, ◌<◌, ◌∙◌, [], ◌∷◌, ◌++◌, ◌≡◌, ◌==◌, ◌&&◌, Bool, true, false, List, Option, Some, Result, Ok, Err, OnOk, ap, cond, drop, get_or, inl, inr, length, map, refl, sym, take}
 use Rattle.std.proofs.lemmas.Bool.Decides.{eqb_tells}
-use Rattle.std.proofs.lemmas.List.{drop_more}
+use Rattle.std.proofs.lemmas.List.{drop_more, take_more}
 use Rattle.std.specs.List.{position_from}
 
 -- the first place from a place on is that place where its item passes, and else one of the next ones
@@ -46,3 +46,17 @@ same_number n = elim (eqb_tells n n) [ inl e ↦ e.0 | inr o ↦ absurd (o.1 ref
 pub on_ok : {T E P Q : Type 0} (r : Result T E) → (P → Q) → OnOk r P → OnOk r Q
 on_ok (Ok x) f h = f h
 on_ok (Err e) f h = tt
+
+-- what is seen of the names so far, with one more
+map_push : {X Y : Type 0} (f : X → Y) (xs : List X) (x : X) → map f (xs ++ x ∷ []) ≡ map f xs ++ f x ∷ []
+map_push f [] x = refl
+map_push f (y ∷ ys) x = ap (λ l. f y ∷ l) (map_push f ys x)
+
+pub keys_more : {K X A : Type 0} (see : K → A) (f : X → A) (xs : List X) (i : ℕ) (x : X) (old new : List K) (k : K)
+    → i < length xs → x ≡ get_or xs i x → new ≡ old ++ k ∷ [] → map see old ≡ map f (take i xs) → see k ≡ f x
+    → map see new ≡ map f (take (i + 1) xs)
+keys_more see f xs i x old new k low at grown before is =
+    ap (map see) grown
+    ∙ (map_push see old k
+    ∙ ((λ j. before j ++ (is ∙ ap f at) j ∷ [])
+    ∙ (sym (map_push f (take i xs) (get_or xs i x)) ∙ ap (map f) (sym (take_more xs i x low)))))

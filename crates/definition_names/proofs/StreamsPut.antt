@@ -11,7 +11,7 @@ use Rattle.definition_names.specs.declared.streams.StreamIndex.{StreamIndex}
 
 pub put_placed : (old new : StreamIndex) (ws name : List ℕ) (place : Option ℕ)
     → ((on other : List ℕ) → pair_in new.placed.entries on other
-        ≡ cond (bytes_eq on ws && bytes_eq other name) place (pair_in old.placed.entries on other))
+    ≡ cond (bytes_eq on ws && bytes_eq other name) place (pair_in old.placed.entries on other))
     → new.nameless.entries ≡ old.nameless.entries → (on_ws : Option (List ℕ)) (n : List ℕ)
     → stream_in new on_ws n ≡ cond (is_one_ws on_ws (Some ws) && bytes_eq n name) place (stream_in old on_ws n)
 put_placed old new ws name place put same None n = ap (λ (l : List (Bor (List ℕ) × ℕ)). name_in l n) same
@@ -19,7 +19,7 @@ put_placed old new ws name place put same (Some a) n = put a n
 
 pub put_nameless : (old new : StreamIndex) (name : List ℕ) (place : Option ℕ)
     → ((other : List ℕ) → name_in new.nameless.entries other
-        ≡ cond (bytes_eq other name) place (name_in old.nameless.entries other))
+    ≡ cond (bytes_eq other name) place (name_in old.nameless.entries other))
     → new.placed.entries ≡ old.placed.entries → (on_ws : Option (List ℕ)) (n : List ℕ)
     → stream_in new on_ws n ≡ cond (is_one_ws on_ws None && bytes_eq n name) place (stream_in old on_ws n)
 put_nameless old new name place put same None n = put n
@@ -43,20 +43,24 @@ pub entries_more : (schedules : List (Lined ScheduleDef)) (n : ℕ) (s : Lined S
     (old new : List ((ℕ × Bor (List ℕ)) × ℕ)) → slice_get schedules n ≡ Some s
     → ((m : ℕ) (name : List ℕ) → entry_in old m name ≡ before_place schedules n m name)
     → ((m : ℕ) (name : List ℕ) → (m == n) ≡ false → entry_in new m name ≡ entry_in old m name)
-    → ((name : List ℕ) → entry_in old n name ≡ None → entry_in new n name ≡ entry_at s.item name)
+    → (it : ScheduleDef)
+    → ((name : List ℕ) → entry_in old n name ≡ None → entry_in new n name ≡ entry_at it name)
+    → it ≡ s.item
     → (m : ℕ) (name : List ℕ) → entry_in new m name ≡ before_place schedules (n + 1) m name
-entries_more schedules n s old new got before others own m name =
-    elim (eqb_tells m n)
-    [ inl e ↦
-        let here : n < n + 1 = omega arith in
-        subst (λ (k : ℕ). entry_in new k name ≡ before_place schedules (n + 1) k name) (sym e.1)
-        (own name
-            (before n name ∙ ap (λ (b : Bool). cond b (entry_among schedules n name) None) (not_below n))
-        ∙ (sym (ap (option_and_then (λ (x : Lined ScheduleDef). entry_at x.item name)) got)
-        ∙ sym (ap (λ (b : Bool). cond b (entry_among schedules n name) None) (is_below n (n + 1) here))))
-    | inr o ↦
-        others m name o.0
-        ∙ (before m name ∙ sym (ap (λ (b : Bool). cond b (entry_among schedules m name) None) (same_below m n o.1))) ]
+entries_more schedules n s old new got before others it own same m name =
+    elim (eqb_tells m n) [
+      | inl e ↦
+          let here : n < n + 1 = omega arith in
+          subst (λ (k : ℕ). entry_in new k name ≡ before_place schedules (n + 1) k name) (sym e.1)
+          (own name
+          (before n name ∙ ap (λ (b : Bool). cond b (entry_among schedules n name) None) (not_below n))
+          ∙ (ap (λ (x : ScheduleDef). entry_at x name) same
+          ∙ (sym (ap (option_and_then (λ (x : Lined ScheduleDef). entry_at x.item name)) got)
+          ∙ sym (ap (λ (b : Bool). cond b (entry_among schedules n name) None) (is_below n (n + 1) here)))))
+      | inr o ↦
+          others m name o.0
+          ∙ (before m name ∙ sym (ap (λ (b : Bool). cond b (entry_among schedules m name) None) (same_below m n o.1)))
+    ]
 
 -- and of all streams
 pub entries_all : (schedules : List (Lined ScheduleDef)) (n : ℕ) (index : List ((ℕ × Bor (List ℕ)) × ℕ))

@@ -15,7 +15,11 @@ pub(crate) fn cpu_names<'a>(
 ) -> Result<Vec<&'a Text>, NoMemory>
     ensures { IfOk result (λ v. map seen v.items ≡ map (λ c. c.item.name) cpus.now) }
 {
-    Ok(cpus.iter().map(|cpu| &cpu.item.name).collect(alloc)?)
+    let mut names = Vec::new(alloc);
+    for cpu in cpus {
+        names.push(&cpu.item.name)?;
+    }
+    Ok(names)
 }
 
 pub(crate) fn domain_names<'a>(
@@ -24,12 +28,11 @@ pub(crate) fn domain_names<'a>(
 ) -> Result<Vec<&'a Text>, NoMemory>
     ensures { IfOk result (λ v. map seen v.items ≡ map (λ d. d.item.name) domains.now) }
 {
-    Ok(
-        domains
-            .iter()
-            .map(|domain| &domain.item.name)
-            .collect(alloc)?,
-    )
+    let mut names = Vec::new(alloc);
+    for domain in domains {
+        names.push(&domain.item.name)?;
+    }
+    Ok(names)
 }
 
 pub(crate) fn calendar_names<'a>(
@@ -38,12 +41,11 @@ pub(crate) fn calendar_names<'a>(
 ) -> Result<Vec<&'a Text>, NoMemory>
     ensures { IfOk result (λ v. map seen v.items ≡ map (λ c. c.item.name) calendars.now) }
 {
-    Ok(
-        calendars
-            .iter()
-            .map(|calendar| &calendar.item.name)
-            .collect(alloc)?,
-    )
+    let mut names = Vec::new(alloc);
+    for calendar in calendars {
+        names.push(&calendar.item.name)?;
+    }
+    Ok(names)
 }
 
 pub(crate) fn prompt_names<'a>(
@@ -52,12 +54,11 @@ pub(crate) fn prompt_names<'a>(
 ) -> Result<Vec<&'a Text>, NoMemory>
     ensures { IfOk result (λ v. map seen v.items ≡ map (λ p. p.item.name) prompts.now) }
 {
-    Ok(
-        prompts
-            .iter()
-            .map(|prompt| &prompt.item.name)
-            .collect(alloc)?,
-    )
+    let mut names = Vec::new(alloc);
+    for prompt in prompts {
+        names.push(&prompt.item.name)?;
+    }
+    Ok(names)
 }
 
 pub(crate) fn resource_names<'a>(
@@ -66,12 +67,11 @@ pub(crate) fn resource_names<'a>(
 ) -> Result<Vec<Pair<'a>>, NoMemory>
     ensures { IfOk result (λ v. map seen_pair v.items ≡ map (λ r. (r.item.ws, r.item.name)) resources.now) }
 {
-    Ok(
-        resources
-            .iter()
-            .map(|resource| (&resource.item.ws, &resource.item.name))
-            .collect(alloc)?,
-    )
+    let mut names = Vec::new(alloc);
+    for resource in resources {
+        names.push((&resource.item.ws, &resource.item.name))?;
+    }
+    Ok(names)
 }
 
 pub(crate) fn job_names<'a>(
@@ -80,9 +80,9 @@ pub(crate) fn job_names<'a>(
 ) -> Result<Vec<Pair<'a>>, NoMemory>
     ensures { IfOk result (λ v. map seen_pair v.items ≡ map (λ j. (j.item.ws, j.item.name)) jobs.now) }
 {
-    Ok(
-        jobs.iter()
-            .map(|job| (&job.item.ws, &job.item.name))
-            .collect(alloc)?,
-    )
+    let mut names = Vec::new(alloc);
+    for job in jobs {
+        names.push((&job.item.ws, &job.item.name))?;
+    }
+    Ok(names)
 }

@@ -28,10 +28,7 @@ pub(crate) struct PairTables<'a> {
 }
 
 /// The tables of the names of workstations, domains, calendars and prompts.
-pub(crate) fn name_tables<'a>(
-    alloc: Global,
-    defs: &'a Defs,
-) -> Result<NameTables<'a>, NoMemory>
+pub(crate) fn name_tables<'a>(alloc: Global, defs: &'a Defs) -> Result<NameTables<'a>, NoMemory>
     ensures { IfOk result (λ tables. AreNameTables defs.now tables) }
 {
     let cpus = cpu_index(alloc, defs)?;
@@ -47,10 +44,7 @@ pub(crate) fn name_tables<'a>(
 }
 
 /// The tables of the names of resources and jobs.
-pub(crate) fn pair_tables<'a>(
-    alloc: Global,
-    defs: &'a Defs,
-) -> Result<PairTables<'a>, NoMemory>
+pub(crate) fn pair_tables<'a>(alloc: Global, defs: &'a Defs) -> Result<PairTables<'a>, NoMemory>
     ensures { IfOk result (λ tables. ArePairTables defs.now tables) }
 {
     let resources = resource_index(alloc, defs)?;

@@ -2,3 +2,4 @@ pub mod Walks
 pub mod Nexts
 pub mod Prevs
 pub mod Shifted
+pub mod Dates

@@ -1,7 +1,8 @@
 -- The run dates of a stream.
-use Rattle.std.specs.Prelude.{ℕ, Bool, true, false, ◌&&◌, not, List, slice_get}
+use Rattle.std.specs.Prelude.{ℕ, Bool, true, false, ◌&&◌, not, nat_le, List, slice_get}
 use Rattle.std.specs.List.{list_any}
 use Rattle.std.specs.Option.{option_map_or}
+use Rattle.calendars.specs.Dates.{last_day}
 use Rattle.calendars.specs.declared.FreeDays.{FreeDays}
 use Rattle.composer_parser.specs.declared.Lined.{Lined}
 use Rattle.composer_parser.specs.declared.Defs.{Defs}
@@ -24,6 +25,7 @@ abbrev pub runs_of : Defs → ScheduleDef → ℕ → Bool
 runs_of d s day =
     any_gives d (free_of_stream d s) s.ons false day && not (any_gives d (free_of_stream d s) s.ons true day)
 
--- the stream at a place runs on the day
+-- the stream at a place runs on the day, which is one of the calendar
 abbrev pub runs : Defs → ℕ → ℕ → Bool
-runs d n day = option_map_or (λ (s : Lined ScheduleDef). runs_of d s.item day) (slice_get d.schedules n) false
+runs d n day =
+    nat_le day last_day && option_map_or (λ (s : Lined ScheduleDef). runs_of d s.item day) (slice_get d.schedules n) false

@@ -1,7 +1,9 @@
 //! The days of a stream.
-ghost use Rattle.std.specs.Prelude.{◌≡◌, ◌<◌, ◌&&◌, ℕ, nat_le, IfOk, length};
+ghost use Rattle.std.specs.Prelude.{◌≡◌, ◌<◌, ◌&&◌, ℕ, true, false, not, nat_le, IfOk, length};
+ghost use Rattle.calendars.specs.Dates.{IsDay};
 ghost use Rattle.calendars.specs.Sets.{has};
 ghost use Rattle.run_cycles.specs.Runs as spec;
+ghost use Rattle.run_cycles.specs.Shifts.{gives as gives_day};
 
 use crate::shifts::gives;
 use base_types::NoMemory;
@@ -12,25 +14,48 @@ use workload_defs::Workload;
 
 /// Whether a stream runs on a day: one of its ONs gives the day, and none of its EXCEPTs. Streams are told by their places
 /// among the streams of the definitions, counted from 0. On days after 12/31/9999 none runs.
+#[tactic(auto, using(crate::proofs::Dates::runs_late, crate::proofs::Dates::runs_none))]
 pub fn runs_on(w: &Workload, stream: u32, day: u32) -> bool
     requires { stream < length w.now.schedules }
     ensures { result ≡ spec.runs w.now stream day }
 {
-    let free = w.free_days(stream);
+    if day > LAST_DAY {
+        return false;
+    }
     match w.defs().schedules.get(stream as usize) {
         None => false,
-        Some(schedule) => {
-            let ons = schedule.item.ons.as_slice();
-            any_gives(w, free, ons, false, day) && !any_gives(w, free, ons, true, day)
-        }
+        Some(schedule) => runs_by(w, w.free_days(stream), schedule.item.ons.as_slice(), day),
     }
+}
+
+/// Whether one of the ONs gives a day, and none of the EXCEPTs.
+fn runs_by(w: &Workload, free: &FreeDays, ons: &[Lined<OnDef>], day: u32) -> bool
+    requires { IsDay day }
+    ensures { result ≡ (spec.any_gives w.now free.now ons.now false day
+        && not (spec.any_gives w.now free.now ons.now true day)) }
+{
+    any_gives(w, free, ons, false, day) && !any_gives(w, free, ons, true, day)
 }
 
 /// Whether one of the ONs, or of the EXCEPTs, gives a day.
 fn any_gives(w: &Workload, free: &FreeDays, ons: &[Lined<OnDef>], except: bool, day: u32) -> bool
+    requires { IsDay day }
     ensures { result ≡ spec.any_gives w.now free.now ons.now except day }
 {
-    ons.iter().any(|on| is_of(&on.item, except) && gives(w, free, &on.item, day))
+    for on in ons {
+        if statement_gives(w, free, &on.item, except, day) {
+            return true;
+        }
+    }
+    false
+}
+
+/// Whether a statement is an ON, or an EXCEPT, and gives a day.
+fn statement_gives(w: &Workload, free: &FreeDays, on: &OnDef, except: bool, day: u32) -> bool
+    requires { IsDay day }
+    ensures { result ≡ (spec.is_of except on.now && gives_day w.now free.now day on.now) }
+{
+    is_of(on, except) && gives(w, free, on, day)
 }
 
 /// Whether a statement is an EXCEPT, or else an ON.

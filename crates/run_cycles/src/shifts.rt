@@ -15,11 +15,9 @@ use workload_defs::Workload;
 /// Whether a statement gives a day: one of its dates is, or becomes, that day.
 #[tactic(auto, using(crate::proofs::Shifted::by_none, crate::proofs::Shifted::by_ignore, crate::proofs::Shifted::by_next, crate::proofs::Shifted::by_prev))]
 pub(crate) fn gives(w: &Workload, free: &FreeDays, on: &OnDef, day: u32) -> bool
+    requires { IsDay day }
     ensures { result ≡ spec.gives w.now free.now day on.now }
 {
-    if day > LAST_DAY {
-        return false;
-    }
     match on.shift {
         None => is_dated(w, free, on, day),
         Some(Shift::Ignore) => gives_workday(w, free, on, day),

@@ -60,41 +60,41 @@ begin_step m = go (nat_lt (m % 12) 11) refl
         let less : m % 12 < 11 = grind (arith, nat_tests) in
         let n = in_year m less in
         let a : begin_of (m + 1) ≡ days_of_years ((m + 1) / 12) + days_of_months (1970 + (m + 1) / 12) ((m + 1) % 12) =
-            first_of_month (m + 1) in
+        first_of_month (m + 1) in
         let b : days_of_years ((m + 1) / 12) ≡ days_of_years (m / 12) = ap (λ (k : ℕ). days_of_years k) n.0 in
         let c : days_of_months (1970 + (m + 1) / 12) ((m + 1) % 12) ≡ days_of_months (1970 + m / 12) (m % 12 + 1) =
-            λ i. days_of_months (1970 + n.0 i) (n.1 i) in
+        λ i. days_of_months (1970 + n.0 i) (n.1 i) in
         let d : days_of_months (1970 + m / 12) (m % 12 + 1) ≡ days_of_months (1970 + m / 12) (m % 12) + length_of m =
-            months_step (1970 + m / 12) (m % 12) in
+        months_step (1970 + m / 12) (m % 12) in
         let e : begin_of m ≡ days_of_years (m / 12) + days_of_months (1970 + m / 12) (m % 12) = first_of_month m in
         omega (arith, a, b, c, d, e)
     go false h =
         let least : 11 ≤ m % 12 = grind (arith, nat_tests) in
         let n = at_end m least in
         let a : begin_of (m + 1) ≡ days_of_years ((m + 1) / 12) + days_of_months (1970 + (m + 1) / 12) ((m + 1) % 12) =
-            first_of_month (m + 1) in
+        first_of_month (m + 1) in
         let b : days_of_years ((m + 1) / 12) ≡ days_of_years (m / 12 + 1) = ap (λ (k : ℕ). days_of_years k) n.1 in
         let b2 : days_of_years (m / 12 + 1) ≡ days_of_years (m / 12) + days_in_year (1970 + m / 12) = year_step (m / 12) in
         let c : days_of_months (1970 + (m + 1) / 12) ((m + 1) % 12) ≡ days_of_months (1970 + (m + 1) / 12) 0 =
-            ap (λ (k : ℕ). days_of_months (1970 + (m + 1) / 12) k) n.2 in
+        ap (λ (k : ℕ). days_of_months (1970 + (m + 1) / 12) k) n.2 in
         let c0 : days_of_months (1970 + (m + 1) / 12) 0 ≡ 0 = no_months (1970 + (m + 1) / 12) in
         let d : days_of_months (1970 + m / 12) (m % 12 + 1) ≡ days_of_months (1970 + m / 12) (m % 12) + length_of m =
-            months_step (1970 + m / 12) (m % 12) in
+        months_step (1970 + m / 12) (m % 12) in
         let twelve : m % 12 + 1 ≡ 12 = let eleven : m % 12 ≡ 11 = n.0 in omega (arith, eleven) in
         let d2 : days_of_months (1970 + m / 12) (m % 12 + 1) ≡ days_in_year (1970 + m / 12) =
-            ap (λ (k : ℕ). days_of_months (1970 + m / 12) k) twelve ∙ whole_year (1970 + m / 12) in
+        ap (λ (k : ℕ). days_of_months (1970 + m / 12) k) twelve ∙ whole_year (1970 + m / 12) in
         let e : begin_of m ≡ days_of_years (m / 12) + days_of_months (1970 + m / 12) (m % 12) = first_of_month m in
         omega (arith, a, b, b2, c, c0, d, d2, e)
 
 begin_far : (m n : ℕ) → begin_of m + length_of m ≤ begin_of (m + 1 + n)
 begin_far m zero =
     let same : begin_of (m + 1 + 0) ≡ begin_of (m + 1) =
-        ap (λ (k : ℕ). begin_of k) (let e : m + 1 + 0 ≡ m + 1 = omega arith in e) in
+    ap (λ (k : ℕ). begin_of k) (let e : m + 1 + 0 ≡ m + 1 = omega arith in e) in
     let step : begin_of (m + 1) ≡ begin_of m + length_of m = begin_step m in
     omega (arith, same, step)
 begin_far m (suc n) =
     let same : begin_of (m + 1 + suc n) ≡ begin_of (m + 1 + n + 1) =
-        ap (λ (k : ℕ). begin_of k) (let e : m + 1 + suc n ≡ m + 1 + n + 1 = omega arith in e) in
+    ap (λ (k : ℕ). begin_of k) (let e : m + 1 + suc n ≡ m + 1 + n + 1 = omega arith in e) in
     let step : begin_of (m + 1 + n + 1) ≡ begin_of (m + 1 + n) + length_of (m + 1 + n) = begin_step (m + 1 + n) in
     let before : begin_of m + length_of m ≤ begin_of (m + 1 + n) = begin_far m n in
     omega (arith, same, step, before)
@@ -122,9 +122,9 @@ beyond a b day high = go (nat_le a day && nat_lt day b) refl
 one_month : (m k day : ℕ) → is_in_month m day ≡ true → is_in_month k day ≡ true → m < k → ⊥
 one_month m k day here there less =
     let a : (begin_of m ≤ day) × (day < begin_of m + length_of m) =
-        bounds (begin_of m) (begin_of m + length_of m) day here in
+    bounds (begin_of m) (begin_of m + length_of m) day here in
     let b : (begin_of k ≤ day) × (day < begin_of k + length_of k) =
-        bounds (begin_of k) (begin_of k + length_of k) day there in
+    bounds (begin_of k) (begin_of k + length_of k) day there in
     let a1 : day < begin_of m + length_of m = a.1 in
     let b0 : begin_of k ≤ day = b.0 in
     let far : begin_of m + length_of m ≤ begin_of k = later m k less in
@@ -136,9 +136,10 @@ other_month m k day apart there = go (is_in_month m day) refl
     go : (t : Bool) → is_in_month m day ≡ t → is_in_month m day ≡ false
     go false e = e
     go true e =
-        absurd (elim (cases_order m k)
-            [ inl same ↦ apart same
-            | inr o ↦ elim o [ inl less ↦ one_month m k day e there less | inr more ↦ one_month k m day there e more ] ])
+        absurd (elim (cases_order m k) [
+          | inl same ↦ apart same
+          | inr o ↦ elim o [ inl less ↦ one_month m k day e there less | inr more ↦ one_month k m day there e more ]
+        ])
 
 -- the month of a place has its day
 own_month : (place : MonthPlace) (day : ℕ) → IsPlaceOf place day → is_in_month place.month day ≡ true
@@ -168,14 +169,15 @@ any_one : (p : ℕ → Bool) (n k : ℕ) → k < n → ((m : ℕ) → m ≢ k �
 unfolding below
 any_one p zero k low others = absurd (omega (arith, low))
 any_one p (suc n) k low others =
-    elim (eqb_tells n k)
-    [ inl e ↦
-        ap (λ (b : Bool). p n || b)
-        (any_none p n (λ m less. others m (λ same. let at_ : n ≡ k = e.1 in omega (arith, less, same, at_))))
-        ∙ (or_false (p n) ∙ ap p e.1)
-    | inr o ↦
-        let less : k < n = let apart : n ≢ k = o.1 in omega (arith, low, apart) in
-        ap (λ (b : Bool). b || list_any p (below n)) (others n o.1) ∙ any_one p n k less others ]
+    elim (eqb_tells n k) [
+      | inl e ↦
+          ap (λ (b : Bool). p n || b)
+          (any_none p n (λ m less. others m (λ same. let at_ : n ≡ k = e.1 in omega (arith, less, same, at_))))
+          ∙ (or_false (p n) ∙ ap p e.1)
+      | inr o ↦
+          let less : k < n = let apart : n ≢ k = o.1 in omega (arith, low, apart) in
+          ap (λ (b : Bool). b || list_any p (below n)) (others n o.1) ∙ any_one p n k less others
+    ]
 
 -- one day of a month and its first
 day_step : (y m d : ℕ) → 1 ≤ d → days_before y m d + 1 ≡ days_before y m 1 + d
@@ -189,25 +191,26 @@ same_pos a b h = cc
 last_month : begin_of 96359 + length_of 96359 ≡ 2932897
 last_month =
     let last : days_before 9999 12 31 ≡ 2932896 =
-        same_pos (days_before 9999 12 31) 2932896
-        (sym (day_number 9999 12 31 (omega arith) (omega arith)) ∙ days_from_civil-max) in
+    same_pos (days_before 9999 12 31) 2932896
+    (sym (day_number 9999 12 31 (omega arith) (omega arith)) ∙ days_from_civil-max) in
     let step : days_before 9999 12 31 + 1 ≡ days_before 9999 12 1 + 31 = day_step 9999 12 31 (omega arith) in
     let all : days_before 9999 12 1 + 31 ≡ 2932897 = omega (arith, last, step) in all
 
 past_all : (m day : ℕ) → m < 96360 → 2932896 < day → is_in_month m day ≡ false
 past_all m day low far =
     beyond (begin_of m) (begin_of m + length_of m) day
-    (elim (eqb_tells m 96359)
-    [ inl e ↦
-        subst (λ (k : ℕ). begin_of k + length_of k ≤ day) (sym e.1)
-        (subst (λ (k : ℕ). k ≤ day) (sym last_month) (let high : 2932897 ≤ day = omega (arith, far) in high))
-    | inr o ↦
-        let less : m < 96359 = let apart : m ≢ 96359 = o.1 in omega (arith, low, apart) in
-        let step : begin_of m + length_of m ≤ begin_of 96359 = later m 96359 less in
-        let end_ : begin_of 96359 ≤ 2932897 =
-            subst (λ (k : ℕ). begin_of 96359 ≤ k) last_month
-            (let more : begin_of 96359 ≤ begin_of 96359 + length_of 96359 = omega arith in more) in
-        omega (arith, step, end_, far) ])
+    (elim (eqb_tells m 96359) [
+      | inl e ↦
+          subst (λ (k : ℕ). begin_of k + length_of k ≤ day) (sym e.1)
+          (subst (λ (k : ℕ). k ≤ day) (sym last_month) (let high : 2932897 ≤ day = omega (arith, far) in high))
+      | inr o ↦
+          let less : m < 96359 = let apart : m ≢ 96359 = o.1 in omega (arith, low, apart) in
+          let step : begin_of m + length_of m ≤ begin_of 96359 = later m 96359 less in
+          let end_ : begin_of 96359 ≤ 2932897 =
+          subst (λ (k : ℕ). begin_of 96359 ≤ k) last_month
+          (let more : begin_of 96359 ≤ begin_of 96359 + length_of 96359 = omega arith in more) in
+          omega (arith, step, end_, far)
+    ])
 
 -- the parts of a month that the calendar has
 parts : (m : ℕ) → m ≤ 96359 → (1970 ≤ year_of m) × (year_of m ≤ 9999) × (1 ≤ month_of m) × (month_of m ≤ 12)
@@ -221,9 +224,10 @@ least_day y m d h = grind (arith, nat_tests)
 
 same_test : (a b c d : ℕ) → (a ≡ b → c ≡ d) → (c ≡ d → a ≡ b) → (a == b) ≡ (c == d)
 same_test a b c d there back =
-    elim (eqb_tells a b)
-    [ inl e ↦ elim (eqb_tells c d) [ inl f ↦ e.0 ∙ sym f.0 | inr g ↦ absurd (g.1 (there e.1)) ]
-    | inr o ↦ elim (eqb_tells c d) [ inl f ↦ absurd (o.1 (back f.1)) | inr g ↦ o.0 ∙ sym g.0 ] ]
+    elim (eqb_tells a b) [
+      | inl e ↦ elim (eqb_tells c d) [ inl f ↦ e.0 ∙ sym f.0 | inr g ↦ absurd (g.1 (there e.1)) ]
+      | inr o ↦ elim (eqb_tells c d) [ inl f ↦ absurd (o.1 (back f.1)) | inr g ↦ o.0 ∙ sym g.0 ]
+    ]
 
 not_equal : (a b : ℕ) → a ≢ b → (a == b) ≡ false
 not_equal a b apart = elim (eqb_tells a b) [ inl e ↦ absurd (apart e.1) | inr o ↦ o.0 ]
@@ -241,21 +245,21 @@ module _ (place : MonthPlace) (day : ℕ) (h : IsPlaceOf place day) where
       go true e =
           let least : 1 ≤ x = least_day (year_of place.month) (month_of place.month) x e in
           let step : days_before (year_of place.month) (month_of place.month) x + 1 ≡ begin_of place.month + x =
-              day_step (year_of place.month) (month_of place.month) x least in
+          day_step (year_of place.month) (month_of place.month) x least in
           let at_ : day + 1 ≡ begin_of place.month + place.day = h.begins in
           ap (λ (o : Option ℕ). some_is o day) (sym (present (year_of place.month) (month_of place.month) x e))
           ∙ same_test (days_before (year_of place.month) (month_of place.month) x) day place.day x
-              (λ same. omega (arith, step, at_, same)) (λ same. omega (arith, step, at_, same))
+          (λ same. omega (arith, step, at_, same)) (λ same. omega (arith, step, at_, same))
       go false e =
           ap (λ (o : Option ℕ). some_is o day) (sym (absent (year_of place.month) (month_of place.month) x e))
           ∙ sym (not_equal place.day x (λ same.
-              let p = parts place.month h.in_range in
-              let within : place.day ≤ length_of place.month = subst (λ (k : ℕ). place.day ≤ k) h.lasts h.within in
-              let here : is_date (year_of place.month) (month_of place.month) place.day ≡ true =
-                  is_there (year_of place.month) (month_of place.month) place.day p.0 p.1 p.2 p.3 h.from_one within in
-              let both : true ≡ false =
-                  sym here ∙ (ap (λ (k : ℕ). is_date (year_of place.month) (month_of place.month) k) same ∙ e) in
-              let never : ⊥ = cc in never))
+          let p = parts place.month h.in_range in
+          let within : place.day ≤ length_of place.month = subst (λ (k : ℕ). place.day ≤ k) h.lasts h.within in
+          let here : is_date (year_of place.month) (month_of place.month) place.day ≡ true =
+          is_there (year_of place.month) (month_of place.month) place.day p.0 p.1 p.2 p.3 h.from_one within in
+          let both : true ≡ false =
+          sym here ∙ (ap (λ (k : ℕ). is_date (year_of place.month) (month_of place.month) k) same ∙ e) in
+          let never : ⊥ = cc in never))
 
   by_sign : (o : Option ℤ) → some_is (option_and_then (kth place.month) o) day ≡ option_map_or (is_kth place) o false
   by_sign None = refl
@@ -268,7 +272,7 @@ module _ (place : MonthPlace) (day : ℕ) (h : IsPlaceOf place day) where
       let lasts : place.length ≡ length_of place.month = h.lasts in
       number_of (length_of place.month - k)
       ∙ same_test place.day (length_of place.month - k) (place.day + suc k) (place.length + 1)
-          (λ same. omega (arith, first, within, lasts, same)) (λ same. omega (arith, first, within, lasts, same))
+      (λ same. omega (arith, first, within, lasts, same)) (λ same. omega (arith, first, within, lasts, same))
 
   pub same_day : (word : List ℕ) → is_day_of_month place.month day word ≡ is_place place word
   same_day word = by_sign (signed_of word)
@@ -281,20 +285,20 @@ in_month n words from day first place f h =
     let low : place.month < 96360 = let most : place.month ≤ 96359 = h.in_range in omega (arith, most) in
     let low_first : first.month < 96360 = let most : first.month ≤ 96359 = f.in_range in omega (arith, most) in
     let counts : counts_month n from place.month ≡ is_counted n first.month place.month =
-        any_one (λ k. is_in_month k from && is_counted n k place.month) 96360 first.month low_first
-        (λ k apart. ap (λ (b : Bool). b && is_counted n k place.month)
-            (other_month k first.month from apart (own_month first from f)))
-        ∙ ap (λ (b : Bool). b && is_counted n first.month place.month) (own_month first from f) in
+    any_one (λ k. is_in_month k from && is_counted n k place.month) 96360 first.month low_first
+    (λ k apart. ap (λ (b : Bool). b && is_counted n k place.month)
+    (other_month k first.month from apart (own_month first from f)))
+    ∙ ap (λ (b : Bool). b && is_counted n first.month place.month) (own_month first from f) in
     let days : list_any (is_day_of_month place.month day) words ≡ list_any (is_place place) words =
-        ap (λ (p : List ℕ → Bool). list_any p words) (λ i word. same_day place day h word i) in
+    ap (λ (p : List ℕ → Bool). list_any p words) (λ i word. same_day place day h word i) in
     let all : has_in_month n words from day ≡ (counts_month n from place.month
-            && list_any (is_day_of_month place.month day) words) =
-        any_one (λ m. is_in_month m day && (counts_month n from m && list_any (is_day_of_month m day) words)) 96360
-        place.month low
-        (λ m apart. ap (λ (b : Bool). b && (counts_month n from m && list_any (is_day_of_month m day) words))
-            (other_month m place.month day apart (own_month place day h)))
-        ∙ ap (λ (b : Bool). b && (counts_month n from place.month && list_any (is_day_of_month place.month day) words))
-            (own_month place day h) in
+    && list_any (is_day_of_month place.month day) words) =
+    any_one (λ m. is_in_month m day && (counts_month n from m && list_any (is_day_of_month m day) words)) 96360
+    place.month low
+    (λ m apart. ap (λ (b : Bool). b && (counts_month n from m && list_any (is_day_of_month m day) words))
+    (other_month m place.month day apart (own_month place day h)))
+    ∙ ap (λ (b : Bool). b && (counts_month n from place.month && list_any (is_day_of_month place.month day) words))
+    (own_month place day h) in
     sym (all ∙ (λ i. counts i && days i))
 
 and_false : (b : Bool) → (b && false) ≡ false
@@ -306,25 +310,25 @@ pub no_first : (n : ℕ) (words : List (List ℕ)) (from day : ℕ) → 2932896 
 no_first n words from day far =
     sym (any_none (λ m. is_in_month m day && (counts_month n from m && list_any (is_day_of_month m day) words)) 96360
     (λ m low.
-        ap (λ (b : Bool). is_in_month m day && (b && list_any (is_day_of_month m day) words))
-        (any_none (λ k. is_in_month k from && is_counted n k m) 96360
-            (λ k less. ap (λ (b : Bool). b && is_counted n k m) (past_all k from less far)))
-        ∙ and_false (is_in_month m day)))
+    ap (λ (b : Bool). is_in_month m day && (b && list_any (is_day_of_month m day) words))
+    (any_none (λ k. is_in_month k from && is_counted n k m) 96360
+    (λ k less. ap (λ (b : Bool). b && is_counted n k m) (past_all k from less far)))
+    ∙ and_false (is_in_month m day)))
 
 pub no_month : (n : ℕ) (words : List (List ℕ)) (from day : ℕ) → 2932896 < day → false ≡ has_in_month n words from day
 no_month n words from day far =
     sym (any_none (λ m. is_in_month m day && (counts_month n from m && list_any (is_day_of_month m day) words)) 96360
     (λ m low. ap (λ (b : Bool). b && (counts_month n from m && list_any (is_day_of_month m day) words))
-        (past_all m day low far)))
+    (past_all m day low far)))
 
 -- the date of a day from 1970 on
 pub from_1970 : (d : Date) (day : ℕ) → epoch_day d ≡ pos day → pos 1970 ≤ℤ d.year
 from_1970 d day is =
     by_lt_z d.year (pos 1970)
     (λ early.
-        let before : day_count d.year d.month d.day < day_count (pos 1970) 1 1 =
-            day_count-lt_year d.year d.month d.day (pos 1970) 1 1 (civil d) (omega arith) early in
-        absurd (omega (arith, signed_arith, before, is, days_from_civil-day_count d.year d.month d.day, day_count-epoch)))
+    let before : day_count d.year d.month d.day < day_count (pos 1970) 1 1 =
+    day_count-lt_year d.year d.month d.day (pos 1970) 1 1 (civil d) (omega arith) early in
+    absurd (omega (arith, signed_arith, before, is, days_from_civil-day_count d.year d.month d.day, day_count-epoch)))
     (λ late. late)
 
 fits_year : (y : ℕ) → y ≤ 9999 → SFits w16 (pos y)
@@ -349,8 +353,8 @@ module _ (d : Date) (day : ℕ) (is : epoch_day d ≡ pos day) (place : MonthPla
       let length_is : length_of place.month ≡ days_in_month y d.month = λ i. days_in_month (the_year i) (the_month i) in
       let begin_is : begin_of place.month ≡ days_before y d.month 1 = λ i. days_before (the_year i) (the_month i) 1 in
       let number : day ≡ days_before y d.month d.day =
-          same_pos day (days_before y d.month d.day)
-          (sym is ∙ (ap (λ (z : ℤ). days_from_civil z d.month d.day) year ∙ day_number y d.month d.day from first)) in
+      same_pos day (days_before y d.month d.day)
+      (sym is ∙ (ap (λ (z : ℤ). days_from_civil z d.month d.day) year ∙ day_number y d.month d.day from first)) in
       let step : days_before y d.month d.day + 1 ≡ days_before y d.month 1 + d.day = day_step y d.month d.day first in
       record {
         in_range = omega (arith, month, late, one, twelve);
@@ -372,7 +376,7 @@ module _ (d : Date) (day : ℕ) (is : epoch_day d ≡ pos day) (place : MonthPla
           let most : pos y ≤ℤ pos 9999 = let in_ = civil d in subst (λ (z : ℤ). z ≤ℤ pos 9999) e in_.0.1 in
           let low : y ≤ 9999 = omega (arith, signed_arith, most) in
           let same : to_z w16 (of_z w16 d.year) ≡ pos y =
-              ap (λ (z : ℤ). to_z w16 (of_z w16 z)) e ∙ to_z-of_z w16 (pos y) (fits_year y low) in
+          ap (λ (z : ℤ). to_z w16 (of_z w16 z)) e ∙ to_z-of_z w16 (pos y) (fits_year y low) in
           at_year y e late (month ∙ ap (λ (z : ℤ). (unsigned_abs z - 1970) * 12 + (d.month - 1)) same) day_
           (length_ ∙ ap (λ (z : ℤ). jiff_length z d.month) same)
       go (negsuc n) e =

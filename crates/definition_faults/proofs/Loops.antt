@@ -1,5 +1,5 @@
 -- One item further in a walk that keeps the first fault so far.
-use Rattle.std.proofs.Common.{◌≡◌, ℕ, ◌+◌, ◌<◌, ◌≤◌, Bool, true, List, [], ◌∷◌, drop, get_or, length, flat_map, filter_map, Option, Some, None}
+use Rattle.std.proofs.Common.{◌≡◌, ℕ, ◌+◌, ◌<◌, Bool, true, List, ◌∷◌, drop, get_or, length, flat_map, filter_map, Option, Some, None}
 use Rattle.std.proofs.Common.{ap, sym, refl, ◌∙◌}
 use Rattle.std.proofs.lemmas.List.{drop_more}
 use Rattle.std.specs.List.{cons_option, enumerate_from}
@@ -8,7 +8,7 @@ use Rattle.model.specs.Words.{first_of_these}
 use Rattle.definition_faults.specs.Orders.{at_line, earlier_of, earliest, faults_at}
 use Rattle.definition_faults.specs.declared.kinds.Kind.{Kind}
 use Rattle.definition_faults.specs.declared.kinds.Fault.{Fault}
-use Rattle.definition_faults.proofs.Earliest.{ascends, earlier_assoc, earlier-none, earliest-append, first_told}
+use Rattle.definition_faults.proofs.Earliest.{ascends, earlier_assoc, earliest-append, first_told}
 
 -- of items with their places
 pub placed_more : {X : Type 0} (f : ℕ × X → List Fault) (xs : List X) (i : ℕ) (x : X) (all first new own : Option Fault)

@@ -1,5 +1,5 @@
 -- The first fault of ten lists.
-use Rattle.std.proofs.Common.{◌≡◌, List, ◌++◌, refl, sym, ap, ◌∙◌}
+use Rattle.std.proofs.Common.{◌≡◌, List, ◌++◌, ap, ◌∙◌}
 use Rattle.definition_faults.specs.Orders.{earlier_of, earliest}
 use Rattle.definition_faults.specs.declared.kinds.Fault.{Fault}
 use Rattle.definition_faults.proofs.Earliest.{earlier_assoc, earliest-append}

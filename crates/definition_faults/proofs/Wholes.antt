@@ -1,5 +1,5 @@
 -- The first of all faults: of those that the tables tell, of bad conditions, and of circles.
-use Rattle.std.proofs.Common.{◌≡◌, ◌⊎◌, ℕ, ◌≤◌, List, Contains, Option, Some, None, option_map, refl, sym, ap, subst, ◌∙◌, inl, inr}
+use Rattle.std.proofs.Common.{◌≡◌, ◌⊎◌, ℕ, ◌≤◌, List, Contains, Option, Some, None, option_map, refl, sym, ap, subst, ◌∙◌}
 use Rattle.composer_parser.specs.declared.Defs.{Defs}
 use Rattle.follow_circles.specs.Circles.{IsOnCircle, IsLeastLine, line_of}
 use Rattle.follow_circles.specs.declared.Follower.{Follower}

@@ -1,4 +1,4 @@
-use Rattle.std.proofs.Common.{Global, Vec, ◌≡◌, ℕ, ◌+◌, ◌*◌, ◌/◌, ◌∙◌, ap, arith, length, map, sym}
+use Rattle.std.proofs.Common.{Global, Vec, ◌≡◌, ℕ, ◌+◌, ◌∙◌, ap, arith, length, map, sym}
 use Rattle.composer_parser.specs.declared.Defs.{Defs}
 use Rattle.model.specs.Words.{below}
 use Rattle.definition_faults.specs.Chains.{climb}

@@ -1,4 +1,4 @@
-use Rattle.std.proofs.Common.{◌≡◌, ◌++◌, ◌∙◌, ℕ, List, ap, arith, filter_map, flat_map, subst, sym}
+use Rattle.std.proofs.Common.{◌++◌, ◌∙◌, ℕ, List, ap, arith, filter_map, flat_map, subst, sym}
 use Rattle.std.proofs.lemmas.List.{append-nil}
 use Rattle.composer_parser.specs.declared.Defs.{Defs}
 use Rattle.composer_parser.specs.declared.Lined.{Lined}

@@ -1,4 +1,4 @@
-use Rattle.std.proofs.Common.{◌≡◌, ◌∙◌, ap, refl, sym, true}
+use Rattle.std.proofs.Common.{◌≡◌, ◌∙◌, refl, sym, true}
 use Rattle.definition_faults.specs.Clauses.{clause_faults}
 use Rattle.definition_faults.specs.Entries.{entry_rows}
 use Rattle.definition_faults.specs.Orders.{earlier_of, earliest, faults_at}

@@ -94,6 +94,7 @@ fn report(alloc: Global) -> Result<JobDraft, Fail> {
 fn close(alloc: Global) -> Result<StreamDraft, Fail> {
     let jobs = one(alloc, report(alloc)?)?;
     let mut stream = stream_draft(alloc, 0, "CLOSE")?;
+    stream.carry = false;
     stream.deps = draft_deps(alloc, &[DraftWaits::Stream(2, "NIGHT")])?;
     stream.jobs = jobs;
     Ok(stream)
@@ -153,6 +154,7 @@ fn kinds_of_lines(rt: HostRuntime) -> Result<(), Fail> {
     let mut net = net(rt.alloc(), &rows, &[], &[])?;
     net.carry = Carry::All;
     let mut stream = stream_draft(rt.alloc(), 1, "S")?;
+    stream.carry = false;
     stream.limit = Some(0);
     stream.deps = draft_deps(rt.alloc(), &WAITS)?;
     stream.jobs = last_job(rt.alloc())?;

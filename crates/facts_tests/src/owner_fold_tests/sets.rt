@@ -1,25 +1,21 @@
 //! What waits, is under way or is open, asked after each entry of a night, against a walk over the whole catalogue.
-use base_types::{Obj, OnUntil, StreamDoc, StreamNo, Ws};
+use base_types::{Dep, JobNo, Obj, OnUntil, StreamDoc, StreamNo, Ws};
 use owner_fold::Owners;
 use std::test::Fail;
-use test_builders::{Asks, FeedRow, JobRow, Says, StreamRow};
+use test_builders::{Asks, FeedRow, JobRow, Says, StreamRow, Waits};
 use test_nights::{M, Row, hear};
 
 /// The events of an agent.
 const P: FeedRow = FeedRow::Events(1);
 
-const PAIR: [JobRow; 2] = [(11, 1, "J", 10, &[]), (12, 0, "K", 10, &[])];
+const PAIR: [JobRow; 2] = [
+    (11, 1, "J", 10, &[Waits::Units(1, 1), Waits::Until(70, OnUntil::Suppr)]),
+    (12, 0, "K", 10, &[Waits::Deadline(9)]),
+];
 
 const FIRST_PLAN: [StreamRow; 4] = [
-    (
-        1,
-        0,
-        "A",
-        false,
-        &[],
-        &[(1, 0, "J", 10, &[]), (2, 1, "K", 10, &[])],
-    ),
-    (2, 0, "B", true, &[], &[(3, 0, "J", 10, &[])]),
+    (1, 0, "A", false, &[], &[(1, 0, "J", 10, &[]), (2, 1, "K", 10, &[])]),
+    (2, 0, "B", true, &[Waits::At(50)], &[(3, 0, "J", 10, &[])]),
     (3, 1, "C", false, &[], &PAIR),
     (4, 1, "D", false, &[], &[(4, 1, "J", 10, &[])]),
 ];
@@ -34,7 +30,8 @@ const SECOND_PLAN: [StreamRow; 2] = [
 
 /// Streams are released, ended, cancelled and passed by an UNTIL; jobs are launched, end, fail and are lost. Some are
 /// told by another than their owner, and some before their plan or twice.
-const NIGHT: [Row; 30] = [
+const NIGHT: [Row; 34] = [
+    (P, Says::Obeyed(0, 1, Asks::AddDep(Obj::Job(JobNo(9)), Waits::At(5)))),
     (P, Says::Released(9, &[])),
     (P, Says::Launched(9, 1, &[])),
     (M, Says::NewPlan(1, &[], &[], &FIRST_PLAN)),
@@ -53,24 +50,15 @@ const NIGHT: [Row; 30] = [
     (P, Says::Lost(11, 1)),
     (P, Says::Launched(11, 2, &[])),
     (P, Says::EndedAs(11, 2, 4, false)),
+    (P, Says::Obeyed(0, 2, Asks::AddDep(Obj::Stream(StreamNo(4)), Waits::Deadline(8)))),
+    (P, Says::Obeyed(0, 3, Asks::AddDep(Obj::Job(JobNo(4)), Waits::Units(1, 8)))),
+    (M, Says::Obeyed(0, 1, Asks::AddDep(Obj::Job(JobNo(4)), Waits::At(8)))),
     (M, Says::StreamEnded(1, &[])),
     (M, Says::Released(1, &[])),
-    (
-        P,
-        Says::Obeyed(0, 1, Asks::Cancel(Obj::Stream(StreamNo(4)))),
-    ),
-    (
-        P,
-        Says::Obeyed(0, 2, Asks::Cancel(Obj::Stream(StreamNo(3)))),
-    ),
-    (
-        M,
-        Says::UntilPassed(Obj::Stream(StreamNo(2)), 1, OnUntil::Cont),
-    ),
-    (
-        M,
-        Says::UntilPassed(Obj::Stream(StreamNo(2)), 1, OnUntil::Canc),
-    ),
+    (P, Says::Obeyed(0, 4, Asks::Cancel(Obj::Stream(StreamNo(4))))),
+    (P, Says::Obeyed(0, 5, Asks::Cancel(Obj::Stream(StreamNo(3))))),
+    (M, Says::UntilPassed(Obj::Stream(StreamNo(2)), 1, OnUntil::Cont)),
+    (M, Says::UntilPassed(Obj::Stream(StreamNo(2)), 1, OnUntil::Canc)),
     (P, Says::Launched(9, 2, &[])),
     (P, Says::StreamEnded(9, &[])),
     (P, Says::Ended(9, 2, 0)),
@@ -145,6 +133,45 @@ fn jobs_agree(owners: &Owners, s: StreamNo) -> bool {
     left.next().is_none()
 }
 
+fn has_time(owners: &Owners, obj: Obj) -> bool {
+    let count = owners.dep_count(obj);
+    for i in 0..count {
+        match owners.dep(obj, i + 1) {
+            Some(Dep::At(_)) | Some(Dep::Until(_, _)) | Some(Dep::Deadline(_)) => return true,
+            _ => {}
+        }
+    }
+    false
+}
+
+/// And the own members with a time.
+fn timed_streams_agree(owners: &Owners, w: Ws) -> bool {
+    let mut left = owners.timed_streams(w);
+    for doc in owners.streams() {
+        if doc.ws == w && owners.is_member(doc.no) && has_time(owners, Obj::Stream(doc.no)) {
+            match left.next() {
+                Some(found) if found.no == doc.no => {}
+                _ => return false,
+            }
+        }
+    }
+    left.next().is_none()
+}
+
+/// And the own members' jobs with one.
+fn timed_jobs_agree(owners: &Owners, w: Ws) -> bool {
+    let mut left = owners.timed_jobs(w);
+    for (parent, doc) in owners.jobs() {
+        if doc.ws == w && owners.is_member(parent.no) && has_time(owners, Obj::Job(doc.no)) {
+            match left.next() {
+                Some((_, found)) if found.no == doc.no => {}
+                _ => return false,
+            }
+        }
+    }
+    left.next().is_none()
+}
+
 fn all_jobs_agree(owners: &Owners) -> bool {
     for number in 0..10u32 {
         if !jobs_agree(owners, StreamNo(number)) {
@@ -158,6 +185,9 @@ fn all_agree(owners: &Owners) -> bool {
     for number in 0..3u16 {
         let w = Ws(number);
         if !waiting_agree(owners, w) || !under_way_agree(owners, w) || !open_agree(owners, w) {
+            return false;
+        }
+        if !timed_streams_agree(owners, w) || !timed_jobs_agree(owners, w) {
             return false;
         }
     }
@@ -191,15 +221,36 @@ fn first_two(mut left: owner_fold::WaitingStreams) -> (u32, u32) {
 #[test]
 fn streams_wait_until_they_are_released(rt: HostRuntime) -> Result<(), Fail> {
     let mut owners = Owners::new(rt.alloc());
-    for (feed, says) in &NIGHT[..3] {
+    for (feed, says) in &NIGHT[..4] {
         hear(&mut owners, rt.alloc(), feed, says)?;
     }
     assert!(rt; first_two(owners.streams_waiting(Ws(0))) == (1, 2));
     assert!(rt; first_two(owners.streams_waiting(Ws(1))) == (3, 4));
-    for (feed, says) in &NIGHT[3..6] {
+    for (feed, says) in &NIGHT[4..7] {
         hear(&mut owners, rt.alloc(), feed, says)?;
     }
     assert!(rt; first_two(owners.streams_waiting(Ws(0))) == (2, 0));
     assert!(rt; first_two(owners.streams_waiting(Ws(1))) == (4, 0));
+    Ok(())
+}
+
+/// How many own members and own members' jobs of w have a time.
+fn timed(owners: &Owners, w: Ws) -> (usize, usize) {
+    (owners.timed_streams(w).count(), owners.timed_jobs(w).count())
+}
+
+#[test]
+fn times_are_written_or_added(rt: HostRuntime) -> Result<(), Fail> {
+    let mut owners = Owners::new(rt.alloc());
+    for (feed, says) in &NIGHT[..22] {
+        hear(&mut owners, rt.alloc(), feed, says)?;
+    }
+    assert!(rt; timed(&owners, Ws(0)) == (1, 1));
+    assert!(rt; timed(&owners, Ws(1)) == (1, 2));
+    for (feed, says) in &NIGHT[22..] {
+        hear(&mut owners, rt.alloc(), feed, says)?;
+    }
+    assert!(rt; timed(&owners, Ws(0)) == (0, 0));
+    assert!(rt; timed(&owners, Ws(1)) == (0, 1));
     Ok(())
 }

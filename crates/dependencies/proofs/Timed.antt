@@ -84,22 +84,20 @@ timed_if V w o written f docs events timed h =
 pub stream_given : (V : View) (w : ℕ) (d : StreamDoc) → IsPlannedStream V d → (d.ws == w) ≡ true
     → (document_deps V (Stream d.no) ≡ d.deps) × (owner_events V (Stream d.no) ≡ V (Events w))
 unfolding document_deps owner_events
-stream_given V w d h e =
-    (
-      rw h.found refl,
-      ap (λ (o : Option ℕ). option_map_or (λ v. V (Events v)) o []) h.owned
-          ∙ ap (λ (v : ℕ). V (Events v)) (eqb-true d.ws w e),
-    )
+stream_given V w d h e = (
+  rw h.found refl,
+  ap (λ (o : Option ℕ). option_map_or (λ v. V (Events v)) o []) h.owned
+      ∙ ap (λ (v : ℕ). V (Events v)) (eqb-true d.ws w e),
+)
 
 pub job_given : (V : View) (w : ℕ) (p : StreamJob) → IsPlannedJob V p → (p.doc.ws == w) ≡ true
     → (document_deps V (Job p.doc.no) ≡ p.doc.deps) × (owner_events V (Job p.doc.no) ≡ V (Events w))
 unfolding document_deps owner_events
-job_given V w p h e =
-    (
-      rw h.found refl,
-      ap (λ (o : Option ℕ). option_map_or (λ v. V (Events v)) o []) h.owned
-          ∙ ap (λ (v : ℕ). V (Events v)) (eqb-true p.doc.ws w e),
-    )
+job_given V w p h e = (
+  rw h.found refl,
+  ap (λ (o : Option ℕ). option_map_or (λ v. V (Events v)) o []) h.owned
+      ∙ ap (λ (v : ℕ). V (Events v)) (eqb-true p.doc.ws w e),
+)
 
 first_any : {X Y : Type 0} (f : X → Bool) (g : X → Y) (xs : List X)
     → is_some (option_map g (slice_get (filter f xs) 0)) ≡ true → list_any f xs ≡ true

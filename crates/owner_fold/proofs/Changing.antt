@@ -27,7 +27,7 @@ use Rattle.owner_fold.specs.Plans.{is_planning, is_planning_body}
 use Rattle.owner_fold.specs.Sets.{AreSetsAmong, Begins, Prepared, began_by, change_by, change_in, is_begun, is_waiting}
 use Rattle.owner_fold.specs.Sets.{job_station_of, job_stream_of, opened_by, station_of, waits_by}
 use Rattle.owner_fold.specs.declared.changes.Change.{Change}
-use Rattle.owner_fold.specs.declared.changes.Change.TheVariants.{JobChange, JobTime, NoChange, StreamChange, StreamTime}
+use Rattle.owner_fold.specs.declared.changes.Change.TheVariants.{JobChange, JobTime, StreamChange, StreamTime}
 use Rattle.owner_fold.specs.declared.numbers.Index.{Index}
 use Rattle.owner_fold.specs.declared.sets.Sets.{Sets}
 use Rattle.owner_fold.proofs.Covering.{covers_more, covers_still, first_place}

@@ -4,7 +4,7 @@ use Rattle.std.proofs.Common.{filter_map, flat_map, inl, inr, option_and_then, r
 use Rattle.std.proofs.lemmas.Bool.Decides.{eqb_tells}
 use Rattle.grouped_places.specs.Codes.{RisesFrom, code, is_in_group}
 use Rattle.grouped_places.proofs.Finding.{group_finds}
-use Rattle.model.specs.Types.{Entry, Events, StreamDoc}
+use Rattle.model.specs.Types.{Body, Entry, Events, Job, Stream, StreamDoc}
 use Rattle.model.specs.Words.{has}
 use Rattle.model.specs.History.{list_of, view_of}
 use Rattle.model.specs.Catalogue.{StreamJob, catalogue, docs_in, is_member, jobs, jobs_in, jobs_of, jobs_of_stream, members}

@@ -1,11 +1,11 @@
 -- Who has a time, one entry further, and the entry that gives one.
-use Rattle.std.proofs.Common.{[], ℕ, ◌+◌, ◌++◌, ◌<◌, ◌≤◌, ◌∙◌, ◌∷◌, ◌≡◌, ◌⊎◌, Bool, List, None, Option, Some, ap, arith}
+use Rattle.std.proofs.Common.{[], ℕ, ◌+◌, ◌++◌, ◌<◌, ◌≤◌, ◌∙◌, ◌∷◌, ◌≡◌, ◌⊎◌, Bool, List, ap, arith}
 use Rattle.std.proofs.Common.{cond, drop, eqb, false, inl, inr, length, refl, slice_get, suc, sym, true, zero}
 use Rattle.std.proofs.lemmas.Bool.Decides.{eqb_tells}
 use Rattle.std.specs.List.{list_any}
 use Rattle.std.specs.Option.{option_map_or}
 use Rattle.std.specs.Prelude.{◌&&◌, ◌||◌}
-use Rattle.model.specs.Types.{AddDep, Added, Body, Cmd, Dep, Job, NewPlan, Obeyed, Obj, Stream}
+use Rattle.model.specs.Types.{AddDep, Added, Body, Dep, Job, NewPlan, Obeyed, Obj, Stream}
 use Rattle.model.specs.Equalities.{obj_eq}
 use Rattle.model.specs.Facts.{commands, obeyed_command}
 use Rattle.owner_rows.proofs.Further.{any_command_with}
@@ -78,7 +78,10 @@ pub any_from : {X : Type 0} (f : X → Bool) (xs : List X) (i : ℕ) → i < len
     → list_any f (drop i xs) ≡ (option_map_or f (slice_get xs i) false || list_any f (drop (i + 1) xs))
 any_from f [] i h = absurd (omega (arith, h))
 any_from f (x ∷ xs) zero h = refl
-any_from f (x ∷ xs) (suc i) h = any_from f xs i (omega (arith, h))
+any_from f (x ∷ xs) (suc i) h =
+    let next : suc i + 1 ≡ suc (i + 1) = omega arith in
+    any_from f xs i (omega (arith, h))
+    ∙ ap (λ (n : ℕ). option_map_or f (slice_get xs i) false || list_any f (drop n (x ∷ xs))) (sym next)
 
 pub any_behind : {X : Type 0} (f : X → Bool) (xs : List X) (i : ℕ) → length xs ≤ i → list_any f (drop i xs) ≡ false
 any_behind f [] zero h = refl

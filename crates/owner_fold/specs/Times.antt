@@ -1,14 +1,9 @@
 -- Which objects have a time: an AT, an UNTIL or a DEADLINE.
-use Rattle.std.specs.List.{list_any}
-use Rattle.std.specs.Prelude.{if◌then◌else◌, ℕ, ◌&&◌, ◌==◌, ◌||◌, Bool, List, false, filter, filter_map, is_some}
-use Rattle.model.specs.Types.{AddDep, Body, Cmd, Dep, Entry, Events, Job, Obj, Stream, StreamDoc}
-use Rattle.model.specs.Words.{has}
-use Rattle.model.specs.Equalities.{obj_eq}
-use Rattle.model.specs.History.{View, list_of, view_of}
+use Rattle.std.specs.Prelude.{ℕ, ◌&&◌, ◌==◌, Bool, List, filter, filter_map}
+use Rattle.model.specs.Types.{Events, Job, Stream, StreamDoc}
+use Rattle.model.specs.History.{View, view_of}
 use Rattle.model.specs.Catalogue.{StreamJob, is_member}
-use Rattle.model.specs.Facts.{commands}
 use Rattle.model.specs.OwnMembers.{own_jobs, own_streams}
-use Rattle.model.specs.Turn.{dep_time}
 use Rattle.owner_fold.specs.Sets.{job_coded, stream_coded}
 use Rattle.owner_fold.specs.declared.timed.TimedJobs.{TimedJobs}
 use Rattle.owner_fold.specs.declared.timed.TimedStreams.{TimedStreams}

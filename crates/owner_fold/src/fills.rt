@@ -155,12 +155,7 @@ fn is_timed_member(kept: &Kept, members: &Numbers, doc: &StreamDoc) -> bool
 }
 
 /// The job is one of a member, and has a time.
-fn is_timed_members_job(
-    kept: &Kept,
-    members: &Numbers,
-    parent: &StreamDoc,
-    doc: &JobDoc,
-) -> bool
+fn is_timed_members_job(kept: &Kept, members: &Numbers, parent: &StreamDoc, doc: &JobDoc) -> bool
     ensures { (ms : List ℕ) → ArePlaces ms members.now
         → result ≡ timed_job_by ms kept.now (stream_job parent.now doc.now) }
 {

@@ -87,7 +87,9 @@ impl Owners {
     {
         if is_planning(&e) {
             let plan = self.plan.with(self.kept.entries(), &e)?;
-            let sets = self.sets.anew(&self.kept, &e, &plan.spots, &plan.index.members)?;
+            let sets = self
+                .sets
+                .anew(&self.kept, &e, &plan.spots, &plan.index.members)?;
             self.kept.take_own(e)?;
             self.plan = plan;
             self.sets = sets;

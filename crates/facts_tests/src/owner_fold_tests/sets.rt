@@ -9,12 +9,25 @@ use test_nights::{M, Row, hear};
 const P: FeedRow = FeedRow::Events(1);
 
 const PAIR: [JobRow; 2] = [
-    (11, 1, "J", 10, &[Waits::Units(1, 1), Waits::Until(70, OnUntil::Suppr)]),
+    (
+        11,
+        1,
+        "J",
+        10,
+        &[Waits::Units(1, 1), Waits::Until(70, OnUntil::Suppr)],
+    ),
     (12, 0, "K", 10, &[Waits::Deadline(9)]),
 ];
 
 const FIRST_PLAN: [StreamRow; 4] = [
-    (1, 0, "A", false, &[], &[(1, 0, "J", 10, &[]), (2, 1, "K", 10, &[])]),
+    (
+        1,
+        0,
+        "A",
+        false,
+        &[],
+        &[(1, 0, "J", 10, &[]), (2, 1, "K", 10, &[])],
+    ),
     (2, 0, "B", true, &[Waits::At(50)], &[(3, 0, "J", 10, &[])]),
     (3, 1, "C", false, &[], &PAIR),
     (4, 1, "D", false, &[], &[(4, 1, "J", 10, &[])]),
@@ -31,7 +44,10 @@ const SECOND_PLAN: [StreamRow; 2] = [
 /// Streams are released, ended, cancelled and passed by an UNTIL; jobs are launched, end, fail and are lost. Some are
 /// told by another than their owner, and some before their plan or twice.
 const NIGHT: [Row; 34] = [
-    (P, Says::Obeyed(0, 1, Asks::AddDep(Obj::Job(JobNo(9)), Waits::At(5)))),
+    (
+        P,
+        Says::Obeyed(0, 1, Asks::AddDep(Obj::Job(JobNo(9)), Waits::At(5))),
+    ),
     (P, Says::Released(9, &[])),
     (P, Says::Launched(9, 1, &[])),
     (M, Says::NewPlan(1, &[], &[], &FIRST_PLAN)),
@@ -50,15 +66,40 @@ const NIGHT: [Row; 34] = [
     (P, Says::Lost(11, 1)),
     (P, Says::Launched(11, 2, &[])),
     (P, Says::EndedAs(11, 2, 4, false)),
-    (P, Says::Obeyed(0, 2, Asks::AddDep(Obj::Stream(StreamNo(4)), Waits::Deadline(8)))),
-    (P, Says::Obeyed(0, 3, Asks::AddDep(Obj::Job(JobNo(4)), Waits::Units(1, 8)))),
-    (M, Says::Obeyed(0, 1, Asks::AddDep(Obj::Job(JobNo(4)), Waits::At(8)))),
+    (
+        P,
+        Says::Obeyed(
+            0,
+            2,
+            Asks::AddDep(Obj::Stream(StreamNo(4)), Waits::Deadline(8)),
+        ),
+    ),
+    (
+        P,
+        Says::Obeyed(0, 3, Asks::AddDep(Obj::Job(JobNo(4)), Waits::Units(1, 8))),
+    ),
+    (
+        M,
+        Says::Obeyed(0, 1, Asks::AddDep(Obj::Job(JobNo(4)), Waits::At(8))),
+    ),
     (M, Says::StreamEnded(1, &[])),
     (M, Says::Released(1, &[])),
-    (P, Says::Obeyed(0, 4, Asks::Cancel(Obj::Stream(StreamNo(4))))),
-    (P, Says::Obeyed(0, 5, Asks::Cancel(Obj::Stream(StreamNo(3))))),
-    (M, Says::UntilPassed(Obj::Stream(StreamNo(2)), 1, OnUntil::Cont)),
-    (M, Says::UntilPassed(Obj::Stream(StreamNo(2)), 1, OnUntil::Canc)),
+    (
+        P,
+        Says::Obeyed(0, 4, Asks::Cancel(Obj::Stream(StreamNo(4)))),
+    ),
+    (
+        P,
+        Says::Obeyed(0, 5, Asks::Cancel(Obj::Stream(StreamNo(3)))),
+    ),
+    (
+        M,
+        Says::UntilPassed(Obj::Stream(StreamNo(2)), 1, OnUntil::Cont),
+    ),
+    (
+        M,
+        Says::UntilPassed(Obj::Stream(StreamNo(2)), 1, OnUntil::Canc),
+    ),
     (P, Says::Launched(9, 2, &[])),
     (P, Says::StreamEnded(9, &[])),
     (P, Says::Ended(9, 2, 0)),
@@ -236,7 +277,10 @@ fn streams_wait_until_they_are_released(rt: HostRuntime) -> Result<(), Fail> {
 
 /// How many own members and own members' jobs of w have a time.
 fn timed(owners: &Owners, w: Ws) -> (usize, usize) {
-    (owners.timed_streams(w).count(), owners.timed_jobs(w).count())
+    (
+        owners.timed_streams(w).count(),
+        owners.timed_jobs(w).count(),
+    )
 }
 
 #[test]

@@ -4,7 +4,7 @@ use Rattle.model.specs.Words.{insert_once}
 use Rattle.owner_fold.specs.Given.{timed_job_by}
 use Rattle.owner_fold.specs.Sets.{job_station_of}
 use Rattle.owner_fold.specs.Spots.{job_at, stream_job}
-use Rattle.owner_fold.proofs.Covering.{further_added, further_none, further_not}
+use Rattle.owner_fold.proofs.Covering.{further_added, further_not}
 use Rattle.owner_fold.proofs.fills.put_timed_job.Goals as goal
 
 pub returns-in_ok-add-in-Some : goal.returns-in_ok-add-in-Some

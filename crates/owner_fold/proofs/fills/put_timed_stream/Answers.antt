@@ -4,7 +4,7 @@ use Rattle.model.specs.Words.{insert_once}
 use Rattle.owner_fold.specs.Given.{timed_stream_by}
 use Rattle.owner_fold.specs.Sets.{station_of}
 use Rattle.owner_fold.specs.Spots.{doc_at}
-use Rattle.owner_fold.proofs.Covering.{further_added, further_none, further_not}
+use Rattle.owner_fold.proofs.Covering.{further_added, further_not}
 use Rattle.owner_fold.proofs.fills.put_timed_stream.Goals as goal
 
 pub returns-in_ok-add-in-Some : goal.returns-in_ok-add-in-Some

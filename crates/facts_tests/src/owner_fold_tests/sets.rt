@@ -175,31 +175,34 @@ fn sets_are_what_walks_find(rt: HostRuntime) -> Result<(), Fail> {
     Ok(())
 }
 
-/// The numbers of what an iterator gives first and then.
-fn first_two(mut left: owner_fold::WaitingStreams) -> (u32, u32) {
-    let first = match left.next() {
-        None => 0,
-        Some(doc) => doc.no.0,
-    };
-    let second = match left.next() {
-        None => 0,
-        Some(doc) => doc.no.0,
-    };
-    (first, second)
+/// The streams that wait at a workstation are these, in this order.
+fn waiting_are(owners: &Owners, w: Ws, numbers: &[u32]) -> bool {
+    let mut left = owners.streams_waiting(w);
+    for number in numbers {
+        match left.next() {
+            Some(doc) if doc.no.0 == *number => {}
+            _ => return false,
+        }
+    }
+    left.next().is_none()
+}
+
+/// What waits once so many entries of the night were heard.
+fn wait_as_told(owners: &Owners, heard: usize) -> bool {
+    match heard {
+        3 => waiting_are(owners, Ws(0), &[1, 2]) && waiting_are(owners, Ws(1), &[3, 4]),
+        6 => waiting_are(owners, Ws(0), &[2]) && waiting_are(owners, Ws(1), &[4]),
+        _ => true,
+    }
 }
 
 #[test]
 fn streams_wait_until_they_are_released(rt: HostRuntime) -> Result<(), Fail> {
     let mut owners = Owners::new(rt.alloc());
-    for (feed, says) in &NIGHT[..3] {
+    for (before, row) in NIGHT.iter().enumerate() {
+        let (feed, says) = row;
         hear(&mut owners, rt.alloc(), feed, says)?;
+        assert!(rt; wait_as_told(&owners, before + 1));
     }
-    assert!(rt; first_two(owners.streams_waiting(Ws(0))) == (1, 2));
-    assert!(rt; first_two(owners.streams_waiting(Ws(1))) == (3, 4));
-    for (feed, says) in &NIGHT[3..6] {
-        hear(&mut owners, rt.alloc(), feed, says)?;
-    }
-    assert!(rt; first_two(owners.streams_waiting(Ws(0))) == (2, 0));
-    assert!(rt; first_two(owners.streams_waiting(Ws(1))) == (4, 0));
     Ok(())
 }

@@ -9,3 +9,5 @@ mod record_faults_tests;
 mod record_rows_tests;
 #[cfg(test)]
 mod record_script_tests;
+#[cfg(test)]
+mod texts;

@@ -1,6 +1,6 @@
 //! Tests of the runs of whole records, at reports and summaries worked out by hand.
 //!
-//! Each module holds the tests of the crate that it is named after.
+//! Each module holds the tests of the crate that it is named after. Records stand as texts; `records` runs them.
 #![tactic(auto)]
 
 #[cfg(test)]

@@ -1,19 +1,34 @@
 //! Records beside the line and the kind of their first fault. A `|` stands for a line feed.
+use crate::texts::lined;
 use record_faults::{Named, ScriptKind, first_fault, place_rows};
-use record_rows::read_rows;
-use std::alloc::Global;
+use record_rows::{Row, read_rows};
+use std::alloc::{AllocError, Global};
 use std::test::Fail;
+
+fn fault_of_rows(alloc: Global, rows: &[Row]) -> Result<Option<(usize, ScriptKind)>, Fail> {
+    let named = Named::of_rows(alloc, rows)?;
+    Ok(first_fault(alloc, &named, rows)?)
+}
+
+/// The first fault of the lines.
+fn fault_of_lines(alloc: Global, lines: &str) -> Result<Option<(usize, ScriptKind)>, Fail> {
+    let mut rows = read_rows(alloc, lines)?;
+    place_rows(&mut rows);
+    fault_of_rows(alloc, rows.as_slice())
+}
 
 /// The first fault of the record.
 fn fault_of(alloc: Global, text: &str) -> Result<Option<(usize, ScriptKind)>, Fail> {
-    let mut lines = String::new(alloc);
-    for c in text.chars() {
-        lines.push(if c == '|' { '\n' } else { c })?;
+    let lines = lined(alloc, text)?;
+    fault_of_lines(alloc, &lines)
+}
+
+/// Whether the first fault of the record is this; 0 stands for none.
+fn is_fault(alloc: Global, text: &str, line: usize, kind: ScriptKind) -> Result<bool, Fail> {
+    match fault_of(alloc, text)? {
+        Some((at, why)) => Ok(at == line && why == kind),
+        None => Ok(line == 0),
     }
-    let mut rows = read_rows(alloc, &lines)?;
-    place_rows(&mut rows);
-    let named = Named::of_rows(alloc, rows.as_slice())?;
-    Ok(first_fault(alloc, &named, rows.as_slice())?)
 }
 
 /// The first of the records whose first fault is not the one beside it; 0 stands for none.
@@ -22,11 +37,7 @@ pub fn first_other<'a>(
     table: &[(&'a str, usize, ScriptKind)],
 ) -> Result<Option<&'a str>, Fail> {
     for (text, line, kind) in table {
-        let is = match fault_of(alloc, text)? {
-            Some((at, why)) => at == *line && why == *kind,
-            None => *line == 0,
-        };
-        if !is {
+        if !is_fault(alloc, *text, *line, *kind)? {
             return Ok(Some(*text));
         }
     }
@@ -242,31 +253,75 @@ fn ranges_trees_and_plans(rt: HostRuntime) -> Result<(), Fail> {
     Ok(())
 }
 
+/// Appends a line, with a name and its master behind it where it is numbered.
+fn add_line(text: &mut String, line: &str, numbered: bool, n: u32) -> Result<(), AllocError> {
+    if numbered {
+        write!(text, "|{line}{n} M")
+    } else {
+        write!(text, "|{line}")
+    }
+}
+
 /// A record with so many lines of one form behind the first ones. Each has its number behind it where it is a name.
-fn many(alloc: Global, head: &str, line: &str, numbered: bool, count: u32) -> Result<String, Fail> {
+fn many(
+    alloc: Global,
+    head: &str,
+    line: &str,
+    numbered: bool,
+    count: u32,
+) -> Result<String, AllocError> {
     let mut text = String::from_str(alloc, head)?;
     for n in 0..count {
-        text.push('|')?;
-        text.push_str(line)?;
-        if numbered {
-            let name = format!(in alloc; "{n} M")?;
-            text.push_str(&name)?;
-        }
+        add_line(&mut text, line, numbered, n)?;
     }
     text.push_str("|$STEPS")?;
     Ok(text)
 }
 
+/// What stands before the lines, the line, whether each has its number behind it, how many there are, and the first fault.
+type Many<'a> = (&'a str, &'a str, bool, u32, usize, ScriptKind);
+
+const COUNTS: [Many; 4] = [
+    (
+        "$NETWORK|ws M",
+        "ws A",
+        true,
+        256,
+        258,
+        ScriptKind::OutOfRange,
+    ),
+    ("$NETWORK|ws M", "ws A", true, 255, 0, ScriptKind::BadLine),
+    (
+        "$NETWORK|ws M|$PLAN|stream M S",
+        "at 1",
+        false,
+        65,
+        69,
+        ScriptKind::OutOfRange,
+    ),
+    (
+        "$NETWORK|ws M|$PLAN|stream M S",
+        "at 1",
+        false,
+        64,
+        0,
+        ScriptKind::BadLine,
+    ),
+];
+
+/// The count of lines of which the first fault is not the one beside it.
+fn first_other_count(alloc: Global, table: &[Many]) -> Result<Option<u32>, Fail> {
+    for (head, line, numbered, count, at, kind) in table {
+        let text = many(alloc, *head, *line, *numbered, *count)?;
+        if !is_fault(alloc, &text, *at, *kind)? {
+            return Ok(Some(*count));
+        }
+    }
+    Ok(None)
+}
+
 #[test]
 fn counts(rt: HostRuntime) -> Result<(), Fail> {
-    let alloc = rt.alloc();
-    let network = many(alloc, "$NETWORK|ws M", "ws A", true, 256)?;
-    assert!(rt; first_other(alloc, &[(network.as_str(), 258, ScriptKind::OutOfRange)])? == None);
-    let fewer = many(alloc, "$NETWORK|ws M", "ws A", true, 255)?;
-    assert!(rt; first_other(alloc, &[(fewer.as_str(), 0, ScriptKind::BadLine)])? == None);
-    let deps = many(alloc, "$NETWORK|ws M|$PLAN|stream M S", "at 1", false, 65)?;
-    assert!(rt; first_other(alloc, &[(deps.as_str(), 69, ScriptKind::OutOfRange)])? == None);
-    let less = many(alloc, "$NETWORK|ws M|$PLAN|stream M S", "at 1", false, 64)?;
-    assert!(rt; first_other(alloc, &[(less.as_str(), 0, ScriptKind::BadLine)])? == None);
+    assert_eq!(rt; first_other_count(rt.alloc(), &COUNTS)?, None);
     Ok(())
 }

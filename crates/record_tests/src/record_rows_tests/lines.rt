@@ -206,16 +206,23 @@ fn first_unlike<'a>(alloc: Global, table: &[(&'a str, &str)]) -> Result<Option<&
     Ok(None)
 }
 
+/// The first such line of several tables.
+fn first_unlike_of<'a>(
+    alloc: Global,
+    tables: &[&[(&'a str, &str)]],
+) -> Result<Option<&'a str>, Fail> {
+    for table in tables {
+        if let Some(line) = first_unlike(alloc, *table)? {
+            return Ok(Some(line));
+        }
+    }
+    Ok(None)
+}
+
 #[test]
 fn ranges(rt: HostRuntime) -> Result<(), Fail> {
-    let network = first_unlike(rt.alloc(), &NETWORK)?;
-    assert!(rt; network == None, "at {network:?}");
-    let objects = first_unlike(rt.alloc(), &OBJECTS)?;
-    assert!(rt; objects == None, "at {objects:?}");
-    let dependencies = first_unlike(rt.alloc(), &DEPENDENCIES)?;
-    assert!(rt; dependencies == None, "at {dependencies:?}");
-    let steps = first_unlike(rt.alloc(), &STEPS)?;
-    assert!(rt; steps == None, "at {steps:?}");
+    let tables: [&[(&str, &str)]; 4] = [&NETWORK, &OBJECTS, &DEPENDENCIES, &STEPS];
+    assert_eq!(rt; first_unlike_of(rt.alloc(), &tables)?, None);
     Ok(())
 }
 

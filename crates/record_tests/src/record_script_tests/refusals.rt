@@ -1,16 +1,8 @@
 //! Records beside the line and the kind with which they are refused. A `|` stands for a line feed.
+use crate::texts::lined;
 use record_script::{ScriptFault, ScriptKind, read_script};
 use std::alloc::Global;
 use std::test::Fail;
-
-/// The text with its line feeds.
-pub fn lined(alloc: Global, text: &str) -> Result<String, Fail> {
-    let mut lines = String::new(alloc);
-    for c in text.chars() {
-        lines.push(if c == '|' { '\n' } else { c })?;
-    }
-    Ok(lines)
-}
 
 /// With which line and kind the record is refused; None where it is read.
 fn refusal(alloc: Global, text: &str) -> Result<Option<(u32, ScriptKind)>, Fail> {

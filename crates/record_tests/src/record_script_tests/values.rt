@@ -1,5 +1,5 @@
 //! A whole record beside what is read of it.
-use super::refusals::lined;
+use crate::texts::lined;
 use base_types::{
     Carry, Dep, DraftDep, JobDraft, JobNo, Obj, OnUntil, PromptRef, Recovery, StreamDraft, Work, Ws,
 };

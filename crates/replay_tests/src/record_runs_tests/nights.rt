@@ -1,17 +1,10 @@
 //! Worked nights.
-use crate::records::{
-    AGENTS, ALONE, DOMAIN, Does, FIRST_DAY, JOBS_BY_RANK, Night, ONE_AGENT, ONE_STREAM, SECOND_DAY,
-    Step, TWO_STREAMS, WITH_RECOVERY, reports,
-};
-use base_types::Recovery;
+use crate::records::{Night, Telling, first_other};
 use std::test::Fail;
 
-const NEXT: Step = Step::One(Does::Next);
-
-const TURN: Step = Step::One(Does::Turn(0, 100));
-
 /// One job is launched and ends well.
-const SMALLEST: [Step; 5] = [NEXT, TURN, TURN, Step::One(Does::Ended(0, 1, 0)), TURN];
+const SMALLEST: &str =
+    "$NETWORK|ws M|$PLAN|stream M S|job M A|do \"echo a\"|$STEPS|next|turn M 100|turn M 100|ended M 1 0|turn M 100|";
 
 const SMALLEST_REPORT: &str = "events 5
 M 1 newplan 1 cut - carried - fresh 1
@@ -29,37 +22,11 @@ stream 1 M#S SUCC
 job 1 M#S.A SUCC 1
 ";
 
-#[test]
-fn a_job_runs_and_ends(rt: HostRuntime) -> Result<(), Fail> {
-    let night = Night {
-        nodes: &ALONE,
-        plans: &[&ONE_STREAM],
-        recovery: Recovery::Stop,
-        priority: 10,
-        steps: &[&SMALLEST],
-    };
-    assert!(rt; reports(rt.alloc(), &night, SMALLEST_REPORT)?);
-    Ok(())
-}
-
 /// A job of P follows one of Q, whose end is known to the manager alone.
-const KNOWN_ABOVE: [Step; 15] = [
-    NEXT,
-    Step::One(Does::Link(0, 1)),
-    Step::One(Does::Link(1, 0)),
-    Step::One(Does::Link(0, 2)),
-    Step::One(Does::Link(2, 0)),
-    TURN,
-    Step::One(Does::Deliver(0, 1, 1)),
-    Step::One(Does::Deliver(0, 2, 1)),
-    Step::One(Does::Turn(2, 100)),
-    Step::One(Does::Turn(2, 100)),
-    Step::One(Does::Ended(2, 1, 0)),
-    Step::One(Does::Turn(2, 100)),
-    Step::One(Does::Turn(1, 100)),
-    Step::Flow(2, 0),
-    Step::One(Does::Turn(1, 100)),
-];
+const KNOWN_ABOVE: &str =
+    "$NETWORK|ws M|ws P M|ws Q M|$PLAN|stream Q SB|job Q B|stream P SA|job P A|follows Q#SB.B|\
+$STEPS|next|link M P|link P M|link M Q|link Q M|turn M 100|deliver M P 1|deliver M Q 1|turn Q 100|turn Q 100|\
+ended Q 1 0|turn Q 100|turn P 100|flow Q M|turn P 100|";
 
 const KNOWN_ABOVE_REPORT: &str = "events 6
 M 1 newplan 1 cut - carried - fresh 1,2
@@ -106,39 +73,11 @@ stream 2 P#SA READY
 job 2 P#SA.A HOLD 0
 ";
 
-#[test]
-fn what_the_manager_alone_knows_starts_nothing(rt: HostRuntime) -> Result<(), Fail> {
-    let night = Night {
-        nodes: &AGENTS,
-        plans: &[&TWO_STREAMS],
-        recovery: Recovery::Stop,
-        priority: 10,
-        steps: &[&KNOWN_ABOVE],
-    };
-    assert!(rt; reports(rt.alloc(), &night, KNOWN_ABOVE_REPORT)?);
-    Ok(())
-}
-
 /// A job is cancelled by a line that is typed two hops away and whose order comes twice.
-const OVER_TWO_HOPS: [Step; 17] = [
-    NEXT,
-    Step::One(Does::Link(0, 1)),
-    Step::One(Does::Link(1, 0)),
-    Step::One(Does::Link(1, 2)),
-    Step::One(Does::Link(2, 1)),
-    TURN,
-    Step::Flow(0, 1),
-    Step::One(Does::Turn(1, 100)),
-    Step::Flow(1, 2),
-    Step::One(Does::Type(2, "cancel job M#S.A")),
-    Step::One(Does::Turn(2, 100)),
-    Step::Flow(2, 1),
-    Step::One(Does::Turn(1, 100)),
-    Step::One(Does::Deliver(1, 0, 3)),
-    Step::One(Does::Deliver(1, 0, 3)),
-    TURN,
-    TURN,
-];
+const OVER_TWO_HOPS: &str =
+    "$NETWORK|ws M|ws D M manager|ws L D|$PLAN|stream M S|job M A|do \"echo a\"|\
+$STEPS|next|link M D|link D M|link D L|link L D|turn M 100|flow M D|turn D 100|flow D L|type L cancel job M#S.A|\
+turn L 100|flow L D|turn D 100|deliver D M 3|deliver D M 3|turn M 100|turn M 100|";
 
 const OVER_TWO_HOPS_REPORT: &str = "events 5
 M 1 newplan 1 cut - carried - fresh 1
@@ -174,42 +113,11 @@ stream 1 M#S EXEC
 job 1 M#S.A READY 0
 ";
 
-#[test]
-fn a_line_is_typed_two_hops_away(rt: HostRuntime) -> Result<(), Fail> {
-    let night = Night {
-        nodes: &DOMAIN,
-        plans: &[&ONE_STREAM],
-        recovery: Recovery::Stop,
-        priority: 10,
-        steps: &[&OVER_TWO_HOPS],
-    };
-    assert!(rt; reports(rt.alloc(), &night, OVER_TWO_HOPS_REPORT)?);
-    Ok(())
-}
-
 /// A day ends while P is not linked.
-const END_OF_DAY: [Step; 20] = [
-    NEXT,
-    Step::One(Does::Link(0, 1)),
-    Step::One(Does::Link(1, 0)),
-    Step::One(Does::Turn(0, 1)),
-    Step::Flow(0, 1),
-    Step::One(Does::Turn(1, 1)),
-    Step::One(Does::Turn(1, 1)),
-    Step::One(Does::Unlink(0, 1)),
-    Step::One(Does::Unlink(1, 0)),
-    Step::One(Does::Turn(0, 1)),
-    Step::One(Does::Turn(0, 1)),
-    Step::One(Does::Ended(0, 2, 0)),
-    Step::One(Does::Turn(0, 1)),
-    NEXT,
-    Step::One(Does::Ended(1, 1, 0)),
-    Step::One(Does::Turn(1, 1)),
-    Step::One(Does::Link(0, 1)),
-    Step::One(Does::Link(1, 0)),
-    Step::One(Does::Turn(1, 1)),
-    Step::Flow(1, 0),
-];
+const END_OF_DAY: &str =
+    "$NETWORK|ws M|ws P M|$PLAN|stream P X carry|job P X1|stream M Y carry|job M Y1|stream M Z|job M Z1|\
+$PLAN|stream M N|job M N1|$STEPS|next|link M P|link P M|turn M 1|flow M P|turn P 1|turn P 1|unlink M P|unlink P M|\
+turn M 1|turn M 1|ended M 2 0|turn M 1|next|ended P 1 0|turn P 1|link M P|link P M|turn P 1|flow P M|";
 
 const END_OF_DAY_REPORT: &str = "events 11
 M 1 newplan 1 cut - carried - fresh 1,2,3
@@ -252,30 +160,10 @@ stream 3 M#Z READY
 job 3 M#Z.Z1 HOLD 0
 ";
 
-#[test]
-fn each_day_takes_its_own_plan(rt: HostRuntime) -> Result<(), Fail> {
-    let night = Night {
-        nodes: &ONE_AGENT,
-        plans: &[&FIRST_DAY, &SECOND_DAY],
-        recovery: Recovery::Stop,
-        priority: 10,
-        steps: &[&END_OF_DAY],
-    };
-    assert!(rt; reports(rt.alloc(), &night, END_OF_DAY_REPORT)?);
-    Ok(())
-}
-
 /// A workstation stops in a launch that is kept, finds it lost, and reruns the job.
-const LAUNCH_KEPT: [Step; 8] = [
-    NEXT,
-    TURN,
-    Step::CrashIn(0, true, Does::Turn(0, 100)),
-    TURN,
-    Step::One(Does::Type(0, "rerun M#S.A")),
-    TURN,
-    TURN,
-    Step::One(Does::Ended(0, 1, 0)),
-];
+const LAUNCH_KEPT: &str =
+    "$NETWORK|ws M|$PLAN|stream M S|job M A|do \"echo a\"|$STEPS|next|turn M 100|crash M kept turn M 100|turn M 100|\
+type M rerun M#S.A|turn M 100|turn M 100|ended M 1 0|";
 
 const LAUNCH_KEPT_REPORT: &str = "events 8
 M 1 newplan 1 cut - carried - fresh 1
@@ -297,26 +185,9 @@ stream 1 M#S EXEC
 job 1 M#S.A SUCC 2
 ";
 
-#[test]
-fn a_launch_that_was_kept_is_lost(rt: HostRuntime) -> Result<(), Fail> {
-    let night = Night {
-        nodes: &ALONE,
-        plans: &[&ONE_STREAM],
-        recovery: Recovery::Stop,
-        priority: 10,
-        steps: &[&LAUNCH_KEPT],
-    };
-    assert!(rt; reports(rt.alloc(), &night, LAUNCH_KEPT_REPORT)?);
-    Ok(())
-}
-
 /// A workstation stops in a launch that is not kept.
-const LAUNCH_LOST: [Step; 4] = [
-    NEXT,
-    TURN,
-    Step::CrashIn(0, false, Does::Turn(0, 100)),
-    TURN,
-];
+const LAUNCH_LOST: &str =
+    "$NETWORK|ws M|$PLAN|stream M S|job M A|do \"echo a\"|$STEPS|next|turn M 100|crash M lost turn M 100|turn M 100|";
 
 const LAUNCH_LOST_REPORT: &str = "events 3
 M 1 newplan 1 cut - carried - fresh 1
@@ -332,31 +203,10 @@ stream 1 M#S EXEC
 job 1 M#S.A INTRO 1
 ";
 
-#[test]
-fn a_launch_that_was_not_kept_is_made_again(rt: HostRuntime) -> Result<(), Fail> {
-    let night = Night {
-        nodes: &ALONE,
-        plans: &[&ONE_STREAM],
-        recovery: Recovery::Stop,
-        priority: 10,
-        steps: &[&LAUNCH_LOST],
-    };
-    assert!(rt; reports(rt.alloc(), &night, LAUNCH_LOST_REPORT)?);
-    Ok(())
-}
-
 /// A job that is to be rerun ends badly twice.
-const RERUN_ONCE: [Step; 9] = [
-    NEXT,
-    Step::One(Does::Turn(0, 1)),
-    Step::One(Does::Turn(0, 1)),
-    Step::One(Does::Ended(0, 1, 8)),
-    Step::Recover(0),
-    Step::One(Does::Turn(0, 1)),
-    Step::One(Does::Turn(0, 1)),
-    Step::One(Does::Ended(0, 1, 8)),
-    Step::Recover(0),
-];
+const RERUN_ONCE: &str =
+    "$NETWORK|ws M|$PLAN|stream M S|job M A|recovery rerun|job M B|follows A|$STEPS|next|turn M 1|turn M 1|ended M 1 8|\
+recover M|turn M 1|turn M 1|ended M 1 8|recover M|";
 
 const RERUN_ONCE_REPORT: &str = "events 8
 M 1 newplan 1 cut - carried - fresh 1
@@ -380,21 +230,9 @@ job 1 M#S.A ABEND 2
 job 2 M#S.B HOLD 0
 ";
 
-#[test]
-fn advice_is_typed_where_there_is_any(rt: HostRuntime) -> Result<(), Fail> {
-    let night = Night {
-        nodes: &ALONE,
-        plans: &[&WITH_RECOVERY],
-        recovery: Recovery::Rerun,
-        priority: 10,
-        steps: &[&RERUN_ONCE],
-    };
-    assert!(rt; reports(rt.alloc(), &night, RERUN_ONCE_REPORT)?);
-    Ok(())
-}
-
 /// A plan is lost with the stop of the master, and the next one is taken.
-const PLAN_LOST: [Step; 2] = [Step::CrashIn(0, false, Does::Next), NEXT];
+const PLAN_LOST: &str =
+    "$NETWORK|ws M|$PLAN|stream M S|job M A|$PLAN|stream M N|job M N1|$STEPS|crash M lost next|next|";
 
 const PLAN_LOST_REPORT: &str = "events 1
 M 1 newplan 1 cut - carried - fresh 1
@@ -407,21 +245,9 @@ stream 1 M#N READY
 job 1 M#N.N1 HOLD 0
 ";
 
-#[test]
-fn a_plan_that_is_lost_was_taken(rt: HostRuntime) -> Result<(), Fail> {
-    let night = Night {
-        nodes: &ALONE,
-        plans: &[&ONE_STREAM, &SECOND_DAY],
-        recovery: Recovery::Stop,
-        priority: 10,
-        steps: &[&PLAN_LOST],
-    };
-    assert!(rt; reports(rt.alloc(), &night, PLAN_LOST_REPORT)?);
-    Ok(())
-}
-
 /// Two jobs live, of which the second was launched first.
-const REAPED: [Step; 5] = [NEXT, TURN, TURN, TURN, Step::Reap(0, 4)];
+const REAPED: &str =
+    "$NETWORK|ws M|$PLAN|stream M S|job M A|job M B prio 50|$STEPS|next|turn M 100|turn M 100|turn M 100|reap M 4|";
 
 const REAPED_REPORT: &str = "events 6
 M 1 newplan 1 cut - carried - fresh 1
@@ -442,21 +268,8 @@ job 1 M#S.A ABEND 1
 job 2 M#S.B ABEND 1
 ";
 
-#[test]
-fn the_lowest_job_is_reaped_first(rt: HostRuntime) -> Result<(), Fail> {
-    let night = Night {
-        nodes: &ALONE,
-        plans: &[&JOBS_BY_RANK],
-        recovery: Recovery::Stop,
-        priority: 50,
-        steps: &[&REAPED],
-    };
-    assert!(rt; reports(rt.alloc(), &night, REAPED_REPORT)?);
-    Ok(())
-}
-
 /// A line whose list is empty is taken.
-const NOTHING: [Step; 3] = [Step::Flow(0, 1), Step::Reap(1, 0), Step::Recover(0)];
+const NOTHING: &str = "$NETWORK|ws M|ws P M|$STEPS|flow M P|reap P 0|recover M|";
 
 const NOTHING_REPORT: &str = "events 0
 starts 0
@@ -466,15 +279,41 @@ node P
 no plan
 ";
 
+const NIGHTS: [Night; 10] = [
+    ("a job runs and ends", SMALLEST, SMALLEST_REPORT),
+    (
+        "what the manager alone knows starts nothing",
+        KNOWN_ABOVE,
+        KNOWN_ABOVE_REPORT,
+    ),
+    (
+        "a line is typed two hops away",
+        OVER_TWO_HOPS,
+        OVER_TWO_HOPS_REPORT,
+    ),
+    ("each day takes its own plan", END_OF_DAY, END_OF_DAY_REPORT),
+    (
+        "a launch that was kept is lost",
+        LAUNCH_KEPT,
+        LAUNCH_KEPT_REPORT,
+    ),
+    (
+        "a launch that was not kept is made again",
+        LAUNCH_LOST,
+        LAUNCH_LOST_REPORT,
+    ),
+    (
+        "advice is typed where there is any",
+        RERUN_ONCE,
+        RERUN_ONCE_REPORT,
+    ),
+    ("a plan that is lost was taken", PLAN_LOST, PLAN_LOST_REPORT),
+    ("the lowest job is reaped first", REAPED, REAPED_REPORT),
+    ("a line may mean no step", NOTHING, NOTHING_REPORT),
+];
+
 #[test]
-fn a_line_may_mean_no_step(rt: HostRuntime) -> Result<(), Fail> {
-    let night = Night {
-        nodes: &ONE_AGENT,
-        plans: &[],
-        recovery: Recovery::Stop,
-        priority: 10,
-        steps: &[&NOTHING],
-    };
-    assert!(rt; reports(rt.alloc(), &night, NOTHING_REPORT)?);
+fn nights_reach_their_reports(rt: HostRuntime) -> Result<(), Fail> {
+    assert_eq!(rt; first_other(rt.alloc(), Telling::Report, &NIGHTS), None);
     Ok(())
 }

@@ -1,164 +1,89 @@
 //! Lines that cannot be taken.
-use crate::records::{ALONE, DOMAIN, Does, Night, ONE_AGENT, ONE_STREAM, Step, stops};
-use base_types::{JobNo, LimitName, Obj, Recovery};
+use crate::records::{Stopping, first_not_stopped, stops};
+use base_types::{LimitName, NoMemory};
 use record_runs::Stop;
+use std::alloc::Global;
 use std::test::Fail;
-use test_builders::{NodeRow, StreamDraftRow};
 
-const NEXT: Step = Step::One(Does::Next);
+const STOPPED: [Stopping; 8] = [
+    (
+        "a packet that was not sent",
+        "$NETWORK|ws M|$PLAN|stream M S|job M A|$PLAN|stream M S|job M A|\
+$STEPS|next|turn M 1|turn M 1|deliver M M 1|next|",
+        13,
+        Stop::NoPacket,
+    ),
+    (
+        "a packet that was not sent to a node that stops",
+        "$NETWORK|ws M|ws P M|$PLAN|stream M S|job M A|$STEPS|next|crash P kept deliver M P 1|",
+        9,
+        Stop::NoPacket,
+    ),
+    (
+        "the end of a job that does not live",
+        "$NETWORK|ws M|$PLAN|stream M S|job M A|$STEPS|next|turn M 100|ended M 1 0|",
+        9,
+        Stop::NoProcess,
+    ),
+    (
+        "a start that is told twice",
+        "$NETWORK|ws M|$PLAN|stream M S|job M A|$STEPS|next|turn M 100|turn M 100|started M 1|started M 1|",
+        11,
+        Stop::NoProcess,
+    ),
+    (
+        "a file that nobody waits for",
+        "$NETWORK|ws M|$PLAN|stream M S|job M A|$STEPS|next|fulfil M job 1 1|",
+        8,
+        Stop::NoDep,
+    ),
+    (
+        "a link of a workstation to itself",
+        "$NETWORK|ws M|ws P M|$STEPS|link M P|link P P|",
+        6,
+        Stop::NotNeighbour,
+    ),
+    (
+        "a name that the own node does not know",
+        "$NETWORK|ws M|ws P M|$PLAN|stream M S|job M A|$STEPS|next|type M rerun M#S.A|type P rerun M#S.A|",
+        10,
+        Stop::UnknownName,
+    ),
+    (
+        "a domain that has another manager now",
+        "$NETWORK|ws M|ws D M manager|ws L D|$STEPS|type M switchmgr D;L|turn M 100|type M switchmgr D;L|",
+        8,
+        Stop::UnknownName,
+    ),
+];
 
-const TURN: Step = Step::One(Does::Turn(0, 100));
+#[test]
+fn nights_stop_in_their_lines(rt: HostRuntime) -> Result<(), Fail> {
+    assert_eq!(rt; first_not_stopped(rt.alloc(), &STOPPED), None);
+    Ok(())
+}
 
-/// The plans of a record, of which it takes the first.
-type Days<'a> = [&'a [StreamDraftRow<'a>]; 2];
+/// A record whose plan has this many streams. It is taken in the last line, of which the number is greater by 6.
+fn of_streams(alloc: Global, count: u32) -> Result<String, NoMemory> {
+    let mut record = String::new(alloc);
+    record.push_str("$NETWORK|ws M|$PLAN|")?;
+    for i in 0..count {
+        write!(record, "stream M S{i}|")?;
+    }
+    record.push_str("$STEPS|crash M|next|")?;
+    Ok(record)
+}
 
-/// A record of these plans.
-fn night<'a>(
-    nodes: &'a [NodeRow<'a>],
-    plans: &'a Days<'a>,
-    steps: &'a [&'a [Step<'a>]],
-) -> Night<'a> {
-    Night {
-        nodes,
-        plans,
-        recovery: Recovery::Stop,
-        priority: 10,
-        steps,
+/// Whether the run of a record whose plan has one stream too many stops where it is taken.
+fn stops_at_many(alloc: Global) -> bool {
+    match of_streams(alloc, 4097) {
+        Ok(record) => stops(alloc, &record, 4103, Stop::Limit(LimitName::Plan, 4096)),
+        Err(_) => false,
     }
 }
 
 #[test]
-fn a_packet_that_was_not_sent(rt: HostRuntime) -> Result<(), Fail> {
-    let steps = [NEXT, TURN, TURN, Step::One(Does::Deliver(0, 0, 1)), NEXT];
-    let days: Days = [&ONE_STREAM, &ONE_STREAM];
-    let parts: [&[Step]; 1] = [&steps];
-    assert!(rt; stops(rt.alloc(), &night(&ALONE, &days, &parts), 4, Stop::NoPacket)?);
-    Ok(())
-}
-
-#[test]
-fn a_packet_that_was_not_sent_to_a_node_that_stops(rt: HostRuntime) -> Result<(), Fail> {
-    let steps = [NEXT, Step::CrashIn(1, true, Does::Deliver(0, 1, 1))];
-    let days: Days = [&ONE_STREAM, &ONE_STREAM];
-    let parts: [&[Step]; 1] = [&steps];
-    assert!(rt;
-        stops(
-            rt.alloc(),
-            &night(&ONE_AGENT, &days, &parts),
-            2,
-            Stop::NoPacket
-        )?
-    );
-    Ok(())
-}
-
-#[test]
-fn the_end_of_a_job_that_does_not_live(rt: HostRuntime) -> Result<(), Fail> {
-    let steps = [NEXT, TURN, Step::One(Does::Ended(0, 1, 0))];
-    let days: Days = [&ONE_STREAM, &ONE_STREAM];
-    let parts: [&[Step]; 1] = [&steps];
-    assert!(rt;
-        stops(
-            rt.alloc(),
-            &night(&ALONE, &days, &parts),
-            3,
-            Stop::NoProcess
-        )?
-    );
-    Ok(())
-}
-
-#[test]
-fn a_start_that_is_told_twice(rt: HostRuntime) -> Result<(), Fail> {
-    let started = Step::One(Does::Started(0, 1));
-    let steps = [NEXT, TURN, TURN, started, started];
-    let days: Days = [&ONE_STREAM, &ONE_STREAM];
-    let parts: [&[Step]; 1] = [&steps];
-    assert!(rt;
-        stops(
-            rt.alloc(),
-            &night(&ALONE, &days, &parts),
-            5,
-            Stop::NoProcess
-        )?
-    );
-    Ok(())
-}
-
-#[test]
-fn a_file_that_nobody_waits_for(rt: HostRuntime) -> Result<(), Fail> {
-    let steps = [NEXT, Step::One(Does::Fulfil(0, Obj::Job(JobNo(1)), 1))];
-    let days: Days = [&ONE_STREAM, &ONE_STREAM];
-    let parts: [&[Step]; 1] = [&steps];
-    assert!(rt; stops(rt.alloc(), &night(&ALONE, &days, &parts), 2, Stop::NoDep)?);
-    Ok(())
-}
-
-#[test]
-fn a_link_of_a_workstation_to_itself(rt: HostRuntime) -> Result<(), Fail> {
-    let steps = [Step::One(Does::Link(0, 1)), Step::One(Does::Link(1, 1))];
-    let days: Days = [&ONE_STREAM, &ONE_STREAM];
-    let parts: [&[Step]; 1] = [&steps];
-    assert!(rt;
-        stops(
-            rt.alloc(),
-            &night(&ONE_AGENT, &days, &parts),
-            2,
-            Stop::NotNeighbour
-        )?
-    );
-    Ok(())
-}
-
-#[test]
-fn a_name_that_the_own_node_does_not_know(rt: HostRuntime) -> Result<(), Fail> {
-    let steps = [
-        NEXT,
-        Step::One(Does::Type(0, "rerun M#S.A")),
-        Step::One(Does::Type(1, "rerun M#S.A")),
-    ];
-    let days: Days = [&ONE_STREAM, &ONE_STREAM];
-    let parts: [&[Step]; 1] = [&steps];
-    assert!(rt;
-        stops(
-            rt.alloc(),
-            &night(&ONE_AGENT, &days, &parts),
-            3,
-            Stop::UnknownName
-        )?
-    );
-    Ok(())
-}
-
-#[test]
-fn a_domain_that_has_another_manager_now(rt: HostRuntime) -> Result<(), Fail> {
-    let steps = [
-        Step::One(Does::Type(0, "switchmgr D;L")),
-        TURN,
-        Step::One(Does::Type(0, "switchmgr D;L")),
-    ];
-    let days: Days = [&ONE_STREAM, &ONE_STREAM];
-    let parts: [&[Step]; 1] = [&steps];
-    assert!(rt;
-        stops(
-            rt.alloc(),
-            &night(&DOMAIN, &days, &parts),
-            3,
-            Stop::UnknownName
-        )?
-    );
-    Ok(())
-}
-
-const NO_JOBS: StreamDraftRow = (0, "S", false, &[], &[]);
-
-#[test]
 fn a_plan_of_too_many_streams(rt: HostRuntime) -> Result<(), Fail> {
-    let streams: [StreamDraftRow; 4097] = [NO_JOBS; 4097];
-    let days: Days = [&streams, &ONE_STREAM];
-    let steps = [Step::Crash(0), NEXT];
-    let parts: [&[Step]; 1] = [&steps];
-    let told = Stop::Limit(LimitName::Plan, 4096);
-    assert!(rt; stops(rt.alloc(), &night(&ALONE, &days, &parts), 2, told)?);
+    assert!(rt; stops_at_many(rt.alloc()));
     Ok(())
 }

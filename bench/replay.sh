@@ -46,3 +46,8 @@ night 64 64 199000 > "$record"
 measure '64 jobs that follow 64 each, 199000 idle turns'
 { night 1 0 0; awk 'BEGIN { for (i = 0; i < 1000000; i++) print "# a comment" }'; } > "$record"
 measure 'a million comments'
+for sample in '40 7' '400 1' '2000 7'; do
+  # shellcheck disable=SC2086
+  "$program" sample $sample > "$record"
+  measure "sample $sample"
+done

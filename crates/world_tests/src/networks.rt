@@ -1,5 +1,9 @@
 //! Networks and plans of the nights, and a night that two modules tell of.
 use crate::rows::{Does, Here};
+use crate::worlds::after;
+use network_world::World;
+use std::alloc::Global;
+use std::test::Fail;
 use test_builders::{DraftWaits, JobDraftRow, NodeRow, StreamDraftRow};
 
 /// The master M alone.
@@ -66,7 +70,7 @@ const SECOND_DAY: [StreamDraftRow; 1] = [(0, "N", false, &[], &JOB_N)];
 pub(crate) const NEXT_DAY_2: Does = Does::At(0, Here::Next(&SECOND_DAY));
 
 /// A day ends while P is not linked.
-pub(crate) const END_OF_DAY: [Does; 20] = [
+const END_OF_DAY: [Does; 20] = [
     NEXT_DAY_1,
     Does::At(0, Here::Link(1)),
     Does::At(1, Here::Link(0)),
@@ -88,3 +92,8 @@ pub(crate) const END_OF_DAY: [Does; 20] = [
     Does::At(1, Here::Turn(1)),
     Does::Flow(1, 0),
 ];
+
+/// The world after the end of a day.
+pub(crate) fn end_of_day(alloc: Global) -> Result<World, Fail> {
+    after(alloc, &ONE_AGENT, &END_OF_DAY)
+}

@@ -155,17 +155,70 @@ pub(crate) fn report(alloc: Global, world: &World) -> Result<Bytes, Fail> {
     Ok(print_report(alloc, world.net().net(), &parts)?)
 }
 
+/// The world of these workstations after these steps.
+pub(crate) fn after(alloc: Global, nodes: &[NodeRow], rows: &[Does]) -> Result<World, Fail> {
+    let mut world = begun(alloc, nodes)?;
+    do_rows(&mut world, alloc, rows)?;
+    Ok(world)
+}
+
+/// Whether a world reports this text after these further steps.
+pub(crate) fn then_reports(
+    alloc: Global,
+    mut world: World,
+    rows: &[Does],
+    text: &str,
+) -> Result<bool, Fail> {
+    do_rows(&mut world, alloc, rows)?;
+    let printed = report(alloc, &world)?;
+    Ok(printed.as_slice() == text.as_bytes())
+}
+
 /// Whether these workstations report this text after these steps.
 pub(crate) fn reports(
     alloc: Global,
     nodes: &[NodeRow],
-    steps: &[&[Does]],
+    rows: &[Does],
     text: &str,
 ) -> Result<bool, Fail> {
-    let mut world = begun(alloc, nodes)?;
-    for rows in steps {
-        do_rows(&mut world, alloc, *rows)?;
+    then_reports(alloc, begun(alloc, nodes)?, rows, text)
+}
+
+/// A step, and why it is refused.
+pub(crate) type Refused<'a> = (Does<'a>, StepRefused);
+
+/// Whether a step is refused so.
+pub(crate) fn is_refused(
+    world: &mut World,
+    step: &WorldStep,
+    why: &StepRefused,
+) -> Result<bool, Fail> {
+    match answer(world, step)? {
+        Ok(()) => Ok(false),
+        Err(refused) => Ok(refused == *why),
     }
-    let printed = report(alloc, &world)?;
-    Ok(printed.as_slice() == text.as_bytes())
+}
+
+fn row_is_refused(world: &mut World, alloc: Global, row: &Refused) -> Result<bool, Fail> {
+    let step = step(alloc, &row.0)?;
+    is_refused(world, &step, &row.1)
+}
+
+/// The number, from 1, of the first row that is refused for another cause, or after which the report is another one.
+pub(crate) fn first_other(
+    alloc: Global,
+    mut world: World,
+    rows: &[Refused],
+) -> Result<Option<usize>, Fail> {
+    let before = report(alloc, &world)?;
+    for (i, row) in rows.iter().enumerate() {
+        if !row_is_refused(&mut world, alloc, row)? {
+            return Ok(Some(i + 1));
+        }
+        let after = report(alloc, &world)?;
+        if after.as_slice() != before.as_slice() {
+            return Ok(Some(i + 1));
+        }
+    }
+    Ok(None)
 }

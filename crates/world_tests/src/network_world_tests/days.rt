@@ -1,7 +1,6 @@
 //! The end of a day.
-use crate::networks::{END_OF_DAY, ONE_AGENT};
-use crate::rows::Does;
-use crate::worlds::reports;
+use crate::networks::end_of_day;
+use crate::worlds::then_reports;
 use std::test::Fail;
 
 const END_OF_DAY_REPORT: &str = "events 11
@@ -47,7 +46,6 @@ job 3 M#Z.Z1 HOLD 0
 
 #[test]
 fn marked_streams_are_carried_into_the_next_day(rt: HostRuntime) -> Result<(), Fail> {
-    let steps: [&[Does]; 1] = [&END_OF_DAY];
-    assert!(rt; reports(rt.alloc(), &ONE_AGENT, &steps, END_OF_DAY_REPORT)?);
+    assert!(rt; then_reports(rt.alloc(), end_of_day(rt.alloc())?, &[], END_OF_DAY_REPORT)?);
     Ok(())
 }

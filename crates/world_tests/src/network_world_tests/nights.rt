@@ -1,7 +1,9 @@
 //! Nights of networks: what is delivered late, again or out of order.
 use crate::networks::{AGENTS, NEXT_OF_AGENTS};
 use crate::rows::{Does, Here};
-use crate::worlds::{begun, do_rows, reports, sent_and_reached};
+use crate::worlds::{after, do_rows, sent_and_reached, then_reports};
+use network_world::World;
+use std::alloc::Global;
 use std::test::Fail;
 
 /// A job of P follows one of Q, whose end is known to the manager alone.
@@ -68,10 +70,20 @@ stream 2 P#SA READY
 job 2 P#SA.A HOLD 0
 ";
 
+fn known_above(alloc: Global) -> Result<World, Fail> {
+    after(alloc, &AGENTS, &KNOWN_ABOVE)
+}
+
 #[test]
 fn what_the_manager_alone_knows_starts_nothing(rt: HostRuntime) -> Result<(), Fail> {
-    let steps: [&[Does]; 1] = [&KNOWN_ABOVE];
-    assert!(rt; reports(rt.alloc(), &AGENTS, &steps, KNOWN_ABOVE_REPORT)?);
+    assert!(rt;
+        then_reports(
+            rt.alloc(),
+            known_above(rt.alloc())?,
+            &[],
+            KNOWN_ABOVE_REPORT
+        )?
+    );
     Ok(())
 }
 
@@ -134,10 +146,15 @@ stream 2 P#SA READY
 job 2 P#SA.A HOLD 0
 ";
 
+fn passed_on(alloc: Global) -> Result<World, Fail> {
+    let mut world = known_above(alloc)?;
+    do_rows(&mut world, alloc, &PASSED_ON)?;
+    Ok(world)
+}
+
 #[test]
 fn what_is_delivered_starts_a_job(rt: HostRuntime) -> Result<(), Fail> {
-    let steps: [&[Does]; 2] = [&KNOWN_ABOVE, &PASSED_ON];
-    assert!(rt; reports(rt.alloc(), &AGENTS, &steps, PASSED_ON_REPORT)?);
+    assert!(rt; then_reports(rt.alloc(), passed_on(rt.alloc())?, &[], PASSED_ON_REPORT)?);
     Ok(())
 }
 
@@ -199,22 +216,32 @@ stream 2 P#SA READY
 job 2 P#SA.A HOLD 0
 ";
 
+fn come_again(alloc: Global) -> Result<World, Fail> {
+    let mut world = passed_on(alloc)?;
+    do_rows(&mut world, alloc, &AGAIN)?;
+    Ok(world)
+}
+
 #[test]
 fn repeats_are_acknowledged_and_not_kept(rt: HostRuntime) -> Result<(), Fail> {
-    let steps: [&[Does]; 3] = [&KNOWN_ABOVE, &PASSED_ON, &AGAIN];
-    assert!(rt; reports(rt.alloc(), &AGENTS, &steps, AGAIN_REPORT)?);
+    assert!(rt; then_reports(rt.alloc(), come_again(rt.alloc())?, &[], AGAIN_REPORT)?);
     Ok(())
+}
+
+/// Whether so many packets were sent from one workstation to another, and the greatest number delivered is this one.
+fn is_at(world: &World, a: u16, b: u16, sent: u32, reached: u32) -> bool {
+    let counts = sent_and_reached(world, a, b);
+    counts.0 == sent && counts.1 == reached
+}
+
+fn nothing_is_taken_back(alloc: Global) -> Result<bool, Fail> {
+    let world = come_again(alloc)?;
+    Ok(is_at(&world, 0, 1, 7, 7) && is_at(&world, 1, 0, 11, 3) && is_at(&world, 1, 2, 0, 0))
 }
 
 #[test]
 fn a_packet_that_comes_again_late_takes_nothing_back(rt: HostRuntime) -> Result<(), Fail> {
-    let mut world = begun(rt.alloc(), &AGENTS)?;
-    do_rows(&mut world, rt.alloc(), &KNOWN_ABOVE)?;
-    do_rows(&mut world, rt.alloc(), &PASSED_ON)?;
-    do_rows(&mut world, rt.alloc(), &AGAIN)?;
-    assert!(rt; sent_and_reached(&world, 0, 1) == (7, 7));
-    assert!(rt; sent_and_reached(&world, 1, 0) == (11, 3));
-    assert!(rt; sent_and_reached(&world, 1, 2) == (0, 0));
+    assert!(rt; nothing_is_taken_back(rt.alloc())?);
     Ok(())
 }
 
@@ -277,7 +304,7 @@ job 2 P#SA.A HOLD 0
 
 #[test]
 fn what_comes_beyond_a_gap_is_not_kept(rt: HostRuntime) -> Result<(), Fail> {
-    let steps: [&[Does]; 2] = [&KNOWN_ABOVE, &WITH_A_GAP];
-    assert!(rt; reports(rt.alloc(), &AGENTS, &steps, WITH_A_GAP_REPORT)?);
+    let world = known_above(rt.alloc())?;
+    assert!(rt; then_reports(rt.alloc(), world, &WITH_A_GAP, WITH_A_GAP_REPORT)?);
     Ok(())
 }

@@ -57,8 +57,7 @@ job 2 M#S.B HOLD 0
 
 #[test]
 fn a_job_is_rerun_by_advice_once(rt: HostRuntime) -> Result<(), Fail> {
-    let steps: [&[Does]; 1] = [&RERUN_ONCE];
-    assert!(rt; reports(rt.alloc(), &ALONE, &steps, RERUN_ONCE_REPORT)?);
+    assert!(rt; reports(rt.alloc(), &ALONE, &RERUN_ONCE, RERUN_ONCE_REPORT)?);
     Ok(())
 }
 
@@ -96,7 +95,6 @@ job 2 M#S.B INTRO 1
 
 #[test]
 fn a_job_that_is_continued_from_is_confirmed(rt: HostRuntime) -> Result<(), Fail> {
-    let steps: [&[Does]; 1] = [&CONTINUED];
-    assert!(rt; reports(rt.alloc(), &ALONE, &steps, CONTINUED_REPORT)?);
+    assert!(rt; reports(rt.alloc(), &ALONE, &CONTINUED, CONTINUED_REPORT)?);
     Ok(())
 }

@@ -1,10 +1,10 @@
 //! Steps that are refused, and that nothing changes then.
 use crate::networks::{AGENTS, NEXT_OF_AGENTS};
 use crate::rows::{Does, Here};
-use crate::worlds::{answer, begun, do_rows, report, step};
+use crate::worlds::{Refused, after, first_other};
 use agent_core::StepFault;
 use base_types::{JobNo, Obj};
-use network_world::{StepRefused, World};
+use network_world::StepRefused;
 use std::alloc::Global;
 use std::test::Fail;
 use test_builders::Asks;
@@ -18,10 +18,7 @@ const BEFORE: [Does; 5] = [
     Does::Deliver(0, 1, 1),
 ];
 
-/// A step, and why it is refused.
-type Row<'a> = (Does<'a>, StepRefused);
-
-const REFUSED: [Row; 16] = [
+const REFUSED: [Refused; 16] = [
     // Packets that were not sent.
     (Does::Deliver(0, 0, 1), StepRefused::NoPacket),
     (Does::Deliver(0, 1, 0), StepRefused::NoPacket),
@@ -81,33 +78,12 @@ const REFUSED: [Row; 16] = [
 
 const JOB_2: Obj = Obj::Job(JobNo(2));
 
-fn is_refused(world: &mut World, alloc: Global, row: &Row) -> Result<bool, Fail> {
-    let step = step(alloc, &row.0)?;
-    match answer(world, &step)? {
-        Ok(()) => Ok(false),
-        Err(refused) => Ok(refused == row.1),
-    }
-}
-
-/// The number, from 1, of the first row that is refused for another cause, or after which the report is another one.
-fn first_other(world: &mut World, alloc: Global) -> Result<Option<usize>, Fail> {
-    let before = report(alloc, world)?;
-    for (i, row) in REFUSED.iter().enumerate() {
-        if !is_refused(world, alloc, row)? {
-            return Ok(Some(i + 1));
-        }
-        let after = report(alloc, world)?;
-        if after.as_slice() != before.as_slice() {
-            return Ok(Some(i + 1));
-        }
-    }
-    Ok(None)
+fn first_of_refused(alloc: Global) -> Result<Option<usize>, Fail> {
+    first_other(alloc, after(alloc, &AGENTS, &BEFORE)?, &REFUSED)
 }
 
 #[test]
 fn what_cannot_be_is_refused_and_changes_nothing(rt: HostRuntime) -> Result<(), Fail> {
-    let mut world = begun(rt.alloc(), &AGENTS)?;
-    do_rows(&mut world, rt.alloc(), &BEFORE)?;
-    assert_eq!(rt; first_other(&mut world, rt.alloc())?, None);
+    assert_eq!(rt; first_of_refused(rt.alloc())?, None);
     Ok(())
 }

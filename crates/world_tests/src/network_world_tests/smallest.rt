@@ -43,7 +43,6 @@ job 1 M#S.A SUCC 1
 
 #[test]
 fn one_job_runs(rt: HostRuntime) -> Result<(), Fail> {
-    let steps: [&[Does]; 1] = [&ONE_JOB];
-    assert!(rt; reports(rt.alloc(), &ALONE, &steps, ONE_JOB_REPORT)?);
+    assert!(rt; reports(rt.alloc(), &ALONE, &ONE_JOB, ONE_JOB_REPORT)?);
     Ok(())
 }

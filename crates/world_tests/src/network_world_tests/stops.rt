@@ -1,7 +1,7 @@
 //! Nodes that stop in the midst of a step and begin again.
 use crate::networks::{AGENTS, ALONE, NEXT, NEXT_OF_AGENTS};
 use crate::rows::{Does, Here};
-use crate::worlds::{begun, do_rows, reports, sent_and_reached};
+use crate::worlds::{after, do_rows, reports, sent_and_reached, then_reports};
 use base_types::{Feed, JobNo, Obj, Ws};
 use network_world::World;
 use std::alloc::Global;
@@ -28,10 +28,20 @@ stream 1 M#S EXEC
 job 1 M#S.A INTRO 1
 ";
 
+fn launch_kept(alloc: Global) -> Result<World, Fail> {
+    after(alloc, &ALONE, &LAUNCH_KEPT)
+}
+
 #[test]
 fn a_launch_that_was_kept_stands_and_does_not_start(rt: HostRuntime) -> Result<(), Fail> {
-    let steps: [&[Does]; 1] = [&LAUNCH_KEPT];
-    assert!(rt; reports(rt.alloc(), &ALONE, &steps, LAUNCH_KEPT_REPORT)?);
+    assert!(rt;
+        then_reports(
+            rt.alloc(),
+            launch_kept(rt.alloc())?,
+            &[],
+            LAUNCH_KEPT_REPORT
+        )?
+    );
     Ok(())
 }
 
@@ -51,9 +61,15 @@ job 1 M#S.A ABEND 1
 
 #[test]
 fn a_launch_without_a_process_is_lost(rt: HostRuntime) -> Result<(), Fail> {
-    let then: [Does; 1] = [Does::At(0, Here::Turn(100))];
-    let steps: [&[Does]; 2] = [&LAUNCH_KEPT, &then];
-    assert!(rt; reports(rt.alloc(), &ALONE, &steps, LOST_REPORT)?);
+    let world = launch_kept(rt.alloc())?;
+    assert!(rt;
+        then_reports(
+            rt.alloc(),
+            world,
+            &[Does::At(0, Here::Turn(100))],
+            LOST_REPORT
+        )?
+    );
     Ok(())
 }
 
@@ -88,8 +104,8 @@ job 1 M#S.A SUCC 2
 
 #[test]
 fn a_lost_launch_is_rerun_under_a_new_number(rt: HostRuntime) -> Result<(), Fail> {
-    let steps: [&[Does]; 2] = [&LAUNCH_KEPT, &RERUN];
-    assert!(rt; reports(rt.alloc(), &ALONE, &steps, RERUN_REPORT)?);
+    let world = launch_kept(rt.alloc())?;
+    assert!(rt; then_reports(rt.alloc(), world, &RERUN, RERUN_REPORT)?);
     Ok(())
 }
 
@@ -117,8 +133,7 @@ job 1 M#S.A INTRO 1
 
 #[test]
 fn a_launch_that_was_lost_is_made_again(rt: HostRuntime) -> Result<(), Fail> {
-    let steps: [&[Does]; 1] = [&LAUNCH_LOST];
-    assert!(rt; reports(rt.alloc(), &ALONE, &steps, LAUNCH_LOST_REPORT)?);
+    assert!(rt; reports(rt.alloc(), &ALONE, &LAUNCH_LOST, LAUNCH_LOST_REPORT)?);
     Ok(())
 }
 
@@ -130,11 +145,19 @@ const PLAN_SENT: [Does; 4] = [
     Does::At(0, Here::Turn(100)),
 ];
 
-/// How many packets went from M to P and were delivered, how many went back, and how many of M's entries P holds.
-fn at_p(world: &World) -> (u32, u32, u32, u32) {
-    let (sent, reached) = sent_and_reached(world, 0, 1);
-    let (back, _) = sent_and_reached(world, 1, 0);
-    (sent, reached, back, held(world))
+/// The world in which the plan is sent to P, after these further steps.
+fn plan_sent(alloc: Global, rows: &[Does]) -> Result<World, Fail> {
+    let mut world = after(alloc, &AGENTS, &PLAN_SENT)?;
+    do_rows(&mut world, alloc, rows)?;
+    Ok(world)
+}
+
+/// Whether so many packets went from M to P, one of them was delivered, so many went back, and P holds so many of M's
+/// entries.
+fn is_at_p(world: &World, sent: u32, back: u32, holds: u32) -> bool {
+    let there = sent_and_reached(world, 0, 1);
+    let again = sent_and_reached(world, 1, 0);
+    there.0 == sent && there.1 == 1 && again.0 == back && held(world) == holds
 }
 
 /// How many of M's entries P holds.
@@ -146,23 +169,21 @@ fn held(world: &World) -> u32 {
     world.node(Ws(1)).holds(feed)
 }
 
-/// What a delivery gives in which P stops: the packet counts as delivered, nothing goes back, the entry is kept or not,
-/// and the link of P is down, so that its turn sends nothing.
-fn stopped(alloc: Global, kept: bool) -> Result<(u32, u32, u32, u32), Fail> {
-    let mut world = begun(alloc, &AGENTS)?;
-    do_rows(&mut world, alloc, &PLAN_SENT)?;
+/// Whether a delivery in which P stops counts as delivered, nothing goes back, P holds so many entries then, and its link
+/// is down, so that its turn sends nothing.
+fn is_stopped(alloc: Global, kept: bool, holds: u32) -> Result<bool, Fail> {
     let then: [Does; 2] = [
         Does::CrashDeliver(0, 1, 1, kept),
         Does::At(1, Here::Turn(100)),
     ];
-    do_rows(&mut world, alloc, &then)?;
-    Ok(at_p(&world))
+    let world = plan_sent(alloc, &then)?;
+    Ok(is_at_p(&world, 1, 0, holds))
 }
 
 #[test]
 fn a_node_stops_in_a_delivery(rt: HostRuntime) -> Result<(), Fail> {
-    assert!(rt; stopped(rt.alloc(), true)? == (1, 1, 0, 1));
-    assert!(rt; stopped(rt.alloc(), false)? == (1, 1, 0, 0));
+    assert!(rt; is_stopped(rt.alloc(), true, 1)?);
+    assert!(rt; is_stopped(rt.alloc(), false, 0)?);
     Ok(())
 }
 
@@ -176,28 +197,31 @@ const CRASHED: [Does; 6] = [
     Does::At(0, Here::Turn(100)),
 ];
 
+/// Whether M sends the plan again.
+fn is_sent_again(alloc: Global) -> Result<bool, Fail> {
+    let world = plan_sent(alloc, &CRASHED)?;
+    Ok(is_at_p(&world, 2, 1, 1))
+}
+
 #[test]
 fn a_crash_forgets_links_and_acknowledgements(rt: HostRuntime) -> Result<(), Fail> {
-    let mut world = begun(rt.alloc(), &AGENTS)?;
-    do_rows(&mut world, rt.alloc(), &PLAN_SENT)?;
-    do_rows(&mut world, rt.alloc(), &CRASHED)?;
-    assert!(rt; at_p(&world) == (2, 1, 1, 1));
+    assert!(rt; is_sent_again(rt.alloc())?);
     Ok(())
 }
 
 /// An object of which a command speaks.
 const JOB_1: Obj = Obj::Job(JobNo(1));
 
-/// An order is typed in a step in which the node stops: kept, it is obeyed; lost, it never was.
-fn orders(alloc: Global, kept: bool) -> Result<(usize, u32), Fail> {
-    let mut world = begun(alloc, &ALONE)?;
+/// An order is typed in a step in which the node stops: kept, it is obeyed; lost, it never was. Whether so many entries
+/// were made then, and so many orders are held.
+fn are_made(alloc: Global, kept: bool, made: usize, orders: u32) -> Result<bool, Fail> {
     let steps: [Does; 3] = [
         NEXT,
         Does::CrashAt(0, Here::Type(0, Asks::Cancel(JOB_1)), kept),
         Does::At(0, Here::Turn(100)),
     ];
-    do_rows(&mut world, alloc, &steps)?;
-    Ok((world.history().len(), orders_held(&world)))
+    let world = after(alloc, &ALONE, &steps)?;
+    Ok(world.history().len() == made && orders_held(&world) == orders)
 }
 
 fn orders_held(world: &World) -> u32 {
@@ -210,7 +234,7 @@ fn orders_held(world: &World) -> u32 {
 
 #[test]
 fn an_order_is_kept_or_lost(rt: HostRuntime) -> Result<(), Fail> {
-    assert!(rt; orders(rt.alloc(), true)? == (3, 1));
-    assert!(rt; orders(rt.alloc(), false)? == (2, 0));
+    assert!(rt; are_made(rt.alloc(), true, 3, 1)?);
+    assert!(rt; are_made(rt.alloc(), false, 2, 0)?);
     Ok(())
 }

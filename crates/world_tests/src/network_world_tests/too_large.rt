@@ -1,7 +1,7 @@
 //! Plans that are too large, and a command that is too long: they are refused, also where the node stops in the step,
 //! and change nothing.
 use crate::networks::ALONE;
-use crate::worlds::{answer, begun, report};
+use crate::worlds::{begun, is_refused, report, take};
 use agent_core::StepFault;
 use base_types::{
     Cmd, Copied, Dep, JobNo, Local, NoMemory, Obj, StreamDraft, StreamDrafts, Text, WorldStep, Ws,
@@ -49,25 +49,18 @@ fn waiting(alloc: Global, pieces: u32) -> Result<Local, NoMemory> {
     Ok(Local::Typed(Ws(0), Cmd::AddDep(Obj::Job(JobNo(1)), waits)))
 }
 
-fn answers(world: &mut World, step: &WorldStep, refused: &StepRefused) -> Result<bool, Fail> {
-    match answer(world, step)? {
-        Ok(()) => Ok(false),
-        Err(why) => Ok(why == *refused),
-    }
-}
-
 /// Whether a fault of the master refuses what happens there, and the steps in which its node stops, and leaves the
 /// report of a new world as it is.
-fn is_refused(alloc: Global, local: Local, fault: StepFault) -> Result<bool, Fail> {
+fn all_are_refused(alloc: Global, local: Local, fault: StepFault) -> Result<bool, Fail> {
     let mut world = begun(alloc, &ALONE)?;
     let before = report(alloc, &world)?;
     let refused = StepRefused::Step(fault);
     let kept = WorldStep::CrashTake(Ws(0), local.copy()?, true);
     let lost = WorldStep::CrashTake(Ws(0), local.copy()?, false);
     let step = WorldStep::Take(Ws(0), local);
-    let all = answers(&mut world, &step, &refused)?
-        && answers(&mut world, &kept, &refused)?
-        && answers(&mut world, &lost, &refused)?;
+    let all = is_refused(&mut world, &step, &refused)?
+        && is_refused(&mut world, &kept, &refused)?
+        && is_refused(&mut world, &lost, &refused)?;
     let after = report(alloc, &world)?;
     Ok(all && after.as_slice() == before.as_slice())
 }
@@ -78,27 +71,33 @@ fn full(most: u32) -> StepFault {
 
 #[test]
 fn a_plan_has_so_many_streams_and_jobs(rt: HostRuntime) -> Result<(), Fail> {
-    let streams = plan_of(rt.alloc(), 4_097, 0)?;
-    assert!(rt; is_refused(rt.alloc(), streams, full(4_096))?);
-    let jobs = plan_of(rt.alloc(), 1, 16_385)?;
-    assert!(rt; is_refused(rt.alloc(), jobs, full(16_384))?);
+    assert!(rt; all_are_refused(rt.alloc(), plan_of(rt.alloc(), 4_097, 0)?, full(4_096))?);
+    assert!(rt; all_are_refused(rt.alloc(), plan_of(rt.alloc(), 1, 16_385)?, full(16_384))?);
     Ok(())
 }
 
 #[test]
 fn an_entry_has_so_many_bytes(rt: HostRuntime) -> Result<(), Fail> {
     let long = waiting(rt.alloc(), 1_024)?;
-    assert!(rt; is_refused(rt.alloc(), long, StepFault::TooLong)?);
+    assert!(rt; all_are_refused(rt.alloc(), long, StepFault::TooLong)?);
     Ok(())
+}
+
+fn type_in(world: &mut World, local: Local) -> Result<(), Fail> {
+    let step = WorldStep::Take(Ws(0), local);
+    take(world, &step)
+}
+
+/// How many entries are made by the largest plan and the longest command.
+fn taken(alloc: Global) -> Result<usize, Fail> {
+    let mut world = begun(alloc, &ALONE)?;
+    type_in(&mut world, plan_of(alloc, 4_096, 1)?)?;
+    type_in(&mut world, waiting(alloc, 1_023)?)?;
+    Ok(world.history().len())
 }
 
 #[test]
 fn the_largest_of_these_are_taken(rt: HostRuntime) -> Result<(), Fail> {
-    let mut world = begun(rt.alloc(), &ALONE)?;
-    let plan = WorldStep::Take(Ws(0), plan_of(rt.alloc(), 4_096, 1)?);
-    answer(&mut world, &plan)??;
-    let order = WorldStep::Take(Ws(0), waiting(rt.alloc(), 1_023)?);
-    answer(&mut world, &order)??;
-    assert_eq!(rt; world.history().len(), 2);
+    assert_eq!(rt; taken(rt.alloc())?, 2);
     Ok(())
 }

@@ -63,8 +63,7 @@ job 1 M#S.A READY 0
 
 #[test]
 fn a_command_over_two_hops_is_obeyed_once(rt: HostRuntime) -> Result<(), Fail> {
-    let steps: [&[Does]; 1] = [&OVER_TWO_HOPS];
-    assert!(rt; reports(rt.alloc(), &DOMAIN, &steps, OVER_TWO_HOPS_REPORT)?);
+    assert!(rt; reports(rt.alloc(), &DOMAIN, &OVER_TWO_HOPS, OVER_TWO_HOPS_REPORT)?);
     Ok(())
 }
 
@@ -113,8 +112,7 @@ no plan
 
 #[test]
 fn eight_entries_go_out_in_a_turn(rt: HostRuntime) -> Result<(), Fail> {
-    let steps: [&[Does]; 1] = [&NINE_ORDERS];
-    assert!(rt; reports(rt.alloc(), &ONE_AGENT, &steps, NINE_ORDERS_REPORT)?);
+    assert!(rt; reports(rt.alloc(), &ONE_AGENT, &NINE_ORDERS, NINE_ORDERS_REPORT)?);
     Ok(())
 }
 
@@ -150,7 +148,6 @@ cpu M fence 0 limit 10 clock 0 running
 
 #[test]
 fn routes_go_by_who_manages_now(rt: HostRuntime) -> Result<(), Fail> {
-    let steps: [&[Does]; 1] = [&TAKEN_OVER];
-    assert!(rt; reports(rt.alloc(), &DOMAIN, &steps, TAKEN_OVER_REPORT)?);
+    assert!(rt; reports(rt.alloc(), &DOMAIN, &TAKEN_OVER, TAKEN_OVER_REPORT)?);
     Ok(())
 }

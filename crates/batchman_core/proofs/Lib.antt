@@ -7,3 +7,4 @@ pub mod Leasts
 pub mod Lost
 pub mod Members
 pub mod Owned
+pub mod Timed

@@ -4,10 +4,10 @@ use Rattle.std.specs.Prelude.{◌==◌, ◌&&◌, filter, not}
 use Rattle.model.specs.Types.{Events, Net, Stream, StreamDoc}
 use Rattle.model.specs.Words.{all_of, least}
 use Rattle.model.specs.History.{View}
-use Rattle.model.specs.Catalogue.{catalogue, is_member, jobs_of_stream, streams_of}
+use Rattle.model.specs.Catalogue.{catalogue, is_member, streams_of}
 use Rattle.model.specs.Dependencies.{all_satisfied}
 use Rattle.model.specs.Facts.{is_cancelled, is_ended, is_released}
-use Rattle.model.specs.OwnMembers.{lets_stream_end, may_end, may_end_in, may_release, may_release_in, own_numbers, own_streams}
+use Rattle.model.specs.OwnMembers.{may_end, may_end_in, may_release, may_release_in, own_numbers, own_streams}
 use Rattle.owner_fold.specs.Holders.{is_under_way, streams_under_way}
 use Rattle.owner_fold.specs.Sets.{is_waiting}
 use Rattle.dependencies.specs.Planned.{ArePlannedStreams, IsPlannedStream}

@@ -24,12 +24,11 @@ pub(crate) fn is_clock_due(o: &Owners, me: Ws, t: Moment) -> bool
 }
 
 /// Whether such a time of an own member does.
-#[tactic(auto, unfolding(model::specs::OwnMembers::own_streams, model::specs::Catalogue::streams_of))]
 fn time_of_streams_comes(o: &Owners, w: Ws, now: Moment, t: Moment) -> bool
     ensures { let V = view_of o.now in
         result ≡ any_comes_of V now t (map (λ (d : StreamOf). Stream d.no) (own_streams V w)) }
 {
-    for doc in o.streams() {
+    for doc in o.timed_streams(w) {
         if time_of_stream_comes(o, w, doc, now, t) {
             return true;
         }
@@ -38,12 +37,11 @@ fn time_of_streams_comes(o: &Owners, w: Ws, now: Moment, t: Moment) -> bool
 }
 
 /// Whether such a time of an own member's job does.
-#[tactic(auto, unfolding(model::specs::OwnMembers::own_jobs, model::specs::Catalogue::jobs_of))]
 fn time_of_jobs_comes(o: &Owners, w: Ws, now: Moment, t: Moment) -> bool
     ensures { let V = view_of o.now in
         result ≡ any_comes_of V now t (map (λ (p : StreamJob). Job p.doc.no) (own_jobs V w)) }
 {
-    for (parent, doc) in o.jobs() {
+    for (parent, doc) in o.timed_jobs(w) {
         if time_of_job_comes(o, w, parent, doc, now, t) {
             return true;
         }

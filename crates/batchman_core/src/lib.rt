@@ -9,10 +9,10 @@
 //! obeyed among the entries taken.
 //!
 //! What that costs: each fact of an `Owners` is a look-up or two. The rule of the clock asks for the dependencies of
-//! each object of the workstation, that of losses for its open launches, that of answers for the orders of each issuer,
-//! that of releases for its streams that wait, that of ends for those under way; the others are those of `dependencies`.
-//! A rule is only asked where no rule before it applies. The counts of an entry are asked for once for each workstation
-//! in it.
+//! each object of the workstation that has a time, that of losses for its open launches, that of answers for the orders
+//! of each issuer, that of releases for its streams that wait, that of ends for those under way; the others are those of
+//! `dependencies`. A rule is only asked where no rule before it applies. The counts of an entry are asked for once for
+//! each workstation in it.
 #![tactic(auto)]
 
 mod answers;

@@ -2,5 +2,6 @@ pub mod Lists
 pub mod Found
 pub mod Behind
 pub mod Lowest
+pub mod Timed
 mod Better
 mod Both

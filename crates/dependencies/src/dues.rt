@@ -56,14 +56,13 @@ fn due_of_jobs(o: &Owners, w: Ws, due: Due) -> Option<(Obj, u16)>
 }
 
 /// The lowest own member with something due.
-#[tactic(auto, using(crate::proofs::Found::streams_left_planned), unfolding(model::specs::OwnMembers::own_streams, model::specs::Catalogue::streams_of))]
 fn lowest_stream(o: &Owners, w: Ws, due: Due) -> Option<StreamNo>
     ensures lowest { let V = view_of o.now in
         result ≡ least (filter (λ n. is_some (spec.due_at due V w (Stream n))) (own_numbers V w)) }
     ensures owned { IfSome result (λ s. owner (view_of o.now) (Stream s) ≡ Some w) }
 {
     let mut lowest = None;
-    for doc in o.streams() {
+    for doc in o.timed_streams(w) {
         if stream_has_due(o, w, due, doc) {
             lowest = Some(lower(lowest, doc.no.0));
         }
@@ -75,14 +74,13 @@ fn lowest_stream(o: &Owners, w: Ws, due: Due) -> Option<StreamNo>
 }
 
 /// The lowest own member's job with something due.
-#[tactic(auto, using(crate::proofs::Found::jobs_left_planned), unfolding(model::specs::OwnMembers::own_jobs, model::specs::Catalogue::jobs_of))]
 fn lowest_job(o: &Owners, w: Ws, due: Due) -> Option<JobNo>
     ensures lowest { let V = view_of o.now in
         result ≡ least (filter (λ n. is_some (spec.due_at due V w (Job n))) (own_job_numbers V w)) }
     ensures owned { IfSome result (λ j. owner (view_of o.now) (Job j) ≡ Some w) }
 {
     let mut lowest = None;
-    for (parent, doc) in o.jobs() {
+    for (parent, doc) in o.timed_jobs(w) {
         if job_has_due(o, w, due, parent, doc) {
             lowest = Some(lower(lowest, doc.no.0));
         }

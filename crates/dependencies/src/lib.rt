@@ -9,11 +9,12 @@
 //! `Readiness` is what keeps track of the best job while entries come in, with one law for all that do so. `Scan` is
 //! the plain one, which keeps nothing and walks the jobs of the catalogue at each question.
 //!
-//! What that costs: each fact of an `Owners` is a walk over its entries or its catalogue. A dependency asks for a few
-//! facts, one on units for some facts of each holder and each of its dependencies. `sat` asks for one dependency;
-//! `ready` and `may_release` for those of one object, and `ready` for the open launches besides; `may_end` for the
-//! jobs of one stream; `until_due`, `late_due` and `best` for all objects of the workstation. So `best` grows with the jobs of the
-//! catalogue times these jobs and the entries held, and faster where many jobs are open, need units or have limits.
+//! What that costs: each fact of an `Owners` is a look-up or two. A dependency asks for a few facts, one on units for
+//! some facts of each holder and each of its dependencies. `sat` asks for one dependency; `ready` and `may_release` for
+//! those of one object, and `ready` for the open launches besides; `may_end` for the jobs of one stream; `until_due` and
+//! `late_due` for those of each object of the workstation that has a time. The `best` of a `Scan` asks for all jobs of
+//! the catalogue: it grows with them and their dependencies, and faster where many jobs are open, need units or have
+//! limits.
 //!
 //! The parts of these answers that the crates above ask for are public too: they take the document that counts for
 //! its number, which `specs/Planned` says.

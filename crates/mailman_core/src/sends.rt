@@ -132,7 +132,7 @@ impl Mail {
         }
     }
 
-    /// Adds what is to be sent of the orders of one issuer.
+    /// Adds what is to be sent of the orders of one issuer, whose feeds are not looked at where none is held.
     fn add_orders_of(&self, net: &Network, o: &Owners, me: Ws, to: Ws, a: Ws, batch: &mut Batch)
         requires from { me < node_count net.now }
         requires to { to < node_count net.now }
@@ -142,6 +142,9 @@ impl Mail {
             ++ unsent net.now (view_of o.now) me to (acked_by self.now to)
             (map (types.Orders a) (below (node_count net.now)))) }
     {
+        if !o.has_issued(a) {
+            return;
+        }
         for w in 0..net.count() {
             if is_full(batch) {
                 return;

@@ -3,11 +3,17 @@ use Rattle.std.specs.Prelude.{◌==◌}
 use Rattle.model.specs.Types.{Job}
 use Rattle.model.specs.History.{view_of}
 use Rattle.model.specs.Catalogue.{StreamJob, is_member}
-use Rattle.owner_fold.specs.Left.{jobs_left}
+use Rattle.owner_fold.specs.Times.{timed_jobs_left}
 use Rattle.owner_fold.specs.Spots.{stream_job}
 use Rattle.batchman_core.specs.Comings.{any_comes_of}
 use Rattle.batchman_core.proofs.Times.{comes_here, comes_later, objects_of}
+use Rattle.batchman_core.proofs.Timed.{jobs_come_at_first}
 use Rattle.batchman_core.proofs.clocks.time_of_jobs_comes.Goals as goal
+
+pub loop-parent-init : goal.loop-parent-init
+loop-parent-init c =
+    jobs_come_at_first (view_of c.args.o.now) c.args.w c.args.now c.args.t (timed_jobs_left c.into_iter-parent-iterator.result)
+    (ap timed_jobs_left c.into_iter-parent-iterator.ensures.into_iter_gives ∙ c.timed_jobs-parent-items.ensures)
 
 pub returns-then-time_of_job_comes : goal.returns-then-time_of_job_comes
 returns-then-time_of_job_comes c =
@@ -22,7 +28,7 @@ returns-then-time_of_job_comes c =
     c.in-Some.ensures.steps
     ∙ comes_here V c.args.now c.args.t (λ (p : StreamJob). p.doc.ws == c.args.w)
     (λ (p : StreamJob). is_member V p.parent.no) (λ (p : StreamJob). Job p.doc.no)
-    (stream_job c.in-Some.parent.now c.in-Some.doc.now) (jobs_left c.next.new.self)
+    (stream_job c.in-Some.parent.now c.in-Some.doc.now) (timed_jobs_left c.next.new.self)
     (sym c.time_of_job_comes.ensures ∙ c.if-time_of_job_comes.true))
 
 pub loop-parent-preserved : goal.loop-parent-preserved
@@ -37,5 +43,5 @@ loop-parent-preserved c =
     c.in-Some.ensures.steps
     ∙ comes_later V c.args.now c.args.t (λ (p : StreamJob). p.doc.ws == c.args.w)
     (λ (p : StreamJob). is_member V p.parent.no) (λ (p : StreamJob). Job p.doc.no)
-    (stream_job c.in-Some.parent.now c.in-Some.doc.now) (jobs_left c.next.new.self)
+    (stream_job c.in-Some.parent.now c.in-Some.doc.now) (timed_jobs_left c.next.new.self)
     (sym c.time_of_job_comes.ensures ∙ c.if-time_of_job_comes.false)

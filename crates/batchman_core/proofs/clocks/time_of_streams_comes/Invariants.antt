@@ -4,7 +4,7 @@ use Rattle.model.specs.Types.{Stream, StreamDoc}
 use Rattle.model.specs.History.{view_of}
 use Rattle.model.specs.Catalogue.{is_member}
 use Rattle.model.specs.OwnMembers.{own_streams}
-use Rattle.owner_fold.specs.Left.{streams_left}
+use Rattle.owner_fold.specs.Times.{timed_streams_left}
 use Rattle.batchman_core.specs.Comings.{any_comes_of}
 use Rattle.batchman_core.proofs.Times.{objects_of}
 use Rattle.batchman_core.proofs.clocks.time_of_streams_comes.Given as goal
@@ -15,4 +15,4 @@ invariant-loop-doc l =
     any_comes_of V l.fn.now l.fn.t (map (λ (d : StreamDoc). Stream d.no) (own_streams V l.fn.w))
     ≡ any_comes_of V l.fn.now l.fn.t
     (objects_of (λ (d : StreamDoc). d.ws == l.fn.w) (λ (d : StreamDoc). is_member V d.no)
-    (λ (d : StreamDoc). Stream d.no) (streams_left l.doc-iterator))
+    (λ (d : StreamDoc). Stream d.no) (timed_streams_left l.doc-iterator))

@@ -1,18 +1,16 @@
 //! The clauses of streams and of their entries, read from their tokens.
-ghost use Rattle.std.specs.Prelude.{◌≡◌, ℕ, List, codes};
-ghost use Rattle.composer_parser.specs.Reading.{read, begins_piece};
+ghost use Rattle.std.specs.Prelude.{◌≡◌, ◌||◌, ℕ, List, codes, not};
+ghost use Rattle.composer_parser.specs.Reading.{read, begins_piece, is_any, tries};
 ghost use Rattle.composer_parser.specs.Clauses as spec;
-ghost use Rattle.composer_parser.specs.Tokens.{all_spelled, Gives};
-ghost use Rattle.std.specs.Prelude.{[], ◌∷◌};
-ghost use Rattle.composer_parser.specs.Kinds.{keyword};
-ghost use Rattle.composer_parser.specs.Reading.{begins};
+ghost use Rattle.composer_parser.specs.Parts.{once};
+ghost use Rattle.composer_parser.specs.Tokens.{all_spelled, spelled, Gives};
 ghost use Rattle.composer_parser.specs.Clauses.{has_clause, may_clause};
 
 use crate::clauses::Clause;
 use crate::definitions::Lined;
 use crate::lists::{files, needs, preds, prompts};
 use crate::moments::{is_plus_next, plus, time};
-use crate::parts::{is_next, is_number_next, key, number};
+use crate::parts::{is_keyword, is_next, is_number_next, is_word_of, key, number};
 use crate::stops::Stop;
 use base_types::{Items, OnUntil, Token};
 use std::alloc::Global;
@@ -301,40 +299,84 @@ fn is_carry(clause: &Clause) -> bool
     matches!(clause, Clause::CarryForward)
 }
 
-/// Whether the next token begins a further clause. What stands once must not stand before.
+/// The words with which clauses begin.
+const CLAUSE_WORDS: [&str; 10] = [
+    "AT",
+    "UNTIL",
+    "DEADLINE",
+    "PRIORITY",
+    "LIMIT",
+    "CARRYFORWARD",
+    "FOLLOWS",
+    "NEEDS",
+    "PROMPT",
+    "OPENS",
+];
+
+/// Whether the token begins a clause.
 #[tactic(auto, unfolding(crate::specs::Clauses::clause, crate::specs::Clauses::at_clause, crate::specs::Clauses::until_clause, crate::specs::Clauses::deadline_clause, crate::specs::Clauses::priority_clause, crate::specs::Clauses::limit_clause, crate::specs::Clauses::carry_clause, crate::specs::Clauses::follows_clause, crate::specs::Clauses::needs_clause, crate::specs::Clauses::prompt_clause, crate::specs::Clauses::opens_clause))]
+fn begins_clause(text: &str, token: &Token) -> bool
+    ensures { result ≡ is_any (tries spec.clause) (spelled text.now token.now) }
+{
+    is_word_of(text, token, &CLAUSE_WORDS)
+}
+
+fn at_may_stand(all: &[Lined<Clause>], text: &str, token: &Token) -> bool
+    ensures { result ≡ once (has_clause spec.is_at all.now) (codes "AT") (spelled text.now token.now) }
+{
+    !(is_keyword(text, token, "AT") && has_at(all))
+}
+
+fn until_may_stand(all: &[Lined<Clause>], text: &str, token: &Token) -> bool
+    ensures { result ≡ once (has_clause spec.is_until all.now) (codes "UNTIL") (spelled text.now token.now) }
+{
+    !(is_keyword(text, token, "UNTIL") && has_until(all))
+}
+
+fn deadline_may_stand(all: &[Lined<Clause>], text: &str, token: &Token) -> bool
+    ensures { result ≡ once (has_clause spec.is_deadline all.now) (codes "DEADLINE") (spelled text.now token.now) }
+{
+    !(is_keyword(text, token, "DEADLINE") && has_deadline(all))
+}
+
+fn priority_may_stand(all: &[Lined<Clause>], text: &str, token: &Token) -> bool
+    ensures { result ≡ once (has_clause spec.is_priority all.now) (codes "PRIORITY") (spelled text.now token.now) }
+{
+    !(is_keyword(text, token, "PRIORITY") && has_priority(all))
+}
+
+fn limit_may_stand(stream: bool, all: &[Lined<Clause>], text: &str, token: &Token) -> bool
+    ensures { result ≡ once (not stream || has_clause spec.is_limit all.now) (codes "LIMIT") (spelled text.now token.now) }
+{
+    !is_keyword(text, token, "LIMIT") || stream && !has_limit(all)
+}
+
+fn carry_may_stand(stream: bool, all: &[Lined<Clause>], text: &str, token: &Token) -> bool
+    ensures { result ≡ once (not stream || has_clause spec.is_carry all.now) (codes "CARRYFORWARD") (spelled text.now token.now) }
+{
+    !is_keyword(text, token, "CARRYFORWARD") || stream && !has_carry(all)
+}
+
+/// Whether what stands once does not stand already.
+fn may_stand(stream: bool, all: &[Lined<Clause>], text: &str, token: &Token) -> bool
+    ensures { result ≡ may_clause stream all.now (spelled text.now token.now) }
+{
+    at_may_stand(all, text, token)
+        && until_may_stand(all, text, token)
+        && deadline_may_stand(all, text, token)
+        && priority_may_stand(all, text, token)
+        && limit_may_stand(stream, all, text, token)
+        && carry_may_stand(stream, all, text, token)
+}
+
+/// Whether the next token begins a further clause. What stands once must not stand before.
 fn goes_on(stream: bool, all: &[Lined<Clause>], text: &str, rest: &[Token]) -> bool
     ensures { result ≡ begins_piece (may_clause stream) spec.clause all.now (all_spelled text.now rest.now) }
 {
-    if is_next(text, rest, "AT") {
-        return !has_at(all);
+    match rest {
+        [token, ..] => begins_clause(text, token) && may_stand(stream, all, text, token),
+        [] => false,
     }
-    if is_next(text, rest, "UNTIL") {
-        return !has_until(all);
-    }
-    if is_next(text, rest, "DEADLINE") {
-        return !has_deadline(all);
-    }
-    if is_next(text, rest, "PRIORITY") {
-        return !has_priority(all);
-    }
-    if is_next(text, rest, "LIMIT") {
-        return stream && !has_limit(all);
-    }
-    if is_next(text, rest, "CARRYFORWARD") {
-        return stream && !has_carry(all);
-    }
-    begins_list(text, rest)
-}
-
-/// Whether the next token begins a clause that may stand again.
-fn begins_list(text: &str, rest: &[Token]) -> bool
-    ensures { result ≡ begins (keyword (codes "FOLLOWS") ∷ keyword (codes "NEEDS") ∷ keyword (codes "PROMPT") ∷ keyword (codes "OPENS") ∷ []) (all_spelled text.now rest.now) }
-{
-    is_next(text, rest, "FOLLOWS")
-        || is_next(text, rest, "NEEDS")
-        || is_next(text, rest, "PROMPT")
-        || is_next(text, rest, "OPENS")
 }
 
 /// The clauses of a stream, or of an entry.

@@ -5,6 +5,7 @@ mod dependencies;
 mod documents;
 mod drafts;
 pub(crate) mod entries;
+mod events;
 mod fields;
 mod lists;
 mod parts;

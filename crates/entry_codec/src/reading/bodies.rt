@@ -5,10 +5,13 @@ ghost use Rattle.entry_codec.specs.Entries.{body_at, event_at, order_at};
 
 use crate::EntryFault;
 use crate::reading::commands::read_cmd;
-use crate::reading::fields::{read_flag, read_i32, read_u8, read_u16, read_u32, read_u64};
-use crate::reading::lists::{Read, read_list};
-use crate::reading::parts::{read_obj, read_seen, read_until, read_why};
-use base_types::{Body, Feed, JobNo, Moment, StreamDoc, StreamNo, Ws};
+use crate::reading::events::{
+    read_added, read_declined, read_ended, read_failed, read_fulfilled, read_late, read_launched,
+    read_lost, read_new_plan, read_obeyed, read_released, read_started, read_stream_ended,
+    read_until_passed,
+};
+use crate::reading::fields::{read_u8, read_u64};
+use base_types::{Body, Feed, Moment};
 use std::alloc::Global;
 
 /// The body of an entry of a feed: its kind, which is one of the feed's, and its fields.
@@ -64,89 +67,24 @@ fn read_event(
     ensures within { IfOk result (λ r. r.1 ≤ length from.now) }
 {
     match read_u8(from, at)? {
-        (1, next) => {
-            let (run, next) = read_u32(from, next)?;
-            let (cut, next) = read_seen(alloc, from, next)?;
-            let (carried, next) = read_list(alloc, second, from, next)?;
-            let (docs, next) = read_list(alloc, second, from, next)?;
-            Ok((Body::NewPlan(run, cut, carried, docs), next))
-        }
-        (2, next) => {
-            let (issuer, next) = read_u16(from, next)?;
-            let (order, next) = read_u32(from, next)?;
-            let (doc, next) = StreamDoc::read(alloc, second, from, next)?;
-            Ok((Body::Added(Ws(issuer), order, doc), next))
-        }
+        (1, next) => read_new_plan(alloc, second, from, next),
+        (2, next) => read_added(alloc, second, from, next),
         (3, next) => {
             let (time, next) = read_u64(from, next)?;
             Ok((Body::Clock(Moment(time)), next))
         }
-        (4, next) => {
-            let (stream, next) = read_u32(from, next)?;
-            let (seen, next) = read_seen(alloc, from, next)?;
-            Ok((Body::Released(StreamNo(stream), seen), next))
-        }
-        (5, next) => {
-            let (stream, next) = read_u32(from, next)?;
-            let (seen, next) = read_seen(alloc, from, next)?;
-            Ok((Body::StreamEnded(StreamNo(stream), seen), next))
-        }
-        (6, next) => {
-            let (obj, next) = read_obj(from, next)?;
-            let (dep, next) = read_u16(from, next)?;
-            let (mark, next) = read_until(from, next)?;
-            Ok((Body::UntilPassed(obj, dep, mark), next))
-        }
-        (7, next) => {
-            let (job, next) = read_u32(from, next)?;
-            let (number, next) = read_u32(from, next)?;
-            let (seen, next) = read_seen(alloc, from, next)?;
-            Ok((Body::Launched(JobNo(job), number, seen), next))
-        }
-        (8, next) => {
-            let (job, next) = read_u32(from, next)?;
-            let (number, next) = read_u32(from, next)?;
-            Ok((Body::Started(JobNo(job), number), next))
-        }
-        (9, next) => {
-            let (job, next) = read_u32(from, next)?;
-            let (number, next) = read_u32(from, next)?;
-            Ok((Body::Failed(JobNo(job), number), next))
-        }
-        (10, next) => {
-            let (job, next) = read_u32(from, next)?;
-            let (number, next) = read_u32(from, next)?;
-            let (code, next) = read_i32(from, next)?;
-            let (good, next) = read_flag(from, next)?;
-            Ok((Body::Ended(JobNo(job), number, code, good), next))
-        }
-        (11, next) => {
-            let (job, next) = read_u32(from, next)?;
-            let (number, next) = read_u32(from, next)?;
-            Ok((Body::Lost(JobNo(job), number), next))
-        }
-        (12, next) => {
-            let (obj, next) = read_obj(from, next)?;
-            let (dep, next) = read_u16(from, next)?;
-            Ok((Body::Fulfilled(obj, dep), next))
-        }
-        (13, next) => {
-            let (issuer, next) = read_u16(from, next)?;
-            let (order, next) = read_u32(from, next)?;
-            let (cmd, next) = read_cmd(alloc, second, from, next)?;
-            Ok((Body::Obeyed(Ws(issuer), order, cmd), next))
-        }
-        (14, next) => {
-            let (issuer, next) = read_u16(from, next)?;
-            let (order, next) = read_u32(from, next)?;
-            let (why, next) = read_why(from, next)?;
-            Ok((Body::Declined(Ws(issuer), order, why), next))
-        }
-        (16, next) if second => {
-            let (obj, next) = read_obj(from, next)?;
-            let (dep, next) = read_u16(from, next)?;
-            Ok((Body::Late(obj, dep), next))
-        }
+        (4, next) => read_released(alloc, from, next),
+        (5, next) => read_stream_ended(alloc, from, next),
+        (6, next) => read_until_passed(from, next),
+        (7, next) => read_launched(alloc, from, next),
+        (8, next) => read_started(from, next),
+        (9, next) => read_failed(from, next),
+        (10, next) => read_ended(from, next),
+        (11, next) => read_lost(from, next),
+        (12, next) => read_fulfilled(from, next),
+        (13, next) => read_obeyed(alloc, second, from, next),
+        (14, next) => read_declined(from, next),
+        (16, next) if second => read_late(from, next),
         _ => Err(EntryFault::BadField(at as u32)),
     }
 }

@@ -1,6 +1,9 @@
 //! Commands.
 ghost use Rattle.std.specs.Prelude.{◌≡◌, ◌≤◌, length, IfOk};
-ghost use Rattle.entry_codec.specs.Read.{Gives, IsPlace};
+ghost use Rattle.model.specs.Types.{AddDep, DelDep, AltPri, StreamLimit, Total, ReplyGlobal, ReplyOwn};
+ghost use Rattle.entry_codec.specs.Read.{Gives, IsPlace, two, three};
+ghost use Rattle.entry_codec.specs.Fields.{u8_at, u16_at, u32_at, flag_at};
+ghost use Rattle.entry_codec.specs.Parts.{dep_at, obj_at};
 ghost use Rattle.entry_codec.specs.Commands.{cmd_at};
 
 use crate::EntryFault;
@@ -23,25 +26,13 @@ pub(crate) fn read_cmd(
     ensures within { IfOk result (λ r. r.1 ≤ length from.now) }
 {
     match read_u8(from, at)? {
-        (1, next) => {
-            let (obj, next) = read_obj(from, next)?;
-            let (dep, next) = Dep::read(alloc, second, from, next)?;
-            Ok((Cmd::AddDep(obj, dep), next))
-        }
-        (2, next) => {
-            let (obj, next) = read_obj(from, next)?;
-            let (dep, next) = read_u16(from, next)?;
-            Ok((Cmd::DelDep(obj, dep), next))
-        }
+        (1, next) => read_add_dep(alloc, second, from, next),
+        (2, next) => read_del_dep(from, next),
         (3, next) => {
             let (obj, next) = read_obj(from, next)?;
             Ok((Cmd::Release(obj), next))
         }
-        (4, next) => {
-            let (obj, next) = read_obj(from, next)?;
-            let (priority, next) = read_u8(from, next)?;
-            Ok((Cmd::AltPri(obj, priority), next))
-        }
+        (4, next) => read_alt_pri(from, next),
         (5, next) => {
             let (obj, next) = read_obj(from, next)?;
             Ok((Cmd::Cancel(obj), next))
@@ -66,27 +57,10 @@ pub(crate) fn read_cmd(
             let (limit, next) = read_u16(from, next)?;
             Ok((Cmd::Limit(limit), next))
         }
-        (11, next) => {
-            let (stream, next) = read_u32(from, next)?;
-            let (limit, next) = read_u16(from, next)?;
-            Ok((Cmd::StreamLimit(StreamNo(stream), limit), next))
-        }
-        (12, next) => {
-            let (resource, next) = read_u16(from, next)?;
-            let (total, next) = read_u16(from, next)?;
-            Ok((Cmd::Total(resource, total), next))
-        }
-        (13, next) => {
-            let (prompt, next) = read_u16(from, next)?;
-            let (yes, next) = read_flag(from, next)?;
-            Ok((Cmd::ReplyGlobal(prompt, yes), next))
-        }
-        (14, next) => {
-            let (obj, next) = read_obj(from, next)?;
-            let (dep, next) = read_u16(from, next)?;
-            let (yes, next) = read_flag(from, next)?;
-            Ok((Cmd::ReplyOwn(obj, dep, yes), next))
-        }
+        (11, next) => read_stream_limit(from, next),
+        (12, next) => read_total(from, next),
+        (13, next) => read_reply_global(from, next),
+        (14, next) => read_reply_own(from, next),
         (15, next) => Ok((Cmd::Start, next)),
         (16, next) => Ok((Cmd::Stop, next)),
         (17, next) => {
@@ -99,4 +73,94 @@ pub(crate) fn read_cmd(
         }
         _ => Err(EntryFault::BadField(at as u32)),
     }
+}
+
+/// A new dependency: its object and what it says.
+#[tactic(auto, unfolding(crate::specs::Read::chain))]
+fn read_add_dep(
+    alloc: Global,
+    second: bool,
+    from: &[u8],
+    at: usize,
+) -> Result<(Cmd, usize), EntryFault>
+    requires { IsPlace from.now at }
+    ensures reads { Gives result (two obj_at (dep_at second) AddDep from.now at) }
+    ensures within { IfOk result (λ r. r.1 ≤ length from.now) }
+{
+    let (obj, next) = read_obj(from, at)?;
+    let (dep, next) = Dep::read(alloc, second, from, next)?;
+    Ok((Cmd::AddDep(obj, dep), next))
+}
+
+/// A dependency to take away: its object and its number.
+#[tactic(auto, unfolding(crate::specs::Read::chain))]
+fn read_del_dep(from: &[u8], at: usize) -> Result<(Cmd, usize), EntryFault>
+    requires { IsPlace from.now at }
+    ensures reads { Gives result (two obj_at u16_at DelDep from.now at) }
+    ensures within { IfOk result (λ r. r.1 ≤ length from.now) }
+{
+    let (obj, next) = read_obj(from, at)?;
+    let (dep, next) = read_u16(from, next)?;
+    Ok((Cmd::DelDep(obj, dep), next))
+}
+
+/// Another priority: its object and the priority.
+#[tactic(auto, unfolding(crate::specs::Read::chain))]
+fn read_alt_pri(from: &[u8], at: usize) -> Result<(Cmd, usize), EntryFault>
+    requires { IsPlace from.now at }
+    ensures reads { Gives result (two obj_at u8_at AltPri from.now at) }
+    ensures within { IfOk result (λ r. r.1 ≤ length from.now) }
+{
+    let (obj, next) = read_obj(from, at)?;
+    let (priority, next) = read_u8(from, next)?;
+    Ok((Cmd::AltPri(obj, priority), next))
+}
+
+/// The limit of a stream: the stream and the limit.
+#[tactic(auto, unfolding(crate::specs::Read::chain))]
+fn read_stream_limit(from: &[u8], at: usize) -> Result<(Cmd, usize), EntryFault>
+    requires { IsPlace from.now at }
+    ensures reads { Gives result (two u32_at u16_at StreamLimit from.now at) }
+    ensures within { IfOk result (λ r. r.1 ≤ length from.now) }
+{
+    let (stream, next) = read_u32(from, at)?;
+    let (limit, next) = read_u16(from, next)?;
+    Ok((Cmd::StreamLimit(StreamNo(stream), limit), next))
+}
+
+/// The units of a resource: its number and how many there are.
+#[tactic(auto, unfolding(crate::specs::Read::chain))]
+fn read_total(from: &[u8], at: usize) -> Result<(Cmd, usize), EntryFault>
+    requires { IsPlace from.now at }
+    ensures reads { Gives result (two u16_at u16_at Total from.now at) }
+    ensures within { IfOk result (λ r. r.1 ≤ length from.now) }
+{
+    let (resource, next) = read_u16(from, at)?;
+    let (total, next) = read_u16(from, next)?;
+    Ok((Cmd::Total(resource, total), next))
+}
+
+/// The answer to a prompt of the network: its number and the answer.
+#[tactic(auto, unfolding(crate::specs::Read::chain))]
+fn read_reply_global(from: &[u8], at: usize) -> Result<(Cmd, usize), EntryFault>
+    requires { IsPlace from.now at }
+    ensures reads { Gives result (two u16_at flag_at ReplyGlobal from.now at) }
+    ensures within { IfOk result (λ r. r.1 ≤ length from.now) }
+{
+    let (prompt, next) = read_u16(from, at)?;
+    let (yes, next) = read_flag(from, next)?;
+    Ok((Cmd::ReplyGlobal(prompt, yes), next))
+}
+
+/// The answer to a prompt of an object: the object, the number of its dependency and the answer.
+#[tactic(auto, unfolding(crate::specs::Read::chain))]
+fn read_reply_own(from: &[u8], at: usize) -> Result<(Cmd, usize), EntryFault>
+    requires { IsPlace from.now at }
+    ensures reads { Gives result (three obj_at u16_at flag_at ReplyOwn from.now at) }
+    ensures within { IfOk result (λ r. r.1 ≤ length from.now) }
+{
+    let (obj, next) = read_obj(from, at)?;
+    let (dep, next) = read_u16(from, next)?;
+    let (yes, next) = read_flag(from, next)?;
+    Ok((Cmd::ReplyOwn(obj, dep, yes), next))
 }

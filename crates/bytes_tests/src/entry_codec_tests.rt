@@ -22,28 +22,28 @@ struct Frame<'a> {
 type Rows<'a> = &'a [(&'a [u8], &'a str)];
 
 /// An event of the master at place 2, of version 1.
-const EVENT: Frame = Frame {
+static EVENT: Frame = Frame {
     front: &[1, 0, 0, 0, 0, 0, 0, 2],
     before: "Entry { feed: Events(Ws(0)), place: 2, body: ",
     behind: " }",
 };
 
 /// The same of version 2.
-const SECOND_EVENT: Frame = Frame {
+static SECOND_EVENT: Frame = Frame {
     front: &[2, 0, 0, 0, 0, 0, 0, 2],
     before: "Entry { feed: Events(Ws(0)), place: 2, body: ",
     behind: " }",
 };
 
 /// The first order from workstation 3 to workstation 258, of version 1.
-const ORDER: Frame = Frame {
+static ORDER: Frame = Frame {
     front: &[1, 1, 0, 3, 1, 2, 0, 0, 0, 1, 15],
     before: "Entry { feed: Orders(Ws(3), Ws(258)), place: 1, body: Order(",
     behind: ") }",
 };
 
 /// The same of version 2.
-const SECOND_ORDER: Frame = Frame {
+static SECOND_ORDER: Frame = Frame {
     front: &[2, 1, 0, 3, 1, 2, 0, 0, 0, 1, 15],
     before: "Entry { feed: Orders(Ws(3), Ws(258)), place: 1, body: Order(",
     behind: ") }",

@@ -5,13 +5,13 @@ use std::alloc::Global;
 use std::test::Fail;
 
 /// The acknowledgement of one entry of the first workstation's events.
-const ACKNOWLEDGED: [u8; 12] = [0, 0, 0, 8, 2, 0, 0, 0, 0, 0, 0, 1];
+static ACKNOWLEDGED: [u8; 12] = [0, 0, 0, 8, 2, 0, 0, 0, 0, 0, 0, 1];
 
 /// The first event of a workstation, as an entry's bytes.
-const ENTRY: [u8; 17] = [1, 0, 0, 0, 0, 0, 0, 1, 3, 0, 0, 0, 0, 0, 0, 0, 100];
+static ENTRY: [u8; 17] = [1, 0, 0, 0, 0, 0, 0, 1, 3, 0, 0, 0, 0, 0, 0, 0, 100];
 
 /// A frame of each kind, an acknowledgement of each kind of feed, and three frames without content.
-const STREAM: [u8; 80] = [
+static STREAM: [u8; 80] = [
     0, 0, 0, 18, 1, 1, 0, 0, 0, 0, 0, 0, 1, 3, 0, 0, 0, 0, 0, 0, 0, 100, // an entry
     0, 0, 0, 8, 2, 0, 0, 0, 0, 0, 0, 1, // events
     0, 0, 0, 10, 2, 1, 1, 2, 0, 3, 4, 5, 6, 7, // orders

@@ -10,7 +10,9 @@ use network_tree::Network;
 use owner_fold::Owners;
 use std::alloc::Global;
 use std::test::Fail;
-use test_builders::{ALONE, Asks, EntryRow, ResourceRow, Says, StreamRow, Waits, entry};
+use test_builders::{
+    ALONE, Asks, EntryRow, ObjRow, ResourceRow, Says, StreamRow, Waits, entry, obj,
+};
 use test_nights::{M, Row, hear, holding, network};
 
 const ME: Ws = Ws(0);
@@ -29,7 +31,7 @@ enum Step<'a> {
     /// M takes this, and then has these choices.
     Then(Says<'a>, Choices),
     /// M takes this, and then this is late.
-    Lates(Says<'a>, Option<(Obj, u16)>),
+    Lates(Says<'a>, Option<(ObjRow, u16)>),
     /// Whether a job is ready.
     IsReady(u32, bool),
     /// Whether the dependency of this number of a job is satisfied.
@@ -82,15 +84,22 @@ fn has_then(
     Ok(choices(net, owners) == *want)
 }
 
+fn late(row: &Option<(ObjRow, u16)>) -> Option<(Obj, u16)> {
+    match row {
+        Some((object, number)) => Some((obj(object), *number)),
+        None => None,
+    }
+}
+
 fn is_late_then(
     alloc: Global,
     net: &Network,
     owners: &mut Owners,
     says: &Says,
-    want: &Option<(Obj, u16)>,
+    want: &Option<(ObjRow, u16)>,
 ) -> Result<bool, Fail> {
     hear(owners, alloc, &M, says)?;
-    Ok(late_due(net, owners, ME) == *want)
+    Ok(late_due(net, owners, ME) == late(want))
 }
 
 /// Whether a row is met.
@@ -122,7 +131,7 @@ fn first_unmet(
 }
 
 /// M has a resource of 2 units.
-const RESOURCES: [ResourceRow; 1] = [(0, "R", 2)];
+static RESOURCES: [ResourceRow; 1] = [(0, "R", 2)];
 
 /// The same in a night that begins with the first plan, of these streams, in the network of M alone.
 fn first_other(
@@ -138,7 +147,7 @@ fn first_other(
 const RELEASED: Says = Says::Released(1, &[]);
 
 /// A job of middling priority, and two high ones.
-const HIGH: [StreamRow; 1] = [(
+static HIGH: [StreamRow; 1] = [(
     1,
     0,
     "S",
@@ -152,7 +161,7 @@ const HIGH: [StreamRow; 1] = [(
 )];
 
 /// At a workstation that may have no open launch, up to a fence that holds the highest.
-const LIMITED: [Step; 7] = [
+static LIMITED: [Step; 7] = [
     Step::Then(Says::Obeyed(0, 1, Asks::Limit(0)), (true, false, 0, 0)),
     Step::Then(RELEASED, (false, false, 0, 3)),
     Step::Then(Says::Launched(3, 1, &[]), (false, false, 0, 2)),
@@ -169,7 +178,7 @@ fn high_jobs_pass_a_limit_of_none(rt: HostRuntime) -> Result<(), Fail> {
 }
 
 /// At a limit of none no job is ready before the release, and then only the high ones are.
-const READY_AT_A_LIMIT: [Step; 6] = [
+static READY_AT_A_LIMIT: [Step; 6] = [
     Step::Comes(Says::Obeyed(0, 1, Asks::Limit(0))),
     Step::IsReady(3, false),
     Step::Comes(RELEASED),
@@ -198,7 +207,7 @@ const NEEDY: [StreamRow; 1] = [(
 )];
 
 /// With fewer units in between, up to the end of the stream.
-const FEWER_UNITS: [Step; 7] = [
+static FEWER_UNITS: [Step; 7] = [
     Step::Then(RELEASED, (false, false, 0, 1)),
     Step::Then(Says::Launched(1, 1, &[]), (false, false, 0, 0)),
     Step::Then(Says::Obeyed(0, 1, Asks::Total(1, 1)), (false, false, 0, 0)),
@@ -216,7 +225,7 @@ fn a_stream_ends_once_all_jobs_did(rt: HostRuntime) -> Result<(), Fail> {
 
 /// The need of the second job is satisfied until the first is launched. Dependencies 0 and 2 are not there, nor is job
 /// 3: none is satisfied, and that job is not ready.
-const UNITS_IN_USE: [Step; 12] = [
+static UNITS_IN_USE: [Step; 12] = [
     Step::IsSatisfied(2, 0, false),
     Step::IsSatisfied(2, 2, false),
     Step::IsSatisfied(3, 1, false),
@@ -238,7 +247,7 @@ fn units_in_use_are_waited_for(rt: HostRuntime) -> Result<(), Fail> {
 }
 
 /// Jobs with an UNTIL of each kind, and one that follows the third of them.
-const WITH_UNTILS: [StreamRow; 1] = [(
+static WITH_UNTILS: [StreamRow; 1] = [(
     1,
     0,
     "S",
@@ -254,19 +263,19 @@ const WITH_UNTILS: [StreamRow; 1] = [(
 
 /// At the reading each UNTIL is due in turn. What goes on behind its UNTIL is launched, then what follows the
 /// cancelled job.
-const TIMED: [Step; 10] = [
+static TIMED: [Step; 10] = [
     Step::Then(RELEASED, (false, false, 0, 1)),
     Step::Then(Says::Clock(200), (false, false, 1, 2)),
     Step::Then(
-        Says::UntilPassed(Obj::Job(JobNo(1)), 1, OnUntil::Suppr),
+        Says::UntilPassed(ObjRow::Job(1), 1, OnUntil::Suppr),
         (false, false, 2, 2),
     ),
     Step::Then(
-        Says::UntilPassed(Obj::Job(JobNo(2)), 1, OnUntil::Cont),
+        Says::UntilPassed(ObjRow::Job(2), 1, OnUntil::Cont),
         (false, false, 3, 2),
     ),
     Step::Then(
-        Says::UntilPassed(Obj::Job(JobNo(3)), 1, OnUntil::Canc),
+        Says::UntilPassed(ObjRow::Job(3), 1, OnUntil::Canc),
         (false, false, 0, 2),
     ),
     Step::Then(Says::Launched(2, 1, &[]), (false, false, 0, 4)),
@@ -284,7 +293,7 @@ fn untils_are_due_at_the_reading(rt: HostRuntime) -> Result<(), Fail> {
 }
 
 /// By 200, and by 201: streams, one of them without jobs, and jobs, the fourth with two DEADLINEs.
-const WITH_DEADLINES: [StreamRow; 2] = [
+static WITH_DEADLINES: [StreamRow; 2] = [
     (
         2,
         0,
@@ -306,35 +315,23 @@ const WITH_DEADLINES: [StreamRow; 2] = [
 /// Job 1 is good, job 2 runs, job 3 is cancelled, that of job 5 is waived, and the stream without jobs is ended. They
 /// are late at 200, and not at the second before: streams before jobs, then the lowest number, then the lowest
 /// dependency; what is recorded is not late again.
-const LATENESS: [Step; 17] = [
+static LATENESS: [Step; 17] = [
     Step::Lates(Says::Released(2, &[]), None),
     Step::Lates(RELEASED, None),
     Step::Lates(Says::StreamEnded(1, &[]), None),
     Step::Lates(Says::Launched(1, 1, &[]), None),
     Step::Lates(Says::Ended(1, 1, 0), None),
     Step::Lates(Says::Launched(2, 1, &[]), None),
-    Step::Lates(Says::Obeyed(0, 1, Asks::Cancel(Obj::Job(JobNo(3)))), None),
-    Step::Lates(
-        Says::Obeyed(0, 1, Asks::DelDep(Obj::Job(JobNo(5)), 1)),
-        None,
-    ),
+    Step::Lates(Says::Obeyed(0, 1, Asks::Cancel(ObjRow::Job(3))), None),
+    Step::Lates(Says::Obeyed(0, 1, Asks::DelDep(ObjRow::Job(5), 1)), None),
     Step::Lates(Says::Clock(199), None),
-    Step::Lates(Says::Clock(200), Some((Obj::Stream(StreamNo(2)), 1))),
-    Step::Lates(
-        Says::Late(Obj::Stream(StreamNo(2)), 1),
-        Some((Obj::Job(JobNo(2)), 1)),
-    ),
-    Step::Lates(
-        Says::Late(Obj::Job(JobNo(2)), 1),
-        Some((Obj::Job(JobNo(4)), 1)),
-    ),
-    Step::Lates(
-        Says::Late(Obj::Job(JobNo(4)), 1),
-        Some((Obj::Job(JobNo(4)), 2)),
-    ),
-    Step::Lates(Says::Late(Obj::Job(JobNo(4)), 2), None),
-    Step::Lates(Says::Clock(201), Some((Obj::Job(JobNo(6)), 1))),
-    Step::Lates(Says::Launched(6, 1, &[]), Some((Obj::Job(JobNo(6)), 1))),
+    Step::Lates(Says::Clock(200), Some((ObjRow::Stream(2), 1))),
+    Step::Lates(Says::Late(ObjRow::Stream(2), 1), Some((ObjRow::Job(2), 1))),
+    Step::Lates(Says::Late(ObjRow::Job(2), 1), Some((ObjRow::Job(4), 1))),
+    Step::Lates(Says::Late(ObjRow::Job(4), 1), Some((ObjRow::Job(4), 2))),
+    Step::Lates(Says::Late(ObjRow::Job(4), 2), None),
+    Step::Lates(Says::Clock(201), Some((ObjRow::Job(6), 1))),
+    Step::Lates(Says::Launched(6, 1, &[]), Some((ObjRow::Job(6), 1))),
     Step::Lates(Says::Ended(6, 1, 0), None),
 ];
 
@@ -345,7 +342,7 @@ fn what_is_not_done_is_late_at_its_second(rt: HostRuntime) -> Result<(), Fail> {
 }
 
 /// A DEADLINE is satisfied before its time, and after it while the object is late.
-const PAST_ALL_DEADLINES: [Step; 6] = [
+static PAST_ALL_DEADLINES: [Step; 6] = [
     Step::Comes(Says::Released(2, &[])),
     Step::IsSatisfied(2, 1, true),
     Step::IsReady(2, true),
@@ -409,7 +406,7 @@ fn best_after_launch(
 }
 
 /// S, with the two jobs that need all units, is released.
-const NEEDY_RELEASED: [Row; 2] = [(M, Says::NewPlan(1, &[], &[], &NEEDY)), (M, RELEASED)];
+static NEEDY_RELEASED: [Row; 2] = [(M, Says::NewPlan(1, &[], &[], &NEEDY)), (M, RELEASED)];
 
 /// The same there.
 fn best_of_needy(alloc: Global) -> Result<Option<u32>, Fail> {

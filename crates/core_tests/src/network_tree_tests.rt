@@ -14,16 +14,43 @@ const M: NodeRow = ("M", None, true, false);
 /// A manager below it.
 const D: NodeRow = ("D", Some(0), true, false);
 
-const PROMPTS: [PromptRow; 2] = [("P", "go on?"), ("Q", "go on?")];
+static PROMPTS: [PromptRow; 2] = [("P", "go on?"), ("Q", "go on?")];
 
 fn fault(alloc: Global, net: Net) -> Option<NetFault> {
     Network::new(alloc, net).err()
 }
 
+/// Why a net is refused, in numbers.
+#[derive(Clone, Copy)]
+enum Refused {
+    Empty,
+    Duplicate(u16),
+    BadHop(u16),
+    Tree(u16),
+    OutOfRange,
+}
+
+fn refusal(row: &Refused) -> NetFault {
+    match row {
+        Refused::Empty => NetFault::Empty,
+        Refused::Duplicate(ws) => NetFault::Duplicate(Ws(*ws)),
+        Refused::BadHop(ws) => NetFault::BadHop(Ws(*ws)),
+        Refused::Tree(ws) => NetFault::Tree(Ws(*ws)),
+        Refused::OutOfRange => NetFault::OutOfRange,
+    }
+}
+
+fn wanted_fault(row: &Option<Refused>) -> Option<NetFault> {
+    match row {
+        Some(why) => Some(refusal(why)),
+        None => None,
+    }
+}
+
 /// Nets by their workstations and resources, and why they are refused.
-const FAULTS: [(&[NodeRow], &[ResourceRow], Option<NetFault>); 14] = [
+static FAULTS: [(&[NodeRow], &[ResourceRow], Option<Refused>); 14] = [
     // Nobody, before a resource of a workstation outside.
-    (&[], &[(0, "R", 1)], Some(NetFault::Empty)),
+    (&[], &[(0, "R", 1)], Some(Refused::Empty)),
     // The second of two workstations of one name, before a bad hop.
     (
         &[
@@ -34,13 +61,13 @@ const FAULTS: [(&[NodeRow], &[ResourceRow], Option<NetFault>); 14] = [
             ("M", None, false, false),
         ],
         &[],
-        Some(NetFault::Duplicate(Ws(3))),
+        Some(Refused::Duplicate(3)),
     ),
     // No hop, one that is no manager, one outside.
     (
         &[M, ("D", None, true, false)],
         &[],
-        Some(NetFault::BadHop(Ws(1))),
+        Some(Refused::BadHop(1)),
     ),
     (
         &[
@@ -49,24 +76,20 @@ const FAULTS: [(&[NodeRow], &[ResourceRow], Option<NetFault>); 14] = [
             ("L", Some(1), false, false),
         ],
         &[],
-        Some(NetFault::BadHop(Ws(2))),
+        Some(Refused::BadHop(2)),
     ),
     (
         &[M, ("D", Some(2), false, false)],
         &[],
-        Some(NetFault::BadHop(Ws(1))),
+        Some(Refused::BadHop(1)),
     ),
     // A master with a hop, and one that is no manager.
     (
         &[("M", Some(1), true, false), D],
         &[],
-        Some(NetFault::BadHop(Ws(0))),
+        Some(Refused::BadHop(0)),
     ),
-    (
-        &[("M", None, false, false)],
-        &[],
-        Some(NetFault::BadHop(Ws(0))),
-    ),
+    (&[("M", None, false, false)], &[], Some(Refused::BadHop(0))),
     // A bad hop before a circle.
     (
         &[
@@ -76,13 +99,13 @@ const FAULTS: [(&[NodeRow], &[ResourceRow], Option<NetFault>); 14] = [
             ("L", None, false, false),
         ],
         &[],
-        Some(NetFault::BadHop(Ws(3))),
+        Some(Refused::BadHop(3)),
     ),
     // A circle before a resource of a workstation outside, and a chain that leads to a circle.
     (
         &[M, ("D", Some(2), true, false), ("E", Some(1), true, false)],
         &[(3, "R", 1)],
-        Some(NetFault::Tree(Ws(1))),
+        Some(Refused::Tree(1)),
     ),
     (
         &[
@@ -92,24 +115,24 @@ const FAULTS: [(&[NodeRow], &[ResourceRow], Option<NetFault>); 14] = [
             ("E", Some(3), true, false),
         ],
         &[],
-        Some(NetFault::Tree(Ws(2))),
+        Some(Refused::Tree(2)),
     ),
     // A total above the greatest, a workstation outside, and a resource that is named twice.
     (&[M, D], &[(1, "R", 1024), (0, "R", 0)], None),
     (
         &[M, D],
         &[(1, "R", 1025), (0, "R", 0)],
-        Some(NetFault::OutOfRange),
+        Some(Refused::OutOfRange),
     ),
     (
         &[M, D],
         &[(1, "R", 1), (2, "S", 1)],
-        Some(NetFault::OutOfRange),
+        Some(Refused::OutOfRange),
     ),
     (
         &[M, D],
         &[(1, "R", 1), (0, "S", 1), (1, "R", 2)],
-        Some(NetFault::OutOfRange),
+        Some(Refused::OutOfRange),
     ),
 ];
 
@@ -127,7 +150,7 @@ fn fault_of(
 /// The index of the first net that is refused otherwise.
 fn first_other_fault(alloc: Global) -> Result<Option<usize>, Fail> {
     for (i, (nodes, resources, want)) in FAULTS.iter().enumerate() {
-        if fault_of(alloc, *nodes, *resources, &PROMPTS)? != *want {
+        if fault_of(alloc, *nodes, *resources, &PROMPTS)? != wanted_fault(want) {
             return Ok(Some(i));
         }
     }
@@ -140,7 +163,7 @@ fn refuses_each_fault(rt: HostRuntime) -> Result<(), Fail> {
     Ok(())
 }
 
-const TWICE: [PromptRow; 3] = [("P", "go on?"), ("Q", "go on?"), ("P", "stop?")];
+static TWICE: [PromptRow; 3] = [("P", "go on?"), ("Q", "go on?"), ("P", "stop?")];
 
 #[test]
 fn refuses_a_prompt_that_is_named_twice(rt: HostRuntime) -> Result<(), Fail> {
@@ -320,7 +343,7 @@ fn finds_ways_over_two_hops(rt: HostRuntime) -> Result<(), Fail> {
 }
 
 /// The managers 4 and 5 stand behind their agents 1 and 2.
-const DOMAINS: [NodeRow; 6] = [
+static DOMAINS: [NodeRow; 6] = [
     ("M", None, true, false),
     ("K", Some(4), false, false),
     ("L", Some(5), false, false),

@@ -7,10 +7,13 @@ mod sets;
 mod times;
 
 use base_types::{JobNo, Obj};
-use test_builders::{JobRow, Says, Waits};
+use test_builders::{JobRow, ObjRow, Says, Waits};
 use test_nights::{M, Row};
 
 const FIRST: Obj = Obj::Job(JobNo(1));
+
+/// The same in rows.
+const FIRST_ROW: ObjRow = ObjRow::Job(1);
 
 /// The first plan, with a job that depends on nothing.
 const PLAN: Row = (
@@ -24,7 +27,7 @@ const PLAN: Row = (
 );
 
 /// The one job is released and launched.
-const LAUNCH: [Row; 3] = [
+static LAUNCH: [Row; 3] = [
     PLAN,
     (M, Says::Released(1, &[(0, 1)])),
     (M, Says::Launched(1, 1, &[(0, 2)])),
@@ -36,7 +39,7 @@ const NEEDY: [JobRow; 2] = [
     (2, 0, "K", 10, &[Waits::Units(1, 2)]),
 ];
 
-const USE_UNITS: [Row; 3] = [
+static USE_UNITS: [Row; 3] = [
     (
         M,
         Says::NewPlan(1, &[], &[], &[(1, 0, "S", false, &[], &NEEDY)]),

@@ -14,13 +14,13 @@ mod torn;
 mod written;
 
 /// Events of workstation 0, place 1, the clock at 100.
-const CLOCK: [u8; 17] = [1, 0, 0, 0, 0, 0, 0, 1, 3, 0, 0, 0, 0, 0, 0, 0, 100];
+static CLOCK: [u8; 17] = [1, 0, 0, 0, 0, 0, 0, 1, 3, 0, 0, 0, 0, 0, 0, 0, 100];
 
 /// Its place 2 in version 2 of the entries' bytes: a job is late.
-const LATE: [u8; 16] = [2, 0, 0, 0, 0, 0, 0, 2, 16, 0, 0, 0, 0, 1, 0, 1];
+static LATE: [u8; 16] = [2, 0, 0, 0, 0, 0, 0, 2, 16, 0, 0, 0, 0, 1, 0, 1];
 
 /// The file of workstation 0 with the first of these alone.
-const FILE: [u8; 31] = [
+static FILE: [u8; 31] = [
     0x54, 0x57, 0x53, 0x4d, 0, 1, 0, 0, 1, 0, 0, 0, 17, 1, 0, 0, 0, 0, 0, 0, 1, 3, 0, 0, 0, 0, 0,
     0, 0, 100, 0,
 ];

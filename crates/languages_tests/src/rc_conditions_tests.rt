@@ -19,7 +19,7 @@ fn is_printed(alloc: Global, text: &str, canonical: &str) -> Result<bool, Fail> 
 }
 
 /// Texts and the canonical texts of their conditions.
-const CANONICAL: [(&str, &str); 18] = [
+static CANONICAL: [(&str, &str); 18] = [
     ("rc<=4", "RC <= 4"),
     ("RC = 0", "RC = 0"),
     ("Rc <> 1", "RC != 1"),
@@ -65,7 +65,7 @@ fn canonical_texts(rt: HostRuntime) -> Result<(), Fail> {
 }
 
 /// Texts and the places, in bytes, where they stop being a condition.
-const BAD: [(&str, u32); 28] = [
+static BAD: [(&str, u32); 28] = [
     ("", 0),
     ("  ", 2),
     ("RCAND", 0),
@@ -159,7 +159,7 @@ fn texts_that_are_too_long(rt: HostRuntime) -> Result<(), Fail> {
 const AT_LEAST: CondOp = CondOp::Cmp(Rel::Ge, -5);
 
 /// Operations that are no expression in postfix order.
-const NO_EXPRESSIONS: [&[CondOp]; 5] = [
+static NO_EXPRESSIONS: [&[CondOp]; 5] = [
     &[AT_LEAST, AT_LEAST],
     &[CondOp::Not],
     &[AT_LEAST, CondOp::And],
@@ -198,7 +198,7 @@ fn no_operation(rt: HostRuntime) -> Result<(), Fail> {
 }
 
 /// Conditions, return codes, and whether they are met.
-const MET: [(&str, i32, bool); 9] = [
+static MET: [(&str, i32, bool); 9] = [
     ("RC <= 4", 4, true),
     ("RC <= 4", 5, false),
     ("RC < -1", -2, true),

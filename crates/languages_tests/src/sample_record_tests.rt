@@ -22,7 +22,7 @@ fn hash(bytes: &[u8]) -> u64 {
 }
 
 /// Jobs and seed, and the length and the hash of the sample.
-const SAMPLES: [(u32, u32, usize, u64); 7] = [
+static SAMPLES: [(u32, u32, usize, u64); 7] = [
     (1, 0, 3_960, 9_394_615_644_224_111_221),
     (10, 5, 7_284, 6_050_338_873_455_965_184),
     (11, 5, 7_680, 9_969_610_306_966_934_617),

@@ -4,7 +4,7 @@ use std::test::Fail;
 use syntax::{first_word, lines, name, number_i32, number_u32, number_u64, quoted, words};
 
 /// Texts and their lines.
-const LINES: [(&str, &[&str]); 3] = [
+static LINES: [(&str, &[&str]); 3] = [
     ("", &[]),
     ("a\nb c\n", &["a", "b c"]),
     ("a\r\n\n\nb", &["a\r", "", "", "b"]),
@@ -23,7 +23,7 @@ fn lines_of_a_text(rt: HostRuntime) -> Result<(), Fail> {
 }
 
 /// Lines and their words.
-const WORDS: [(&str, &[&str]); 2] = [("job M  A", &["job", "M", "", "A"]), ("", &[""])];
+static WORDS: [(&str, &[&str]); 2] = [("job M  A", &["job", "M", "", "A"]), ("", &[""])];
 
 fn are_words(alloc: Global, line: &str, expected: &[&str]) -> Result<bool, Fail> {
     Ok(words(alloc, line)?.as_slice() == expected)
@@ -64,7 +64,7 @@ fn numbers_without_a_sign(rt: HostRuntime) {
 }
 
 /// Words and the numbers that they are.
-const SIGNED: [(&str, Option<i32>); 7] = [
+static SIGNED: [(&str, Option<i32>); 7] = [
     ("-2147483648", Some(-2147483648)),
     ("-2147483649", None),
     ("2147483647", Some(2147483647)),
@@ -82,7 +82,7 @@ fn numbers_with_a_sign(rt: HostRuntime) {
 }
 
 /// Texts in quotes and what they stand for.
-const QUOTED: [(&str, &str); 3] = [
+static QUOTED: [(&str, &str); 3] = [
     (r#""echo a""#, "echo a"),
     (r#""""#, ""),
     (r#""say \"Zoë\" \\ c:\d""#, r#"say "Zoë" \ c:\d"#),

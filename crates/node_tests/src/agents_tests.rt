@@ -1,13 +1,13 @@
 //! One node among its neighbours: what each input keeps and gives out, and why it is refused.
 use crate::nodes::{Comes, Given, Gives, Turned, first_wrong, restored};
 use agent_core::{Agent, RestoreFault, StepFault};
-use base_types::{Bytes, Cmd, Dep, Feed, Input, Items, JobNo, Local, Obj, Text, Why, Ws};
+use base_types::{Bytes, Cmd, Dep, Feed, Input, Items, Local, Text, Why, Ws};
 use carry_forward::CarryFault;
 use std::alloc::Global;
 use std::test::Fail;
 use test_builders::{
-    Asks, DOMAIN, DraftWaits, EntryRow, FeedRow, JobDraftRow, NodeRow, Says, StreamDraftRow,
-    StreamRow, TWO_AGENTS, Waits, entries,
+    Asks, DOMAIN, DraftWaits, EntryRow, FeedRow, JobDraftRow, NodeRow, ObjRow, Says,
+    StreamDraftRow, StreamRow, TWO_AGENTS, Waits, entries, obj,
 };
 use test_nights::{M, network};
 
@@ -17,7 +17,7 @@ const NOTHING: Comes = Comes::Gives(&[]);
 const BEHIND: EntryRow = (M, 3, Says::Clock(3));
 
 /// P below the master M, beside Q. It kept the master's first entry.
-const AT_P: [Turned; 16] = [
+static AT_P: [Turned; 16] = [
     (Given::Linked(0), NOTHING),
     (Given::Mail(0, BEHIND), Comes::Gives(&[Gives::Ack(0, M, 1)])),
     (Given::Unlinked(0), NOTHING),
@@ -47,7 +47,7 @@ const AT_P: [Turned; 16] = [
     (Given::Next(&[]), Comes::Refuses(StepFault::NotMaster)),
     (Given::Ended(1, 0), Comes::Refuses(StepFault::NoProcess)),
     (
-        Given::Fulfil(Obj::Job(JobNo(1)), 1),
+        Given::Fulfil(ObjRow::Job(1), 1),
         Comes::Refuses(StepFault::NoDep),
     ),
     (
@@ -56,7 +56,7 @@ const AT_P: [Turned; 16] = [
     ),
 ];
 
-const FIRST: [EntryRow; 1] = [(M, 1, Says::Clock(1))];
+static FIRST: [EntryRow; 1] = [(M, 1, Says::Clock(1))];
 
 #[test]
 fn a_node_among_its_neighbours(rt: HostRuntime) -> Result<(), Fail> {
@@ -75,17 +75,17 @@ fn fault(alloc: Global, me: u16, kept: &[EntryRow]) -> Result<Option<RestoreFaul
     }
 }
 
-const SECOND: [EntryRow; 1] = [(M, 2, Says::Clock(2))];
+static SECOND: [EntryRow; 1] = [(M, 2, Says::Clock(2))];
 
 /// The third repeats a place.
-const REPEATED: [EntryRow; 3] = [
+static REPEATED: [EntryRow; 3] = [
     (M, 1, Says::Clock(1)),
     (FeedRow::Events(1), 1, Says::Clock(1)),
     (M, 1, Says::Clock(1)),
 ];
 
 /// The second names a workstation outside.
-const OUTSIDE: [EntryRow; 2] = [
+static OUTSIDE: [EntryRow; 2] = [
     (M, 1, Says::Clock(1)),
     (M, 2, Says::Obeyed(0, 1, Asks::SwitchMgr(9))),
 ];
@@ -112,7 +112,7 @@ fn a_node_is_restored_from_what_follows_on_alone(rt: HostRuntime) -> Result<(), 
     Ok(())
 }
 
-const JOB: Obj = Obj::Job(JobNo(1));
+const JOB: ObjRow = ObjRow::Job(1);
 
 const DRAFTED: [StreamDraftRow; 1] = [(0, "S", true, &[], &DRAFTED_JOBS)];
 
@@ -128,7 +128,7 @@ const PLANNED: [StreamRow; 1] = [(
 )];
 
 /// The master M, with P linked, on a day of one job that waits for a file, starts, is killed and ends.
-const AT_M: [Turned; 15] = [
+static AT_M: [Turned; 15] = [
     (Given::Linked(1), NOTHING),
     (
         Given::Next(&DRAFTED),
@@ -204,7 +204,7 @@ fn a_day_of_one_job(rt: HostRuntime) -> Result<(), Fail> {
 const READY: [StreamRow; 1] = [(1, 0, "S", true, &[], &[(1, 0, "J", 10, &[])])];
 
 /// The master holds a plan whose stream is released.
-const RELEASED: [EntryRow; 2] = [
+static RELEASED: [EntryRow; 2] = [
     (M, 1, Says::NewPlan(1, &[], &[], &READY)),
     (M, 2, Says::Released(1, &[(0, 1)])),
 ];
@@ -217,7 +217,7 @@ const LAUNCHED: Turned = (
     ),
 );
 
-const CANNOT_START: [Turned; 3] = [
+static CANNOT_START: [Turned; 3] = [
     LAUNCHED,
     (
         Given::StartFailed(1),
@@ -233,7 +233,7 @@ fn a_launch_that_cannot_be_started(rt: HostRuntime) -> Result<(), Fail> {
     Ok(())
 }
 
-const BEFORE_A_RESTART: [Turned; 2] = [(Given::Linked(1), NOTHING), LAUNCHED_TO_P];
+static BEFORE_A_RESTART: [Turned; 2] = [(Given::Linked(1), NOTHING), LAUNCHED_TO_P];
 
 const LAUNCHED_TO_P: Turned = (
     Given::Turn(1),
@@ -249,7 +249,7 @@ const LAUNCHED_TO_P: Turned = (
 );
 
 /// The link is down, and the launch is lost.
-const AFTER_A_RESTART: [Turned; 2] = [
+static AFTER_A_RESTART: [Turned; 2] = [
     (Given::Started(1), Comes::Refuses(StepFault::NoProcess)),
     (Given::Turn(2), Comes::Keeps((M, 4, Says::Lost(1, 1)), &[])),
 ];
@@ -278,7 +278,7 @@ const TO_L: Asks = Asks::SwitchMgr(2);
 
 /// The master M above the manager D and its agent L, of which L takes over. The link to D stays up, and nothing goes
 /// over it any more.
-const SWITCHED: [Turned; 5] = [
+static SWITCHED: [Turned; 5] = [
     (Given::Linked(1), NOTHING),
     (Given::Linked(2), NOTHING),
     (
@@ -293,7 +293,7 @@ const SWITCHED: [Turned; 5] = [
 ];
 
 /// Before the switch the master sends to D, and not to L.
-const NOT_SWITCHED: [Turned; 3] = [
+static NOT_SWITCHED: [Turned; 3] = [
     (Given::Linked(1), NOTHING),
     (Given::Linked(2), NOTHING),
     (Given::Turn(1), Comes::Gives(&[Gives::Mail(1, M, 1)])),
@@ -309,7 +309,7 @@ fn a_switch_of_managers_changes_whom_the_master_sends_to(rt: HostRuntime) -> Res
 }
 
 /// The agent L hears of the switch from the master, which becomes its hop.
-const AT_L: [Turned; 3] = [
+static AT_L: [Turned; 3] = [
     (Given::Linked(0), NOTHING),
     (
         Given::Mail(0, (M, 1, Says::Obeyed(0, 1, TO_L))),
@@ -362,9 +362,9 @@ fn a_manager_and_an_agent_of_the_master_do_not_take_over(rt: HostRuntime) -> Res
     Ok(())
 }
 
-const LAST_RUN: [EntryRow; 1] = [(M, 1, Says::NewPlan(u32::MAX, &[], &[], &[]))];
+static LAST_RUN: [EntryRow; 1] = [(M, 1, Says::NewPlan(u32::MAX, &[], &[], &[]))];
 
-const NO_RUN_LEFT: [Turned; 1] = [(
+static NO_RUN_LEFT: [Turned; 1] = [(
     Given::Next(&[]),
     Comes::Refuses(StepFault::Carry(CarryFault::RunsSpent)),
 )];
@@ -383,7 +383,7 @@ fn long_command(alloc: Global, pieces: u32) -> Result<Input, Fail> {
         path.push_str("aaaaaaaaaaaaaaaaaaaaaaaaaaaaaaaaaaaaaaaaaaaaaaaaaaaaaaaaaaaaaaaa")?;
     }
     let waits = Dep::Outside(Text::of(alloc, path.as_str())?);
-    Ok(Input::Local(Local::Typed(Ws(0), Cmd::AddDep(JOB, waits))))
+    Ok(Input::Local(Local::Typed(Ws(0), Cmd::AddDep(obj(&JOB), waits))))
 }
 
 #[test]
@@ -397,7 +397,7 @@ fn an_entry_that_is_too_long(rt: HostRuntime) -> Result<(), Fail> {
 }
 
 /// An order besides, of which no event tells.
-const FIRST_AND_AN_ORDER: [EntryRow; 2] = [
+static FIRST_AND_AN_ORDER: [EntryRow; 2] = [
     (FeedRow::Orders(0, 1), 1, Says::Order(Asks::Start)),
     (M, 1, Says::Clock(1)),
 ];

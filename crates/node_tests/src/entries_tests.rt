@@ -1,18 +1,20 @@
 //! Which workstations an entry names, and how many bytes it has.
-use base_types::{JobNo, Obj, Ws};
+
 use entry_sizes::entry_size;
 use named_workstations::{are_drafts_inside, is_entry_inside};
 use std::alloc::Global;
 use std::test::Fail;
-use test_builders::{Asks, DraftWaits, EntryRow, FeedRow, Says, StreamDraftRow, drafts, entry};
+use test_builders::{
+    Asks, DraftWaits, EntryRow, FeedRow, ObjRow, Says, StreamDraftRow, drafts, entry,
+};
 use test_nights::M;
 
 /// Entries, the least number of workstations of a network that has all that they name, and their bytes, as the format
 /// of entries counts them.
-const ENTRIES: [(EntryRow, u16, u32); 8] = [
+static ENTRIES: [(EntryRow, u16, u32); 8] = [
     ((M, 1, Says::Clock(100)), 1, 17),
     ((FeedRow::Events(3), 1, Says::Clock(100)), 4, 17),
-    ((M, 2, Says::Late(Obj::Job(JobNo(1)), 1)), 1, 16),
+    ((M, 2, Says::Late(ObjRow::Job(1), 1)), 1, 16),
     ((M, 1, Says::Released(1, &[])), 1, 17),
     ((M, 1, Says::Released(1, &[(0, 7), (2, 1)])), 3, 29),
     ((FeedRow::Orders(1, 2), 1, Says::Order(Asks::Start)), 3, 12),
@@ -39,7 +41,7 @@ fn entries_name_workstations_and_have_bytes(rt: HostRuntime) -> Result<(), Fail>
 }
 
 /// A stream of workstation 1, which follows one of 2, and has a job on 3.
-const DRAFTS: [StreamDraftRow; 1] = [(
+static DRAFTS: [StreamDraftRow; 1] = [(
     1,
     "S",
     false,

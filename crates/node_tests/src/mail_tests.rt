@@ -14,14 +14,14 @@ const ME: Ws = Ws(1);
 const AGENT: FeedRow = FeedRow::Events(2);
 
 /// What the manager took.
-const TAKEN: [Row; 3] = [
+static TAKEN: [Row; 3] = [
     (M, Says::Clock(1)),
     (AGENT, Says::Clock(1)),
     (AGENT, Says::Clock(2)),
 ];
 
 /// Mail, and whether the manager keeps it.
-const MAIL: [(EntryRow, bool); 6] = [
+static MAIL: [(EntryRow, bool); 6] = [
     ((AGENT, 3, Says::Clock(3)), true),
     // A repeat, and mail beyond a gap.
     ((AGENT, 2, Says::Clock(2)), false),

@@ -1,10 +1,11 @@
 //! Nodes, their inputs and what comes of them, as rows.
 use agent_core::{Agent, Step, StepFault};
-use base_types::{Body, Entry, Input, JobNo, Local, Moment, Obj, Out, Packet, Work, Ws};
+use base_types::{Body, Entry, Input, JobNo, Local, Moment, Out, Packet, Work, Ws};
 use std::alloc::Global;
 use std::test::Fail;
 use test_builders::{
-    Asks, EntryRow, FeedRow, NodeRow, StreamDraftRow, command, drafts, entries, entry, feed,
+    Asks, EntryRow, FeedRow, NodeRow, ObjRow, StreamDraftRow, command, drafts, entries, entry,
+    feed, obj,
 };
 use test_nights::network;
 
@@ -19,7 +20,7 @@ pub enum Given<'a> {
     Started(u32),
     StartFailed(u32),
     Ended(u32, i32),
-    Fulfil(Obj, u16),
+    Fulfil(ObjRow, u16),
     Next(&'a [StreamDraftRow<'a>]),
     /// The sender, and what it sent.
     Mail(u16, EntryRow<'a>),
@@ -61,7 +62,7 @@ fn local(alloc: Global, given: &Given) -> Result<Local, Fail> {
         Given::Started(job) => Ok(Local::Started(JobNo(*job))),
         Given::StartFailed(job) => Ok(Local::StartFailed(JobNo(*job))),
         Given::Ended(job, code) => Ok(Local::Ended(JobNo(*job), *code)),
-        Given::Fulfil(obj, number) => Ok(Local::Fulfil(*obj, *number)),
+        Given::Fulfil(row, number) => Ok(Local::Fulfil(obj(row), *number)),
         Given::Next(rows) => Ok(Local::Next(drafts(alloc, *rows)?)),
         Given::Mail(_, _) | Given::Ack(_, _, _) => Err("it comes from a neighbour")?,
     }

@@ -12,7 +12,7 @@ use test_nights::{M, Row, holding, network};
 type Way = (u16, u16, u16, bool);
 
 /// The master is 0, the manager below it 1, and its agent 2. Nobody but the master is wanted below.
-const EVENTS: [Way; 8] = [
+static EVENTS: [Way; 8] = [
     // Up to the hop: what is at or below the node.
     (2, 1, 2, true),
     (1, 0, 2, true),
@@ -27,7 +27,7 @@ const EVENTS: [Way; 8] = [
 ];
 
 /// A stream of the manager has a job on the agent, so each wants the other's events.
-const SHARED: [Row; 1] = [(
+static SHARED: [Row; 1] = [(
     M,
     Says::NewPlan(
         1,
@@ -37,7 +37,7 @@ const SHARED: [Row; 1] = [(
     ),
 )];
 
-const EVENTS_OF_SHARED: [Way; 2] = [(1, 2, 1, true), (1, 2, 2, false)];
+static EVENTS_OF_SHARED: [Way; 2] = [(1, 2, 1, true), (1, 2, 2, false)];
 
 /// Who passes the orders for a workstation on to whom, all typed at the master.
 const ORDERS: [Way; 5] = [

@@ -9,7 +9,7 @@ use test_builders::{Asks, DOMAIN, EntryRow, FeedRow, NodeRow, Says, TWO_AGENTS, 
 use test_nights::{M, network};
 
 /// The network of the master M, the manager D and its agent L, once L has taken over.
-const SWITCHED: [NodeRow; 3] = [
+static SWITCHED: [NodeRow; 3] = [
     ("M", None, true, true),
     ("D", Some(2), false, false),
     ("L", Some(0), true, false),

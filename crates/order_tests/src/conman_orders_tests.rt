@@ -14,9 +14,9 @@ use std::test::Fail;
 use test_builders::{NodeRow, PromptRow, ResourceRow, Says, Waits};
 use test_nights::{M, Row, hear};
 
-const RESOURCES: [ResourceRow; 2] = [(0, "R", 2), (2, "TAPE", 2)];
+static RESOURCES: [ResourceRow; 2] = [(0, "R", 2), (2, "TAPE", 2)];
 
-const PROMPTS: [PromptRow; 2] = [("GO", "go on?"), ("SHOWN", ":look")];
+static PROMPTS: [PromptRow; 2] = [("GO", "go on?"), ("SHOWN", ":look")];
 
 fn network(alloc: Global, nodes: &[NodeRow]) -> Result<Network, Fail> {
     test_nights::network(alloc, nodes, &RESOURCES, &PROMPTS)
@@ -25,7 +25,7 @@ fn network(alloc: Global, nodes: &[NodeRow]) -> Result<Network, Fail> {
 /// Two plans. The first has the stream M#S of the jobs A on M, which waits for an own prompt and for one that is only
 /// shown, and B on L, and the stream L#S of the job A on L. The second carries M#S and has it anew as stream 3, with the
 /// job A of number 4; L#S is no member any more.
-const PLANS: [Row; 2] = [
+static PLANS: [Row; 2] = [
     (
         M,
         Says::NewPlan(

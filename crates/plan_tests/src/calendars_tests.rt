@@ -8,7 +8,7 @@ use std::test::Fail;
 /// A date's year, month and day, and the number of its day by an almanac.
 type DateRow = (u16, u8, u8, u32);
 
-const DATES: [DateRow; 21] = [
+static DATES: [DateRow; 21] = [
     (1970, 1, 1, 0),
     (1970, 1, 31, 30),
     (1970, 2, 28, 58),
@@ -33,7 +33,7 @@ const DATES: [DateRow; 21] = [
 ];
 
 /// Parts that are no date from 1970 to 9999.
-const NO_DATES: [(u16, u8, u8); 14] = [
+static NO_DATES: [(u16, u8, u8); 14] = [
     (1969, 12, 31),
     (0, 1, 1),
     (1970, 0, 1),
@@ -70,7 +70,7 @@ fn parts_that_are_no_date(rt: HostRuntime) {
     assert!(rt; are_no_dates(&NO_DATES));
 }
 
-const WRITTEN: [(&str, u32); 5] = [
+static WRITTEN: [(&str, u32); 5] = [
     ("01/01/1970", 0),
     ("02/29/2000", 11_016),
     ("12/26/2003", 12_412),
@@ -78,7 +78,7 @@ const WRITTEN: [(&str, u32); 5] = [
     ("12/31/9999", 2_932_896),
 ];
 
-const WRITTEN_WRONGLY: [&str; 12] = [
+static WRITTEN_WRONGLY: [&str; 12] = [
     "",
     "12/31/1969",
     "02/30/2003",
@@ -168,7 +168,7 @@ fn are_nth(free: &FreeDays, kind: DayKind, rows: &[NthRow]) -> bool {
 }
 
 /// From Friday 12/26/2003.
-const DAYS: [NthRow; 4] = [
+static DAYS: [NthRow; 4] = [
     (12_412, 0, Some(12_412)),
     (12_412, 1, Some(12_413)),
     (12_412, 7, Some(12_419)),
@@ -176,7 +176,7 @@ const DAYS: [NthRow; 4] = [
 ];
 
 /// The fourth weekday is New Year's Day, and the one before is Christmas.
-const WEEKDAYS: [NthRow; 4] = [
+static WEEKDAYS: [NthRow; 4] = [
     (12_412, 0, Some(12_412)),
     (12_412, 1, Some(12_415)),
     (12_412, 4, Some(12_418)),
@@ -184,7 +184,7 @@ const WEEKDAYS: [NthRow; 4] = [
 ];
 
 /// Neither of them is a workday. 02/29/2000 is a Tuesday, at the end of its month.
-const WORKDAYS: [NthRow; 7] = [
+static WORKDAYS: [NthRow; 7] = [
     (12_412, 0, Some(12_412)),
     (12_412, 1, Some(12_415)),
     (12_412, 4, Some(12_419)),
@@ -204,7 +204,7 @@ fn nth_days_of_each_kind(rt: HostRuntime) -> Result<(), Fail> {
 }
 
 /// 01/01/1970 is a Thursday, and 12/31/9999 a Friday.
-const ENDS: [NthRow; 9] = [
+static ENDS: [NthRow; 9] = [
     (0, -1, None),
     (1, -1, Some(0)),
     (1, -2, None),

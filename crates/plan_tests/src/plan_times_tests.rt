@@ -23,7 +23,7 @@ fn is_refused(row: &Time) -> bool {
 
 /// 12/26/2003, AT 2000 and UNTIL 0530, with the start of day at 0600: in UTC, five hours west of it, and five and a
 /// half east.
-const WORKED: [(Time, u64); 5] = [
+static WORKED: [(Time, u64); 5] = [
     ((12_412, 1200, 0, 360, 0), 1_072_468_800),
     ((12_412, 330, 0, 360, 0), 1_072_503_000),
     ((12_412, 1200, 0, 360, -300), 1_072_486_800),
@@ -33,7 +33,7 @@ const WORKED: [(Time, u64); 5] = [
 
 /// Midnight; the start of day, and a minute before it; AT 0500 +1 DAYS in the plan of 11/03/2003; the ends of the
 /// range.
-const EDGES: [(Time, u64); 8] = [
+static EDGES: [(Time, u64); 8] = [
     ((12_412, 0, 0, 0, 0), 1_072_396_800),
     ((12_412, 360, 0, 360, 0), 1_072_418_400),
     ((12_412, 359, 0, 360, 0), 1_072_504_740),
@@ -45,7 +45,7 @@ const EDGES: [(Time, u64); 8] = [
 ];
 
 /// A date after 12/31/9999, and a moment before 1970.
-const REFUSED: [Time; 5] = [
+static REFUSED: [Time; 5] = [
     (2_932_896, 359, 0, 360, 0),
     (2_932_896, 360, 1, 360, 0),
     (2_932_896, 1439, 65_535, 1439, 1439),

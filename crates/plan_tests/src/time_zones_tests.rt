@@ -2,7 +2,7 @@
 use time_zones::east_of;
 
 /// A text, and the minutes east of Greenwich.
-const ZONES: [(&str, i16); 9] = [
+static ZONES: [(&str, i16); 9] = [
     ("UTC", 0),
     ("UTC+0000", 0),
     ("UTC-0000", 0),
@@ -15,7 +15,7 @@ const ZONES: [(&str, i16); 9] = [
 ];
 
 /// Texts that are none.
-const NO_ZONES: [&str; 16] = [
+static NO_ZONES: [&str; 16] = [
     "",
     "utc",
     "UT",

@@ -2,7 +2,8 @@
 use crate::commands::{Asks, command};
 use crate::documents::{StreamRow, stream_doc, streams};
 use crate::lists::stream_nos;
-use base_types::{Body, JobNo, Moment, NoMemory, Obj, OnUntil, Seen, StreamNo, Why, Ws};
+use crate::objects::{ObjRow, obj};
+use base_types::{Body, JobNo, Moment, NoMemory, OnUntil, Seen, StreamNo, Why, Ws};
 use std::alloc::Global;
 
 /// What an entry says, in numbers and names. Pairs are workstations with counts of their events.
@@ -15,7 +16,7 @@ pub enum Says<'a> {
     Clock(u64),
     Released(u32, &'a [(u16, u32)]),
     StreamEnded(u32, &'a [(u16, u32)]),
-    UntilPassed(Obj, u16, OnUntil),
+    UntilPassed(ObjRow, u16, OnUntil),
     /// A job, the number of its launch, and what the launch stands on.
     Launched(u32, u32, &'a [(u16, u32)]),
     Started(u32, u32),
@@ -25,13 +26,13 @@ pub enum Says<'a> {
     /// A job, the number of its launch, its return code, and whether that is good.
     EndedAs(u32, u32, i32, bool),
     Lost(u32, u32),
-    Fulfilled(Obj, u16),
+    Fulfilled(ObjRow, u16),
     /// The issuer and the place of the order, and its command.
     Obeyed(u16, u32, Asks<'a>),
     /// The issuer and the place of the order, and why not.
     Declined(u16, u32, Why),
     Order(Asks<'a>),
-    Late(Obj, u16),
+    Late(ObjRow, u16),
 }
 
 /// Counts of events, by workstation.
@@ -90,7 +91,7 @@ pub fn body(alloc: Global, says: &Says) -> Result<Body, NoMemory> {
         Says::Clock(time) => Ok(Body::Clock(Moment(*time))),
         Says::Released(no, counts) => released(alloc, *no, *counts),
         Says::StreamEnded(no, counts) => stream_ended(alloc, *no, *counts),
-        Says::UntilPassed(obj, number, then) => Ok(Body::UntilPassed(*obj, *number, *then)),
+        Says::UntilPassed(row, number, then) => Ok(Body::UntilPassed(obj(row), *number, *then)),
         Says::Launched(no, number, counts) => launched(alloc, *no, *number, *counts),
         Says::Started(no, number) => Ok(Body::Started(JobNo(*no), *number)),
         Says::Failed(no, number) => Ok(Body::Failed(JobNo(*no), *number)),
@@ -99,10 +100,10 @@ pub fn body(alloc: Global, says: &Says) -> Result<Body, NoMemory> {
             Ok(Body::Ended(JobNo(*no), *number, *code, *good))
         }
         Says::Lost(no, number) => Ok(Body::Lost(JobNo(*no), *number)),
-        Says::Fulfilled(obj, number) => Ok(Body::Fulfilled(*obj, *number)),
+        Says::Fulfilled(row, number) => Ok(Body::Fulfilled(obj(row), *number)),
         Says::Obeyed(ws, place, asks) => obeyed(alloc, *ws, *place, asks),
         Says::Declined(ws, place, why) => Ok(Body::Declined(Ws(*ws), *place, *why)),
         Says::Order(asks) => order(alloc, asks),
-        Says::Late(obj, number) => Ok(Body::Late(*obj, *number)),
+        Says::Late(row, number) => Ok(Body::Late(obj(row), *number)),
     }
 }

@@ -2,7 +2,7 @@
 mod days;
 mod rules;
 
-use base_types::{Body, Feed, Items, Live, LiveJob, Moment, Ws};
+use base_types::{Body, Feed, Items, JobNo, Live, LiveJob, Moment, StreamNo, Ws};
 use batchman_core::{Choice, turn_body, turn_choice};
 use dependencies::Scan;
 use network_tree::Network;
@@ -10,9 +10,31 @@ use owner_fold::Owners;
 use std::alloc::Global;
 use std::test::Fail;
 use test_builders::{
-    Asks, FeedRow, ResourceRow, Says, StreamRow, TWO_AGENTS, body, command, new_plan,
+    Asks, FeedRow, ObjRow, ResourceRow, Says, StreamRow, TWO_AGENTS, body, command, new_plan, obj,
 };
 use test_nights::{hear, network, take};
+
+/// A rule of a turn and its object, in numbers.
+#[derive(Clone, Copy)]
+enum Chosen {
+    Lost(u32),
+    Answer(u16),
+    Late(ObjRow, u16),
+    Release(u32),
+    Launch(u32),
+    Nothing,
+}
+
+fn choice(chosen: &Chosen) -> Choice {
+    match chosen {
+        Chosen::Lost(job) => Choice::Lost(JobNo(*job)),
+        Chosen::Answer(issuer) => Choice::Answer(Ws(*issuer)),
+        Chosen::Late(row, number) => Choice::Late(obj(row), *number),
+        Chosen::Release(stream) => Choice::Release(StreamNo(*stream)),
+        Chosen::Launch(job) => Choice::Launch(JobNo(*job)),
+        Chosen::Nothing => Choice::Nothing,
+    }
+}
 
 /// What happens in a night.
 #[derive(Clone, Copy)]
@@ -24,7 +46,7 @@ enum Step<'a> {
     /// The workstation stops and begins again, and nothing runs.
     Restart,
     /// A turn with this reading would follow this rule.
-    Chooses(u64, Choice),
+    Chooses(u64, Chosen),
     /// A turn with this reading keeps this.
     Turn(u64, Says<'a>),
     /// A turn with this reading keeps nothing.
@@ -120,7 +142,7 @@ impl Night {
             Step::Hears(feed, says) => self.hear(alloc, feed, says),
             Step::Order(asks) => self.order(alloc, asks),
             Step::Restart => self.restart(alloc),
-            Step::Chooses(t, choice) => Ok(self.choice(*t) == *choice),
+            Step::Chooses(t, chosen) => Ok(self.choice(*t) == choice(chosen)),
             Step::Turn(t, says) => self.turn(alloc, *t, says),
             Step::Rests(t) => Ok(self.decided(alloc, *t)?.is_none()),
         }
@@ -148,7 +170,7 @@ fn is_said(alloc: Global, kept: &Body, says: &Says) -> Result<bool, Fail> {
     Ok(text(alloc, &wanted)?.as_str() == kept.as_str())
 }
 
-const RESOURCES: [ResourceRow; 1] = [(0, "R", 2)];
+static RESOURCES: [ResourceRow; 1] = [(0, "R", 2)];
 
 /// The first plan of a night at a workstation of the master and two agents. The master has a resource of 2 units.
 fn begin(alloc: Global, me: u16, streams: &[StreamRow]) -> Result<Night, Fail> {
@@ -176,7 +198,7 @@ fn wrong_at(
 }
 
 /// A stream of the master with one job.
-const ONE_JOB: [StreamRow; 1] = [(1, 0, "S", true, &[], &[(1, 0, "J", 10, &[])])];
+static ONE_JOB: [StreamRow; 1] = [(1, 0, "S", true, &[], &[(1, 0, "J", 10, &[])])];
 
 const RELEASED: Says = Says::Released(1, &[(0, 1)]);
 

@@ -1,12 +1,13 @@
 //! Each public function of `base_types` on its happy path, and copies of what has many kinds.
 use base_types::{
     Body, Carry, Copied, Feed, Growing, Items, JobNo, Local, Moment, Obj, OnUntil, Out, Packet,
-    Peer, Seen, StreamNo, Text, Why, WorldStep, Ws, is_name,
+    Peer, Seen, Text, Why, WorldStep, Ws, is_name,
 };
 use std::alloc::Global;
 use std::test::Fail;
 use test_builders::{
-    Asks, DraftWaits, JobRow, NodeRow, Says, StreamDraftRow, StreamRow, Waits, body, drafts, net,
+    Asks, DraftWaits, JobRow, NodeRow, ObjRow, Says, StreamDraftRow, StreamRow, Waits, body,
+    drafts, net,
 };
 
 const JOB: JobRow = (
@@ -44,12 +45,12 @@ const DRAFT: StreamDraftRow = (
     )],
 );
 
-const JOB_1: Obj = Obj::Job(JobNo(1));
+const JOB_1: ObjRow = ObjRow::Job(1);
 
-const STREAM_2: Obj = Obj::Stream(StreamNo(2));
+const STREAM_2: ObjRow = ObjRow::Stream(2);
 
 /// What a workstation decides and sees.
-const EVENTS: [Says; 15] = [
+static EVENTS: [Says; 15] = [
     Says::NewPlan(2, &[(0, 5), (1, 3)], &[1, 4], &[STREAM]),
     Says::Added(1, 2, &STREAM),
     Says::Clock(100),
@@ -68,7 +69,7 @@ const EVENTS: [Says; 15] = [
 ];
 
 /// Orders of every command.
-const ORDERS: [Says; 18] = [
+static ORDERS: [Says; 18] = [
     Says::Order(Asks::AddDep(JOB_1, Waits::Own("go?"))),
     Says::Order(Asks::DelDep(STREAM_2, 1)),
     Says::Order(Asks::Release(JOB_1)),
@@ -125,17 +126,32 @@ fn copies_of_bodies_are_equal(rt: HostRuntime) -> Result<(), Fail> {
     Ok(())
 }
 
+fn equals_its_copy(text: &Text) -> Result<bool, Fail> {
+    Ok(text.copy()? == *text)
+}
+
+fn is_behind_the_empty(alloc: Global, text: &Text) -> bool {
+    let empty = Text::new(alloc);
+    empty.is_empty() && empty < *text
+}
+
+fn is_in_upper_case(alloc: Global, text: &str, upper: &str) -> Result<bool, Fail> {
+    Ok(Text::of_upper(alloc, text)?.as_str() == upper)
+}
+
+/// Whether a text that is made of the string with the text and a number is this one.
+fn is_made_of_a_string(alloc: Global, text: &Text, made: &str) -> Result<bool, Fail> {
+    Ok(Text::from_string(format!(in alloc; "{text}#1")?).as_str() == made)
+}
+
 #[test]
 fn texts(rt: HostRuntime) -> Result<(), Fail> {
     let text = Text::of(rt.alloc(), "Zoë")?;
-    assert_eq!(rt; text.as_str(), "Zoë");
-    assert_eq!(rt; text.len(), 4);
-    assert!(rt; text.copy()? == text);
-    assert!(rt; Text::new(rt.alloc()) < text);
-    assert!(rt; Text::new(rt.alloc()).is_empty());
-    assert_eq!(rt; Text::of_upper(rt.alloc(), "Zoë-1a")?.as_str(), "ZOë-1A");
-    let text = Text::from_string(format!(in rt.alloc(); "{text}#1")?);
-    assert_eq!(rt; text.as_str(), "Zoë#1");
+    assert!(rt; text.as_str() == "Zoë" && text.len() == 4);
+    assert!(rt; equals_its_copy(&text)?);
+    assert!(rt; is_behind_the_empty(rt.alloc(), &text));
+    assert!(rt; is_in_upper_case(rt.alloc(), "Zoë-1a", "ZOë-1A")?);
+    assert!(rt; is_made_of_a_string(rt.alloc(), &text, "Zoë#1")?);
     Ok(())
 }
 
@@ -149,14 +165,17 @@ fn names(rt: HostRuntime) {
     assert!(rt; !is_name("abcdefghijabcdefghijabcdefghijabcdefghijk"));
 }
 
+fn has_an_equal_copy(seen: &Seen) -> Result<bool, Fail> {
+    Ok(seen.copy()?.as_slice() == seen.as_slice())
+}
+
 #[test]
 fn counts(rt: HostRuntime) -> Result<(), Fail> {
     let mut seen = Seen::new(rt.alloc());
     seen.reserve(1)?;
     seen.push((Ws(3), 8))?;
-    assert_eq!(rt; seen.count(Ws(3)), 8);
-    assert_eq!(rt; seen.count(Ws(4)), 0);
-    assert_eq!(rt; seen.copy()?.as_slice(), seen.as_slice());
+    assert!(rt; seen.count(Ws(3)) == 8 && seen.count(Ws(4)) == 0);
+    assert!(rt; has_an_equal_copy(&seen)?);
     Ok(())
 }
 
@@ -226,7 +245,7 @@ fn copies_of_outputs(rt: HostRuntime) -> Result<(), Fail> {
     Ok(())
 }
 
-const NODES: [NodeRow; 2] = [("M", None, true, true), ("P", Some(0), false, false)];
+static NODES: [NodeRow; 2] = [("M", None, true, true), ("P", Some(0), false, false)];
 
 #[test]
 fn copies_of_networks(rt: HostRuntime) -> Result<(), Fail> {

@@ -1,18 +1,18 @@
 //! What is shown of worked histories.
 mod symphonies;
 
-use base_types::{Bytes, JobNo, Obj, StreamNo};
+use base_types::{Bytes, JobNo, StreamNo};
 use network_tree::Network;
 use owner_fold::Owners;
 use std::alloc::Global;
 use std::test::Fail;
 use symphony_view::{JobState, StreamState, job_state, listing, stream_state};
-use test_builders::{ALONE, Asks, JobRow, PromptRow, ResourceRow, Says, StreamRow, Waits};
+use test_builders::{ALONE, Asks, JobRow, ObjRow, PromptRow, ResourceRow, Says, StreamRow, Waits};
 use test_nights::{M, Row, alone, holding, network};
 
-const JOB_1: Obj = Obj::Job(JobNo(1));
+const JOB_1: ObjRow = ObjRow::Job(1);
 
-const STREAM_1: Obj = Obj::Stream(StreamNo(1));
+const STREAM_1: ObjRow = ObjRow::Stream(1);
 
 /// A stream of one job, and the first plan, of this stream.
 const JOBS: [JobRow; 1] = [(1, 0, "A", 10, &[])];
@@ -41,7 +41,7 @@ fn shows(alloc: Global, rows: &[Row], text: &str) -> Result<bool, Fail> {
 }
 
 /// The job ends well, and so does its stream.
-const SMALLEST: [Row; 5] = [
+static SMALLEST: [Row; 5] = [
     PLAN,
     RELEASED,
     LAUNCHED,
@@ -79,7 +79,7 @@ fn states_of_the_smallest_night(rt: HostRuntime) -> Result<(), Fail> {
 }
 
 /// The job has priority 10, and its workstation this fence.
-const FENCED: [Row; 3] = [PLAN, (M, Says::Obeyed(0, 1, Asks::Fence(10))), RELEASED];
+static FENCED: [Row; 3] = [PLAN, (M, Says::Obeyed(0, 1, Asks::Fence(10))), RELEASED];
 
 const FENCED_LISTED: &str = "plan 1
 cpu M fence 10 limit 10 clock 0 running
@@ -87,7 +87,7 @@ stream 1 M#S EXEC
 job 1 M#S.A FENCE 0
 ";
 
-const ABOVE_FENCE: [Row; 4] = [
+static ABOVE_FENCE: [Row; 4] = [
     PLAN,
     (M, Says::Obeyed(0, 1, Asks::Fence(9))),
     RELEASED,
@@ -100,7 +100,7 @@ stream 1 M#S EXEC
 job 1 M#S.A READY 0
 ";
 
-const INTRODUCED: [Row; 3] = [PLAN, RELEASED, LAUNCHED];
+static INTRODUCED: [Row; 3] = [PLAN, RELEASED, LAUNCHED];
 
 const INTRODUCED_LISTED: &str = "plan 1
 cpu M fence 0 limit 10 clock 0 running
@@ -108,7 +108,7 @@ stream 1 M#S EXEC
 job 1 M#S.A INTRO 1
 ";
 
-const EXECUTING: [Row; 4] = [PLAN, RELEASED, LAUNCHED, (M, Says::Started(1, 1))];
+static EXECUTING: [Row; 4] = [PLAN, RELEASED, LAUNCHED, (M, Says::Started(1, 1))];
 
 const EXECUTING_LISTED: &str = "plan 1
 cpu M fence 0 limit 10 clock 0 running
@@ -116,7 +116,7 @@ stream 1 M#S EXEC
 job 1 M#S.A EXEC 1
 ";
 
-const LOST: [Row; 5] = [
+static LOST: [Row; 5] = [
     PLAN,
     RELEASED,
     LAUNCHED,
@@ -130,7 +130,7 @@ stream 1 M#S ABEND
 job 1 M#S.A ABEND 1
 ";
 
-const CANCELLED: [Row; 4] = [
+static CANCELLED: [Row; 4] = [
     PLAN,
     RELEASED,
     (M, Says::Obeyed(0, 1, Asks::Cancel(JOB_1))),
@@ -148,7 +148,7 @@ const TIMED_JOBS: [JobRow; 1] = [(1, 0, "A", 10, &[Waits::Deadline(300)])];
 
 const TIMED_STREAM: StreamRow = (1, 0, "S", false, &[], &TIMED_JOBS);
 
-const LATE_JOB: [Row; 7] = [
+static LATE_JOB: [Row; 7] = [
     (M, Says::NewPlan(1, &[], &[], &[TIMED_STREAM])),
     RELEASED,
     LAUNCHED,
@@ -165,7 +165,7 @@ job 1 M#S.A SUCC 1 late
 ";
 
 /// The stream was to be done at 300, and its job runs.
-const LATE_STREAM: [Row; 5] = [
+static LATE_STREAM: [Row; 5] = [
     (
         M,
         Says::NewPlan(
@@ -210,7 +210,7 @@ fn first_wrong_state(alloc: Global) -> Result<&'static str, Fail> {
     Ok("")
 }
 
-const NOTHING: [Row; 0] = [];
+static NOTHING: [Row; 0] = [];
 
 /// The first of the nights that is listed otherwise; empty where none is.
 fn first_wrong_night(alloc: Global) -> Result<&'static str, Fail> {
@@ -238,14 +238,14 @@ fn listings(rt: HostRuntime) -> Result<(), Fail> {
     Ok(())
 }
 
-const RESOURCES: [ResourceRow; 1] = [(0, "R", 2)];
+static RESOURCES: [ResourceRow; 1] = [(0, "R", 2)];
 
-const PROMPTS: [PromptRow; 3] = [("P", "Go on?"), ("Q", ":Take care"), ("T", "Is it there?")];
+static PROMPTS: [PromptRow; 3] = [("P", "Go on?"), ("Q", ":Take care"), ("T", "Is it there?")];
 
 /// The job needs two units of a resource whose total was raised, and two prompts were answered.
 const WITH_A_RESOURCE: [JobRow; 1] = [(1, 0, "A", 10, &[Waits::Units(1, 2)])];
 
-const RESOURCE_USED: [Row; 6] = [
+static RESOURCE_USED: [Row; 6] = [
     (
         M,
         Says::NewPlan(1, &[], &[], &[(1, 0, "S", false, &[], &WITH_A_RESOURCE)]),

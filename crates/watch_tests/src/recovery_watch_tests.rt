@@ -1,12 +1,12 @@
 //! What a node advises itself after jobs that ended badly.
-use base_types::{Body, Cmd, Feed, JobNo, Obj, Recovery, StreamDocs, StreamNo, Ws};
+use base_types::{Body, Cmd, Feed, Recovery, StreamDocs, Ws};
 use network_tree::Network;
 use owner_fold::Owners;
 use recovery_watch::advice;
 use std::alloc::Global;
 use std::test::Fail;
 use test_builders::{
-    ALONE, Asks, FeedRow, JobRow, Says, StreamRow, TWO_AGENTS, seen, stream_nos, streams,
+    ALONE, Asks, FeedRow, JobRow, ObjRow, Says, StreamRow, TWO_AGENTS, seen, stream_nos, streams,
 };
 use test_nights::{M, Row, hear_all, network, take};
 
@@ -95,21 +95,21 @@ const LAUNCHED_AGAIN: Row = (M, Says::Launched(1, 2, &[(0, 5)]));
 const ENDED_BADLY_AGAIN: Row = (M, Says::EndedAs(1, 2, 8, false));
 
 /// It ended badly.
-const BADLY: [Row; 3] = [RELEASED, LAUNCHED, ENDED_BADLY];
+static BADLY: [Row; 3] = [RELEASED, LAUNCHED, ENDED_BADLY];
 
-const NOT_LAUNCHED: [Row; 1] = [RELEASED];
+static NOT_LAUNCHED: [Row; 1] = [RELEASED];
 
-const OPEN: [Row; 2] = [RELEASED, LAUNCHED];
+static OPEN: [Row; 2] = [RELEASED, LAUNCHED];
 
-const WELL: [Row; 3] = [RELEASED, LAUNCHED, (M, Says::EndedAs(1, 1, 8, true))];
+static WELL: [Row; 3] = [RELEASED, LAUNCHED, (M, Says::EndedAs(1, 1, 8, true))];
 
 /// Ends without a return code.
-const FAILED: [Row; 3] = [RELEASED, LAUNCHED, (M, Says::Failed(1, 1))];
+static FAILED: [Row; 3] = [RELEASED, LAUNCHED, (M, Says::Failed(1, 1))];
 
-const LOST: [Row; 3] = [RELEASED, LAUNCHED, (M, Says::Lost(1, 1))];
+static LOST: [Row; 3] = [RELEASED, LAUNCHED, (M, Says::Lost(1, 1))];
 
 /// An order of the node to itself waits for its answer.
-const WAITING: [Row; 4] = [
+static WAITING: [Row; 4] = [
     RELEASED,
     LAUNCHED,
     ENDED_BADLY,
@@ -117,7 +117,7 @@ const WAITING: [Row; 4] = [
 ];
 
 /// That of another does.
-const OTHERS_WAITING: [Row; 4] = [
+static OTHERS_WAITING: [Row; 4] = [
     RELEASED,
     LAUNCHED,
     ENDED_BADLY,
@@ -125,7 +125,7 @@ const OTHERS_WAITING: [Row; 4] = [
 ];
 
 /// It is due again.
-const TO_RERUN: [Row; 5] = [
+static TO_RERUN: [Row; 5] = [
     RELEASED,
     LAUNCHED,
     ENDED_BADLY,
@@ -134,7 +134,7 @@ const TO_RERUN: [Row; 5] = [
 ];
 
 /// It was rerun and ended badly again.
-const RERUN_BADLY: [Row; 7] = [
+static RERUN_BADLY: [Row; 7] = [
     RELEASED,
     LAUNCHED,
     ENDED_BADLY,
@@ -144,7 +144,7 @@ const RERUN_BADLY: [Row; 7] = [
     ENDED_BADLY_AGAIN,
 ];
 
-const CONFIRMED: [Row; 5] = [
+static CONFIRMED: [Row; 5] = [
     RELEASED,
     LAUNCHED,
     ENDED_BADLY,
@@ -153,25 +153,22 @@ const CONFIRMED: [Row; 5] = [
 ];
 
 /// It is cancelled by a command from elsewhere.
-const CANCELLED: [Row; 4] = [
+static CANCELLED: [Row; 4] = [
     RELEASED,
     LAUNCHED,
     ENDED_BADLY,
-    (M, Says::Obeyed(1, 1, Asks::Cancel(Obj::Job(JobNo(1))))),
+    (M, Says::Obeyed(1, 1, Asks::Cancel(ObjRow::Job(1)))),
 ];
 
-const STREAM_CANCELLED: [Row; 4] = [
+static STREAM_CANCELLED: [Row; 4] = [
     RELEASED,
     LAUNCHED,
     ENDED_BADLY,
-    (
-        M,
-        Says::Obeyed(1, 1, Asks::Cancel(Obj::Stream(StreamNo(1)))),
-    ),
+    (M, Says::Obeyed(1, 1, Asks::Cancel(ObjRow::Stream(1)))),
 ];
 
 /// The second job ended badly before the first.
-const BOTH_BADLY: [Row; 5] = [
+static BOTH_BADLY: [Row; 5] = [
     RELEASED,
     LAUNCHED,
     OTHER_LAUNCHED,
@@ -266,21 +263,18 @@ fn what_is_confirmed_or_cancelled_needs_no_advice(rt: HostRuntime) -> Result<(),
 }
 
 /// A job of P in a stream of the master ended badly.
-const AT_P: [Row; 3] = [
+static AT_P: [Row; 3] = [
     RELEASED,
     (P, Says::Launched(1, 1, &[(0, 2)])),
     (P, Says::EndedAs(1, 1, 8, false)),
 ];
 
 /// And the master cancels the stream.
-const CALLED_OFF: [Row; 4] = [
+static CALLED_OFF: [Row; 4] = [
     RELEASED,
     (P, Says::Launched(1, 1, &[(0, 2)])),
     (P, Says::EndedAs(1, 1, 8, false)),
-    (
-        M,
-        Says::Obeyed(0, 1, Asks::Cancel(Obj::Stream(StreamNo(1)))),
-    ),
+    (M, Says::Obeyed(0, 1, Asks::Cancel(ObjRow::Stream(1)))),
 ];
 
 fn at(alloc: Global, net: &Network, me: u16, rows: &[Row]) -> Result<Told, Fail> {

@@ -7,20 +7,23 @@ use std::test::Fail;
 use test_builders::{DraftWaits, JobDraftRow, NodeRow, StreamDraftRow};
 
 /// The master M alone.
-pub(crate) const ALONE: [NodeRow; 1] = [("M", None, true, false)];
+pub(crate) static ALONE: [NodeRow; 1] = [("M", None, true, false)];
 
 /// The master M with the agent P.
-pub(crate) const ONE_AGENT: [NodeRow; 2] = [("M", None, true, false), ("P", Some(0), false, false)];
+pub(crate) static ONE_AGENT: [NodeRow; 2] = [
+    ("M", None, true, false),
+    ("P", Some(0), false, false),
+];
 
 /// The master M with the agents P and Q.
-pub(crate) const AGENTS: [NodeRow; 3] = [
+pub(crate) static AGENTS: [NodeRow; 3] = [
     ("M", None, true, false),
     ("P", Some(0), false, false),
     ("Q", Some(0), false, false),
 ];
 
 /// The master M, the manager D below it, and its agent L.
-pub(crate) const DOMAIN: [NodeRow; 3] = [
+pub(crate) static DOMAIN: [NodeRow; 3] = [
     ("M", None, true, false),
     ("D", Some(0), true, false),
     ("L", Some(1), false, false),
@@ -70,7 +73,7 @@ const SECOND_DAY: [StreamDraftRow; 1] = [(0, "N", false, &[], &JOB_N)];
 pub(crate) const NEXT_DAY_2: Does = Does::At(0, Here::Next(&SECOND_DAY));
 
 /// A day ends while P is not linked.
-const END_OF_DAY: [Does; 20] = [
+static END_OF_DAY: [Does; 20] = [
     NEXT_DAY_1,
     Does::At(0, Here::Link(1)),
     Does::At(1, Here::Link(0)),

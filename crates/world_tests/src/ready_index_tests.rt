@@ -85,9 +85,9 @@ fn held(world: &World, node: u16) -> &[Entry] {
 }
 
 /// The best jobs of M and of P after each entry of the history, 0 for none.
-const BEST_OF_M: [u32; 11] = [0, 2, 2, 2, 2, 3, 3, 3, 0, 0, 0];
+static BEST_OF_M: [u32; 11] = [0, 2, 2, 2, 2, 3, 3, 3, 0, 0, 0];
 
-const BEST_OF_P: [u32; 11] = [0, 0, 1, 0, 0, 0, 0, 0, 0, 0, 0];
+static BEST_OF_P: [u32; 11] = [0, 0, 1, 0, 0, 0, 0, 0, 0, 0, 0];
 
 /// Whether the best jobs of a workstation after each entry of the history are these.
 fn are_best(alloc: Global, world: &World, w: u16, numbers: &[u32]) -> Result<bool, Fail> {

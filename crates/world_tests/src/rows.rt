@@ -3,9 +3,9 @@ ghost use Rattle.std.specs.Prelude.{◌≡◌, nat_lt};
 ghost use Rattle.std.specs.List.{list_all};
 ghost use Rattle.network_world.specs.Standing.{ws_in_step};
 
-use base_types::{JobNo, Local, Moment, NoMemory, Obj, Recovery, StreamDrafts, WorldStep, Ws};
+use base_types::{JobNo, Local, Moment, NoMemory, Recovery, StreamDrafts, WorldStep, Ws};
 use std::alloc::Global;
-use test_builders::{Asks, StreamDraftRow, command, drafts};
+use test_builders::{Asks, ObjRow, StreamDraftRow, command, drafts, obj};
 
 /// What happens at a node by itself.
 #[derive(Clone, Copy)]
@@ -21,7 +21,7 @@ pub(crate) enum Here<'a> {
     Started(u32),
     Failed(u32),
     Ended(u32, i32),
-    Fulfil(Obj, u16),
+    Fulfil(ObjRow, u16),
 }
 
 /// What a row of steps does.
@@ -81,7 +81,7 @@ pub(crate) fn local(alloc: Global, row: &Here) -> Result<Local, NoMemory> {
         Here::Started(job) => Ok(Local::Started(JobNo(*job))),
         Here::Failed(job) => Ok(Local::StartFailed(JobNo(*job))),
         Here::Ended(job, code) => Ok(Local::Ended(JobNo(*job), *code)),
-        Here::Fulfil(object, i) => Ok(Local::Fulfil(*object, *i)),
+        Here::Fulfil(row, i) => Ok(Local::Fulfil(obj(row), *i)),
     }
 }
 

@@ -12,7 +12,7 @@ use std::test::Fail;
 use test_builders::{NodeRow, job_draft, stream_draft};
 
 /// The master M with four agents.
-const AGENTS: [NodeRow; 5] = [
+static AGENTS: [NodeRow; 5] = [
     ("M", None, true, false),
     ("A1", Some(0), false, false),
     ("A2", Some(0), false, false),
@@ -105,7 +105,7 @@ fn drafts(alloc: Global, jobs: u32, draws: &mut Draws) -> Result<StreamDrafts, N
 }
 
 /// The links between the master and its agents go up.
-const LINKED: [Does; 8] = [
+static LINKED: [Does; 8] = [
     Does::At(0, Here::Link(1)),
     Does::At(1, Here::Link(0)),
     Does::At(0, Here::Link(2)),
@@ -117,7 +117,7 @@ const LINKED: [Does; 8] = [
 ];
 
 /// What is done again and again after all took their turns: what is live ends well, and all that was sent arrives.
-const ROUND: [Does; 12] = [
+static ROUND: [Does; 12] = [
     Does::Reap(1, 0),
     Does::Reap(2, 0),
     Does::Reap(3, 0),

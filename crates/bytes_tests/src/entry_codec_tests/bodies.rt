@@ -17,7 +17,7 @@ fn a_clock_and_an_order(rt: HostRuntime) -> Result<(), Fail> {
     Ok(())
 }
 
-const EVENTS: Rows = &[
+static EVENTS: Rows = &[
     (
         &[4, 0, 0, 0, 1, 0, 0, 0, 1, 0, 0, 0, 0, 0, 1],
         "Released(StreamNo(1), Seen { counts: Items { items: [(Ws(0), 1)] } })",
@@ -63,7 +63,7 @@ const EVENTS: Rows = &[
     (&[14, 0, 3, 0, 0, 0, 5, 10], "Declined(Ws(3), 5, NotBuilt)"),
 ];
 
-const PLANS: Rows = &[
+static PLANS: Rows = &[
     (
         &[
             1, 0, 0, 0, 2, 0, 0, 0, 2, 0, 0, 0, 0, 0, 3, 0, 1, 0, 0, 1, 0, 0, 0, 0, 1, 0, 0, 1, 2,
@@ -88,7 +88,7 @@ const PLANS: Rows = &[
 ];
 
 /// The stream NIGHT of workstation 1 with each dependency and one job, as order 7 of workstation 2 added it.
-const ADDED: [u8; 112] = [
+static ADDED: [u8; 112] = [
     2, 0, 2, 0, 0, 0, 7, 0, 0, 1, 2, 0, 1, 0, 5, 0x4E, 0x49, 0x47, 0x48, 0x54, 20, 1, 0, 3, 1, 0,
     0, 0, 8, 1, 0, 0, 0, 5, 2, 0, 0, 0, 6, 3, 0, 1, 0, 2, 4, 0, 1, 5, 0, 3, 0x47, 0x6F, 0x3F, 6, 0,
     0, 0, 0, 0, 0, 0, 100, 7, 0, 0, 0, 0, 0, 0, 0, 0xC8, 1, 8, 0, 2, 0x2F, 0x78, 0, 0, 0, 1, 0, 0,
@@ -106,7 +106,7 @@ const NIGHT: &str = concat!(
 );
 
 /// A lateness, and documents with a DEADLINE of the stream and of a job.
-const SECOND: Rows = &[
+static SECOND: Rows = &[
     (&[16, 0, 0, 0, 0, 1, 0, 1], "Late(Job(JobNo(1)), 1)"),
     (&[16, 1, 0, 0, 1, 2, 0, 3], "Late(Stream(StreamNo(258)), 3)"),
     (

@@ -2,7 +2,7 @@
 use super::{Frame, ORDER, Rows, first_other};
 use std::test::Fail;
 
-const COMMANDS: Rows = &[
+static COMMANDS: Rows = &[
     (&[2, 0, 0, 0, 0, 9, 1, 4], "DelDep(Job(JobNo(9)), 260)"),
     (&[3, 1, 0, 0, 1, 2], "Release(Stream(StreamNo(258)))"),
     (&[4, 0, 0, 0, 0, 9, 101], "AltPri(Job(JobNo(9)), 101)"),
@@ -25,13 +25,13 @@ const COMMANDS: Rows = &[
 ];
 
 /// A dependency is added to job 9, in version 1.
-const ADDED: Frame = Frame {
+static ADDED: Frame = Frame {
     front: &[1, 1, 0, 3, 1, 2, 0, 0, 0, 1, 15, 1, 0, 0, 0, 0, 9],
     before: "Entry { feed: Orders(Ws(3), Ws(258)), place: 1, body: Order(AddDep(Job(JobNo(9)), ",
     behind: ")) }",
 };
 
-const DEPENDENCIES: Rows = &[
+static DEPENDENCIES: Rows = &[
     (&[1, 0, 0, 0, 5], "FollowsJob(JobNo(5))"),
     (&[2, 0, 0, 0, 6], "FollowsStream(StreamNo(6))"),
     (&[3, 0, 1, 0, 2], "Needs(1, 2)"),
@@ -45,13 +45,13 @@ const DEPENDENCIES: Rows = &[
 ];
 
 /// The same in version 2.
-const SECOND_ADDED: Frame = Frame {
+static SECOND_ADDED: Frame = Frame {
     front: &[2, 1, 0, 3, 1, 2, 0, 0, 0, 1, 15, 1, 0, 0, 0, 0, 9],
     before: "Entry { feed: Orders(Ws(3), Ws(258)), place: 1, body: Order(AddDep(Job(JobNo(9)), ",
     behind: ")) }",
 };
 
-const DEADLINES: Rows = &[
+static DEADLINES: Rows = &[
     (&[9, 0, 0, 0, 0, 0, 0, 0, 100], "Deadline(Moment(100))"),
     (
         &[9, 0xFF, 0xFF, 0xFF, 0xFF, 0xFF, 0xFF, 0xFF, 0xFF],

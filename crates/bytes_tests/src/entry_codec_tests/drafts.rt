@@ -18,7 +18,7 @@ const SUBMITTED: &str = concat!(
 );
 
 /// A draft that is empty but for one job, which is empty too, up to the condition of that job.
-const EMPTY: Frame = Frame {
+static EMPTY: Frame = Frame {
     front: &[
         1, 1, 0, 3, 1, 2, 0, 0, 0, 1, 15, 17, 0, 0, 0, 0, 0, 0, 0, 0, 0, 0, 0, 0, 0, 0, 1, 0, 0, 0,
         0, 0, 0, 0, 0, 0, 0,
@@ -32,7 +32,7 @@ const EMPTY: Frame = Frame {
     behind: ", deps: Items { items: [] } }] } })) }",
 };
 
-const CONDITIONS: Rows = &[
+static CONDITIONS: Rows = &[
     (
         &[1, 0, 0x80, 0, 0, 0, 0, 0, 0, 0, 0],
         "Cmp(Eq, -2147483648)] }, recovery: Stop",
@@ -72,7 +72,7 @@ const CONDITIONS: Rows = &[
 ];
 
 /// A draft with a DEADLINE of its own, and one with a DEADLINE of its job.
-const SECOND: Rows = &[
+static SECOND: Rows = &[
     (
         &[
             17, 0, 2, 0, 1, 0x44, 10, 0, 1, 0, 0, 0, 1, 9, 0, 0, 0, 0, 0, 0, 0, 7, 0, 0, 0, 0,
@@ -98,14 +98,11 @@ const SECOND: Rows = &[
 
 #[test]
 fn drafts_and_conditions(rt: HostRuntime) -> Result<(), Fail> {
-    let tables: [(&Frame, Rows); 3] = [
-        (&ORDER, &[(&DRAFT, SUBMITTED)]),
-        (&EMPTY, CONDITIONS),
-        (&SECOND_ORDER, SECOND),
-    ];
-    for (frame, table) in tables {
-        let other = first_other(rt.alloc(), frame, table)?;
-        assert!(rt; other == None, "at {other:?}");
-    }
+    let submitted = first_other(rt.alloc(), &ORDER, &[(&DRAFT, SUBMITTED)])?;
+    assert!(rt; submitted == None, "at {submitted:?}");
+    let condition = first_other(rt.alloc(), &EMPTY, CONDITIONS)?;
+    assert!(rt; condition == None, "at {condition:?}");
+    let second = first_other(rt.alloc(), &SECOND_ORDER, SECOND)?;
+    assert!(rt; second == None, "at {second:?}");
     Ok(())
 }

@@ -25,7 +25,7 @@ fn first_other<'a>(alloc: Global, table: Faults<'a>) -> Option<&'a [u8]> {
 }
 
 /// The clock 100 of the master at place 1, and what is none.
-const CLOCKS: Faults = &[
+static CLOCKS: Faults = &[
     (&[1, 0, 0, 0, 0, 0, 0, 1, 3, 0, 0, 0, 0, 0, 0, 0, 100], None),
     (
         &[1, 0, 0, 0, 0, 0, 0, 1, 3, 0, 0, 0, 0, 0, 0, 0],
@@ -54,7 +54,7 @@ const CLOCKS: Faults = &[
 ];
 
 /// A lateness in both versions, and a clock in version 2, whole, with a byte left and with one missing.
-const VERSIONS: Faults = &[
+static VERSIONS: Faults = &[
     (&[2, 0, 0, 0, 0, 0, 0, 2, 16, 0, 0, 0, 0, 1, 0, 1], None),
     (
         &[1, 0, 0, 0, 0, 0, 0, 2, 16, 0, 0, 0, 0, 1, 0, 1],
@@ -87,7 +87,7 @@ const VERSIONS: Faults = &[
 ];
 
 /// The stream 1 of the master is released at place 2, one entry of the master seen.
-const RELEASES: Faults = &[
+static RELEASES: Faults = &[
     (
         &[
             1, 0, 0, 0, 0, 0, 0, 2, 4, 0, 0, 0, 1, 0, 0, 0, 1, 0, 0, 0, 0, 0, 1,
@@ -109,7 +109,7 @@ const RELEASES: Faults = &[
 ];
 
 /// Counts that do not ascend, and counts without items.
-const COUNTS: Faults = &[
+static COUNTS: Faults = &[
     (
         &[
             1, 0, 0, 0, 0, 0, 0, 2, 4, 0, 0, 0, 1, 0, 0, 0, 2, 0, 1, 0, 0, 0, 1, 0, 0, 0, 0, 0, 1,
@@ -143,7 +143,7 @@ const COUNTS: Faults = &[
 ];
 
 /// Feeds and kinds that there are not.
-const KINDS: Faults = &[
+static KINDS: Faults = &[
     (&[1, 2, 0, 0], Some(BadField(1))),
     (&[1, 0, 0, 0, 0, 0, 0, 1, 0, 15], Some(BadField(8))),
     (&[1, 0, 0, 0, 0, 0, 0, 1, 15, 15], Some(BadField(8))),
@@ -161,7 +161,7 @@ const KINDS: Faults = &[
 ];
 
 /// Commands, objects, flags, reasons and marks that there are not.
-const CHOICES: Faults = &[
+static CHOICES: Faults = &[
     (&[1, 1, 0, 0, 0, 0, 0, 0, 0, 1, 15, 0], Some(BadField(11))),
     (&[1, 1, 0, 0, 0, 0, 0, 0, 0, 1, 15, 19], Some(BadField(11))),
     (
@@ -195,7 +195,7 @@ const CHOICES: Faults = &[
 ];
 
 /// A prompt for job 9 is added: its text, and dependencies that there are not.
-const DEPENDENCIES: Faults = &[
+static DEPENDENCIES: Faults = &[
     (
         &[1, 1, 0, 0, 0, 0, 0, 0, 0, 1, 15, 1, 0, 0, 0, 0, 9, 5],
         Some(Short(18)),
@@ -264,7 +264,7 @@ const DEPENDENCIES: Faults = &[
 
 /// A draft without name, limit and dependencies, and its job without name, command, logon and condition, up to the
 /// recovery of the job.
-const DRAFTS: Faults = &[
+static DRAFTS: Faults = &[
     (
         &[
             1, 1, 0, 0, 0, 0, 0, 0, 0, 1, 15, 17, 0, 0, 0, 0, 0, 2, 0, 0, 0, 0, 0, 0, 0, 0, 1, 0,

@@ -11,7 +11,7 @@ use test_nights::{M, Row, holding};
 const EVENTS: Feed = Feed::Events(Ws(0));
 
 /// Two clocks of M, and two orders of M to itself.
-const TWO_FEEDS: [Row; 4] = [
+static TWO_FEEDS: [Row; 4] = [
     (M, Says::Clock(5)),
     (FeedRow::Orders(0, 0), Says::Order(Asks::Fence(10))),
     (M, Says::Clock(9)),

@@ -10,14 +10,14 @@ use test_nights::{M, Row, hear_all, holding};
 const EVENTS: Feed = Feed::Events(Ws(0));
 
 /// The launch is lost, and an order to rerun the job is obeyed.
-const RERUN: [Row; 3] = [
+static RERUN: [Row; 3] = [
     (M, Says::Lost(1, 1)),
     (FeedRow::Orders(0, 0), Says::Order(Asks::Rerun(1))),
     (M, Says::Obeyed(0, 1, Asks::Rerun(1))),
 ];
 
 /// The job is launched once more, and ends well.
-const SECOND_LAUNCH: [Row; 2] = [
+static SECOND_LAUNCH: [Row; 2] = [
     (M, Says::Launched(1, 2, &[(0, 5)])),
     (M, Says::Ended(1, 2, 0)),
 ];
@@ -98,9 +98,9 @@ fn a_rerun_ends_well(rt: HostRuntime) -> Result<(), Fail> {
 }
 
 /// The first launch ended with 3, and once more, which is not counted. The second could not be started.
-const ENDS: [Row; 2] = [(M, Says::Ended(1, 1, 3)), (M, Says::Ended(1, 1, 4))];
+static ENDS: [Row; 2] = [(M, Says::Ended(1, 1, 3)), (M, Says::Ended(1, 1, 4))];
 
-const NO_START: [Row; 2] = [
+static NO_START: [Row; 2] = [
     (M, Says::Launched(1, 2, &[(0, 5)])),
     (M, Says::Failed(1, 2)),
 ];
@@ -126,9 +126,9 @@ fn a_code_is_that_of_the_last_launch(rt: HostRuntime) -> Result<(), Fail> {
     Ok(())
 }
 
-const START: [Row; 1] = [(M, Says::Started(1, 1))];
+static START: [Row; 1] = [(M, Says::Started(1, 1))];
 
-const LAUNCH_AGAIN: [Row; 1] = [(M, Says::Launched(1, 2, &[(0, 4)]))];
+static LAUNCH_AGAIN: [Row; 1] = [(M, Says::Launched(1, 2, &[(0, 4)]))];
 
 /// The launch is told as started.
 fn starts(owners: &mut Owners, alloc: Global) -> Result<bool, Fail> {

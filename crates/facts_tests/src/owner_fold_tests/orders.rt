@@ -1,5 +1,5 @@
 //! What obeyed commands set, and what is told.
-use super::{FIRST, PLAN, USE_UNITS};
+use super::{FIRST, FIRST_ROW, PLAN, USE_UNITS};
 use base_types::{Obj, StreamNo, Why, Ws};
 use owner_fold::Owners;
 use std::alloc::Global;
@@ -7,13 +7,13 @@ use std::test::Fail;
 use test_builders::{Asks, Says, Waits};
 use test_nights::{M, Row, hear_all, holding};
 
-const FENCE: [Row; 3] = [
+static FENCE: [Row; 3] = [
     PLAN,
     (M, Says::Obeyed(0, 1, Asks::Fence(10))),
     (M, Says::Released(1, &[(0, 2)])),
 ];
 
-const LOWER_FENCE: [Row; 1] = [(M, Says::Obeyed(0, 2, Asks::Fence(9)))];
+static LOWER_FENCE: [Row; 1] = [(M, Says::Obeyed(0, 2, Asks::Fence(9)))];
 
 /// The first fence counts, and then the second.
 fn fences_count(owners: &mut Owners, alloc: Global) -> Result<bool, Fail> {
@@ -40,7 +40,7 @@ fn units(owners: &Owners) -> (Option<u16>, u64) {
     (owners.total_set(Ws(0), 1), owners.used(Ws(0), 1))
 }
 
-const GIVE_BACK: [Row; 2] = [
+static GIVE_BACK: [Row; 2] = [
     (M, Says::Obeyed(0, 1, Asks::Total(1, 1))),
     (M, Says::Ended(1, 1, 0)),
 ];
@@ -51,7 +51,7 @@ fn gives_back(owners: &mut Owners, alloc: Global) -> Result<bool, Fail> {
     Ok(units(owners) == (Some(1), 0))
 }
 
-const TAKE_AGAIN: [Row; 2] = [
+static TAKE_AGAIN: [Row; 2] = [
     (M, Says::Obeyed(0, 2, Asks::Total(1, 2))),
     (M, Says::Launched(2, 1, &[(0, 6)])),
 ];
@@ -72,11 +72,11 @@ fn open_launches_use_units(rt: HostRuntime) -> Result<(), Fail> {
 }
 
 /// The job is released between two dependencies that are added to it.
-const RELEASE_BETWEEN: [Row; 4] = [
+static RELEASE_BETWEEN: [Row; 4] = [
     PLAN,
-    (M, Says::Obeyed(0, 1, Asks::AddDep(FIRST, Waits::At(5)))),
-    (M, Says::Obeyed(0, 2, Asks::Release(FIRST))),
-    (M, Says::Obeyed(0, 3, Asks::AddDep(FIRST, Waits::At(6)))),
+    (M, Says::Obeyed(0, 1, Asks::AddDep(FIRST_ROW, Waits::At(5)))),
+    (M, Says::Obeyed(0, 2, Asks::Release(FIRST_ROW))),
+    (M, Says::Obeyed(0, 3, Asks::AddDep(FIRST_ROW, Waits::At(6)))),
 ];
 
 /// Of the two dependencies the first is waived.
@@ -95,9 +95,9 @@ fn a_release_waives_what_stands_before_it(rt: HostRuntime) -> Result<(), Fail> {
     Ok(())
 }
 
-const SET: [Row; 4] = [
+static SET: [Row; 4] = [
     PLAN,
-    (M, Says::Obeyed(0, 1, Asks::AltPri(FIRST, 50))),
+    (M, Says::Obeyed(0, 1, Asks::AltPri(FIRST_ROW, 50))),
     (M, Says::Obeyed(0, 2, Asks::StreamLimit(1, 3))),
     (M, Says::Obeyed(0, 3, Asks::Stop)),
 ];
@@ -116,11 +116,11 @@ fn what_commands_set(rt: HostRuntime) -> Result<(), Fail> {
     Ok(())
 }
 
-const TELL: [Row; 5] = [
+static TELL: [Row; 5] = [
     PLAN,
-    (M, Says::Obeyed(0, 1, Asks::ReplyOwn(FIRST, 1, true))),
+    (M, Says::Obeyed(0, 1, Asks::ReplyOwn(FIRST_ROW, 1, true))),
     (M, Says::Obeyed(0, 2, Asks::ReplyGlobal(1, true))),
-    (M, Says::Fulfilled(FIRST, 2)),
+    (M, Says::Fulfilled(FIRST_ROW, 2)),
     (M, Says::Declined(0, 3, Why::NotMine)),
 ];
 

@@ -11,7 +11,7 @@ const AGAIN: StreamRow = (1, 0, "S", false, &[], &[(2, 0, "K", 10, &[])]);
 
 const LATER: StreamRow = (7, 0, "T", false, &[], &[(9, 0, "L", 10, &[])]);
 
-const ADD: [Row; 3] = [
+static ADD: [Row; 3] = [
     PLAN,
     (M, Says::Added(0, 1, &AGAIN)),
     (M, Says::Added(0, 2, &LATER)),

@@ -1,14 +1,23 @@
-//! What waits, is under way or is open, asked after each entry of a night, against a walk over the whole catalogue.
-use base_types::{Obj, OnUntil, StreamDoc, StreamNo, Ws};
+//! What waits, is under way, is open or has a time, asked after each entry of a night, against a walk over the whole catalogue.
+use base_types::{Dep, Obj, OnUntil, StreamDoc, StreamNo, Ws};
 use owner_fold::Owners;
 use std::test::Fail;
-use test_builders::{Asks, FeedRow, JobRow, Says, StreamRow};
+use test_builders::{Asks, FeedRow, JobRow, ObjRow, Says, StreamRow, Waits};
 use test_nights::{M, Row, hear};
 
 /// The events of an agent.
 const P: FeedRow = FeedRow::Events(1);
 
-const PAIR: [JobRow; 2] = [(11, 1, "J", 10, &[]), (12, 0, "K", 10, &[])];
+const PAIR: [JobRow; 2] = [
+    (
+        11,
+        1,
+        "J",
+        10,
+        &[Waits::Units(1, 1), Waits::Until(70, OnUntil::Suppr)],
+    ),
+    (12, 0, "K", 10, &[Waits::Deadline(9)]),
+];
 
 const FIRST_PLAN: [StreamRow; 4] = [
     (
@@ -19,7 +28,7 @@ const FIRST_PLAN: [StreamRow; 4] = [
         &[],
         &[(1, 0, "J", 10, &[]), (2, 1, "K", 10, &[])],
     ),
-    (2, 0, "B", true, &[], &[(3, 0, "J", 10, &[])]),
+    (2, 0, "B", true, &[Waits::At(50)], &[(3, 0, "J", 10, &[])]),
     (3, 1, "C", false, &[], &PAIR),
     (4, 1, "D", false, &[], &[(4, 1, "J", 10, &[])]),
 ];
@@ -34,7 +43,11 @@ const SECOND_PLAN: [StreamRow; 2] = [
 
 /// Streams are released, ended, cancelled and passed by an UNTIL; jobs are launched, end, fail and are lost. Some are
 /// told by another than their owner, and some before their plan or twice.
-const NIGHT: [Row; 30] = [
+static NIGHT: [Row; 34] = [
+    (
+        P,
+        Says::Obeyed(0, 1, Asks::AddDep(ObjRow::Job(9), Waits::At(5))),
+    ),
     (P, Says::Released(9, &[])),
     (P, Says::Launched(9, 1, &[])),
     (M, Says::NewPlan(1, &[], &[], &FIRST_PLAN)),
@@ -53,24 +66,24 @@ const NIGHT: [Row; 30] = [
     (P, Says::Lost(11, 1)),
     (P, Says::Launched(11, 2, &[])),
     (P, Says::EndedAs(11, 2, 4, false)),
+    (
+        P,
+        Says::Obeyed(0, 2, Asks::AddDep(ObjRow::Stream(4), Waits::Deadline(8))),
+    ),
+    (
+        P,
+        Says::Obeyed(0, 3, Asks::AddDep(ObjRow::Job(4), Waits::Units(1, 8))),
+    ),
+    (
+        M,
+        Says::Obeyed(0, 1, Asks::AddDep(ObjRow::Job(4), Waits::At(8))),
+    ),
     (M, Says::StreamEnded(1, &[])),
     (M, Says::Released(1, &[])),
-    (
-        P,
-        Says::Obeyed(0, 1, Asks::Cancel(Obj::Stream(StreamNo(4)))),
-    ),
-    (
-        P,
-        Says::Obeyed(0, 2, Asks::Cancel(Obj::Stream(StreamNo(3)))),
-    ),
-    (
-        M,
-        Says::UntilPassed(Obj::Stream(StreamNo(2)), 1, OnUntil::Cont),
-    ),
-    (
-        M,
-        Says::UntilPassed(Obj::Stream(StreamNo(2)), 1, OnUntil::Canc),
-    ),
+    (P, Says::Obeyed(0, 4, Asks::Cancel(ObjRow::Stream(4)))),
+    (P, Says::Obeyed(0, 5, Asks::Cancel(ObjRow::Stream(3)))),
+    (M, Says::UntilPassed(ObjRow::Stream(2), 1, OnUntil::Cont)),
+    (M, Says::UntilPassed(ObjRow::Stream(2), 1, OnUntil::Canc)),
     (P, Says::Launched(9, 2, &[])),
     (P, Says::StreamEnded(9, &[])),
     (P, Says::Ended(9, 2, 0)),
@@ -145,6 +158,46 @@ fn jobs_agree(owners: &Owners, s: StreamNo) -> bool {
     left.next().is_none()
 }
 
+/// A dependency of the object has a time.
+fn has_time(owners: &Owners, obj: &Obj) -> bool {
+    let count = owners.dep_count(*obj);
+    for i in 0..count {
+        match owners.dep(*obj, i + 1) {
+            Some(Dep::At(_)) | Some(Dep::Until(_, _)) | Some(Dep::Deadline(_)) => return true,
+            _ => {}
+        }
+    }
+    false
+}
+
+/// And the own members with a time.
+fn timed_streams_agree(owners: &Owners, w: Ws) -> bool {
+    let mut left = owners.timed_streams(w);
+    for doc in owners.streams() {
+        if doc.ws == w && owners.is_member(doc.no) && has_time(owners, &Obj::Stream(doc.no)) {
+            match left.next() {
+                Some(found) if found.no == doc.no => {}
+                _ => return false,
+            }
+        }
+    }
+    left.next().is_none()
+}
+
+/// And the own members' jobs with one.
+fn timed_jobs_agree(owners: &Owners, w: Ws) -> bool {
+    let mut left = owners.timed_jobs(w);
+    for (parent, doc) in owners.jobs() {
+        if doc.ws == w && owners.is_member(parent.no) && has_time(owners, &Obj::Job(doc.no)) {
+            match left.next() {
+                Some((_, found)) if found.no == doc.no => {}
+                _ => return false,
+            }
+        }
+    }
+    left.next().is_none()
+}
+
 fn all_jobs_agree(owners: &Owners) -> bool {
     for number in 0..10u32 {
         if !jobs_agree(owners, StreamNo(number)) {
@@ -158,6 +211,9 @@ fn all_agree(owners: &Owners) -> bool {
     for number in 0..3u16 {
         let w = Ws(number);
         if !waiting_agree(owners, w) || !under_way_agree(owners, w) || !open_agree(owners, w) {
+            return false;
+        }
+        if !timed_streams_agree(owners, w) || !timed_jobs_agree(owners, w) {
             return false;
         }
     }
@@ -187,11 +243,35 @@ fn waiting_are(owners: &Owners, w: Ws, numbers: &[u32]) -> bool {
     left.next().is_none()
 }
 
+/// The own members of a workstation with a time are these, in this order.
+fn timed_streams_are(owners: &Owners, w: Ws, numbers: &[u32]) -> bool {
+    let mut left = owners.timed_streams(w);
+    for number in numbers {
+        match left.next() {
+            Some(doc) if doc.no.0 == *number => {}
+            _ => return false,
+        }
+    }
+    left.next().is_none()
+}
+
+/// And the own members' jobs with one.
+fn timed_jobs_are(owners: &Owners, w: Ws, numbers: &[u32]) -> bool {
+    let mut left = owners.timed_jobs(w);
+    for number in numbers {
+        match left.next() {
+            Some((_, doc)) if doc.no.0 == *number => {}
+            _ => return false,
+        }
+    }
+    left.next().is_none()
+}
+
 /// What waits once so many entries of the night were heard.
 fn wait_as_told(owners: &Owners, heard: usize) -> bool {
     match heard {
-        3 => waiting_are(owners, Ws(0), &[1, 2]) && waiting_are(owners, Ws(1), &[3, 4]),
-        6 => waiting_are(owners, Ws(0), &[2]) && waiting_are(owners, Ws(1), &[4]),
+        4 => waiting_are(owners, Ws(0), &[1, 2]) && waiting_are(owners, Ws(1), &[3, 4]),
+        7 => waiting_are(owners, Ws(0), &[2]) && waiting_are(owners, Ws(1), &[4]),
         _ => true,
     }
 }
@@ -203,6 +283,37 @@ fn streams_wait_until_they_are_released(rt: HostRuntime) -> Result<(), Fail> {
         let (feed, says) = row;
         hear(&mut owners, rt.alloc(), feed, says)?;
         assert!(rt; wait_as_told(&owners, before + 1));
+    }
+    Ok(())
+}
+
+/// Who has a time once so many entries of the night were heard: written, or added by a command of the owner, be it
+/// before the plan. A command of another adds nothing, and the second plan carries the added stream alone.
+fn timed_as_told(owners: &Owners, heard: usize) -> bool {
+    match heard {
+        22 => {
+            timed_streams_are(owners, Ws(0), &[2])
+                && timed_jobs_are(owners, Ws(0), &[12])
+                && timed_streams_are(owners, Ws(1), &[4])
+                && timed_jobs_are(owners, Ws(1), &[11, 9])
+        }
+        34 => {
+            timed_streams_are(owners, Ws(0), &[])
+                && timed_jobs_are(owners, Ws(0), &[])
+                && timed_streams_are(owners, Ws(1), &[])
+                && timed_jobs_are(owners, Ws(1), &[9])
+        }
+        _ => true,
+    }
+}
+
+#[test]
+fn times_are_written_or_added(rt: HostRuntime) -> Result<(), Fail> {
+    let mut owners = Owners::new(rt.alloc());
+    for (before, row) in NIGHT.iter().enumerate() {
+        let (feed, says) = row;
+        hear(&mut owners, rt.alloc(), feed, says)?;
+        assert!(rt; timed_as_told(&owners, before + 1));
     }
     Ok(())
 }

@@ -3,7 +3,7 @@ use super::FIRST;
 use base_types::{JobNo, Obj, OnUntil, StreamNo, Ws};
 use owner_fold::Owners;
 use std::test::Fail;
-use test_builders::{FeedRow, JobRow, Says, Waits};
+use test_builders::{FeedRow, JobRow, ObjRow, Says, Waits};
 use test_nights::{M, Row, holding};
 
 /// Jobs with an UNTIL of each mark at 200, and one that follows the third.
@@ -15,16 +15,16 @@ const TIMED: [JobRow; 4] = [
 ];
 
 /// At 200 each UNTIL passes.
-const PASS_UNTILS: [Row; 6] = [
+static PASS_UNTILS: [Row; 6] = [
     (
         M,
         Says::NewPlan(1, &[], &[], &[(1, 0, "S", false, &[], &TIMED)]),
     ),
     (M, Says::Released(1, &[(0, 1)])),
     (M, Says::Clock(200)),
-    (M, Says::UntilPassed(Obj::Job(JobNo(1)), 1, OnUntil::Suppr)),
-    (M, Says::UntilPassed(Obj::Job(JobNo(2)), 1, OnUntil::Cont)),
-    (M, Says::UntilPassed(Obj::Job(JobNo(3)), 1, OnUntil::Canc)),
+    (M, Says::UntilPassed(ObjRow::Job(1), 1, OnUntil::Suppr)),
+    (M, Says::UntilPassed(ObjRow::Job(2), 1, OnUntil::Cont)),
+    (M, Says::UntilPassed(ObjRow::Job(3), 1, OnUntil::Canc)),
 ];
 
 fn is_recorded(owners: &Owners, no: u32) -> bool {
@@ -53,14 +53,14 @@ fn untils_pass_at_the_reading(rt: HostRuntime) -> Result<(), Fail> {
 }
 
 /// The stream is late by its second DEADLINE, and the second job by its first one.
-const LATE: [Row; 4] = [
+static LATE: [Row; 4] = [
     (
         M,
         Says::NewPlan(1, &[], &[], &[(1, 0, "S", false, &[], &TIMED)]),
     ),
-    (M, Says::Late(Obj::Stream(StreamNo(1)), 2)),
-    (M, Says::Late(Obj::Job(JobNo(2)), 1)),
-    (FeedRow::Events(1), Says::Late(Obj::Job(JobNo(3)), 1)),
+    (M, Says::Late(ObjRow::Stream(1), 2)),
+    (M, Says::Late(ObjRow::Job(2), 1)),
+    (FeedRow::Events(1), Says::Late(ObjRow::Job(3), 1)),
 ];
 
 /// Each is late by that DEADLINE alone.

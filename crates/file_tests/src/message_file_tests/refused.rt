@@ -31,7 +31,7 @@ fn a_file_that_is_cut_short_is_refused_at_its_place(rt: HostRuntime) -> Result<(
 }
 
 /// Files, and the fault that each has for workstation 0.
-const OTHERS: [(&[u8], AttachFault); 5] = [
+static OTHERS: [(&[u8], AttachFault); 5] = [
     (
         &[0x54, 0x57, 0x53, 0x4d, 0, 1, 0, 5, 0],
         AttachFault::OtherOwner(7),

@@ -7,7 +7,7 @@ use outside_mem::StoppingDisk;
 use std::alloc::Global;
 use std::test::Fail;
 
-const BODIES: [&[u8]; 3] = [b"one", b"", b"three"];
+static BODIES: [&[u8]; 3] = [b"one", b"", b"three"];
 
 /// Whether it answers that its disk failed, to everything, and keeps so many bodies.
 fn is_spent<K: Keeper>(alloc: Global, keeper: &mut K, count: u32) -> bool {
@@ -68,7 +68,7 @@ fn a_stop_at_each_call_leaves_what_was_acknowledged(rt: HostRuntime) -> Result<(
 
 /// The four calls of an `append`, by their numbers where the four of attaching an empty file come first, and how many
 /// bodies are kept where the call alone fails: only behind the second write the gate is open.
-const CALLS: [(u32, u32); 4] = [(5, 0), (6, 0), (7, 0), (8, 1)];
+static CALLS: [(u32, u32); 4] = [(5, 0), (6, 0), (7, 0), (8, 1)];
 
 /// Whether the `append` fails, the file is spent though its disk would go on, and the disk then keeps so many bodies.
 fn is_spent_by(alloc: Global, call: u32, kept: u32) -> Result<bool, Fail> {

@@ -8,12 +8,12 @@ use std::alloc::Global;
 use std::test::Fail;
 use test_builders::listed;
 
-const BODIES: [&[u8]; 3] = [b"one", b"", b"three"];
+static BODIES: [&[u8]; 3] = [b"one", b"", b"three"];
 
 /// The four calls of the third append, by their numbers where the four of attaching an empty file come first, and how
 /// many bodies are kept afterwards: a torn piece stands behind a closed gate, and the gate is open only once it is
 /// written.
-const CALLS: [(u32, u32); 4] = [(13, 2), (14, 2), (15, 2), (16, 3)];
+static CALLS: [(u32, u32); 4] = [(13, 2), (14, 2), (15, 2), (16, 3)];
 
 /// Whether the third append fails, and the disk that is attached again then keeps so many bodies.
 fn keeps_after(alloc: Global, call: u32, kept: u32) -> Result<bool, Fail> {

@@ -1,8 +1,8 @@
 //! Nights by hand. Each row has the best jobs at M, P and Q after it.
 use super::{Row, first_other};
-use base_types::{JobNo, Obj, OnUntil, StreamNo, Why};
+use base_types::{OnUntil, Why};
 use std::test::Fail;
-use test_builders::{Asks, FeedRow, Says, StreamRow, Waits};
+use test_builders::{Asks, FeedRow, ObjRow, Says, StreamRow, Waits};
 
 const M: FeedRow = FeedRow::Events(0);
 
@@ -10,15 +10,15 @@ const P: FeedRow = FeedRow::Events(1);
 
 const Q: FeedRow = FeedRow::Events(2);
 
-const A: Obj = Obj::Job(JobNo(1));
+const A: ObjRow = ObjRow::Job(1);
 
-const B: Obj = Obj::Job(JobNo(2));
+const B: ObjRow = ObjRow::Job(2);
 
-const C: Obj = Obj::Job(JobNo(3));
+const C: ObjRow = ObjRow::Job(3);
 
-const D: Obj = Obj::Job(JobNo(4));
+const D: ObjRow = ObjRow::Job(4);
 
-const E: Obj = Obj::Job(JobNo(5));
+const E: ObjRow = ObjRow::Job(5);
 
 /// A stream of M with jobs in a row, the last of them at P; and a stream of P that follows it, with a job at Q that
 /// follows both the stream and a job at P.
@@ -50,7 +50,7 @@ const CHAIN: [StreamRow; 2] = [
 
 /// A bad end and a rerun, a dependency that is added, a failed launch that is confirmed, a lost launch that is
 /// cancelled, a stop, a fence and a priority.
-const CHAINED: [Row; 27] = [
+static CHAINED: [Row; 27] = [
     (M, Says::NewPlan(1, &[], &[], &CHAIN), (0, 0, 0)),
     (M, Says::Released(1, &[]), (1, 0, 0)),
     (M, Says::Launched(1, 1, &[]), (0, 0, 0)),
@@ -108,7 +108,7 @@ const RANKED: [StreamRow; 1] = [(
 const ADDED: StreamRow = (2, 0, "T", true, &[], &[(9, 0, "Z", 50, &[])]);
 
 /// A waiver, priorities, an added stream, a plan that carries it alone, a rerun of an open launch, and a cancelling.
-const IN_ORDER: [Row; 12] = [
+static IN_ORDER: [Row; 12] = [
     (M, Says::NewPlan(1, &[], &[], &RANKED), (0, 0, 0)),
     (M, Says::Released(1, &[]), (2, 0, 0)),
     (M, Says::Launched(2, 1, &[]), (3, 0, 0)),
@@ -122,7 +122,7 @@ const IN_ORDER: [Row; 12] = [
     (M, Says::Ended(9, 1, 0), (9, 0, 0)),
     (
         M,
-        Says::Obeyed(0, 5, Asks::Cancel(Obj::Stream(StreamNo(2)))),
+        Says::Obeyed(0, 5, Asks::Cancel(ObjRow::Stream(2))),
         (0, 0, 0),
     ),
 ];
@@ -148,7 +148,7 @@ const TIMED: [StreamRow; 1] = [(
 )];
 
 /// Times that pass, and entries that change no job.
-const IN_TIME: [Row; 11] = [
+static IN_TIME: [Row; 11] = [
     (M, Says::NewPlan(1, &[], &[], &TIMED), (0, 0, 0)),
     (M, Says::Released(1, &[]), (1, 0, 0)),
     (M, Says::Clock(200), (3, 0, 0)),

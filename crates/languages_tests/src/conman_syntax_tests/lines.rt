@@ -48,7 +48,7 @@ fn first_changed<'a>(alloc: Global, lines: &[&'a str]) -> Result<Option<&'a str>
     Ok(None)
 }
 
-const LONG_FORMS: [&str; 46] = [
+static LONG_FORMS: [&str; 46] = [
     "adddep job S.A;at=5",
     "deldep job S.A;at=5",
     "release job S.A",
@@ -152,7 +152,7 @@ fn quoted_texts(rt: HostRuntime) -> Result<(), Fail> {
     Ok(())
 }
 
-const DAYS: [(&str, &str); 5] = [
+static DAYS: [(&str, &str); 5] = [
     ("jnextplan 01/01/1970", "jnextplan 0"),
     ("jnextplan 03/01/2000", "jnextplan 11017"),
     ("jnextplan 12/26/2003", "jnextplan 12412"),
@@ -167,7 +167,7 @@ fn days(rt: HostRuntime) -> Result<(), Fail> {
     Ok(())
 }
 
-const SHORT_FORMS: [(&str, &str); 26] = [
+static SHORT_FORMS: [(&str, &str); 26] = [
     ("adj S.A;at=5", "adddep job S.A;at=5"),
     ("ads S;at=5", "adddep sched S;at=5"),
     ("ddj S.A;at=5", "deldep job S.A;at=5"),
@@ -203,7 +203,7 @@ fn short_forms(rt: HostRuntime) -> Result<(), Fail> {
     Ok(())
 }
 
-const SPELLINGS: [(&str, &str); 14] = [
+static SPELLINGS: [(&str, &str); 14] = [
     ("FENCE m;hi", "fence M;100"),
     ("AdJ s.a;at=5", "adddep job S.A;at=5"),
     ("rs m#s", "release sched M#S"),

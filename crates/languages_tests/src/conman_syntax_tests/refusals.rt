@@ -18,7 +18,7 @@ fn first_other<'a>(alloc: Global, fault: CommandFault, texts: &[&'a str]) -> Opt
     None
 }
 
-const UNKNOWN: [&str; 13] = [
+static UNKNOWN: [&str; 13] = [
     "",
     " ",
     ";",
@@ -40,7 +40,7 @@ fn unknown_commands(rt: HostRuntime) {
     assert!(rt; other == None, "at {other:?}");
 }
 
-const BAD_FIRST: [&str; 30] = [
+static BAD_FIRST: [&str; 30] = [
     "fence",
     "fence ",
     "fence;9",
@@ -79,7 +79,7 @@ fn first_arguments(rt: HostRuntime) {
     assert!(rt; other == None, "at {other:?}");
 }
 
-const BAD_SECOND: [&str; 36] = [
+static BAD_SECOND: [&str; 36] = [
     "fence M",
     "fence M;",
     "fence M; 9",
@@ -124,7 +124,7 @@ fn second_arguments(rt: HostRuntime) {
     assert!(rt; other == None, "at {other:?}");
 }
 
-const BAD_THIRD: [&str; 6] = [
+static BAD_THIRD: [&str; 6] = [
     "adj S.A;until=5;cont",
     "adj S.A;until=5;onuntil=stop",
     "reply sched S;1",
@@ -139,7 +139,7 @@ fn third_arguments(rt: HostRuntime) {
     assert!(rt; other == None, "at {other:?}");
 }
 
-const FURTHER: [&str; 17] = [
+static FURTHER: [&str; 17] = [
     "fence M;9;",
     "fence M;9;noask;noask",
     "fence M;9;NOASK",
@@ -189,7 +189,7 @@ fn first_taken<'a>(
     Ok(None)
 }
 
-const NO_STREAMS: [&str; 14] = [
+static NO_STREAMS: [&str; 14] = [
     "S[4294967296]",
     "S[]",
     "S[1",
@@ -213,7 +213,7 @@ fn no_streams(rt: HostRuntime) -> Result<(), Fail> {
     Ok(())
 }
 
-const NO_JOBS: [&str; 7] = ["S", "S.", ".A", "S.A.B", "S[1.5].A", "S .A", "S. A"];
+static NO_JOBS: [&str; 7] = ["S", "S.", ".A", "S.A.B", "S[1.5].A", "S .A", "S. A"];
 
 #[test]
 fn no_jobs(rt: HostRuntime) -> Result<(), Fail> {
@@ -222,7 +222,7 @@ fn no_jobs(rt: HostRuntime) -> Result<(), Fail> {
     Ok(())
 }
 
-const NO_DAYS: [&str; 12] = [
+static NO_DAYS: [&str; 12] = [
     "02/30/2003",
     "02/29/2100",
     "12/31/1969",

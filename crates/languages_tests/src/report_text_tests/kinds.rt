@@ -1,14 +1,16 @@
 //! Each kind of entry, command, dependency and reason once.
 use crate::report_text_tests::samples::{Day, is_report};
-use base_types::{JobNo, Obj, OnUntil, StreamNo, Why};
+use base_types::{OnUntil, Why};
 use std::alloc::Global;
 use std::test::Fail;
-use test_builders::{Asks, EntryRow, FeedRow, NodeRow, Says, StreamDraftRow, StreamRow, Waits};
+use test_builders::{
+    Asks, EntryRow, FeedRow, NodeRow, ObjRow, Says, StreamDraftRow, StreamRow, Waits,
+};
 
 const TWO: [NodeRow; 2] = [("M", None, true, true), ("A1", Some(0), false, false)];
 
 /// The workstations M and A1, of which nothing but entries is told.
-const ENTRIES_ALONE: Day = Day {
+static ENTRIES_ALONE: Day = Day {
     net: &TWO,
     starts: &[],
     packets: &[],
@@ -28,19 +30,19 @@ const M_TO_A1: FeedRow = FeedRow::Orders(0, 1);
 
 const A1_TO_M: FeedRow = FeedRow::Orders(1, 0);
 
-const JOB_2: Obj = Obj::Job(JobNo(2));
+const JOB_2: ObjRow = ObjRow::Job(2);
 
-const JOB_8: Obj = Obj::Job(JobNo(8));
+const JOB_8: ObjRow = ObjRow::Job(8);
 
-const STREAM_3: Obj = Obj::Stream(StreamNo(3));
+const STREAM_3: ObjRow = ObjRow::Stream(3);
 
-const STREAM_4: Obj = Obj::Stream(StreamNo(4));
+const STREAM_4: ObjRow = ObjRow::Stream(4);
 
 const FRESH: [StreamRow; 2] = [(4, 0, "S", false, &[], &[]), (5, 0, "T", false, &[], &[])];
 
 const ADDED: StreamRow = (6, 0, "U", false, &[], &[]);
 
-const BODIES: [EntryRow; 23] = [
+static BODIES: [EntryRow; 23] = [
     (M, 1, Says::NewPlan(2, &[(0, 7), (1, 4)], &[1, 3], &FRESH)),
     (M, 2, Says::NewPlan(3, &[], &[], &[])),
     (M, 3, Says::Added(1, 9, &ADDED)),
@@ -101,7 +103,7 @@ fn bodies(rt: HostRuntime) -> Result<(), Fail> {
 
 const SUBMITTED: StreamDraftRow = (1, "ADHOC", false, &[], &[]);
 
-const COMMANDS: [EntryRow; 20] = [
+static COMMANDS: [EntryRow; 20] = [
     (
         A1_TO_M,
         1,

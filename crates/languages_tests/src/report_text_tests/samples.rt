@@ -10,6 +10,7 @@ pub(crate) type Shown<'a> = (u16, &'a [(FeedRow, u32)], &'a str);
 
 /// What a report is made of beside the entries: the workstations, each started launch with its workstation, job and
 /// number, the packets from one workstation to another, and what each workstation shows.
+#[derive(Clone, Copy)]
 pub(crate) struct Day<'a> {
     pub(crate) net: &'a [NodeRow<'a>],
     pub(crate) starts: &'a [(u16, u32, u32)],

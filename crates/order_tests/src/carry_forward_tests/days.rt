@@ -2,18 +2,18 @@
 //!
 //! Of three streams X of P is marked and runs, Y is marked and has ended, and Z is not marked and waits.
 use crate::carry_forward_tests::plan_under;
-use base_types::{Body, Carry, Feed, JobNo, Obj, StreamNo, Ws};
+use base_types::{Body, Carry, Feed, JobNo, StreamNo, Ws};
 use owner_fold::Owners;
 use std::alloc::Global;
 use std::test::Fail;
-use test_builders::{Asks, FeedRow, Says, StreamDraftRow, drafts};
+use test_builders::{Asks, FeedRow, ObjRow, Says, StreamDraftRow, drafts};
 use test_nights::{M, Row, hear_all, holding, take};
 
 /// The events of P.
 const P: FeedRow = FeedRow::Events(1);
 
 /// What the master took of the day.
-const DAY: [Row; 6] = [
+static DAY: [Row; 6] = [
     (
         M,
         Says::NewPlan(
@@ -35,7 +35,7 @@ const DAY: [Row; 6] = [
 ];
 
 /// The stream of the next day.
-const NEXT: [StreamDraftRow; 1] = [(0, "N", false, &[], &[(0, "N1", &[])])];
+static NEXT: [StreamDraftRow; 1] = [(0, "N", false, &[], &[(0, "N1", &[])])];
 
 /// A plan by its run, its cut, the streams that it carries, and the numbers of its first document and that one's job.
 fn told(alloc: Global, plan: &Body) -> Result<String, Fail> {
@@ -66,7 +66,7 @@ fn ends(alloc: Global, owners: &Owners, option: Carry, text: &str) -> Result<boo
 }
 
 /// The marked ones, none or all are carried.
-const OPTIONS: [(Carry, &str); 3] = [
+static OPTIONS: [(Carry, &str); 3] = [
     (
         Carry::Yes,
         concat!(
@@ -101,10 +101,7 @@ fn first_other(alloc: Global, owners: &Owners) -> Result<Option<usize>, Fail> {
 }
 
 /// A cancelled stream is carried under no option.
-const CANCELLED: [Row; 1] = [(
-    M,
-    Says::Obeyed(0, 1, Asks::Cancel(Obj::Stream(StreamNo(3)))),
-)];
+static CANCELLED: [Row; 1] = [(M, Says::Obeyed(0, 1, Asks::Cancel(ObjRow::Stream(3))))];
 
 const ALL_BUT_IT: &str = concat!(
     "2 Seen { counts: Items { items: [(Ws(0), 7)] } } ",
@@ -122,7 +119,7 @@ fn the_end_of_a_day(rt: HostRuntime) -> Result<(), Fail> {
 }
 
 /// What the master has heard of P by then counts as well: X has ended.
-const HEARD: [Row; 4] = [
+static HEARD: [Row; 4] = [
     (P, Says::Released(1, &[(0, 2)])),
     (P, Says::Launched(1, 1, &[(0, 2), (1, 1)])),
     (P, Says::Ended(1, 1, 0)),

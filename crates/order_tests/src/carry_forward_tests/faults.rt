@@ -86,7 +86,7 @@ const STREAMS_FULL: Option<CarryFault> = Some(CarryFault::PlanFull(4096));
 const JOBS_FULL: Option<CarryFault> = Some(CarryFault::PlanFull(16_384));
 
 /// The option, the plan before, the drafts, and why there is no plan.
-const FAULTS: [(Carry, PlanRow, FreshRow, Option<CarryFault>); 14] = [
+static FAULTS: [(Carry, PlanRow, FreshRow, Option<CarryFault>); 14] = [
     (Carry::Yes, (LAST - 1, 1, 1, 0), (0, Some(1)), None),
     (
         Carry::Yes,
@@ -155,7 +155,7 @@ fn fault_behind(alloc: Global, row: &PlanRow) -> Result<Option<CarryFault>, Fail
 }
 
 /// The plan, and why a stream with a job has no document in it.
-const SUBMITTED: [(PlanRow, Option<CarryFault>); 4] = [
+static SUBMITTED: [(PlanRow, Option<CarryFault>); 4] = [
     ((1, LAST, 1, 0), Some(CarryFault::NumbersSpent)),
     ((1, 1, LAST, 0), Some(CarryFault::NumbersSpent)),
     // The stream counts each time, and once more as a document.

@@ -11,7 +11,7 @@ use test_builders::{
 use test_nights::{M, Row, holding};
 
 /// Two streams S are carried: the first with a job A, 1, the second with jobs A, 2 and 3.
-const TWO: [Row; 1] = [(
+static TWO: [Row; 1] = [(
     M,
     Says::NewPlan(
         1,
@@ -70,7 +70,7 @@ fn left_behind(
 /// drafted behind two streams S: the first with jobs B, A and A, which become 4, 5 and 6, the second with none.
 type Resolved<'a> = (&'a [DraftWaits<'a>], &'a str, &'a str);
 
-const RESOLVED: [Resolved; 9] = [
+static RESOLVED: [Resolved; 9] = [
     // The last carried stream, and the first fresh one; in each the first job of the name.
     (
         &[DraftWaits::Stream(0, "S")],
@@ -122,7 +122,7 @@ const RESOLVED: [Resolved; 9] = [
     ),
 ];
 
-const TWO_FRESH: [StreamDraftRow; 2] = [
+static TWO_FRESH: [StreamDraftRow; 2] = [
     (
         0,
         "S",
@@ -166,7 +166,7 @@ fn names_of_drafts(rt: HostRuntime) -> Result<(), Fail> {
 }
 
 /// A stream 7 is a member, and its job is 9.
-const MEMBER: [Row; 1] = [(
+static MEMBER: [Row; 1] = [(
     M,
     Says::NewPlan(
         4_294_967_295,
@@ -177,7 +177,7 @@ const MEMBER: [Row; 1] = [(
 )];
 
 /// A stream X, which follows the stream S, of a job that follows S's job and has a DEADLINE.
-const FOLLOWER: StreamDraftRow = (
+static FOLLOWER: StreamDraftRow = (
     0,
     "X",
     true,

@@ -1,13 +1,13 @@
 //! Lines as an operator types them, with the commands that they give.
 use crate::conman_orders_tests::{network, planned};
-use base_types::{Cmd, JobNo, Obj, Why, Ws};
+use base_types::{Cmd, Why, Ws};
 use conman_orders::{ResolveFault, Verdict, judge, resolve};
 use conman_syntax::{CommandFault, Line, parse_command};
 use network_tree::Network;
 use owner_fold::Owners;
 use std::alloc::Global;
 use std::test::Fail;
-use test_builders::{Asks, DOMAIN, Says};
+use test_builders::{Asks, DOMAIN, ObjRow, Says};
 use test_nights::{M, Row, hear_all};
 
 type Answer = Result<(Ws, Cmd), ResolveFault>;
@@ -86,7 +86,7 @@ fn first_other<'a>(
     first_other_in(alloc, &net, &owners, w, table)
 }
 
-const ON_OBJECTS: [(&str, &str); 12] = [
+static ON_OBJECTS: [(&str, &str); 12] = [
     // The last member of the name, whatever its number.
     ("rerun M#S.A", "0 Rerun(JobNo(4))"),
     ("rerun m#s[1].a", "0 Rerun(JobNo(1))"),
@@ -107,7 +107,7 @@ const ON_OBJECTS: [(&str, &str); 12] = [
     ),
 ];
 
-const OTHERS: [(&str, &str); 10] = [
+static OTHERS: [(&str, &str); 10] = [
     ("fence M;10", "0 Fence(10)"),
     ("fence L;go", "2 Fence(101)"),
     ("limit cpu M;0", "0 Limit(0)"),
@@ -120,7 +120,7 @@ const OTHERS: [(&str, &str); 10] = [
     ("switchmgr D;L", "0 SwitchMgr(Ws(2))"),
 ];
 
-const TYPED_AT_L: [(&str, &str); 5] = [
+static TYPED_AT_L: [(&str, &str); 5] = [
     ("cancel job M#S.A", "0 Cancel(Job(JobNo(1)))"),
     ("cancel job S.A", "2 Cancel(Job(JobNo(3)))"),
     ("cancel job S[2].A", "2 Cancel(Job(JobNo(3)))"),
@@ -133,7 +133,7 @@ const TYPED_AT_L: [(&str, &str); 5] = [
     ),
 ];
 
-const ADDED: [(&str, &str); 7] = [
+static ADDED: [(&str, &str); 7] = [
     (
         "ads S;follows=M#S[1].B",
         "0 AddDep(Stream(StreamNo(3)), FollowsJob(JobNo(2)))",
@@ -161,7 +161,7 @@ const ADDED: [(&str, &str); 7] = [
     ),
 ];
 
-const DELETED: [(&str, &str); 6] = [
+static DELETED: [(&str, &str); 6] = [
     ("ddj S.A;prompt=\"ready?\"", "0 DelDep(Job(JobNo(1)), 1)"),
     ("ddj S.A;prompt=\":ready\"", "0 DelDep(Job(JobNo(1)), 2)"),
     ("ddj S.A;prompt=\"Ready?\"", "UnknownName(2)"),
@@ -171,7 +171,7 @@ const DELETED: [(&str, &str); 6] = [
 ];
 
 /// A submitted stream and its job are both at the workstation, and of one name.
-const SUBMITTED: [(&str, &str); 2] = [
+static SUBMITTED: [(&str, &str); 2] = [
     (
         r#"submit docommand M#"true""#,
         concat!(
@@ -210,7 +210,7 @@ fn commands_of_lines(rt: HostRuntime) -> Result<(), Fail> {
     Ok(())
 }
 
-const UNKNOWN: [(&str, &str); 23] = [
+static UNKNOWN: [(&str, &str); 23] = [
     ("rerun X#S.A", "UnknownName(1)"),
     ("rerun M#X.A", "UnknownName(1)"),
     ("rerun M#S.X", "UnknownName(1)"),
@@ -238,7 +238,7 @@ const UNKNOWN: [(&str, &str); 23] = [
     ("adj S.X;prompt=X", "UnknownName(1)"),
 ];
 
-const WITHOUT_A_COMMAND: [(&str, &str); 10] = [
+static WITHOUT_A_COMMAND: [(&str, &str); 10] = [
     ("showjobs", "NotACommand"),
     ("showschedules X", "NotACommand"),
     ("showcpus", "NotACommand"),
@@ -262,9 +262,9 @@ fn lines_that_give_no_command(rt: HostRuntime) -> Result<(), Fail> {
 }
 
 /// The first dependency of M#S.A is deleted.
-const WAIVED: [Row; 1] = [(M, Says::Obeyed(0, 1, Asks::DelDep(Obj::Job(JobNo(1)), 1)))];
+static WAIVED: [Row; 1] = [(M, Says::Obeyed(0, 1, Asks::DelDep(ObjRow::Job(1), 1)))];
 
-const DELETED_TWICE: [(&str, &str); 1] = [("ddj S.A;prompt=\"ready?\"", "UnknownName(2)")];
+static DELETED_TWICE: [(&str, &str); 1] = [("ddj S.A;prompt=\"ready?\"", "UnknownName(2)")];
 
 #[test]
 fn a_waived_dependency_is_not_there(rt: HostRuntime) -> Result<(), Fail> {

@@ -10,13 +10,13 @@ use std::test::Fail;
 use test_builders::{Asks, DOMAIN, NodeRow, TWO_AGENTS};
 
 /// The network of three workstations once L has taken over from D.
-const SWITCHED: [NodeRow; 3] = [
+static SWITCHED: [NodeRow; 3] = [
     ("M", None, true, true),
     ("D", Some(2), false, false),
     ("L", Some(0), true, false),
 ];
 
-const IN_THE_DOMAIN: [Step; 9] = [
+static IN_THE_DOMAIN: [Step; 9] = [
     Judged(Asks::SwitchMgr(2), Obey),
     Judged(Asks::SwitchMgr(1), Decline(Why::AlreadyThere)),
     Judged(Asks::SwitchMgr(0), Decline(Why::AlreadyThere)),
@@ -29,12 +29,12 @@ const IN_THE_DOMAIN: [Step; 9] = [
     Judged(Asks::SwitchMgr(3), Decline(Why::NotMaster)),
 ];
 
-const AFTER_THE_SWITCH: [Step; 2] = [
+static AFTER_THE_SWITCH: [Step; 2] = [
     Judged(Asks::SwitchMgr(2), Decline(Why::AlreadyThere)),
     Judged(Asks::SwitchMgr(1), Obey),
 ];
 
-const BELOW_THE_MASTER: [Step; 1] = [Judged(Asks::SwitchMgr(1), Decline(Why::OutOfRange))];
+static BELOW_THE_MASTER: [Step; 1] = [Judged(Asks::SwitchMgr(1), Decline(Why::OutOfRange))];
 
 #[test]
 fn commands_to_take_over(rt: HostRuntime) -> Result<(), Fail> {
@@ -58,7 +58,7 @@ fn first_other_line<'a>(
     lines::first_other_in(alloc, &net, &owners, 2, table)
 }
 
-const LINES: [(&str, &str); 8] = [
+static LINES: [(&str, &str); 8] = [
     ("switchmgr D;L", "0 SwitchMgr(Ws(2))"),
     ("switchmgr d;D", "0 SwitchMgr(Ws(1))"),
     ("switchmgr M;M", "0 SwitchMgr(Ws(0))"),
@@ -71,13 +71,13 @@ const LINES: [(&str, &str); 8] = [
     ("switchmgr X;X", "UnknownName(2)"),
 ];
 
-const LINES_BELOW_THE_MASTER: [(&str, &str); 2] = [
+static LINES_BELOW_THE_MASTER: [(&str, &str); 2] = [
     ("switchmgr M;P", "0 SwitchMgr(Ws(1))"),
     ("switchmgr P;P", "UnknownName(1)"),
 ];
 
 /// A domain has the name of its present manager.
-const LINES_AFTERWARDS: [(&str, &str); 4] = [
+static LINES_AFTERWARDS: [(&str, &str); 4] = [
     ("switchmgr D;L", "UnknownName(1)"),
     ("switchmgr L;L", "0 SwitchMgr(Ws(2))"),
     ("switchmgr L;D", "0 SwitchMgr(Ws(1))"),

@@ -3,37 +3,31 @@ use crate::conman_orders_tests::commands::Step::{At, Comes, Judged};
 use crate::conman_orders_tests::commands::{Step, first_other};
 use crate::conman_orders_tests::{network, planned};
 use crate::large_drafts::stream_of_many;
-use base_types::{Cmd, JobNo, Obj, StreamNo, Why, Ws};
+use base_types::{Cmd, Why, Ws};
 use conman_orders::Verdict::{Decline, Obey};
 use conman_orders::judge;
 use network_tree::Network;
 use owner_fold::Owners;
 use std::alloc::Global;
 use std::test::Fail;
-use test_builders::{Asks, DOMAIN, DraftWaits, Says, StreamDraftRow, Waits};
+use test_builders::{Asks, DOMAIN, DraftWaits, ObjRow, Says, StreamDraftRow, Waits};
 
 /// The job M#S.A of the first plan.
-const A: Obj = Obj::Job(JobNo(1));
+const A: ObjRow = ObjRow::Job(1);
 
 /// The stream M#S of the first plan.
-const S: Obj = Obj::Stream(StreamNo(1));
+const S: ObjRow = ObjRow::Stream(1);
 
-const JOBS: [Step; 37] = [
+static JOBS: [Step; 37] = [
     At(0, 2),
     // They are in no plan.
-    Judged(Asks::Cancel(Obj::Job(JobNo(9))), Decline(Why::NotThere)),
-    Judged(
-        Asks::Cancel(Obj::Stream(StreamNo(9))),
-        Decline(Why::NotThere),
-    ),
+    Judged(Asks::Cancel(ObjRow::Job(9)), Decline(Why::NotThere)),
+    Judged(Asks::Cancel(ObjRow::Stream(9)), Decline(Why::NotThere)),
     // In the catalogue, and no member.
-    Judged(
-        Asks::Cancel(Obj::Stream(StreamNo(2))),
-        Decline(Why::NotThere),
-    ),
-    Judged(Asks::Cancel(Obj::Job(JobNo(3))), Decline(Why::NotThere)),
+    Judged(Asks::Cancel(ObjRow::Stream(2)), Decline(Why::NotThere)),
+    Judged(Asks::Cancel(ObjRow::Job(3)), Decline(Why::NotThere)),
     // Another workstation's job in a stream of M.
-    Judged(Asks::Cancel(Obj::Job(JobNo(2))), Decline(Why::NotMine)),
+    Judged(Asks::Cancel(ObjRow::Job(2)), Decline(Why::NotMine)),
     // A job that runs.
     At(0, 1),
     Comes(Says::Launched(1, 1, &[])),
@@ -90,7 +84,7 @@ const TIMED: StreamDraftRow = (
     &[(0, "J", &[DraftWaits::Plain(Waits::Deadline(5))])],
 );
 
-const STREAMS: [Step; 14] = [
+static STREAMS: [Step; 14] = [
     // A plan of run 0 is a plan.
     At(0, 0),
     Judged(Asks::Submit(&ONE), Decline(Why::NotThere)),
@@ -117,7 +111,7 @@ fn commands_on_streams(rt: HostRuntime) -> Result<(), Fail> {
     Ok(())
 }
 
-const DEPENDENCIES: [Step; 33] = [
+static DEPENDENCIES: [Step; 33] = [
     At(0, 1),
     Judged(Asks::AddDep(A, Waits::Job(2)), Obey),
     Judged(Asks::AddDep(A, Waits::Job(9)), Decline(Why::NotThere)),
@@ -185,7 +179,7 @@ fn commands_on_dependencies(rt: HostRuntime) -> Result<(), Fail> {
     Ok(())
 }
 
-const PROMPTS: [Step; 18] = [
+static PROMPTS: [Step; 18] = [
     At(0, 1),
     Judged(Asks::ReplyGlobal(0, true), Decline(Why::NotThere)),
     Judged(Asks::ReplyGlobal(1, true), Obey),
@@ -215,7 +209,7 @@ fn replies(rt: HostRuntime) -> Result<(), Fail> {
     Ok(())
 }
 
-const WORKSTATIONS: [Step; 17] = [
+static WORKSTATIONS: [Step; 17] = [
     At(0, 1),
     Judged(Asks::Fence(101), Obey),
     Judged(Asks::Fence(102), Decline(Why::OutOfRange)),

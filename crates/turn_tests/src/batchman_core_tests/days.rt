@@ -11,14 +11,14 @@ use test_nights::{M, take};
 const P: FeedRow = FeedRow::Events(1);
 
 /// A stream of the agent and two of the master, with a job each.
-const DAY: [StreamRow; 3] = [
+static DAY: [StreamRow; 3] = [
     (1, 1, "S", true, &[], &[(1, 1, "J", 10, &[])]),
     (2, 0, "T", true, &[], &[(2, 0, "J", 10, &[])]),
     (3, 0, "U", true, &[], &[(3, 0, "J", 10, &[])]),
 ];
 
 /// What the master keeps of its day until its first stream ended.
-const OF_THE_MASTER: [Step; 5] = [
+static OF_THE_MASTER: [Step; 5] = [
     Step::Turn(1, Says::Released(2, &[(0, 1)])),
     Step::Turn(1, Says::Released(3, &[(0, 2)])),
     Step::Turn(1, Says::Launched(2, 1, &[(0, 3)])),
@@ -33,7 +33,7 @@ fn the_master_goes_through_its_day(rt: HostRuntime) -> Result<(), Fail> {
 }
 
 /// What the agent keeps of its day, of the master's events no more than the first release.
-const OF_THE_AGENT: [Step; 6] = [
+static OF_THE_AGENT: [Step; 6] = [
     Step::Hears(M, Says::Released(2, &[])),
     Step::Turn(1, Says::Released(1, &[(0, 2)])),
     Step::Turn(1, Says::Launched(1, 1, &[(0, 2), (1, 1)])),
@@ -54,7 +54,7 @@ const ADHOC: StreamDraftRow = (0, "ADHOC", false, &[], &[(0, "J", &[])]);
 const ADDED: StreamRow = (2, 0, "ADHOC", false, &[], &[(2, 0, "J", 10, &[])]);
 
 /// It is added, and released after those before it.
-const SUBMIT: [Step; 4] = [
+static SUBMIT: [Step; 4] = [
     Step::Order(Asks::Submit(&ADHOC)),
     Step::Turn(1, Says::Added(0, 1, &ADDED)),
     Step::Turn(1, Says::Released(1, &[(0, 2)])),
@@ -68,13 +68,13 @@ fn a_submitted_stream_is_added(rt: HostRuntime) -> Result<(), Fail> {
 }
 
 /// A marked stream X and another one, each with a job.
-const MARKED: [StreamRow; 2] = [
+static MARKED: [StreamRow; 2] = [
     (1, 0, "X", true, &[], &[(1, 0, "J", 10, &[])]),
     (2, 0, "Y", false, &[], &[(2, 0, "J", 10, &[])]),
 ];
 
 /// A stream Z, which follows X.
-const FOLLOWER: [StreamDraftRow; 1] = [(
+static FOLLOWER: [StreamDraftRow; 1] = [(
     0,
     "Z",
     false,
@@ -90,7 +90,7 @@ fn begin_the_day(night: &mut Night, alloc: Global) -> Result<(), Fail> {
 }
 
 /// The carried stream is released, and its job is launched. Once it ended, the stream that follows it goes on.
-const SECOND_DAY: [Step; 8] = [
+static SECOND_DAY: [Step; 8] = [
     Step::Turn(1, Says::Released(1, &[(0, 2)])),
     Step::Turn(1, Says::Launched(1, 1, &[(0, 3)])),
     Step::Rests(1),

@@ -1,16 +1,15 @@
 //! Each rule of a turn, and the order in which they come.
-use super::{LAUNCHED, ONE_JOB, RELEASED, Step, wrong_at};
-use base_types::{JobNo, Obj, OnUntil, StreamNo, Why, Ws};
-use batchman_core::Choice;
+use super::{Chosen, LAUNCHED, ONE_JOB, RELEASED, Step, wrong_at};
+use base_types::{OnUntil, Why};
 use std::test::Fail;
-use test_builders::{Asks, FeedRow, Says, StreamRow, Waits};
+use test_builders::{Asks, FeedRow, ObjRow, Says, StreamRow, Waits};
 use test_nights::M;
 
 /// The events of an agent.
 const Q: FeedRow = FeedRow::Events(2);
 
 /// The job waits at a fence of its priority, and is launched above a lower one.
-const AT_THE_FENCE: [Step; 8] = [
+static AT_THE_FENCE: [Step; 8] = [
     Step::Order(Asks::Fence(10)),
     Step::Turn(100, Says::Obeyed(0, 1, Asks::Fence(10))),
     Step::Turn(100, Says::Released(1, &[(0, 2)])),
@@ -28,7 +27,7 @@ fn a_job_at_the_fence_waits(rt: HostRuntime) -> Result<(), Fail> {
 }
 
 /// Three jobs at 10, at HI and at GO.
-const HIGH: [StreamRow; 1] = [(
+static HIGH: [StreamRow; 1] = [(
     1,
     0,
     "S",
@@ -42,7 +41,7 @@ const HIGH: [StreamRow; 1] = [(
 )];
 
 /// With a limit of none the high jobs are launched, the highest first. One that is due again waits at the highest fence.
-const PAST_THE_LIMIT: [Step; 12] = [
+static PAST_THE_LIMIT: [Step; 12] = [
     Step::Order(Asks::Limit(0)),
     Step::Turn(1, Says::Obeyed(0, 1, Asks::Limit(0))),
     Step::Turn(1, Says::Released(1, &[(0, 2)])),
@@ -64,7 +63,7 @@ fn high_jobs_pass_a_limit_of_none(rt: HostRuntime) -> Result<(), Fail> {
 }
 
 /// Two jobs that need both units of the resource.
-const NEEDY: [StreamRow; 1] = [(
+static NEEDY: [StreamRow; 1] = [(
     1,
     0,
     "S",
@@ -77,7 +76,7 @@ const NEEDY: [StreamRow; 1] = [(
 )];
 
 /// The second job is launched once the first ended and both units are there.
-const FOR_UNITS: [Step; 9] = [
+static FOR_UNITS: [Step; 9] = [
     Step::Turn(1, RELEASED),
     Step::Turn(1, LAUNCHED),
     Step::Rests(1),
@@ -96,7 +95,7 @@ fn jobs_wait_for_units(rt: HostRuntime) -> Result<(), Fail> {
 }
 
 /// Jobs with an UNTIL of each mark at 200, and one that follows the third.
-const WITH_UNTILS: [StreamRow; 1] = [(
+static WITH_UNTILS: [StreamRow; 1] = [(
     1,
     0,
     "S",
@@ -111,15 +110,12 @@ const WITH_UNTILS: [StreamRow; 1] = [(
 )];
 
 /// At the reading each UNTIL passes.
-const PAST_UNTILS: [Step; 8] = [
+static PAST_UNTILS: [Step; 8] = [
     Step::Turn(199, RELEASED),
     Step::Turn(200, Says::Clock(200)),
-    Step::Turn(
-        200,
-        Says::UntilPassed(Obj::Job(JobNo(1)), 1, OnUntil::Suppr),
-    ),
-    Step::Turn(200, Says::UntilPassed(Obj::Job(JobNo(2)), 1, OnUntil::Cont)),
-    Step::Turn(200, Says::UntilPassed(Obj::Job(JobNo(3)), 1, OnUntil::Canc)),
+    Step::Turn(200, Says::UntilPassed(ObjRow::Job(1), 1, OnUntil::Suppr)),
+    Step::Turn(200, Says::UntilPassed(ObjRow::Job(2), 1, OnUntil::Cont)),
+    Step::Turn(200, Says::UntilPassed(ObjRow::Job(3), 1, OnUntil::Canc)),
     Step::Turn(200, Says::Launched(2, 1, &[(0, 6)])),
     Step::Turn(200, Says::Launched(4, 1, &[(0, 7)])),
     Step::Rests(200),
@@ -133,7 +129,7 @@ fn untils_pass_at_the_reading(rt: HostRuntime) -> Result<(), Fail> {
 
 /// A stream that is to be done by 200. Its first job is to be done by 200 and by 300, its second, which follows the
 /// first, by 100.
-const WITH_DEADLINES: [StreamRow; 1] = [(
+static WITH_DEADLINES: [StreamRow; 1] = [(
     1,
     0,
     "S",
@@ -147,16 +143,16 @@ const WITH_DEADLINES: [StreamRow; 1] = [(
 
 /// No DEADLINE holds back. What is not done at its second is late, once, the stream before its jobs; who runs is late
 /// too, and who is good is not.
-const LATENESS: [Step; 14] = [
+static LATENESS: [Step; 14] = [
     Step::Turn(99, RELEASED),
     Step::Turn(99, LAUNCHED),
     Step::Rests(99),
     Step::Turn(100, Says::Clock(100)),
-    Step::Turn(100, Says::Late(Obj::Job(JobNo(2)), 2)),
+    Step::Turn(100, Says::Late(ObjRow::Job(2), 2)),
     Step::Rests(199),
     Step::Turn(200, Says::Clock(200)),
-    Step::Turn(200, Says::Late(Obj::Stream(StreamNo(1)), 1)),
-    Step::Turn(200, Says::Late(Obj::Job(JobNo(1)), 1)),
+    Step::Turn(200, Says::Late(ObjRow::Stream(1), 1)),
+    Step::Turn(200, Says::Late(ObjRow::Job(1), 1)),
     Step::Rests(200),
     Step::Hears(M, Says::Ended(1, 1, 0)),
     Step::Turn(200, Says::Launched(2, 1, &[(0, 9)])),
@@ -171,10 +167,10 @@ fn what_is_not_done_is_late_once(rt: HostRuntime) -> Result<(), Fail> {
 }
 
 /// A job that waits for 5000.
-const WAITING: [StreamRow; 1] = [(1, 0, "S", true, &[], &[(1, 0, "J", 10, &[Waits::At(5000)])])];
+static WAITING: [StreamRow; 1] = [(1, 0, "S", true, &[], &[(1, 0, "J", 10, &[Waits::At(5000)])])];
 
 /// It is launched, though the reading went back.
-const BACK: [Step; 4] = [
+static BACK: [Step; 4] = [
     Step::Turn(5000, Says::Clock(5000)),
     Step::Turn(1400, Says::Released(1, &[(0, 2)])),
     Step::Turn(1400, Says::Launched(1, 1, &[(0, 3)])),
@@ -188,7 +184,7 @@ fn the_clock_stays_where_the_reading_goes_back(rt: HostRuntime) -> Result<(), Fa
 }
 
 /// The rerun of the job is declined while it runs.
-const RERUN: [Step; 5] = [
+static RERUN: [Step; 5] = [
     Step::Turn(1, RELEASED),
     Step::Turn(1, LAUNCHED),
     Step::Order(Asks::Rerun(1)),
@@ -203,7 +199,7 @@ fn a_rerun_of_an_open_launch_is_declined(rt: HostRuntime) -> Result<(), Fail> {
 }
 
 /// The launch is lost where its process is gone, and the job is launched again by a rerun, with the next number.
-const LOSS: [Step; 10] = [
+static LOSS: [Step; 10] = [
     Step::Turn(100, RELEASED),
     Step::Turn(100, LAUNCHED),
     Step::Rests(100),
@@ -224,7 +220,7 @@ fn a_launch_that_does_not_run_is_lost(rt: HostRuntime) -> Result<(), Fail> {
 
 /// A stream with a job that starts at once, one that follows it and is to begin and to be done by 200, and one that
 /// waits for 200, and a stream without jobs that waits for 200.
-const MANY: [StreamRow; 2] = [
+static MANY: [StreamRow; 2] = [
     (
         1,
         0,
@@ -251,7 +247,7 @@ const MANY: [StreamRow; 2] = [
 ];
 
 /// All rules apply at once, and each gives way to those before it.
-const BY_THE_RULES: [Step; 14] = [
+static BY_THE_RULES: [Step; 14] = [
     Step::Turn(199, RELEASED),
     Step::Turn(199, LAUNCHED),
     Step::Rests(199),
@@ -260,8 +256,8 @@ const BY_THE_RULES: [Step; 14] = [
     Step::Turn(300, Says::Clock(300)),
     Step::Turn(300, Says::Lost(1, 1)),
     Step::Turn(300, Says::Obeyed(0, 1, Asks::Fence(5))),
-    Step::Turn(300, Says::UntilPassed(Obj::Job(JobNo(2)), 2, OnUntil::Cont)),
-    Step::Turn(300, Says::Late(Obj::Job(JobNo(2)), 3)),
+    Step::Turn(300, Says::UntilPassed(ObjRow::Job(2), 2, OnUntil::Cont)),
+    Step::Turn(300, Says::Late(ObjRow::Job(2), 3)),
     Step::Turn(300, Says::Released(2, &[(0, 8)])),
     Step::Turn(300, Says::StreamEnded(2, &[(0, 9)])),
     Step::Turn(300, Says::Launched(3, 1, &[(0, 10)])),
@@ -275,13 +271,13 @@ fn the_rules_come_in_their_order(rt: HostRuntime) -> Result<(), Fail> {
 }
 
 /// A job of P in a stream of Q, which follows a job of the master.
-const CITED: [StreamRow; 2] = [
+static CITED: [StreamRow; 2] = [
     (1, 0, "S", true, &[], &[(1, 0, "J", 10, &[])]),
     (2, 2, "T", true, &[], &[(2, 1, "K", 10, &[Waits::Job(1)])]),
 ];
 
 /// The job of P is launched once that job ended, and counts the events of the master and of Q.
-const COUNTS: [Step; 7] = [
+static COUNTS: [Step; 7] = [
     Step::Hears(Q, Says::Released(2, &[])),
     Step::Hears(M, Says::Released(1, &[])),
     Step::Hears(M, Says::Launched(1, 1, &[])),
@@ -298,7 +294,7 @@ fn a_launch_counts_whom_it_stands_on(rt: HostRuntime) -> Result<(), Fail> {
 }
 
 /// The orders of P come before those of Q, and then the turns go on.
-const ANSWERS: [Step; 8] = [
+static ANSWERS: [Step; 8] = [
     Step::Hears(FeedRow::Orders(2, 0), Says::Order(Asks::Fence(1))),
     Step::Hears(FeedRow::Orders(1, 0), Says::Order(Asks::Limit(2000))),
     Step::Hears(FeedRow::Orders(1, 0), Says::Order(Asks::Stop)),
@@ -316,16 +312,16 @@ fn issuers_are_answered_from_the_lowest(rt: HostRuntime) -> Result<(), Fail> {
 }
 
 /// The choices of a night with one job, then with an order, and without the process of its launch.
-const CHOICES: [Step; 9] = [
-    Step::Chooses(1, Choice::Release(StreamNo(1))),
+static CHOICES: [Step; 9] = [
+    Step::Chooses(1, Chosen::Release(1)),
     Step::Turn(1, RELEASED),
-    Step::Chooses(1, Choice::Launch(JobNo(1))),
+    Step::Chooses(1, Chosen::Launch(1)),
     Step::Turn(1, LAUNCHED),
-    Step::Chooses(1, Choice::Nothing),
+    Step::Chooses(1, Chosen::Nothing),
     Step::Order(Asks::Stop),
-    Step::Chooses(1, Choice::Answer(Ws(0))),
+    Step::Chooses(1, Chosen::Answer(0)),
     Step::Restart,
-    Step::Chooses(1, Choice::Lost(JobNo(1))),
+    Step::Chooses(1, Chosen::Lost(1)),
 ];
 
 #[test]
@@ -335,11 +331,11 @@ fn a_choice_names_its_object(rt: HostRuntime) -> Result<(), Fail> {
 }
 
 /// And that of an object that is late.
-const LATE_CHOICES: [Step; 4] = [
+static LATE_CHOICES: [Step; 4] = [
     Step::Turn(100, Says::Clock(100)),
-    Step::Chooses(100, Choice::Late(Obj::Job(JobNo(2)), 2)),
-    Step::Turn(100, Says::Late(Obj::Job(JobNo(2)), 2)),
-    Step::Chooses(100, Choice::Release(StreamNo(1))),
+    Step::Chooses(100, Chosen::Late(ObjRow::Job(2), 2)),
+    Step::Turn(100, Says::Late(ObjRow::Job(2), 2)),
+    Step::Chooses(100, Chosen::Release(1)),
 ];
 
 #[test]

@@ -33,12 +33,12 @@ const ENDED: [u8; 22] = [
     1, 0, 0, 0, 0, 0, 0, 4, 10, 0, 0, 0, 1, 0, 0, 0, 1, 0, 0, 0, 0, 1,
 ];
 
-const STREAM_ENDED: [u8; 23] = [
+static STREAM_ENDED: [u8; 23] = [
     1, 0, 0, 0, 0, 0, 0, 5, 5, 0, 0, 0, 1, 0, 0, 0, 1, 0, 0, 0, 0, 0, 4,
 ];
 
 /// The Symphony after these five entries.
-const FIRST_VERSION: [u8; 95] = [
+static FIRST_VERSION: [u8; 95] = [
     b'T', b'W', b'S', b'Y', 0, 1, // its mark and version
     0, 1, // one workstation
     0, 0, 0, 5, 0, 0, 10, 0, 0, 0, 0, 0, 0, 0, 0, 0, // five events, fence 0, limit 10, clock 0, running
@@ -56,7 +56,7 @@ const FIRST_VERSION: [u8; 95] = [
 ];
 
 /// The same plan, but that the job runs the empty command and is to be done at 300. It is an entry of version 2.
-const TIMED_PLAN: [u8; 75] = [
+static TIMED_PLAN: [u8; 75] = [
     2, 0, 0, 0, 0, 0, 0, 1, 1, // version, events of M, place, kind
     0, 0, 0, 1, 0, 0, 0, 0, 0, 0, 0, 0, 0, 0, 0, 1, // the run, no cut, nothing carried, one stream
     0, 0, 0, 1, 0, 0, 0, 1, b'S', 10, 0, 0, 0, 0, 0, 0, // the stream
@@ -67,21 +67,21 @@ const TIMED_PLAN: [u8; 75] = [
 ];
 
 /// The clock reads 300.
-const CLOCK: [u8; 17] = [1, 0, 0, 0, 0, 0, 0, 4, 3, 0, 0, 0, 0, 0, 0, 1, 44];
+static CLOCK: [u8; 17] = [1, 0, 0, 0, 0, 0, 0, 4, 3, 0, 0, 0, 0, 0, 0, 1, 44];
 
 /// The job is late by its first dependency.
-const LATE: [u8; 16] = [2, 0, 0, 0, 0, 0, 0, 5, 16, 0, 0, 0, 0, 1, 0, 1];
+static LATE: [u8; 16] = [2, 0, 0, 0, 0, 0, 0, 5, 16, 0, 0, 0, 0, 1, 0, 1];
 
-const ENDED_LATE: [u8; 22] = [
+static ENDED_LATE: [u8; 22] = [
     1, 0, 0, 0, 0, 0, 0, 6, 10, 0, 0, 0, 1, 0, 0, 0, 1, 0, 0, 0, 0, 1,
 ];
 
-const STREAM_ENDED_LATE: [u8; 23] = [
+static STREAM_ENDED_LATE: [u8; 23] = [
     1, 0, 0, 0, 0, 0, 0, 7, 5, 0, 0, 0, 1, 0, 0, 0, 1, 0, 0, 0, 0, 0, 6,
 ];
 
 /// The Symphony after that plan alone.
-const NOTHING_LATE: [u8; 100] = [
+static NOTHING_LATE: [u8; 100] = [
     b'T', b'W', b'S', b'Y', 0, 2, // its mark and version
     0, 1, // one workstation
     0, 0, 0, 1, 0, 0, 10, 0, 0, 0, 0, 0, 0, 0, 0, 0, // one event, fence 0, limit 10, clock 0, running
@@ -99,7 +99,7 @@ const NOTHING_LATE: [u8; 100] = [
 ];
 
 /// The Symphony after the late night.
-const SECOND_VERSION: [u8; 100] = [
+static SECOND_VERSION: [u8; 100] = [
     b'T', b'W', b'S', b'Y', 0, 2, // its mark and version
     0, 1, // one workstation
     0, 0, 0, 7, 0, 0, 10, 0, 0, 0, 0, 0, 0, 1, 44, 0, // seven events, fence 0, limit 10, clock 300, running

@@ -18,7 +18,7 @@ fn take_all(world: &mut World) -> Result<(), Fail> {
 
 /// Steps that a world refuses once it has taken all that it may: a packet that was not sent is told before the limit,
 /// a fault of the node is not.
-const REFUSED: [Refused; 4] = [
+static REFUSED: [Refused; 4] = [
     (Does::Crash(0), StepRefused::Limit(LimitName::Steps)),
     (
         Does::At(0, Here::Turn(1)),

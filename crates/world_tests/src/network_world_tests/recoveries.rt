@@ -21,7 +21,7 @@ const TURN: Does = Does::At(0, Here::Turn(1));
 const ENDED_BADLY: Does = Does::At(0, Here::Ended(1, 8));
 
 /// A job that is to be rerun ends badly twice: it is rerun once.
-const RERUN_ONCE: [Does; 9] = [
+static RERUN_ONCE: [Does; 9] = [
     NEXT_RERUN,
     TURN,
     TURN,
@@ -33,36 +33,21 @@ const RERUN_ONCE: [Does; 9] = [
     Does::Recover(0),
 ];
 
-const RERUN_ONCE_REPORT: &str = "events 8
-M 1 newplan 1 cut - carried - fresh 1
-M 2 released 1 seen M:1
-M 3 launched 1 1 seen M:2
-M 4 ended 1 1 rc 8 bad
-M>M 1 order rerun job 1
-M 5 obeyed M 1 rerun job 1
-M 6 launched 1 2 seen M:5
-M 7 ended 1 2 rc 8 bad
-starts 2
-M 1 1
-M 1 2
-node M
-holds M 7
-holds M>M 1
-plan 1
-cpu M fence 0 limit 10 clock 0 running
-stream 1 M#S STUCK
-job 1 M#S.A ABEND 2
-job 2 M#S.B HOLD 0
-";
-
 #[test]
 fn a_job_is_rerun_by_advice_once(rt: HostRuntime) -> Result<(), Fail> {
-    assert!(rt; reports(rt.alloc(), &ALONE, &RERUN_ONCE, RERUN_ONCE_REPORT)?);
+    assert!(rt;
+        reports(
+            rt.alloc(),
+            &ALONE,
+            &RERUN_ONCE,
+            night_texts::rerun_once().report
+        )?
+    );
     Ok(())
 }
 
 /// A job that is to be continued from ends badly, and the next one starts.
-const CONTINUED: [Does; 7] = [
+static CONTINUED: [Does; 7] = [
     NEXT_CONTINUE,
     TURN,
     TURN,

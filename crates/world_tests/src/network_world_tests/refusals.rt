@@ -3,14 +3,13 @@ use crate::networks::{AGENTS, NEXT_OF_AGENTS};
 use crate::rows::{Does, Here};
 use crate::worlds::{Refused, after, first_other};
 use agent_core::StepFault;
-use base_types::{JobNo, Obj};
 use network_world::StepRefused;
 use std::alloc::Global;
 use std::test::Fail;
-use test_builders::Asks;
+use test_builders::{Asks, ObjRow};
 
 /// What was done before.
-const BEFORE: [Does; 5] = [
+static BEFORE: [Does; 5] = [
     NEXT_OF_AGENTS,
     Does::At(0, Here::Link(1)),
     Does::At(1, Here::Link(0)),
@@ -18,7 +17,7 @@ const BEFORE: [Does; 5] = [
     Does::Deliver(0, 1, 1),
 ];
 
-const REFUSED: [Refused; 16] = [
+static REFUSED: [Refused; 16] = [
     // Packets that were not sent.
     (Does::Deliver(0, 0, 1), StepRefused::NoPacket),
     (Does::Deliver(0, 1, 0), StepRefused::NoPacket),
@@ -76,7 +75,7 @@ const REFUSED: [Refused; 16] = [
     ),
 ];
 
-const JOB_2: Obj = Obj::Job(JobNo(2));
+const JOB_2: ObjRow = ObjRow::Job(2);
 
 fn first_of_refused(alloc: Global) -> Result<Option<usize>, Fail> {
     first_other(alloc, after(alloc, &AGENTS, &BEFORE)?, &REFUSED)

@@ -2,14 +2,14 @@
 use crate::networks::{AGENTS, ALONE, NEXT, NEXT_OF_AGENTS};
 use crate::rows::{Does, Here};
 use crate::worlds::{after, do_rows, reports, sent_and_reached, then_reports};
-use base_types::{Feed, JobNo, Obj, Ws};
+use base_types::{Feed, Ws};
 use network_world::World;
 use std::alloc::Global;
 use std::test::Fail;
-use test_builders::Asks;
+use test_builders::{Asks, ObjRow};
 
 /// The node stops in a launch, whose entry is kept.
-const LAUNCH_KEPT: [Does; 3] = [
+static LAUNCH_KEPT: [Does; 3] = [
     NEXT,
     Does::At(0, Here::Turn(100)),
     Does::CrashAt(0, Here::Turn(100), true),
@@ -74,7 +74,7 @@ fn a_launch_without_a_process_is_lost(rt: HostRuntime) -> Result<(), Fail> {
 }
 
 /// It is found lost, is rerun, and ends well.
-const RERUN: [Does; 5] = [
+static RERUN: [Does; 5] = [
     Does::At(0, Here::Turn(100)),
     Does::At(0, Here::Type(0, Asks::Rerun(1))),
     Does::At(0, Here::Turn(100)),
@@ -82,63 +82,36 @@ const RERUN: [Does; 5] = [
     Does::At(0, Here::Ended(1, 0)),
 ];
 
-const RERUN_REPORT: &str = "events 8
-M 1 newplan 1 cut - carried - fresh 1
-M 2 released 1 seen M:1
-M 3 launched 1 1 seen M:2
-M 4 lost 1 1
-M>M 1 order rerun job 1
-M 5 obeyed M 1 rerun job 1
-M 6 launched 1 2 seen M:5
-M 7 ended 1 2 rc 0 good
-starts 1
-M 1 2
-node M
-holds M 7
-holds M>M 1
-plan 1
-cpu M fence 0 limit 10 clock 0 running
-stream 1 M#S EXEC
-job 1 M#S.A SUCC 2
-";
-
 #[test]
 fn a_lost_launch_is_rerun_under_a_new_number(rt: HostRuntime) -> Result<(), Fail> {
     let world = launch_kept(rt.alloc())?;
-    assert!(rt; then_reports(rt.alloc(), world, &RERUN, RERUN_REPORT)?);
+    assert!(rt; then_reports(rt.alloc(), world, &RERUN, night_texts::launch_kept().report)?);
     Ok(())
 }
 
 /// The node stops in a launch, whose entry is lost, and launches then.
-const LAUNCH_LOST: [Does; 4] = [
+static LAUNCH_LOST: [Does; 4] = [
     NEXT,
     Does::At(0, Here::Turn(100)),
     Does::CrashAt(0, Here::Turn(100), false),
     Does::At(0, Here::Turn(100)),
 ];
 
-const LAUNCH_LOST_REPORT: &str = "events 3
-M 1 newplan 1 cut - carried - fresh 1
-M 2 released 1 seen M:1
-M 3 launched 1 1 seen M:2
-starts 1
-M 1 1
-node M
-holds M 3
-plan 1
-cpu M fence 0 limit 10 clock 0 running
-stream 1 M#S EXEC
-job 1 M#S.A INTRO 1
-";
-
 #[test]
 fn a_launch_that_was_lost_is_made_again(rt: HostRuntime) -> Result<(), Fail> {
-    assert!(rt; reports(rt.alloc(), &ALONE, &LAUNCH_LOST, LAUNCH_LOST_REPORT)?);
+    assert!(rt;
+        reports(
+            rt.alloc(),
+            &ALONE,
+            &LAUNCH_LOST,
+            night_texts::launch_lost().report
+        )?
+    );
     Ok(())
 }
 
 /// The plan is sent to P.
-const PLAN_SENT: [Does; 4] = [
+static PLAN_SENT: [Does; 4] = [
     NEXT_OF_AGENTS,
     Does::At(0, Here::Link(1)),
     Does::At(1, Here::Link(0)),
@@ -188,7 +161,7 @@ fn a_node_stops_in_a_delivery(rt: HostRuntime) -> Result<(), Fail> {
 }
 
 /// A crash takes down the links of its node and what was acknowledged to it, and no entry.
-const CRASHED: [Does; 6] = [
+static CRASHED: [Does; 6] = [
     Does::Deliver(0, 1, 1),
     Does::Deliver(1, 0, 1),
     Does::Crash(0),
@@ -210,7 +183,7 @@ fn a_crash_forgets_links_and_acknowledgements(rt: HostRuntime) -> Result<(), Fai
 }
 
 /// An object of which a command speaks.
-const JOB_1: Obj = Obj::Job(JobNo(1));
+const JOB_1: ObjRow = ObjRow::Job(1);
 
 /// An order is typed in a step in which the node stops: kept, it is obeyed; lost, it never was. Whether so many entries
 /// were made then, and so many orders are held.

@@ -2,12 +2,11 @@
 use crate::networks::{DOMAIN, NEXT, ONE_AGENT};
 use crate::rows::{Does, Here};
 use crate::worlds::reports;
-use base_types::{JobNo, Obj};
 use std::test::Fail;
-use test_builders::Asks;
+use test_builders::{Asks, ObjRow};
 
 /// A job is cancelled by a command that is typed two hops away and comes twice.
-const OVER_TWO_HOPS: [Does; 17] = [
+static OVER_TWO_HOPS: [Does; 17] = [
     NEXT,
     Does::At(0, Here::Link(1)),
     Does::At(1, Here::Link(0)),
@@ -17,7 +16,7 @@ const OVER_TWO_HOPS: [Does; 17] = [
     Does::Flow(0, 1),
     Does::At(1, Here::Turn(100)),
     Does::Flow(1, 2),
-    Does::At(2, Here::Type(0, Asks::Cancel(Obj::Job(JobNo(1))))),
+    Does::At(2, Here::Type(0, Asks::Cancel(ObjRow::Job(1)))),
     Does::At(2, Here::Turn(100)),
     Does::Flow(2, 1),
     Does::At(1, Here::Turn(100)),
@@ -27,48 +26,21 @@ const OVER_TWO_HOPS: [Does; 17] = [
     Does::At(0, Here::Turn(100)),
 ];
 
-const OVER_TWO_HOPS_REPORT: &str = "events 5
-M 1 newplan 1 cut - carried - fresh 1
-M 2 released 1 seen M:1
-L>M 1 order cancel job 1
-M 3 obeyed L 1 cancel job 1
-M 4 streamended 1 seen M:3
-starts 0
-packets M D 11
-packets D M 3
-packets D L 3
-packets L D 3
-node M
-holds M 4
-holds L>M 1
-plan 1
-cpu M fence 0 limit 10 clock 0 running
-stream 1 M#S SUCC
-job 1 M#S.A CANCEL 0
-node D
-holds M 2
-holds L>M 1
-plan 1
-cpu M fence 0 limit 10 clock 0 running
-stream 1 M#S EXEC
-job 1 M#S.A READY 0
-node L
-holds M 2
-holds L>M 1
-plan 1
-cpu M fence 0 limit 10 clock 0 running
-stream 1 M#S EXEC
-job 1 M#S.A READY 0
-";
-
 #[test]
 fn a_command_over_two_hops_is_obeyed_once(rt: HostRuntime) -> Result<(), Fail> {
-    assert!(rt; reports(rt.alloc(), &DOMAIN, &OVER_TWO_HOPS, OVER_TWO_HOPS_REPORT)?);
+    assert!(rt;
+        reports(
+            rt.alloc(),
+            &DOMAIN,
+            &OVER_TWO_HOPS,
+            night_texts::over_two_hops().report
+        )?
+    );
     Ok(())
 }
 
 /// Nine orders for P are typed there, of which eight go out in one turn.
-const NINE_ORDERS: [Does; 16] = [
+static NINE_ORDERS: [Does; 16] = [
     Does::At(1, Here::Link(0)),
     Does::At(0, Here::Link(1)),
     FENCE,
@@ -117,7 +89,7 @@ fn eight_entries_go_out_in_a_turn(rt: HostRuntime) -> Result<(), Fail> {
 }
 
 /// The agent L takes over from its manager D.
-const TAKEN_OVER: [Does; 7] = [
+static TAKEN_OVER: [Does; 7] = [
     Does::At(0, Here::Type(0, Asks::SwitchMgr(2))),
     Does::At(0, Here::Turn(1)),
     Does::At(0, Here::Link(2)),

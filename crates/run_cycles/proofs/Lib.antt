@@ -1,0 +1,7 @@
+pub mod Walks
+pub mod Far
+pub mod Nexts
+pub mod Prevs
+pub mod Shifted
+pub mod Ranges
+pub mod RunDates

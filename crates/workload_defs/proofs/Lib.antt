@@ -1,0 +1,15 @@
+pub mod Lists
+pub mod Apart
+pub mod Chains
+pub mod Accepted
+pub mod Clean
+pub mod Numbers
+pub mod Trees
+pub mod DefinedNets
+pub mod Fits
+pub mod Faultless
+pub mod Puts
+pub mod Sets
+pub mod Frees
+pub mod Told
+pub mod Checks

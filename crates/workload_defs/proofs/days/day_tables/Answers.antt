@@ -1,0 +1,14 @@
+use Rattle.std.proofs.Common.{◌∙◌, List, ap, subst}
+use Rattle.composer_parser.specs.declared.CalendarDef.{CalendarDef}
+use Rattle.composer_parser.specs.declared.Defs.{Defs}
+use Rattle.composer_parser.specs.declared.Lined.{Lined}
+use Rattle.workload_defs.specs.Tables.{IsCalendarTable}
+use Rattle.workload_defs.proofs.days.day_tables.Goals as goal
+
+pub returns : goal.returns
+returns c = record {
+  calendars_ =
+      subst (λ (l : List (Lined CalendarDef)). IsCalendarTable c.in_ok-calendars.calendars.entries l)
+      (c.as_slice.ensures ∙ ap (λ (d : Defs). d.calendars) c.defs.ensures) c.in_ok-calendars.ensures;
+  free_ = c.in_ok-free.ensures;
+}

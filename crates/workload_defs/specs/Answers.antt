@@ -1,0 +1,13 @@
+-- What checking answers.
+use Rattle.std.specs.Prelude.{◌≡◌, ◌⊎◌, Result, Ok, Err}
+use Rattle.composer_parser.specs.declared.Defs.{Defs}
+use Rattle.definition_faults.specs.Faults.{IsFaultless, IsFirstFault}
+use Rattle.definition_faults.specs.Orders.{told}
+use Rattle.definition_faults.specs.declared.DefFault.{DefFault}
+use Rattle.definition_faults.specs.declared.DefFault.TheVariants.{NoMemory}
+use Rattle.definition_faults.specs.declared.Fault.{Fault}
+
+-- the definitions where they have no fault, and else the first fault, unless memory ran out
+abbrev pub IsAnswer : Defs → Result Defs DefFault → Type 0
+IsAnswer d (Ok w) = (w ≡ d) × IsFaultless d
+IsAnswer d (Err fault) = (fault ≡ NoMemory) ⊎ ((f : Fault) × (fault ≡ told f) × IsFirstFault d f)

@@ -1,0 +1,2 @@
+-- What bytes are answered with where definitions are wanted.
+pub mod Replies

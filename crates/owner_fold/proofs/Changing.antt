@@ -9,7 +9,7 @@ use Rattle.std.specs.Option.{option_or}
 use Rattle.std.specs.Prelude.{◌||◌, option_map}
 use Rattle.grouped_places.specs.Codes.{code}
 use Rattle.model.specs.Types.{Added, Body, Clock, Declined, Ended, Entry, Events, Failed, Fulfilled, Late}
-use Rattle.model.specs.Types.{Launched, Lost, NewPlan, Obeyed, Obj, Order, Released, Started, Stream, StreamDoc}
+use Rattle.model.specs.Types.{Job, Launched, Lost, NewPlan, Obeyed, Obj, Order, Released, Started, Stream, StreamDoc}
 use Rattle.model.specs.Types.{StreamEnded, UntilPassed}
 use Rattle.model.specs.Equalities.{feed_eq}
 use Rattle.model.specs.Words.{firsts, has}
@@ -21,16 +21,18 @@ use Rattle.model.specs.Facts.{open_launch}
 use Rattle.owner_rows.proofs.Feeds.{feed_cases, list_with, list_without}
 use Rattle.owner_rows.proofs.Further.{any_command_with, any_with}
 use Rattle.owner_rows.proofs.JobTelling.{later_with}
+use Rattle.owner_fold.specs.Given.{is_timed, timed_job_by, timed_stream_by}
 use Rattle.owner_fold.specs.Numbers.{ArePlaces}
 use Rattle.owner_fold.specs.Plans.{is_planning, is_planning_body}
 use Rattle.owner_fold.specs.Sets.{AreSetsAmong, Begins, Prepared, began_by, change_by, change_in, is_begun, is_waiting}
 use Rattle.owner_fold.specs.Sets.{job_station_of, job_stream_of, opened_by, station_of, waits_by}
 use Rattle.owner_fold.specs.declared.changes.Change.{Change}
-use Rattle.owner_fold.specs.declared.changes.Change.TheVariants.{JobChange, StreamChange}
+use Rattle.owner_fold.specs.declared.changes.Change.TheVariants.{JobChange, JobTime, StreamChange, StreamTime}
 use Rattle.owner_fold.specs.declared.numbers.Index.{Index}
 use Rattle.owner_fold.specs.declared.sets.Sets.{Sets}
 use Rattle.owner_fold.proofs.Covering.{covers_more, covers_still, first_place}
 use Rattle.owner_fold.proofs.Holders.{launch_is_told}
+use Rattle.owner_fold.proofs.Timing.{gives_time, job_time_change, plan_gives_none, stream_time_change, timed_before}
 
 either : (a b : Bool) → (a || b) ≡ true → (a ≡ true) ⊎ (b ≡ true)
 either true b h = inl refl
@@ -194,14 +196,19 @@ at_feed kept e w P same more =
           subst P (sym k) (same k))
     ]
 
--- the sets, where who is released or launched has its place
-pub sets_still : (kept : List Entry) (e : Entry) (streams : List StreamDoc) (placed : List StreamJob) (sets : Sets)
+-- the sets, where who is released, launched or given a time has its place
+pub sets_still : (kept : List Entry) (e : Entry) (ms : List ℕ) (streams : List StreamDoc) (placed : List StreamJob)
+    (sets : Sets)
     → ((i : ℕ) (d : StreamDoc) → slice_get streams i ≡ Some d → Events d.ws ≡ e.feed → is_release_of d.no e.body ≡ true
     → (i < 2 ^ 32) × (has sets.begun (code d.ws i) ≡ true))
     → ((i : ℕ) (p : StreamJob) → slice_get placed i ≡ Some p → Events p.doc.ws ≡ e.feed
     → is_launch_of p.doc.no e.body ≡ true → (i < 2 ^ 32) × (has sets.opened (code p.doc.ws i) ≡ true))
-    → AreSetsAmong kept streams placed sets → AreSetsAmong (kept ++ e ∷ []) streams placed sets
-sets_still kept e streams placed sets released launched h = record {
+    → ((i : ℕ) (d : StreamDoc) → slice_get streams i ≡ Some d → Events d.ws ≡ e.feed
+    → gives_time (Stream d.no) e.body ≡ true → (i < 2 ^ 32) × (has sets.timed_streams (code d.ws i) ≡ true))
+    → ((i : ℕ) (p : StreamJob) → slice_get placed i ≡ Some p → Events p.doc.ws ≡ e.feed
+    → gives_time (Job p.doc.no) e.body ≡ true → (i < 2 ^ 32) × (has sets.timed_jobs (code p.doc.ws i) ≡ true))
+    → AreSetsAmong kept ms streams placed sets → AreSetsAmong (kept ++ e ∷ []) ms streams placed sets
+sets_still kept e ms streams placed sets released launched given_stream given_job h = record {
   waiting =
       covers_still station_of (waits_by kept) (waits_by (kept ++ e ∷ [])) streams sets.waiting
       (λ i d s t. inl (at_feed kept e d.ws (λ (l : List Body). is_waiting d.no l ≡ true → is_waiting d.no (list_of kept (Events d.ws)) ≡ true)
@@ -224,6 +231,39 @@ sets_still kept e streams placed sets released launched h = record {
       t)
       h.opened;
   by_stream = h.by_stream;
+  timed_streams =
+      covers_still station_of (timed_stream_by ms kept) (timed_stream_by ms (kept ++ e ∷ [])) streams sets.timed_streams
+      (λ i d s t. at_feed kept e d.ws
+      (λ (l : List Body). (has ms d.no && is_timed (Stream d.no) d.deps l) ≡ true
+      → ((has ms d.no && is_timed (Stream d.no) d.deps (list_of kept (Events d.ws))) ≡ true)
+      ⊎ ((i < 2 ^ 32) × (has sets.timed_streams (code d.ws i) ≡ true)))
+      (λ k u. inl u)
+      (λ k u.
+      let v : (has ms d.no ≡ true) × (is_timed (Stream d.no) d.deps (list_of kept (Events d.ws) ++ e.body ∷ []) ≡ true) =
+      both (has ms d.no) (is_timed (Stream d.no) d.deps (list_of kept (Events d.ws) ++ e.body ∷ [])) u in
+      elim (timed_before (Stream d.no) d.deps (list_of kept (Events d.ws)) e.body v.1) [
+        | inl x ↦ inl (λ j. v.0 j && x j)
+        | inr x ↦ inr (given_stream i d s k x)
+      ])
+      t)
+      h.timed_streams;
+  timed_jobs =
+      covers_still job_station_of (timed_job_by ms kept) (timed_job_by ms (kept ++ e ∷ [])) placed sets.timed_jobs
+      (λ i p s t. at_feed kept e p.doc.ws
+      (λ (l : List Body). (has ms p.parent.no && is_timed (Job p.doc.no) p.doc.deps l) ≡ true
+      → ((has ms p.parent.no && is_timed (Job p.doc.no) p.doc.deps (list_of kept (Events p.doc.ws))) ≡ true)
+      ⊎ ((i < 2 ^ 32) × (has sets.timed_jobs (code p.doc.ws i) ≡ true)))
+      (λ k u. inl u)
+      (λ k u.
+      let v : (has ms p.parent.no ≡ true)
+      × (is_timed (Job p.doc.no) p.doc.deps (list_of kept (Events p.doc.ws) ++ e.body ∷ []) ≡ true) =
+      both (has ms p.parent.no) (is_timed (Job p.doc.no) p.doc.deps (list_of kept (Events p.doc.ws) ++ e.body ∷ [])) u in
+      elim (timed_before (Job p.doc.no) p.doc.deps (list_of kept (Events p.doc.ws)) e.body v.1) [
+        | inl x ↦ inl (λ j. v.0 j && x j)
+        | inr x ↦ inr (given_job i p s k x)
+      ])
+      t)
+      h.timed_jobs;
 }
 
 -- a release and a launch are such changes
@@ -244,27 +284,34 @@ launch_change w j (Launched k n seen) h =
 launch_change w j b h = cc
 
 -- the sets after an entry for whom they were prepared
-pub sets_with : (kept : List Entry) (e : Entry) (docs : List StreamDoc) (all : List StreamJob) (sets : Sets)
-    (index : Index) (change : Change) → change ≡ change_in e.body e.feed
+pub sets_with : (kept : List Entry) (e : Entry) (ms : List ℕ) (docs : List StreamDoc) (all : List StreamJob)
+    (sets : Sets) (index : Index) (change_ : Change) → change_ ≡ change_in e.body e.feed
     → ArePlaces (map (λ (d : StreamDoc). d.no) (firsts (λ (d : StreamDoc). d.no) [] docs)) index.streams
     → ArePlaces (map (λ (p : StreamJob). p.doc.no) (firsts (λ (p : StreamJob). p.doc.no) [] all)) index.jobs
-    → Begins index change sets
-    → AreSetsAmong kept (firsts (λ (d : StreamDoc). d.no) [] docs) (firsts (λ (p : StreamJob). p.doc.no) [] all) sets
-    → AreSetsAmong (kept ++ e ∷ []) (firsts (λ (d : StreamDoc). d.no) [] docs) (firsts (λ (p : StreamJob). p.doc.no) [] all) sets
-sets_with kept e docs all sets index change one streams jobs begins h =
-    sets_still kept e (firsts (λ (d : StreamDoc). d.no) [] docs) (firsts (λ (p : StreamJob). p.doc.no) [] all) sets
+    → Begins index change_ sets → AreSetsAmong kept ms (firsts (λ (d : StreamDoc). d.no) [] docs) (firsts (λ (p : StreamJob). p.doc.no) [] all) sets
+    → AreSetsAmong (kept ++ e ∷ []) ms (firsts (λ (d : StreamDoc). d.no) [] docs) (firsts (λ (p : StreamJob). p.doc.no) [] all) sets
+sets_with kept e ms docs all sets index change_ one streams jobs begins h =
+    sets_still kept e ms (firsts (λ (d : StreamDoc). d.no) [] docs) (firsts (λ (p : StreamJob). p.doc.no) [] all) sets
     (λ i d s f r.
     let b : Begins index (StreamChange d.ws d.no true) sets =
     subst (λ (c : Change). Begins index c sets)
     (one ∙ ap (change_in e.body) (sym f) ∙ release_change d.ws d.no e.body r) begins in
-    b refl (map (λ (d : StreamDoc). d.no) (firsts (λ (d : StreamDoc). d.no) [] docs)) streams i
-    (first_place (λ (d : StreamDoc). d.no) [] docs i d s).1)
+    b refl (map (λ (d : StreamDoc). d.no) (firsts (λ (d : StreamDoc). d.no) [] docs)) streams i (first_place (λ (d : StreamDoc). d.no) [] docs i d s).1)
     (λ i p s f r.
     let b : Begins index (JobChange p.doc.ws p.doc.no true) sets =
     subst (λ (c : Change). Begins index c sets)
     (one ∙ ap (change_in e.body) (sym f) ∙ launch_change p.doc.ws p.doc.no e.body r) begins in
-    b refl (map (λ (p : StreamJob). p.doc.no) (firsts (λ (p : StreamJob). p.doc.no) [] all)) jobs i
-    (first_place (λ (p : StreamJob). p.doc.no) [] all i p s).1)
+    b refl (map (λ (p : StreamJob). p.doc.no) (firsts (λ (p : StreamJob). p.doc.no) [] all)) jobs i (first_place (λ (p : StreamJob). p.doc.no) [] all i p s).1)
+    (λ i d s f r.
+    let b : Begins index (StreamTime d.ws d.no) sets =
+    subst (λ (c : Change). Begins index c sets)
+    (one ∙ ap (change_in e.body) (sym f) ∙ stream_time_change d.ws d.no e.body r) begins in
+    b (map (λ (d : StreamDoc). d.no) (firsts (λ (d : StreamDoc). d.no) [] docs)) streams i (first_place (λ (d : StreamDoc). d.no) [] docs i d s).1)
+    (λ i p s f r.
+    let b : Begins index (JobTime p.doc.ws p.doc.no) sets =
+    subst (λ (c : Change). Begins index c sets)
+    (one ∙ ap (change_in e.body) (sym f) ∙ job_time_change p.doc.ws p.doc.no e.body r) begins in
+    b (map (λ (p : StreamJob). p.doc.no) (firsts (λ (p : StreamJob). p.doc.no) [] all)) jobs i (first_place (λ (p : StreamJob). p.doc.no) [] all i p s).1)
     h
 
 no_release : (s : ℕ) (b : Body) → is_planning_body b ≡ true → is_release_of s b ≡ false
@@ -277,19 +324,22 @@ no_launch j (NewPlan run cut carried docs) h = refl
 no_launch j (Added a k doc) h = refl
 no_launch j b h = cc
 
--- a plan or an added stream releases and launches nothing
-pub sets_planned : (kept : List Entry) (e : Entry) (streams : List StreamDoc) (placed : List StreamJob) (sets : Sets)
-    → is_planning e ≡ true → AreSetsAmong kept streams placed sets → AreSetsAmong (kept ++ e ∷ []) streams placed sets
-sets_planned kept e streams placed sets h =
+-- a plan or an added stream releases and launches nothing, and gives no time to what is there
+pub sets_planned : (kept : List Entry) (e : Entry) (ms : List ℕ) (streams : List StreamDoc) (placed : List StreamJob)
+    (sets : Sets) → is_planning e ≡ true → AreSetsAmong kept ms streams placed sets
+    → AreSetsAmong (kept ++ e ∷ []) ms streams placed sets
+sets_planned kept e ms streams placed sets h =
     let k : is_planning_body e.body ≡ true = (both (feed_eq (Events 0) e.feed) (is_planning_body e.body) h).1 in
-    sets_still kept e streams placed sets
+    sets_still kept e ms streams placed sets
     (λ i d s f r. absurd (let q : true ≡ false = sym r ∙ no_release d.no e.body k in cc))
     (λ i p s f r. absurd (let q : true ≡ false = sym r ∙ no_launch p.doc.no e.body k in cc))
+    (λ i d s f r. absurd (let q : true ≡ false = sym r ∙ plan_gives_none (Stream d.no) e.body k in cc))
+    (λ i p s f r. absurd (let q : true ≡ false = sym r ∙ plan_gives_none (Job p.doc.no) e.body k in cc))
 
 -- the sets of what is prepared
-pub sets_prepared : (kept : List Entry) (streams : List StreamDoc) (placed : List StreamJob) (old new : Sets)
-    → Prepared old new → AreSetsAmong kept streams placed old → AreSetsAmong kept streams placed new
-sets_prepared kept streams placed old new p h = record {
+pub sets_prepared : (kept : List Entry) (ms : List ℕ) (streams : List StreamDoc) (placed : List StreamJob)
+    (old new : Sets) → Prepared old new → AreSetsAmong kept ms streams placed old → AreSetsAmong kept ms streams placed new
+sets_prepared kept ms streams placed old new p h = record {
   waiting =
       covers_more station_of (waits_by kept) streams old.waiting new.waiting
       (λ c k. ap (λ (l : List ℕ). has l c) p.waiting ∙ k) h.waiting;
@@ -298,4 +348,9 @@ sets_prepared kept streams placed old new p h = record {
   by_stream =
       covers_more job_stream_of (λ x. true) placed old.by_stream new.by_stream
       (λ c k. ap (λ (l : List ℕ). has l c) p.by_stream ∙ k) h.by_stream;
+  timed_streams =
+      covers_more station_of (timed_stream_by ms kept) streams old.timed_streams new.timed_streams p.timed_streams
+      h.timed_streams;
+  timed_jobs =
+      covers_more job_station_of (timed_job_by ms kept) placed old.timed_jobs new.timed_jobs p.timed_jobs h.timed_jobs;
 }

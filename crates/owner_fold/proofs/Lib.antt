@@ -9,3 +9,5 @@ mod Covering
 mod Changing
 mod Coded
 mod Beside
+pub mod Additions
+mod Timing

@@ -9,3 +9,5 @@ pub mod Holders
 pub mod Sets
 pub mod Stages
 pub mod Kept
+pub mod Given
+pub mod Times

@@ -1,16 +1,17 @@
 -- Sets of the catalogue's streams and jobs, by their places in it.
-use Rattle.std.specs.Prelude.{ℕ, ◌&&◌, ◌*◌, ◌-◌, ◌<◌, ◌==◌, ◌^◌, ◌≡◌, Bool, List, Option, Some, false, filter, not, slice_get}
+use Rattle.std.specs.Prelude.{if◌then◌else◌, ℕ, ◌&&◌, ◌*◌, ◌-◌, ◌<◌, ◌==◌, ◌^◌, ◌≡◌, Bool, List, Option, Some, false, filter, not, slice_get}
 use Rattle.std.specs.Prelude.{true}
 use Rattle.grouped_places.specs.Codes.{code}
-use Rattle.model.specs.Types.{Body, Canc, Cancel, Ended, Entry, Events, Failed, Feed, Job, Launched, Lost, Obeyed, Obj}
+use Rattle.model.specs.Types.{AddDep, Body, Canc, Cancel, Dep, Ended, Entry, Events, Failed, Feed, Job, Launched, Lost, Obeyed, Obj}
 use Rattle.model.specs.Types.{Orders, Released, Stream, StreamDoc, StreamEnded, UntilPassed}
 use Rattle.model.specs.Words.{has}
 use Rattle.model.specs.History.{View, list_of, view_of}
-use Rattle.model.specs.Catalogue.{StreamJob, catalogue, jobs, streams_of}
+use Rattle.model.specs.Catalogue.{StreamJob, catalogue, jobs, members, streams_of}
 use Rattle.model.specs.Facts.{is_cancelled, is_ended, is_open, is_released}
+use Rattle.owner_fold.specs.Given.{has_time, timed_job_by, timed_stream_by}
 use Rattle.owner_fold.specs.Numbers.{ArePlaces, place_of}
 use Rattle.owner_fold.specs.declared.changes.Change.{Change}
-use Rattle.owner_fold.specs.declared.changes.Change.TheVariants.{JobChange, NoChange, StreamChange}
+use Rattle.owner_fold.specs.declared.changes.Change.TheVariants.{JobChange, JobTime, NoChange, StreamChange, StreamTime}
 use Rattle.owner_fold.specs.declared.numbers.Index.{Index}
 use Rattle.owner_fold.specs.declared.sets.Sets.{Sets}
 
@@ -60,26 +61,40 @@ pub record Further {X : Type 0} (group : X → ℕ) (counts : X → Bool) (place
   pub keeps : (c : ℕ) → has old c ≡ true → has new c ≡ true
   pub counted : (x : X) → item ≡ Some x → counts x ≡ true → (place < 2 ^ 32) × (has new (code (group x) place) ≡ true)
 
--- the sets have at least what counts by these entries of these streams and jobs
-pub record AreSetsAmong (kept : List Entry) (streams : List StreamDoc) (placed : List StreamJob) (sets : Sets) : Type 0 where
+-- the sets have at least what counts by these entries of these streams and jobs, with these members
+pub record AreSetsAmong (kept : List Entry) (ms : List ℕ) (streams : List StreamDoc) (placed : List StreamJob)
+    (sets : Sets) : Type 0 where
   pub waiting : Covers station_of (waits_by kept) streams sets.waiting
   pub begun : Covers station_of (began_by kept) streams sets.begun
   pub opened : Covers job_station_of (opened_by kept) placed sets.opened
   pub by_stream : Covers job_stream_of (λ p. true) placed sets.by_stream
+  pub timed_streams : Covers station_of (timed_stream_by ms kept) streams sets.timed_streams
+  pub timed_jobs : Covers job_station_of (timed_job_by ms kept) placed sets.timed_jobs
 
 abbrev pub AreSetsOf : List Entry → Sets → Type 0
-AreSetsOf kept sets = AreSetsAmong kept (catalogue (view_of kept)) (jobs (view_of kept)) sets
+AreSetsOf kept sets =
+    AreSetsAmong kept (members (view_of kept)) (catalogue (view_of kept)) (jobs (view_of kept)) sets
 
--- the stream or job of whom an entry of w tells what may change the sets, and whether it is its release or launch
+-- the stream or job of whom an entry of w tells what may change the sets, and whether it is its release or launch; or
+-- who is given a time
 abbrev pub change_of_object : ℕ → Obj → Change
 change_of_object w (Stream s) = StreamChange w s false
 change_of_object w (Job j) = NoChange
+
+-- the object that is given a time
+abbrev pub time_of_object : ℕ → Obj → Change
+time_of_object w (Stream s) = StreamTime w s
+time_of_object w (Job j) = JobTime w j
+
+abbrev pub change_of_dep : ℕ → Obj → Dep → Change
+change_of_dep w o d = if has_time d then time_of_object w o else NoChange
 
 abbrev pub change_by : ℕ → Body → Change
 change_by w (Released s seen) = StreamChange w s true
 change_by w (StreamEnded s seen) = StreamChange w s false
 change_by w (UntilPassed o i Canc) = change_of_object w o
 change_by w (Obeyed a k (Cancel o)) = change_of_object w o
+change_by w (Obeyed a k (AddDep o d)) = change_of_dep w o d
 change_by w (Launched j n seen) = JobChange w j true
 change_by w (Failed j n) = JobChange w j false
 change_by w (Ended j n rc good) = JobChange w j false
@@ -96,8 +111,10 @@ pub record Prepared (old new : Sets) : Type 0 where
   pub begun : (c : ℕ) → has old.begun c ≡ true → has new.begun c ≡ true
   pub opened : (c : ℕ) → has old.opened c ≡ true → has new.opened c ≡ true
   pub by_stream : new.by_stream ≡ old.by_stream
+  pub timed_streams : (c : ℕ) → has old.timed_streams c ≡ true → has new.timed_streams c ≡ true
+  pub timed_jobs : (c : ℕ) → has old.timed_jobs c ≡ true → has new.timed_jobs c ≡ true
 
--- and who is released or launched has its place
+-- and who is released, launched or given a time has its place
 abbrev pub HasPlace : ℕ → Option ℕ → List ℕ → Type 0
 HasPlace w place codes = (i : ℕ) → place ≡ Some i → (i < 2 ^ 32) × (has codes (code w i) ≡ true)
 
@@ -106,6 +123,10 @@ Begins index (StreamChange w s begins) sets =
     begins ≡ true → (numbers : List ℕ) → ArePlaces numbers index.streams → HasPlace w (place_of numbers s) sets.begun
 Begins index (JobChange w j begins) sets =
     begins ≡ true → (numbers : List ℕ) → ArePlaces numbers index.jobs → HasPlace w (place_of numbers j) sets.opened
+Begins index (StreamTime w s) sets =
+    (numbers : List ℕ) → ArePlaces numbers index.streams → HasPlace w (place_of numbers s) sets.timed_streams
+Begins index (JobTime w j) sets =
+    (numbers : List ℕ) → ArePlaces numbers index.jobs → HasPlace w (place_of numbers j) sets.timed_jobs
 Begins index NoChange sets = Unit {0}
 
 -- what stands at the place of a code of a group

@@ -2,14 +2,17 @@
 ghost use Rattle.std.specs.Prelude.{◌≡◌};
 ghost use Rattle.owner_fold.specs.Sets as spec;
 
-use base_types::{Body, Cmd, Entry, Feed, Obj, OnUntil};
+use crate::given::has_time;
+use base_types::{Body, Cmd, Dep, Entry, Feed, Obj, OnUntil};
 
 /// Of whom an entry tells what may change the sets: the workstation that tells it, the number, and whether it is the
-/// release of the stream or a launch of the job.
+/// release of the stream or a launch of the job. Or who is given a dependency with a time.
 #[derive(Clone, Copy)]
 pub(crate) enum Change {
     StreamChange(u16, u32, bool),
     JobChange(u16, u32, bool),
+    StreamTime(u16, u32),
+    JobTime(u16, u32),
     NoChange,
 }
 
@@ -23,6 +26,27 @@ fn change_of_object(w: u16, o: &Obj) -> Change
     }
 }
 
+/// An object that is given a time.
+fn time_of_object(w: u16, o: &Obj) -> Change
+    ensures { result ≡ spec.time_of_object w o.now }
+{
+    match o {
+        Obj::Stream(s) => Change::StreamTime(w, s.0),
+        Obj::Job(j) => Change::JobTime(w, j.0),
+    }
+}
+
+/// An object that is given a dependency.
+fn change_of_dep(w: u16, o: &Obj, dep: &Dep) -> Change
+    ensures { result ≡ spec.change_of_dep w o.now dep.now }
+{
+    if has_time(dep) {
+        time_of_object(w, o)
+    } else {
+        Change::NoChange
+    }
+}
+
 /// What an entry in the events of w may change.
 fn change_by(w: u16, body: &Body) -> Change
     ensures { result ≡ spec.change_by w body.now }
@@ -32,6 +56,7 @@ fn change_by(w: u16, body: &Body) -> Change
         Body::StreamEnded(s, _) => Change::StreamChange(w, s.0, false),
         Body::UntilPassed(o, _, OnUntil::Canc) => change_of_object(w, o),
         Body::Obeyed(_, _, Cmd::Cancel(o)) => change_of_object(w, o),
+        Body::Obeyed(_, _, Cmd::AddDep(o, dep)) => change_of_dep(w, o, dep),
         Body::Launched(j, _, _) => Change::JobChange(w, j.0, true),
         Body::Failed(j, _) => Change::JobChange(w, j.0, false),
         Body::Ended(j, _, _, _) => Change::JobChange(w, j.0, false),

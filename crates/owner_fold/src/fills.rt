@@ -1,15 +1,19 @@
 //! The sets of a plan that comes: each made anew, in one walk over what stands in the catalogue.
-ghost use Rattle.std.specs.Prelude.{◌≡◌, ◌++◌, [], ◌∷◌, List, true, IfOk, OnOk, option_map, slice_get};
+ghost use Rattle.std.specs.Prelude.{◌≡◌, ◌++◌, [], ◌∷◌, List, ℕ, true, IfOk, OnOk, option_map, slice_get};
 ghost use Rattle.std.specs.Option.{option_copied};
 ghost use Rattle.model.specs.Types.{StreamDoc as Doc};
 ghost use Rattle.model.specs.Catalogue.{StreamJob};
+ghost use Rattle.owner_fold.specs.Given.{timed_job_by, timed_stream_by};
+ghost use Rattle.owner_fold.specs.Numbers.{ArePlaces};
 ghost use Rattle.owner_fold.specs.Sets as spec;
 ghost use Rattle.owner_fold.specs.Sets.{Covers, Further};
 ghost use Rattle.owner_fold.specs.Spots.{AreJobSpots, AreStreamSpots, doc_at, job_at, stream_job};
 
+use crate::given::is_timed;
+use crate::numbers::Numbers;
 use crate::sets::{is_begun, is_waiting};
 use crate::spots::{JobSpot, Spots, StreamSpot, docs_of};
-use base_types::{Entry, JobDoc, NoMemory, StreamDoc};
+use base_types::{Entry, JobDoc, NoMemory, Obj, StreamDoc};
 use grouped_places::Groups;
 use owner_rows::Kept;
 
@@ -142,6 +146,75 @@ fn put_by_stream(
     }
 }
 
+/// The stream is one of the members, and has a time.
+fn is_timed_member(kept: &Kept, members: &Numbers, doc: &StreamDoc) -> bool
+    ensures { (ms : List ℕ) → ArePlaces ms members.now → result ≡ timed_stream_by ms kept.now doc.now }
+{
+    let o = Obj::Stream(doc.no);
+    members.has(doc.no.0) && is_timed(kept, doc.ws, &o, doc.deps.as_slice())
+}
+
+/// The job is one of a member, and has a time.
+fn is_timed_members_job(kept: &Kept, members: &Numbers, parent: &StreamDoc, doc: &JobDoc) -> bool
+    ensures { (ms : List ℕ) → ArePlaces ms members.now
+        → result ≡ timed_job_by ms kept.now (stream_job parent.now doc.now) }
+{
+    let o = Obj::Job(doc.no);
+    members.has(parent.no.0) && is_timed(kept, doc.ws, &o, doc.deps.as_slice())
+}
+
+/// Puts in the stream at this spot, where it is a member with a time.
+fn put_timed_stream(
+    groups: &mut Groups,
+    kept: &Kept,
+    e: &Entry,
+    members: &Numbers,
+    place: usize,
+    spot: &StreamSpot,
+) -> Result<(), NoMemory>
+    ensures { OnOk result ((ms : List ℕ) → ArePlaces ms members.now
+        → Further spec.station_of (timed_stream_by ms kept.now) place
+        (doc_at (kept.now ++ e.now ∷ []) spot.now) groups.old groups.new) }
+{
+    match stream_with(kept.entries(), e, spot) {
+        None => Ok(()),
+        Some(doc) => {
+            if is_timed_member(kept, members, doc) {
+                groups.add(u32::from(doc.ws.0), place)?;
+                Ok(())
+            } else {
+                Ok(())
+            }
+        }
+    }
+}
+
+/// Puts in the job at this spot, where it is a member's with a time.
+fn put_timed_job(
+    groups: &mut Groups,
+    kept: &Kept,
+    e: &Entry,
+    members: &Numbers,
+    place: usize,
+    spot: &JobSpot,
+) -> Result<(), NoMemory>
+    ensures { OnOk result ((ms : List ℕ) → ArePlaces ms members.now
+        → Further spec.job_station_of (timed_job_by ms kept.now) place
+        (job_at (kept.now ++ e.now ∷ []) spot.now) groups.old groups.new) }
+{
+    match job_with(kept.entries(), e, spot) {
+        None => Ok(()),
+        Some((parent, doc)) => {
+            if is_timed_members_job(kept, members, parent, doc) {
+                groups.add(u32::from(doc.ws.0), place)?;
+                Ok(())
+            } else {
+                Ok(())
+            }
+        }
+    }
+}
+
 /// The streams that wait.
 pub(crate) fn waiting_of(
     mut groups: Groups,
@@ -204,6 +277,42 @@ pub(crate) fn by_stream_of(
 {
     for (i, spot) in spots.jobs.as_slice().iter().enumerate() {
         put_by_stream(&mut groups, kept, e, i, spot)?;
+    }
+    Ok(groups)
+}
+
+/// The members with a time.
+pub(crate) fn timed_streams_of(
+    mut groups: Groups,
+    kept: &Kept,
+    e: &Entry,
+    spots: &Spots,
+    members: &Numbers,
+) -> Result<Groups, NoMemory>
+    ensures { IfOk result (λ codes. (ms : List ℕ) (docs : List Doc) → ArePlaces ms members.now
+        → AreStreamSpots (kept.now ++ e.now ∷ []) spots.now.streams docs
+        → Covers spec.station_of (timed_stream_by ms kept.now) docs codes) }
+{
+    for (i, spot) in spots.streams.as_slice().iter().enumerate() {
+        put_timed_stream(&mut groups, kept, e, members, i, spot)?;
+    }
+    Ok(groups)
+}
+
+/// The members' jobs with a time.
+pub(crate) fn timed_jobs_of(
+    mut groups: Groups,
+    kept: &Kept,
+    e: &Entry,
+    spots: &Spots,
+    members: &Numbers,
+) -> Result<Groups, NoMemory>
+    ensures { IfOk result (λ codes. (ms : List ℕ) (placed : List StreamJob) → ArePlaces ms members.now
+        → AreJobSpots (kept.now ++ e.now ∷ []) spots.now.jobs placed
+        → Covers spec.job_station_of (timed_job_by ms kept.now) placed codes) }
+{
+    for (i, spot) in spots.jobs.as_slice().iter().enumerate() {
+        put_timed_job(&mut groups, kept, e, members, i, spot)?;
     }
     Ok(groups)
 }

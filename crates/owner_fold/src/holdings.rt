@@ -14,6 +14,7 @@ ghost use Rattle.owner_fold.specs.Holders.{is_open_here, is_under_way, open_jobs
 ghost use Rattle.owner_fold.specs.Sets as spec;
 ghost use Rattle.owner_fold.specs.Sets.{is_waiting_here, streams_waiting};
 ghost use Rattle.owner_fold.specs.Spots.{doc_at, job_at, stream_job};
+ghost use Rattle.owner_fold.specs.Times.{is_timed_job_here, is_timed_stream_here, timed_jobs, timed_streams};
 
 use crate::changes::change_of;
 use crate::plans::{Plan, is_planning};
@@ -86,7 +87,9 @@ impl Owners {
     {
         if is_planning(&e) {
             let plan = self.plan.with(self.kept.entries(), &e)?;
-            let sets = self.sets.anew(&self.kept, &e, &plan.spots)?;
+            let sets = self
+                .sets
+                .anew(&self.kept, &e, &plan.spots, &plan.index.members)?;
             self.kept.take_own(e)?;
             self.plan = plan;
             self.sets = sets;
@@ -263,5 +266,21 @@ impl Owners {
             (filter_map (spec.job_coded self.now s) result.now) ≡ jobs_of_stream (view_of self.now) s }
     {
         self.sets.by_stream.of(s.0)
+    }
+
+    /// The codes of the own members of w that may have a time.
+    pub(crate) fn timed_stream_codes(&self, w: Ws) -> &[u64]
+        ensures { filter (is_timed_stream_here (view_of self.now) w)
+            (filter_map (spec.stream_coded self.now w) result.now) ≡ timed_streams (view_of self.now) w }
+    {
+        self.sets.timed_streams.of(u32::from(w.0))
+    }
+
+    /// The codes of the own members' jobs of w that may have a time.
+    pub(crate) fn timed_job_codes(&self, w: Ws) -> &[u64]
+        ensures { filter (is_timed_job_here (view_of self.now) w)
+            (filter_map (spec.job_coded self.now w) result.now) ≡ timed_jobs (view_of self.now) w }
+    {
+        self.sets.timed_jobs.of(u32::from(w.0))
     }
 }

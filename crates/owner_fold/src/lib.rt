@@ -6,7 +6,8 @@
 //!
 //! What each workstation tells in its own list is that of `owner_rows`, which `kept` hands out. Beside it `Owners` keeps
 //! where the documents of the catalogue stand, and the members of the plan, each by its number, and the greatest numbers;
-//! and for each workstation which streams wait for their release, which are under way, and which jobs have an open launch.
+//! and for each workstation which streams wait for their release, which are under way, which jobs have an
+//! open launch, and which objects of members have a time.
 #![tactic(auto)]
 
 mod catalogue;
@@ -15,16 +16,19 @@ mod dependencies;
 mod events;
 mod facts;
 mod fills;
+mod given;
 mod holdings;
 mod numbers;
 mod plans;
 mod sets;
 mod spots;
 mod stages;
+mod timed;
 mod units;
 
 pub use catalogue::{PlannedJobs, StreamJobs, Streams};
 pub use holdings::Owners;
 pub use owner_rows::Outcome;
 pub use stages::{BegunStreams, WaitingStreams};
+pub use timed::{TimedJobs, TimedStreams};
 pub use units::OpenLaunches;

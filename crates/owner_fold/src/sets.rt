@@ -10,8 +10,10 @@ ghost use Rattle.owner_fold.specs.Sets.{AreSetsAmong, AreSetsOf, Begins, Covers,
 ghost use Rattle.owner_fold.specs.Spots.{AreJobSpots, AreStreamSpots};
 
 use crate::changes::Change;
-use crate::fills::{begun_of, by_stream_of, opened_of, waiting_of};
-use crate::numbers::Index;
+use crate::fills::{
+    begun_of, by_stream_of, opened_of, timed_jobs_of, timed_streams_of, waiting_of,
+};
+use crate::numbers::{Index, Numbers};
 use crate::spots::Spots;
 use base_types::{Entry, JobNo, NoMemory, Obj, StreamNo, Ws};
 use grouped_places::Groups;
@@ -95,6 +97,10 @@ pub(crate) struct Sets {
     pub(crate) opened: Groups,
     /// The jobs, by their streams.
     pub(crate) by_stream: Groups,
+    /// The members with a time, by their workstations.
+    pub(crate) timed_streams: Groups,
+    /// The members' jobs with a time, by their workstations.
+    pub(crate) timed_jobs: Groups,
 }
 
 /// Written out, so that dropping one is a call for whoever owns it.
@@ -105,6 +111,8 @@ impl Drop for Sets {
             begun: _begun,
             opened: _opened,
             by_stream: _by_stream,
+            timed_streams: _timed_streams,
+            timed_jobs: _timed_jobs,
         } = self;
     }
 }
@@ -119,25 +127,39 @@ impl Sets {
             begun: Groups::new(alloc),
             opened: Groups::new(alloc),
             by_stream: Groups::new(alloc),
+            timed_streams: Groups::new(alloc),
+            timed_jobs: Groups::new(alloc),
         }
     }
 
-    /// The sets of what stands at these spots, where this entry comes after those, by what was told before it.
-    pub(crate) fn anew(&self, kept: &Kept, e: &Entry, spots: &Spots) -> Result<Sets, NoMemory>
-        ensures { IfOk result (λ sets. (streams : List Doc) (placed : List StreamJob)
+    /// The sets of what stands at these spots, where this entry comes after those, by what was told before it, where the
+    /// plan has these members.
+    pub(crate) fn anew(
+        &self,
+        kept: &Kept,
+        e: &Entry,
+        spots: &Spots,
+        members: &Numbers,
+    ) -> Result<Sets, NoMemory>
+        ensures { IfOk result (λ sets. (ms : List ℕ) (streams : List Doc) (placed : List StreamJob)
+            → ArePlaces ms members.now
             → AreStreamSpots (kept.now ++ e.now ∷ []) spots.now.streams streams
             → AreJobSpots (kept.now ++ e.now ∷ []) spots.now.jobs placed
-            → AreSetsAmong kept.now streams placed sets) }
+            → AreSetsAmong kept.now ms streams placed sets) }
     {
         let waiting = waiting_of(self.waiting.empty(), kept, e, spots)?;
         let begun = begun_of(self.begun.empty(), kept, e, spots)?;
         let opened = opened_of(self.opened.empty(), kept, e, spots)?;
         let by_stream = by_stream_of(self.by_stream.empty(), kept, e, spots)?;
+        let timed_streams = timed_streams_of(self.timed_streams.empty(), kept, e, spots, members)?;
+        let timed_jobs = timed_jobs_of(self.timed_jobs.empty(), kept, e, spots, members)?;
         Ok(Sets {
             waiting,
             begun,
             opened,
             by_stream,
+            timed_streams,
+            timed_jobs,
         })
     }
 
@@ -161,16 +183,20 @@ impl Sets {
                     Ok(())
                 }
             }
+            Change::StreamTime(w, s) => {
+                include(&mut self.timed_streams, *w, index.streams.place(*s))
+            }
+            Change::JobTime(w, j) => include(&mut self.timed_jobs, *w, index.jobs.place(*j)),
             Change::NoChange => Ok(()),
         }
     }
 
     /// Takes out what the change has ended.
     pub(crate) fn settle(&mut self, kept: &Kept, index: &Index, change: &Change)
-        ensures { (streams : List Doc) (placed : List StreamJob)
+        ensures { (ms : List ℕ) (streams : List Doc) (placed : List StreamJob)
             → ArePlaces (map (λ d. d.no) streams) index.now.streams
             → ArePlaces (map (λ p. p.doc.no) placed) index.now.jobs
-            → AreSetsAmong kept.now streams placed self.old → AreSetsAmong kept.now streams placed self.new }
+            → AreSetsAmong kept.now ms streams placed self.old → AreSetsAmong kept.now ms streams placed self.new }
     {
         match change {
             Change::StreamChange(w, s, _) => {
@@ -184,7 +210,7 @@ impl Sets {
                     settle_opened(&mut self.opened, kept, Ws(*w), JobNo(*j), place);
                 }
             }
-            Change::NoChange => {}
+            Change::StreamTime(_, _) | Change::JobTime(_, _) | Change::NoChange => {}
         }
     }
 }

@@ -2,9 +2,11 @@ use Rattle.owner_fold.proofs.sets.Sets.anew.Goals as goal
 
 pub returns : goal.returns
 returns c =
-    λ streams placed are_streams are_jobs. record {
+    λ ms streams placed are_members are_streams are_jobs. record {
       waiting = c.in_ok-waiting.ensures streams are_streams;
       begun = c.in_ok-begun.ensures streams are_streams;
       opened = c.in_ok-opened.ensures placed are_jobs;
       by_stream = c.in_ok-by_stream.ensures placed are_jobs;
+      timed_streams = c.in_ok-timed_streams.ensures ms streams are_members are_streams;
+      timed_jobs = c.in_ok-timed_jobs.ensures ms placed are_members are_jobs;
     }

@@ -6,7 +6,7 @@ use Rattle.owner_fold.proofs.sets.Sets.settle.Goals as goal
 
 pub returns-in-Some : goal.returns-in-Some
 returns-in-Some c =
-    λ streams placed are_streams are_jobs h. record {
+    λ ms streams placed are_streams are_jobs h. record {
       waiting =
           c.settle_waiting.ensures streams
           (λ d e.
@@ -21,11 +21,13 @@ returns-in-Some c =
           h.begun;
       opened = h.opened;
       by_stream = h.by_stream;
+      timed_streams = h.timed_streams;
+      timed_jobs = h.timed_jobs;
     }
 
 pub returns-in-Some-place : goal.returns-in-Some-place
 returns-in-Some-place c =
-    λ streams placed are_streams are_jobs h. record {
+    λ ms streams placed are_streams are_jobs h. record {
       waiting = h.waiting;
       begun = h.begun;
       opened =
@@ -36,4 +38,6 @@ returns-in-Some-place c =
           ∙ c.in-Some-place.is) e)
           h.opened;
       by_stream = h.by_stream;
+      timed_streams = h.timed_streams;
+      timed_jobs = h.timed_jobs;
     }

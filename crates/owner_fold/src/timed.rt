@@ -1,0 +1,154 @@
+//! The own members of a workstation, and own members' jobs, that have a time.
+ghost use Rattle.std.specs.Prelude.{◌≡◌, filter, option_map};
+ghost use Rattle.std.specs.Iterator.{YieldsFirstBy, YieldsFirstRef, item_count};
+ghost use Rattle.std.specs.Option.{option_copied};
+ghost use Rattle.model.specs.Types.{Events, Job, Stream, StreamDoc as Doc};
+ghost use Rattle.model.specs.History.{view_of};
+ghost use Rattle.model.specs.Catalogue.{StreamJob};
+ghost use Rattle.model.specs.OwnMembers.{own_jobs, own_streams};
+ghost use Rattle.owner_fold.specs.Given.{is_timed};
+ghost use Rattle.owner_fold.specs.Sets as spec;
+ghost use Rattle.owner_fold.specs.Spots.{stream_job};
+ghost use Rattle.owner_fold.specs.Times.{is_timed_job_here, is_timed_stream_here, timed_jobs_left, timed_streams_left};
+
+use crate::given::is_timed;
+use crate::holdings::Owners;
+use base_types::{JobDoc, Obj, StreamDoc, Ws};
+
+/// The own members of a workstation with an AT, an UNTIL or a DEADLINE among their dependencies, in the order of the
+/// catalogue.
+#[derive(Drop)]
+pub struct TimedStreams<'a> {
+    pub(crate) owners: &'a Owners,
+    pub(crate) codes: &'a [u64],
+    pub(crate) ws: Ws,
+}
+
+/// The own members' jobs of a workstation with such a dependency, each with its stream, in the order of the catalogue.
+#[derive(Drop)]
+pub struct TimedJobs<'a> {
+    pub(crate) owners: &'a Owners,
+    pub(crate) codes: &'a [u64],
+    pub(crate) ws: Ws,
+}
+
+/// The stream at the place of a code of w.
+fn timed_stream_coded(owners: &Owners, w: Ws, code: u64) -> Option<&StreamDoc>
+    ensures { option_copied result ≡ spec.stream_coded owners.now w code }
+{
+    owners.stream_coded(u32::from(w.0), code)
+}
+
+/// The job at the place of a code of w, with its stream.
+fn timed_job_coded(owners: &Owners, w: Ws, code: u64) -> Option<(&StreamDoc, &JobDoc)>
+    ensures { option_map (λ p. stream_job p.0.now p.1.now) result ≡ spec.job_coded owners.now w code }
+{
+    owners.job_coded(u32::from(w.0), code)
+}
+
+/// The stream of w has a time.
+fn has_stream_time(owners: &Owners, w: Ws, doc: &StreamDoc) -> bool
+    ensures { result ≡ is_timed (Stream doc.now.no) doc.now.deps (view_of owners.now (Events w)) }
+{
+    let o = Obj::Stream(doc.no);
+    is_timed(owners.kept(), w, &o, doc.deps.as_slice())
+}
+
+/// The job of w has a time.
+fn has_job_time(owners: &Owners, w: Ws, doc: &JobDoc) -> bool
+    ensures { result ≡ is_timed (Job doc.now.no) doc.now.deps (view_of owners.now (Events w)) }
+{
+    let o = Obj::Job(doc.no);
+    is_timed(owners.kept(), w, &o, doc.deps.as_slice())
+}
+
+/// The stream is an own member of w with a time.
+fn is_timed_stream_at(owners: &Owners, w: Ws, doc: &StreamDoc) -> bool
+    ensures { result ≡ is_timed_stream_here (view_of owners.now) w doc.now }
+{
+    doc.ws.0 == w.0 && (owners.is_member(doc.no) && has_stream_time(owners, w, doc))
+}
+
+/// The job is an own member's of w with a time.
+fn is_timed_job_at(owners: &Owners, w: Ws, parent: &StreamDoc, doc: &JobDoc) -> bool
+    ensures { result ≡ is_timed_job_here (view_of owners.now) w (stream_job parent.now doc.now) }
+{
+    doc.ws.0 == w.0 && (owners.is_member(parent.no) && has_job_time(owners, w, doc))
+}
+
+impl<'a> Iterator for TimedStreams<'a> {
+    type Item = &'a StreamDoc;
+
+    ghost next_gives = { YieldsFirstRef timed_streams_left };
+
+    ghost remaining = { item_count timed_streams_left };
+
+    #[tactic(auto, unfolding(crate::specs::Times::timed_streams_left))]
+    fn next(&mut self) -> Option<&'a StreamDoc> {
+        let codes = self.codes;
+        for (i, code) in codes.iter().enumerate() {
+            if let Some(doc) = timed_stream_coded(self.owners, self.ws, *code) {
+                if is_timed_stream_at(self.owners, self.ws, doc) {
+                    self.codes = &codes[i + 1..];
+                    return Some(doc);
+                }
+            }
+        }
+        self.codes = &codes[codes.len()..];
+        None
+    }
+}
+
+impl<'a> Iterator for TimedJobs<'a> {
+    type Item = (&'a StreamDoc, &'a JobDoc);
+
+    ghost next_gives = { YieldsFirstBy (λ p. stream_job p.0.now p.1.now) timed_jobs_left };
+
+    ghost remaining = { item_count timed_jobs_left };
+
+    #[tactic(auto, unfolding(crate::specs::Times::timed_jobs_left))]
+    fn next(&mut self) -> Option<(&'a StreamDoc, &'a JobDoc)> {
+        let codes = self.codes;
+        for (i, code) in codes.iter().enumerate() {
+            if let Some((parent, job)) = timed_job_coded(self.owners, self.ws, *code) {
+                if is_timed_job_at(self.owners, self.ws, parent, job) {
+                    self.codes = &codes[i + 1..];
+                    return Some((parent, job));
+                }
+            }
+        }
+        self.codes = &codes[codes.len()..];
+        None
+    }
+}
+
+impl Owners {
+    /// The own members of w with an AT, an UNTIL or a DEADLINE among their dependencies, written or added, waived ones
+    /// too, in the order of the catalogue.
+    #[tactic(auto, unfolding(crate::specs::Times::timed_streams_left))]
+    pub fn timed_streams(&self, w: Ws) -> TimedStreams<'_>
+        ensures { timed_streams_left result ≡
+            filter (λ (d : Doc). is_timed (Stream d.no) d.deps (view_of self.now (Events w)))
+            (own_streams (view_of self.now) w) }
+    {
+        TimedStreams {
+            owners: self,
+            codes: self.timed_stream_codes(w),
+            ws: w,
+        }
+    }
+
+    /// The own members' jobs of w with such a dependency, each with its stream, in the order of the catalogue.
+    #[tactic(auto, unfolding(crate::specs::Times::timed_jobs_left))]
+    pub fn timed_jobs(&self, w: Ws) -> TimedJobs<'_>
+        ensures { timed_jobs_left result ≡
+            filter (λ (p : StreamJob). is_timed (Job p.doc.no) p.doc.deps (view_of self.now (Events w)))
+            (own_jobs (view_of self.now) w) }
+    {
+        TimedJobs {
+            owners: self,
+            codes: self.timed_job_codes(w),
+            ws: w,
+        }
+    }
+}

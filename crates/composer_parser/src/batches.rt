@@ -1,7 +1,8 @@
 //! Items that were read together.
-ghost use Rattle.std.specs.Prelude.{◌≡◌, ◌++◌, OnOk};
+ghost use Rattle.std.specs.Prelude.{◌≡◌, ◌++◌, [], IfOk, OnOk};
 
 use base_types::{Items, NoMemory};
+use std::alloc::Global;
 use std::marker::Model;
 
 /// Items that were read together, whose contracts see the items alone.
@@ -42,4 +43,11 @@ fn append<T: Drop>(items: Vec<T>, all: &mut Items<T>) -> Result<(), NoMemory>
         all.push(item)?;
     }
     Ok(())
+}
+
+/// An empty list with room for one item, which is all that most lists of definitions have.
+pub(crate) fn room_for_one<T>(alloc: Global) -> Result<Items<T>, NoMemory>
+    ensures { IfOk result (λ list. list ≡ []) }
+{
+    Ok(Items::of_vec(Vec::with_capacity(alloc, 1)?))
 }

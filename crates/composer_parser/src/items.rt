@@ -8,6 +8,7 @@ ghost use Rattle.composer_parser.specs.Kinds.{keyword};
 ghost use Rattle.composer_parser.specs.Parts.{put, always};
 ghost use Rattle.composer_parser.specs.Reading.{begins, turns};
 
+use crate::batches::room_for_one;
 use crate::moments::{date_value, is_date_next, is_offset_next, signed};
 use crate::parts::{is_mark_next, is_next, is_word_of, key, mark, name, quoted_value};
 use crate::places::is_name_next;
@@ -203,7 +204,7 @@ fn more_items<'a>(
 ) -> Result<(Items<OnItem>, &'a [Token]), Stop>
     ensures { Gives (λ x. x.0) (λ x. x.1.now) text.now result (turns put always spec.next_item (first ∷ []) (all_spelled text.now rest.now)) }
 {
-    let mut all = Items::new(alloc);
+    let mut all = room_for_one(alloc)?;
     all.push(first)?;
     let mut left = rest;
     'pieces: while is_mark_next(text, left, b',') {

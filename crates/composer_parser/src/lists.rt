@@ -7,6 +7,7 @@ ghost use Rattle.std.specs.Prelude.{[], ◌∷◌};
 ghost use Rattle.composer_parser.specs.Parts.{put, always};
 ghost use Rattle.composer_parser.specs.Reading.{turns};
 
+use crate::batches::room_for_one;
 use crate::clauses::{Need, Pred, PromptItem};
 use crate::parts::{is_mark_next, is_number_next, mark, name, number, text_value};
 use crate::places::{is_name_next, pred, scoped};
@@ -94,7 +95,7 @@ fn more_preds<'a>(
 ) -> Result<(Items<Pred>, &'a [Token]), Stop>
     ensures { Gives (λ x. x.0) (λ x. x.1.now) text.now result (turns put always spec.next_pred (first ∷ []) (all_spelled text.now rest.now)) }
 {
-    let mut all = Items::new(alloc);
+    let mut all = room_for_one(alloc)?;
     all.push(first)?;
     let mut left = rest;
     'pieces: while is_mark_next(text, left, b',') {
@@ -136,7 +137,7 @@ fn more_needs<'a>(
 ) -> Result<(Items<Need>, &'a [Token]), Stop>
     ensures { Gives (λ x. x.0) (λ x. x.1.now) text.now result (turns put always spec.next_need (first ∷ []) (all_spelled text.now rest.now)) }
 {
-    let mut all = Items::new(alloc);
+    let mut all = room_for_one(alloc)?;
     all.push(first)?;
     let mut left = rest;
     'pieces: while is_mark_next(text, left, b',') {
@@ -182,7 +183,7 @@ fn more_prompts<'a>(
 ) -> Result<(Items<PromptItem>, &'a [Token]), Stop>
     ensures { Gives (λ x. x.0) (λ x. x.1.now) text.now result (turns put always spec.next_prompt (first ∷ []) (all_spelled text.now rest.now)) }
 {
-    let mut all = Items::new(alloc);
+    let mut all = room_for_one(alloc)?;
     all.push(first)?;
     let mut left = rest;
     'pieces: while is_mark_next(text, left, b',') {
@@ -224,7 +225,7 @@ fn more_files<'a>(
 ) -> Result<(Items<Text>, &'a [Token]), Stop>
     ensures { Gives (λ x. x.0) (λ x. x.1.now) text.now result (turns put always spec.next_file (first ∷ []) (all_spelled text.now rest.now)) }
 {
-    let mut all = Items::new(alloc);
+    let mut all = room_for_one(alloc)?;
     all.push(first)?;
     let mut left = rest;
     'pieces: while is_mark_next(text, left, b',') {

@@ -1,0 +1,12 @@
+pub mod Tops
+pub mod Earliest
+pub mod Firsts
+pub mod Wholes
+pub mod Loops
+pub mod Belows
+pub mod Climbs
+pub mod Least
+pub mod Walks
+pub mod Places
+pub mod Tens
+pub mod Counts

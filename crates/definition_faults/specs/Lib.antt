@@ -1,0 +1,13 @@
+pub mod Orders
+pub mod Items
+pub mod Chains
+pub mod Masters
+pub mod Ranges
+pub mod Unknown
+pub mod Clauses
+pub mod Ons
+pub mod Entries
+pub mod Streams
+pub mod Conditions
+pub mod Graphs
+pub mod Faults

@@ -1,0 +1,4 @@
+pub mod Masters
+pub mod Inserted
+pub mod Steps
+pub mod StreamsPut

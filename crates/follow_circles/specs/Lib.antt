@@ -1,0 +1,3 @@
+pub mod Circles
+pub mod Groups
+pub mod Reached

@@ -1,0 +1,5 @@
+pub mod Conditions
+pub mod Networks
+pub mod Dependencies
+pub mod Streams
+pub mod Listings

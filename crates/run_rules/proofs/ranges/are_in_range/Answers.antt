@@ -1,0 +1,11 @@
+use Rattle.std.proofs.Common.{rules, tests, lit<}
+use Rattle.std.proofs.lemmas.Iterator.Search.{all_from_yields_List}
+use Rattle.std.proofs.lemmas.Iterator.Splits.{YieldsList-from_str_split}
+use Rattle.run_rules.specs.Ranges.{is_month_day_in_range}
+use Rattle.run_rules.proofs.ranges.are_in_range.Goals as goal
+
+pub returns : goal.returns
+returns c =
+    all_from_yields_List is_month_day_in_range _ _ c.all.result c.all.ensures.ran
+    (YieldsList-from_str_split 44 c.args.list.now (lit< tt) c.split.ensures.text c.split.ensures.has_more c.split.ensures.pattern)
+    (λ x b q k. search (rules, tests))

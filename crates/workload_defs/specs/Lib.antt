@@ -1,0 +1,4 @@
+pub mod Stations
+pub mod Nets
+pub mod Days
+pub mod Tables

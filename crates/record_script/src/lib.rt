@@ -26,3 +26,4 @@ mod values;
 pub use reading::{ScriptFault, read_script};
 pub use record_faults::ScriptKind;
 pub use scripts::{OneStep, Plans, Script, ScriptStep, ScriptSteps, StepForm};
+pub use steps::steps_by;

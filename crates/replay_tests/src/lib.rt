@@ -4,6 +4,8 @@
 #![tactic(auto)]
 
 #[cfg(test)]
+mod night_records_tests;
+#[cfg(test)]
 mod night_summary_tests;
 #[cfg(test)]
 mod record_runs_tests;

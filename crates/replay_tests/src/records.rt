@@ -8,9 +8,10 @@ ghost use Rattle.record_runs.specs.Ends.{asks_no_day};
 
 use base_types::{Bytes, NoMemory, Ws};
 use network_world::World;
+use night_records::{Record, read_record, run_record};
 use night_summary::state_counts;
 use record_runs::{RunEnd, Stop, run_script};
-use record_script::{OneStep, Script, ScriptStep, StepForm, read_script};
+use record_script::{OneStep, Script, ScriptFault, ScriptKind, ScriptStep, StepForm, read_script};
 use report_text::{print_report, print_summary};
 use std::alloc::Global;
 
@@ -26,6 +27,12 @@ pub(crate) type Night<'a> = (&'a str, &'a str, &'a str);
 
 /// A night's name, its record, the line in which its run stops, and why.
 pub(crate) type Stopping<'a> = (&'a str, &'a str, u32, Stop);
+
+/// A record in two parts, and the line and the kind with which it is refused; line 0 where it is read.
+pub(crate) type Refusal<'a> = (&'a str, &'a str, u32, ScriptKind);
+
+/// A record in two parts, the line in which its run stops, and why.
+pub(crate) type DefinedStop<'a> = (&'a str, &'a str, u32, Stop);
 
 fn is_one_inside(count: usize, one: &OneStep) -> bool
     ensures { result ≡ list_all (λ w. nat_lt w count) (ws_in_one one.now) }
@@ -106,7 +113,7 @@ fn run_text(alloc: Global, text: &str) -> Option<RunEnd>
 }
 
 /// The text with its line feeds.
-fn lined(alloc: Global, text: &str) -> Result<String, NoMemory> {
+pub(crate) fn lined(alloc: Global, text: &str) -> Result<String, NoMemory> {
     let mut lines = String::new(alloc);
     for c in text.chars() {
         lines.push(if c == '|' { '\n' } else { c })?;
@@ -193,6 +200,105 @@ pub(crate) fn first_not_stopped<'a>(alloc: Global, table: &[Stopping<'a>]) -> Op
     for (name, record, line, stop) in table {
         if !stops(alloc, *record, *line, *stop) {
             return Some(*name);
+        }
+    }
+    None
+}
+
+/// How the run of a record of either kind ends. None where a step stands outside the network, which no record has that was
+/// read, or where memory runs out.
+fn run_either(alloc: Global, record: Record) -> Option<RunEnd>
+    requires { net_fault record.script.net ≡ None }
+{
+    if !are_inside(record.script.net.nodes.len(), record.script.steps.as_slice()) {
+        return None;
+    }
+    run_record(alloc, record).ok()
+}
+
+/// How the run of a record of either kind, of at most 1,000,000 bytes, ends. None where it is none, or memory runs out.
+fn run_defined(alloc: Global, text: &str) -> Option<RunEnd> {
+    if text.len() > 1_000_000 {
+        return None;
+    }
+    match read_record(alloc, text) {
+        Ok(record) => run_either(alloc, record),
+        Err(_) => None,
+    }
+}
+
+/// Whether the run of a record of either kind takes all lines, and this is told of it.
+fn tells_defined(alloc: Global, record: &str, telling: Telling, text: &str) -> bool {
+    let Ok(lines) = lined(alloc, record) else {
+        return false;
+    };
+    match run_defined(alloc, &lines) {
+        Some(RunEnd::Done(world)) => is_told(alloc, &world, telling, text),
+        _ => false,
+    }
+}
+
+/// Whether the run of a record of either kind stops in this line, for this cause.
+pub(crate) fn stops_defined(alloc: Global, lines: &str, line: u32, stop: Stop) -> bool {
+    match run_defined(alloc, lines) {
+        Some(RunEnd::Stopped(at, told)) => at == line && told == stop,
+        _ => false,
+    }
+}
+
+/// Whether a record of at most 1,000,000 bytes is refused so; line 0 stands for one that is read.
+pub(crate) fn refuses(alloc: Global, lines: &str, line: u32, kind: ScriptKind) -> bool {
+    if lines.len() > 1_000_000 {
+        return false;
+    }
+    match read_record(alloc, lines) {
+        Ok(_) => line == 0,
+        Err(ScriptFault::At(at, why)) => at == line && why == kind,
+        Err(ScriptFault::NoMemory) => false,
+    }
+}
+
+/// A text in two parts with its line feeds.
+fn both(alloc: Global, front: &str, rest: &str) -> Result<String, NoMemory> {
+    let mut text = String::from_str(alloc, front)?;
+    text.push_str(rest)?;
+    lined(alloc, &text)
+}
+
+/// The first of the nights of which something else is told.
+pub(crate) fn first_defined_other<'a>(
+    alloc: Global,
+    telling: Telling,
+    table: &[Night<'a>],
+) -> Option<&'a str> {
+    for (name, record, text) in table {
+        if !tells_defined(alloc, *record, telling, *text) {
+            return Some(*name);
+        }
+    }
+    None
+}
+
+/// What follows in the first record whose run does not stop as it stands beside it.
+pub(crate) fn first_defined_not_stopped<'a>(
+    alloc: Global,
+    table: &[DefinedStop<'a>],
+) -> Option<&'a str> {
+    for (front, rest, line, stop) in table {
+        match both(alloc, *front, *rest) {
+            Ok(lines) if stops_defined(alloc, &lines, *line, *stop) => {}
+            _ => return Some(*rest),
+        }
+    }
+    None
+}
+
+/// What follows in the first record that is not refused as it stands beside it.
+pub(crate) fn first_not_refused<'a>(alloc: Global, table: &[Refusal<'a>]) -> Option<&'a str> {
+    for (front, rest, line, kind) in table {
+        match both(alloc, *front, *rest) {
+            Ok(lines) if refuses(alloc, &lines, *line, *kind) => {}
+            _ => return Some(*rest),
         }
     }
     None

@@ -97,6 +97,14 @@ fn kind_word(kind: ScriptKind) -> &'static str
         ScriptKind::OutOfRange => "OutOfRange",
         ScriptKind::BadTree => "BadTree",
         ScriptKind::NoPlan => "NoPlan",
+        ScriptKind::BadChar => "BadChar",
+        ScriptKind::OpenText => "OpenText",
+        ScriptKind::TooLong => "TooLong",
+        ScriptKind::Expected => "Expected",
+        ScriptKind::LeftOut => "LeftOut",
+        ScriptKind::ForeignResource => "ForeignResource",
+        ScriptKind::FollowsCycle => "FollowsCycle",
+        ScriptKind::Tree => "Tree",
     }
 }
 

@@ -13,10 +13,12 @@
 mod composers;
 mod days;
 mod kinds;
+mod laws;
 mod reading;
 mod records;
 mod runs;
 
+pub use laws::{days_have_plans, texts_have_one_answer};
 pub use reading::read_record;
 pub use records::Record;
 pub use runs::run_record;

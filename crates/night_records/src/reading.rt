@@ -104,7 +104,8 @@ fn names_of(alloc: Global, net: &Net) -> Result<Items<Text>, NoMemory>
     ensures { IfOk result (λ names. names ≡ map (λ (n : Nodes). n.name) net.now.nodes) }
 {
     let mut names = Items::new(alloc);
-    for node in net.nodes.as_slice() {
+    let nodes = net.nodes.as_slice();
+    for node in nodes {
         let name = node.name.copy()?;
         names.push(name)?;
     }
@@ -147,11 +148,13 @@ fn steps_over(alloc: Global, text: &str, net: &Net) -> Result<ScriptSteps, Scrip
     ensures inside { IfOk result (λ steps. IsTrue (list_all (is_inside net.now) steps)) }
     ensures fault { IfErr result (IsToldOf (spec.own_fault (spec.node_names net.now) text.now)) }
 {
-    let rows = placed(alloc, text)?;
-    let names = names_of(alloc, net)?;
-    match own_fault(alloc, names.as_slice(), rows.as_slice())? {
+    let placed = placed(alloc, text)?;
+    let rows = placed.as_slice();
+    let list = names_of(alloc, net)?;
+    let names = list.as_slice();
+    match own_fault(alloc, names, rows)? {
         Some((line, kind)) => Err(told(line, kind)),
-        None => Ok(steps_by(alloc, names.as_slice(), rows.as_slice())?),
+        None => Ok(steps_by(alloc, names, rows)?),
     }
 }
 

@@ -6,7 +6,8 @@
 //! network (`specs/Networks`), the plans (`specs/Plans`) and the steps (`specs/Steps`). Both answers of the call are the
 //! definition `specs/Scripts::read_of`.
 //!
-//! Definitions of a network and its work in a record cannot be read yet: their line is refused as `NotBuilt`.
+//! A record that begins with definitions of its network and its work is read above, by `night_records`; here the line of
+//! its definitions is refused as `NotBuilt`. What its steps mean is told here too, by the names of its workstations.
 #![tactic(auto)]
 
 mod deps;

@@ -2,8 +2,8 @@
 use Rattle.std.proofs.Common.{◌≡◌, ◌∙◌, ◌+◌, ℕ, List, [], Option, Some, None, Result, Ok, Err, refl, ap, sym, subst}
 use Rattle.std.specs.Prelude.{IfErr, IfOk}
 use Rattle.composer_parser.specs.declared.Defs.{Defs}
-use Rattle.definition_reading.specs.Readings.{IsReading}
-use Rattle.definition_reading.specs.declared.DefinitionKind.{DefinitionKind}
+use Rattle.definition_texts.specs.Refusals.{AreChecked, IsRefused}
+use Rattle.definition_texts.specs.declared.Refusal.{Refusal}
 use Rattle.record_faults.specs.Faults.{first_fault}
 use Rattle.record_faults.specs.Known.{named_by}
 use Rattle.record_rows.specs.declared.rows.Row.{Row}
@@ -13,7 +13,7 @@ use Rattle.record_script.specs.declared.ScriptFault.{ScriptFault}
 use Rattle.record_script.specs.declared.ScriptFault.TheVariants as told
 use Rattle.night_records.specs.Composers.{composer_text, definitions_place}
 use Rattle.night_records.specs.Readings.{At, IsRead, IsTold, IsToldOf, Tells, defined, defined_record, faulty, lower, names_of, own_fault, plain}
-use Rattle.night_records.specs.Readings.{refused, script_kind, without_definitions}
+use Rattle.night_records.specs.Readings.{refusal_at, refused, without_definitions}
 use Rattle.night_records.specs.declared.records.Record.{Record}
 
 -- what holds of an answer for two reasons
@@ -43,25 +43,24 @@ told_of o at_ told.NoMemory is h = tt
 
 -- a record with these definitions
 pub defined_read : (text bytes : List ℕ) (place : ℕ) (d : Defs) (r : Record) → definitions_place text ≡ Some place
-    → bytes ≡ composer_text text place → IsReading bytes (Ok d) → own_fault (names_of d) text ≡ None
+    → bytes ≡ composer_text text place → AreChecked bytes d → own_fault (names_of d) text ≡ None
     → r ≡ defined_record d text → IsRead text (Ok r)
 defined_read text bytes place d r at_ is reading none same =
-    subst (λ x. IsRead text (Ok x)) (sym same) (defined place d at_ (subst (λ b. IsReading b (Ok d)) is reading) none)
+    subst (λ x. IsRead text (Ok x)) (sym same) (defined place d at_ (subst (λ b. AreChecked b d) is reading) none)
 
 pub defined_tells : (text bytes : List ℕ) (place : ℕ) (d : Defs) (f : ScriptFault) → definitions_place text ≡ Some place
-    → bytes ≡ composer_text text place → IsReading bytes (Ok d) → IsToldOf (own_fault (names_of d) text) f → Tells text f
+    → bytes ≡ composer_text text place → AreChecked bytes d → IsToldOf (own_fault (names_of d) text) f → Tells text f
 defined_tells text bytes place d (told.At n k) at_ is reading own =
-    faulty place d (n, k) at_ (subst (λ b. IsReading b (Ok d)) is reading) own
+    faulty place d (n, k) at_ (subst (λ b. AreChecked b d) is reading) own
 defined_tells text bytes place d told.NoMemory at_ is reading own = tt
 
 -- one whose definitions have a fault
-pub refused_tells : (text bytes : List ℕ) (place line : ℕ) (kind : DefinitionKind) (f : ScriptFault)
-    → definitions_place text ≡ Some place → bytes ≡ composer_text text place → IsReading bytes (Err (line, kind))
-    → IsTold (lower (own_fault [] text) (place + 1 + line, script_kind kind)) f → Tells text f
-refused_tells text bytes place line kind (told.At n k) at_ is reading own =
-    subst (λ a. IsRead text (Err a)) own
-    (refused place line kind at_ (subst (λ b. IsReading b (Err (line, kind))) is reading))
-refused_tells text bytes place line kind told.NoMemory at_ is reading own = tt
+pub refused_tells : (text bytes : List ℕ) (place : ℕ) (r : Refusal) (f : ScriptFault)
+    → definitions_place text ≡ Some place → bytes ≡ composer_text text place → IsRefused bytes r
+    → IsTold (lower (own_fault [] text) (refusal_at place r)) f → Tells text f
+refused_tells text bytes place r (told.At n k) at_ is no own =
+    subst (λ a. IsRead text (Err a)) own (refused place r at_ (subst (λ b. IsRefused b r) is no))
+refused_tells text bytes place r told.NoMemory at_ is no own = tt
 
 -- the faults of lines that are no definitions
 pub own_is : (text : List ℕ) (rows : List Row) (names all : List (List ℕ)) (o : Option At) → rows ≡ placed text

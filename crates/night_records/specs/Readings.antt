@@ -2,9 +2,10 @@
 use Rattle.std.specs.Prelude.{◌≡◌, ℕ, ◌+◌, [], List, Option, Some, None, Result, Ok, Err, map, nat_le, if◌then◌else◌}
 use Rattle.std.specs.Option.{option_map_or}
 use Rattle.composer_parser.specs.declared.Defs.{Defs}
-use Rattle.definition_reading.specs.Readings.{IsReading}
-use Rattle.definition_reading.specs.declared.DefinitionKind.{DefinitionKind}
-use Rattle.definition_reading.specs.declared.DefinitionKind.TheVariants as from
+use Rattle.definition_texts.specs.Refusals.{AreChecked, IsRefused}
+use Rattle.definition_texts.specs.declared.Refusal.{Refusal}
+use Rattle.definition_texts.specs.declared.RefusalKind.{RefusalKind}
+use Rattle.definition_texts.specs.declared.RefusalKind.TheVariants as from
 use Rattle.model.specs.Types.{Net, Node}
 use Rattle.record_faults.specs.Faults.{first_fault}
 use Rattle.record_faults.specs.Known.{named_by}
@@ -20,7 +21,7 @@ use Rattle.night_records.specs.declared.records.Record.{Record}
 use Rattle.workload_defs.specs.Nets.{net_of}
 
 -- the kind of a fault of definitions as that of a record
-abbrev pub script_kind : DefinitionKind → ScriptKind
+abbrev pub script_kind : RefusalKind → ScriptKind
 script_kind from.BadChar = kind.BadChar
 script_kind from.OpenText = kind.OpenText
 script_kind from.TooLong = kind.TooLong
@@ -52,6 +53,10 @@ abbrev pub lower : Option At → At → At
 lower None b = b
 lower (Some a) b = if nat_le a.0 b.0 then a else b
 
+-- the fault of definitions behind the line at a place, at its line of the record
+abbrev pub refusal_at : ℕ → Refusal → At
+refusal_at place r = (place + 1 + r.line, script_kind r.kind)
+
 -- the names of the workstations of a network, and of definitions, by their numbers
 abbrev pub node_names : Net → List (List ℕ)
 node_names net = map (λ (n : Node). n.name) net.nodes
@@ -72,15 +77,14 @@ pub data IsRead (text : List ℕ) : Result Record At → Type 0 where
   -- It does not begin with definitions.
   plain : definitions_place text ≡ None → IsRead text (without_definitions (read_of text))
   -- Its definitions have a fault, which counts at its line of the record; that of a lower line comes first.
-  refused : (place line : ℕ) (kind : DefinitionKind) → definitions_place text ≡ Some place
-      → IsReading (composer_text text place) (Err (line, kind))
-      → IsRead text (Err (lower (own_fault [] text) (place + 1 + line, script_kind kind)))
+  refused : (place : ℕ) (r : Refusal) → definitions_place text ≡ Some place → IsRefused (composer_text text place) r
+      → IsRead text (Err (lower (own_fault [] text) (refusal_at place r)))
   -- Its definitions have none, and another line has one.
   faulty : (place : ℕ) (d : Defs) (at_ : At) → definitions_place text ≡ Some place
-      → IsReading (composer_text text place) (Ok d) → own_fault (names_of d) text ≡ Some at_ → IsRead text (Err at_)
+      → AreChecked (composer_text text place) d → own_fault (names_of d) text ≡ Some at_ → IsRead text (Err at_)
   -- No line has one.
   defined : (place : ℕ) (d : Defs) → definitions_place text ≡ Some place
-      → IsReading (composer_text text place) (Ok d) → own_fault (names_of d) text ≡ None
+      → AreChecked (composer_text text place) d → own_fault (names_of d) text ≡ None
       → IsRead text (Ok (defined_record d text))
 
 -- The line and the kind that are told, but for want of memory: those of this fault, of one that may be there, and those to

@@ -2,7 +2,7 @@
 //!
 //! `read_record` gives what a text means, or its lowest faulty line with the first kind of its faults. A record that does
 //! not begin with definitions is that of `record_script`. In one that does, the lines between `$DEFINITIONS` and the first
-//! `$STEPS` are composer text (`definition_reading`), whose first fault counts as one, at its line of the record; the
+//! `$STEPS` are composer text (`definition_texts`), whose first fault counts as one, at its line of the record; the
 //! network is that of the definitions, and so are the plans of days. Which text is read to what is said in
 //! `specs/Readings`, and what of a text is composer text in `specs/Composers`.
 //!

@@ -18,7 +18,7 @@ use crate::composers::{composer_text, find_definitions};
 use crate::kinds::script_kind;
 use crate::records::Record;
 use base_types::{Copied, Items, Net, NoMemory, Text};
-use definition_reading::{DefinitionFault, DefinitionKind, read_definitions};
+use definition_texts::{NotRead, Refusal, read_definition_text};
 use network_tree::Network;
 use record_faults::{Named, ScriptKind, first_fault, place_rows};
 use record_rows::{Row, read_rows};
@@ -80,21 +80,20 @@ fn lower(own: Option<(usize, ScriptKind)>, line: usize, kind: ScriptKind) -> Scr
     }
 }
 
-/// The fault of a record whose definitions have one, at this line of theirs.
+/// The fault of a record whose definitions, behind the line at a place, are refused.
 fn refused(
     alloc: Global,
     text: &str,
     place: usize,
-    line: u32,
-    kind: DefinitionKind,
+    refusal: &Refusal,
 ) -> Result<ScriptFault, NoMemory>
-    ensures { IfOk result (IsTold
-        (spec.lower (spec.own_fault [] text.now) (place + 1 + line, spec.script_kind kind))) }
+    ensures { IfOk result (IsTold (spec.lower (spec.own_fault [] text.now) (spec.refusal_at place refusal.now))) }
 {
-    let rows = placed(alloc, text)?;
-    let own = own_fault(alloc, &[], rows.as_slice())?;
-    match line_behind(place, line) {
-        Some(behind) => Ok(lower(own, behind, script_kind(kind))),
+    let placed = placed(alloc, text)?;
+    let rows = placed.as_slice();
+    let own = own_fault(alloc, &[], rows)?;
+    match line_behind(place, refusal.line) {
+        Some(behind) => Ok(lower(own, behind, script_kind(refusal.kind))),
         None => Err(NoMemory),
     }
 }
@@ -187,10 +186,10 @@ fn read_defined(alloc: Global, text: &str, place: usize) -> Result<Record, Scrip
     ensures fault { IfErr result (Tells text.now) }
 {
     let composer = composer_text(alloc, text, place)?;
-    match read_definitions(alloc, &composer) {
+    match read_definition_text(alloc, &composer) {
         Ok(workload) => defined(alloc, text, workload),
-        Err(DefinitionFault::At(line, kind)) => Err(refused(alloc, text, place, line, kind)?),
-        Err(DefinitionFault::NoMemory) => Err(ScriptFault::NoMemory),
+        Err(NotRead::Refused(refusal)) => Err(refused(alloc, text, place, &refusal)?),
+        Err(NotRead::NoMemory) => Err(ScriptFault::NoMemory),
     }
 }
 

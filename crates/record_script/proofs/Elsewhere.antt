@@ -1,6 +1,6 @@
 -- The steps of a record whose workstations are defined elsewhere stay inside their network.
-use Rattle.std.proofs.Common.{◌≡◌, ◌<◌, ◌≤◌, ℕ, Bool, true, false, List, [], ◌∷◌, Option, Some, None, length, refl, ap, sym, subst, ◌∙◌, arith, bytes_eq, unwrap_or}
-use Rattle.std.specs.Prelude.{map, nat_lt}
+use Rattle.std.proofs.Common.{◌≡◌, ◌<◌, ℕ, true, false, List, [], ◌∷◌, Option, Some, None, length, refl, ap, sym, subst, arith, bytes_eq, unwrap_or}
+use Rattle.std.specs.Prelude.{map}
 use Rattle.std.specs.List.{list_any, list_all, position}
 use Rattle.model.specs.Network.{node_count}
 use Rattle.model.specs.Types.{Net}

@@ -11,9 +11,9 @@ use Rattle.record_rows.specs.declared.rows.OwnRow.{OwnRow}
 use Rattle.record_rows.specs.declared.rows.OwnRow.TheVariants as own
 use Rattle.record_rows.specs.declared.rows.CutRow.{CutRow}
 use Rattle.record_rows.specs.declared.rows.CutRow.TheVariants as cut
-use Rattle.record_faults.specs.Known.{Station, is_station, stations, unlinked}
+use Rattle.record_faults.specs.Known.{Station, is_station, stations}
 use Rattle.record_faults.specs.Faults.{lacks_station, step_is_unknown}
-use Rattle.record_script.specs.Numbers.{Numbered, numbered, numbered_by, place_of, ws_no}
+use Rattle.record_script.specs.Numbers.{Numbered, numbered, ws_no}
 use Rattle.record_script.specs.Steps.{own_step, cut_step, step_form, steps_from}
 use Rattle.record_script.specs.Inside.{ws_in_one, ws_in}
 use Rattle.record_script.specs.declared.scripts.ScriptStep.{ScriptStep}

@@ -50,7 +50,7 @@ stream 1 P#E READY
 job 1 P#E.J HOLD 0
 stream 2 P#E READY
 job 2 P#E.J HOLD 0
-stream 3 P#C READY
+stream 3 P#C HOLD
 job 3 P#C.J HOLD 0
 node P
 holds M 1

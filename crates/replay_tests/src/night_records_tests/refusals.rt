@@ -99,7 +99,7 @@ fn the_first_fault_is_told(rt: HostRuntime) -> Result<(), Fail> {
 }
 
 /// Steps behind definitions; line 0 stands for a record that is read.
-const STEPS: [Refusal; 13] = [
+const STEPS: [Refusal; 14] = [
     (MASTER, "$STEPS|", 0, ScriptKind::BadLine),
     (
         MASTER,
@@ -114,6 +114,13 @@ const STEPS: [Refusal; 13] = [
         ScriptKind::BadLine,
     ),
     (MASTER, "$STEPS|next|", 5, ScriptKind::BadLine),
+    (
+        MASTER,
+        "$CALENDAR|HOLIDAYS 10/31/2003|$JOBS|M#J DOCOMMAND \"true\"|SCHEDULE M#T ON 10/31/2003 FDNEXT :|J|END|\
+SCHEDULE M#U ON 10/31/2003 FDNEXT EXCEPT 11/03/2003 :|J|END|SCHEDULE M#V ON WORKDAYS :|J|END|$STEPS|next|",
+        18,
+        ScriptKind::BadLine,
+    ),
     (MASTER, "$STEPS|crash M lost next|", 5, ScriptKind::BadLine),
     (MASTER, "$STEPS|next 02/30/2003|", 5, ScriptKind::BadLine),
     (

@@ -78,16 +78,16 @@ module _ (d : Defs) (plan : PlanDay) where
   one_job n s e draft h =
       let run = one_run (work_of d s e) (run_in draft) h.run_ in
       λ i.
-          record {
-            ws = h.ws_ i;
-            name = h.name_ i;
-            priority = h.priority_ i;
-            work = (run i).work;
-            logon = (run i).logon;
-            cond = (run i).cond;
-            recovery = (run i).recovery;
-            deps = h.deps_ i;
-          }
+      record {
+        ws = h.ws_ i;
+        name = h.name_ i;
+        priority = h.priority_ i;
+        work = (run i).work;
+        logon = (run i).logon;
+        cond = (run i).cond;
+        recovery = (run i).recovery;
+        deps = h.deps_ i;
+      }
 
   abbrev jobs_of : ℕ → ScheduleDef → List (Lined EntryDef) → List JobDraft
   jobs_of n s es = map (λ (e : Lined EntryDef). job_of n s e.item) es
@@ -116,15 +116,15 @@ module _ (d : Defs) (plan : PlanDay) where
   one_stream n s draft h =
       let jobs = one_jobs n s s.entries draft.jobs h.jobs_ in
       λ i.
-          record {
-            ws = h.ws_ i;
-            name = h.name_ i;
-            priority = h.priority_ i;
-            limit = h.limit_ i;
-            carry = h.carry_ i;
-            deps = h.deps_ i;
-            jobs = jobs i;
-          }
+      record {
+        ws = h.ws_ i;
+        name = h.name_ i;
+        priority = h.priority_ i;
+        limit = h.limit_ i;
+        carry = h.carry_ i;
+        deps = h.deps_ i;
+        jobs = jobs i;
+      }
 
   abbrev stream_at : ℕ → Option StreamDraft
   stream_at n = option_map (λ (s : Lined ScheduleDef). stream_of n s.item) (slice_get d.schedules n)

@@ -20,7 +20,11 @@ fn place_among(texts: &[&str]) -> Option<usize>
 {
     for (i, line) in texts.iter().enumerate() {
         if !is_skipped(line) {
-            return if *line == "$DEFINITIONS" { Some(i) } else { None };
+            return if *line == "$DEFINITIONS" {
+                Some(i)
+            } else {
+                None
+            };
         }
     }
     None

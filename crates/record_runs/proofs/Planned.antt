@@ -28,18 +28,23 @@ alone_is : (w : Act → WorldStep) (net : Net) (x : World) (r : Result (List Str
 alone_is w net x (Ok l) = refl
 alone_is w net x (Err c) = refl
 
+-- the parts of a pair that is there
+parts : {A B : Type 0} {a c : A} {b d : B} → ◌≡◌ {A = Option (A × B)} (Some (a, b)) (Some (c, d)) → (a ≡ c) × (b ≡ d)
+parts {A} {B} {a} {c} {b} {d} e =
+    let pair : ◌≡◌ {A = A × B} (a, b) (c, d) = cc in (ap (λ p. p.0) pair, ap (λ p. p.1) pair)
+
 -- a line that asks for a day takes its plan
 pub asked_is : (plan : Day) (net : Net) (left : List (List StreamDraft)) (f : StepForm) (n : ℕ) (next : StepForm)
     → Some (n, next) ≡ asked_day f → (x : World) → take_line plan net left f x ≡ take_planned plan net n next x
 unfolding take_line line_steps act
 asked_is plan net left (form.One (one.NextDay d)) n next is x =
-    let day_ : d ≡ n = cc in
-    let next_ : form.One one.Next ≡ next = cc in
+    let day_ : d ≡ n = sym (parts is).0 in
+    let next_ : form.One one.Next ≡ next = sym (parts is).1 in
     alone_is whole net x (plan d)
     ∙ (ap (λ m. take_planned plan net m (form.One one.Next) x) day_ ∙ ap (λ g. take_planned plan net n g x) next_)
 asked_is plan net left (form.CrashIn w kept (one.NextDay d)) n next is x =
-    let day_ : d ≡ n = cc in
-    let next_ : form.CrashIn w kept one.Next ≡ next = cc in
+    let day_ : d ≡ n = sym (parts is).0 in
+    let next_ : form.CrashIn w kept one.Next ≡ next = sym (parts is).1 in
     alone_is (cut_short kept) net x (plan d)
     ∙ (ap (λ m. take_planned plan net m (form.CrashIn w kept one.Next) x) day_
     ∙ ap (λ g. take_planned plan net n g x) next_)
@@ -48,17 +53,17 @@ asked_is plan net left _ n next is x = cc
 -- the line in its place asks for none, names the same workstations, and leaves the other plans
 pub asked_next : (f : StepForm) (n : ℕ) (next : StepForm) → Some (n, next) ≡ asked_day f → asks_day next ≡ false
 asked_next (form.One (one.NextDay d)) n next is =
-    let next_ : form.One one.Next ≡ next = cc in ap asks_day (sym next_)
+    let next_ : form.One one.Next ≡ next = sym (parts is).1 in ap asks_day (sym next_)
 asked_next (form.CrashIn w kept (one.NextDay d)) n next is =
-    let next_ : form.CrashIn w kept one.Next ≡ next = cc in ap asks_day (sym next_)
+    let next_ : form.CrashIn w kept one.Next ≡ next = sym (parts is).1 in ap asks_day (sym next_)
 asked_next _ n next is = cc
 
 pub asked_inside : (net : Net) (f : StepForm) (n : ℕ) (next : StepForm) → Some (n, next) ≡ asked_day f
     → IsTrue (are_inside net (ws_in_form f)) → IsTrue (are_inside net (ws_in_form next))
 asked_inside net (form.One (one.NextDay d)) n next is h =
-    let next_ : form.One one.Next ≡ next = cc in ap (λ g. are_inside net (ws_in_form g)) (sym next_) ∙ h
+    let next_ : form.One one.Next ≡ next = sym (parts is).1 in ap (λ g. are_inside net (ws_in_form g)) (sym next_) ∙ h
 asked_inside net (form.CrashIn w kept (one.NextDay d)) n next is h =
-    let next_ : form.CrashIn w kept one.Next ≡ next = cc in ap (λ g. are_inside net (ws_in_form g)) (sym next_) ∙ h
+    let next_ : form.CrashIn w kept one.Next ≡ next = sym (parts is).1 in ap (λ g. are_inside net (ws_in_form g)) (sym next_) ∙ h
 asked_inside net _ n next is h = cc
 
 pub asked_left : (f : StepForm) (n : ℕ) (next : StepForm) (left : List (List StreamDraft)) → Some (n, next) ≡ asked_day f

@@ -76,6 +76,7 @@ fn at_limit(limit: LimitName) -> Halt
 }
 
 /// What halts where a day has no plan.
+#[tactic(auto, unfolding(crate::specs::Causes::told))]
 pub(crate) fn day_halt(fault: DayFault) -> Halt
     ensures { result ≡ halts_day fault }
 {

@@ -210,7 +210,10 @@ pub(crate) fn first_not_stopped<'a>(alloc: Global, table: &[Stopping<'a>]) -> Op
 fn run_either(alloc: Global, record: Record) -> Option<RunEnd>
     requires { net_fault record.script.net ≡ None }
 {
-    if !are_inside(record.script.net.nodes.len(), record.script.steps.as_slice()) {
+    if !are_inside(
+        record.script.net.nodes.len(),
+        record.script.steps.as_slice(),
+    ) {
         return None;
     }
     run_record(alloc, record).ok()

@@ -1,5 +1,8 @@
 //! Worked nights of records that begin with definitions.
-use crate::records::{DefinedStop, Night, Telling, first_defined_other, first_defined_not_stopped, lined, stops_defined};
+use crate::records::{
+    DefinedStop, Night, Telling, first_defined_not_stopped, first_defined_other, lined,
+    stops_defined,
+};
 use base_types::{LimitName, NoMemory};
 use record_runs::Stop;
 use std::alloc::Global;
@@ -28,8 +31,7 @@ job 2 MDM#V.J HOLD 0
 const DAYS_SUMMARY: &str = "events 1\nstarts 0\nstreams READY 2\njobs HOLD 2\n";
 
 /// The master is defined behind an agent, whose stream runs on each day, and another on the days of a calendar.
-const TWO_DAYS: &str =
-    "$DEFINITIONS|CPUNAME P OS UNIX NODE p DOMAIN D FOR MAESTRO TYPE FTA END|\
+const TWO_DAYS: &str = "$DEFINITIONS|CPUNAME P OS UNIX NODE p DOMAIN D FOR MAESTRO TYPE FTA END|\
 CPUNAME M OS UNIX NODE m DOMAIN D FOR MAESTRO TYPE MANAGER END|DOMAIN D MANAGER M ISMASTER END|\
 $CALENDAR|ONCE 11/04/2003|$JOBS|P#J DOCOMMAND \"run\"|SCHEDULE P#E ON EVERYDAY CARRYFORWARD :|J|END|\
 SCHEDULE P#C ON ONCE FOLLOWS E :|J|END|$STEPS|next 11/03/2003|link M P|link P M|turn M 1|flow M P|turn P 1|\
@@ -69,20 +71,25 @@ const NIGHTS: [Night; 2] = [
 
 #[test]
 fn nights_reach_their_reports(rt: HostRuntime) -> Result<(), Fail> {
-    assert_eq!(rt; first_defined_other(rt.alloc(), Telling::Report, &NIGHTS), None);
+    assert_eq!(rt;
+        first_defined_other(rt.alloc(), Telling::Report, &NIGHTS),
+        None
+    );
     Ok(())
 }
 
 #[test]
 fn nights_reach_their_summaries(rt: HostRuntime) -> Result<(), Fail> {
     let counted: [Night; 1] = [("the streams of a day", DAYS, DAYS_SUMMARY)];
-    assert_eq!(rt; first_defined_other(rt.alloc(), Telling::Summary, &counted), None);
+    assert_eq!(rt;
+        first_defined_other(rt.alloc(), Telling::Summary, &counted),
+        None
+    );
     Ok(())
 }
 
 /// A stream whose time is before 1970 on the first day of all.
-const TIMELESS: &str =
-    "$DEFINITIONS|$OPTIONS STARTOFDAY 0000 TIMEZONE \"UTC+0100\"|\
+const TIMELESS: &str = "$DEFINITIONS|$OPTIONS STARTOFDAY 0000 TIMEZONE \"UTC+0100\"|\
 CPUNAME M OS UNIX NODE m DOMAIN D FOR MAESTRO TYPE MANAGER END|DOMAIN D MANAGER M ISMASTER END|\
 SCHEDULE M#S ON EVERYDAY AT 0030 :|END|$STEPS|";
 
@@ -100,12 +107,7 @@ const STOPPED: [DefinedStop; 4] = [
         Stop::OutOfRange,
     ),
     // A line above that cannot be taken comes first.
-    (
-        TIMELESS,
-        "link M M|next 01/01/1970|",
-        8,
-        Stop::NotNeighbour,
-    ),
+    (TIMELESS, "link M M|next 01/01/1970|", 8, Stop::NotNeighbour),
     (
         TIMELESS,
         "next 01/02/1970|deliver M M 1|",

@@ -1,2 +1,2 @@
 mod Stops
-pub mod Refusals
+pub mod Readings

@@ -1,9 +1,9 @@
 //! Definitions from bytes and from texts.
-ghost use Rattle.std.specs.Prelude.{◌≡◌, ◌⊎◌, ◌<◌, ◌≤◌, ◌^◌, length, Ok, Err, IfOk};
+ghost use Rattle.std.specs.Prelude.{◌≡◌, ◌⊎◌, ◌<◌, ◌≤◌, ◌-◌, ◌^◌, length, Ok, Err, IfOk};
 ghost use Rattle.composer_lexer.specs.Places.{line_of};
 ghost use Rattle.composer_lexer.specs.Tokens.{tokens_of};
 ghost use Rattle.composer_parser.specs.declared.Defs.{Defs as Definitions};
-ghost use Rattle.definition_texts.specs.Refusals.{AreChecked, AreDefinitions, IsRefused, IsReading, IsChecking};
+ghost use Rattle.definition_texts.specs.Refusals.{AreChecked, IsRefused, IsReading, IsChecking};
 ghost use Rattle.definition_texts.specs.declared.refusals.Refusal.{Refusal as RefusalAt};
 ghost use Rattle.definition_texts.specs.declared.refusals.NotRead.TheVariants.{Refused, NoMemory as NoRoom};
 
@@ -41,7 +41,7 @@ pub fn read_definition_text(alloc: Global, text: &str) -> Result<Workload, NotRe
 /// The line, counted from 1, that has the byte at this place. A line feed ends its line.
 pub fn line_at(bytes: &[u8], place: usize) -> u32
     requires there { place ≤ length bytes.now }
-    requires few { length bytes.now < 2 ^ 32 - 1 }
+    requires few { place < 2 ^ 32 - 1 }
     ensures { result ≡ line_of bytes.now place }
 {
     let above = &bytes[..place];

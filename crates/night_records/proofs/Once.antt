@@ -1,7 +1,7 @@
 -- A text is read to one answer.
 use Rattle.std.proofs.Common.{◌≡◌, ◌∙◌, ◌+◌, ℕ, List, [], Option, Some, None, Result, Ok, Err, refl, ap, sym, subst}
 use Rattle.composer_parser.specs.declared.Defs.{Defs}
-use Rattle.definition_texts.proofs.Refusals.{not_refused, one_checked, one_refusal}
+use Rattle.definition_texts.proofs.Readings.{not_refused, one_checked, one_refusal}
 use Rattle.definition_texts.specs.Refusals.{AreChecked, IsRefused}
 use Rattle.definition_texts.specs.declared.Refusal.{Refusal}
 use Rattle.record_script.specs.Scripts.{read_of}

@@ -1,15 +1,13 @@
 -- A line that takes the plan of a day is one that takes the next plan, where that of the day is the only one left.
-use Rattle.std.proofs.Common.{◌≡◌, ◌∙◌, ◌∷◌, [], ℕ, Bool, List, Option, None, Some, Result, Ok, Err, ap, drop, false, refl, sym, subst, true}
-use Rattle.std.specs.Prelude.{IfErr, IsTrue, OnOk}
+use Rattle.std.proofs.Common.{◌≡◌, ◌∙◌, ◌∷◌, [], ℕ, List, Option, None, Some, Result, Ok, Err, ap, false, refl, sym}
+use Rattle.std.specs.Prelude.{IsTrue}
 use Rattle.model.specs.Types.{Net, Next, StreamDraft, WorldStep}
 use Rattle.model.specs.World.{World, result_map}
 use Rattle.network_world.specs.Stations.{WorldState}
-use Rattle.network_world.specs.Standing.{StandsFor}
-use Rattle.record_script.specs.declared.OneStep.{OneStep}
 use Rattle.record_script.specs.declared.OneStep.TheVariants as one
 use Rattle.record_script.specs.declared.StepForm.{StepForm}
 use Rattle.record_script.specs.declared.StepForm.TheVariants as form
-use Rattle.record_runs.specs.Causes.{Cause, full_day, no_moment, told}
+use Rattle.record_runs.specs.Causes.{Cause, full_day, no_moment}
 use Rattle.record_runs.specs.Days.{GivesFault, IsPlanOf, asked_day, take_planned}
 use Rattle.record_runs.specs.Lines.{Day, act, are_inside, asks_day, left_after, line_steps, only, whole, cut_short, ws_in_form}
 use Rattle.record_runs.specs.Runs.{and_then, take_line, take_steps}

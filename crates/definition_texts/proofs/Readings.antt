@@ -1,12 +1,16 @@
 -- Bytes are checked definitions of one value, or refused at one line for one kind.
 use Rattle.std.proofs.Common.{◌≡◌, ◌∙◌, ◌<◌, ◌≤◌, ◌⊎◌, ◌==◌, ℕ, List, Result, Ok, Err, inl, inr, sym, ap, subst, refl, arith}
 use Rattle.std.proofs.Common.{length, if◌then◌else◌}
+use Rattle.std.specs.Str.{IsValidUpTo}
+use Rattle.std.specs.Str.Lossy.{utf8_valid_len}
+use Rattle.std.proofs.lemmas.Str.{utf8_valid_len-IsValidUpTo}
 use Rattle.base_types.specs.declared.Token.{Token}
+use Rattle.composer_lexer.specs.Places.{line_of}
 use Rattle.composer_lexer.specs.Tokens.{tokens_of}
 use Rattle.composer_lexer.specs.declared.LexFault.{LexFault}
 use Rattle.composer_lexer.specs.declared.LexFault.TheVariants as lex
 use Rattle.composer_parser.specs.Composer.{defs}
-use Rattle.composer_parser.specs.Faults.{last_line_of}
+use Rattle.composer_parser.specs.Faults.{last_line_of, HasUnexpected, HasLeftOut}
 use Rattle.composer_parser.specs.Grammars.{Spells}
 use Rattle.composer_parser.specs.Tokens.{all_spelled}
 use Rattle.composer_parser.specs.declared.Defs.{Defs}
@@ -14,7 +18,7 @@ use Rattle.definition_faults.specs.Faults.{IsFaultless, IsFirstFault}
 use Rattle.definition_faults.specs.Orders.{IsNoLater, rank, told}
 use Rattle.definition_faults.specs.declared.Fault.{Fault}
 use Rattle.definition_faults.specs.declared.Kind.{Kind}
-use Rattle.definition_faults.specs.declared.Kind.TheVariants as of
+use Rattle.definition_faults.specs.declared.Kind.TheVariants as found
 use Rattle.definition_faults.specs.declared.DefFault.{DefFault}
 use Rattle.definition_faults.specs.declared.DefFault.TheVariants as def
 use Rattle.definition_texts.specs.Refusals.{IsText, HasTokens, AreDefinitions, AreChecked, AreNoDefinitions, IsRefused}
@@ -29,18 +33,18 @@ use Rattle.definition_texts.proofs.Stops.{one_sentence, not_unexpected, not_left
 -- a kind by its rank
 abbrev kind_at : ℕ → Kind
 kind_at n =
-    if n == 0 then of.Duplicate else
-    if n == 1 then of.UnknownName else
-    if n == 2 then of.OutOfRange else
-    if n == 3 then of.ForeignResource else if n == 4 then of.FollowsCycle else of.Tree
+    if n == 0 then found.Duplicate else
+    if n == 1 then found.UnknownName else
+    if n == 2 then found.OutOfRange else
+    if n == 3 then found.ForeignResource else if n == 4 then found.FollowsCycle else found.Tree
 
 at_rank : (k : Kind) → kind_at (rank k) ≡ k
-at_rank of.Duplicate = refl
-at_rank of.UnknownName = refl
-at_rank of.OutOfRange = refl
-at_rank of.ForeignResource = refl
-at_rank of.FollowsCycle = refl
-at_rank of.Tree = refl
+at_rank found.Duplicate = refl
+at_rank found.UnknownName = refl
+at_rank found.OutOfRange = refl
+at_rank found.ForeignResource = refl
+at_rank found.FollowsCycle = refl
+at_rank found.Tree = refl
 
 one_kind : (a b : Kind) → rank a ≡ rank b → a ≡ b
 one_kind a b same = sym (at_rank a) ∙ ap kind_at same ∙ at_rank b
@@ -155,21 +159,49 @@ module _ (bytes : List ℕ) where
 
   pub is_refused : (a : Result Defs NotRead) → IsReading bytes a → (r : Refusal) → IsRefused bytes r
       → (a ≡ Err (Refused r)) ⊎ (a ≡ Err NoMemory)
-  is_refused (Ok e) is r no = absurd (not_refused e r is no)
-  is_refused (Err (Refused s)) is r no = inl (ap (λ x. Err (Refused x)) (one_refusal s r is no))
-  is_refused (Err NoMemory) is r no = inr refl
+  is_refused (Ok e) is r of = absurd (not_refused e r is of)
+  is_refused (Err (Refused s)) is r of = inl (ap (λ x. Err (Refused x)) (one_refusal s r is of))
+  is_refused (Err NoMemory) is r of = inr refl
 
   pub told_refused : (a : Result Defs NotRead) → IsReading bytes a → (r : Refusal) → a ≡ Err (Refused r)
       → IsRefused bytes r
   told_refused a is r e = let P : Result Defs NotRead → Type 0 = λ x. IsReading bytes x in subst P e is
 
   -- what each step tells
-  pub lexed_reading : (f : LexFault) → IsText bytes → tokens_of bytes ≡ Err f → IsReading bytes (Err (lexed f))
-  lexed_reading (lex.BadChar line) text e = IsRefused.no_tokens (lex.BadChar line) (refusal line kind.BadChar) text e refl
-  lexed_reading (lex.OpenText line) text e =
-      IsRefused.no_tokens (lex.OpenText line) (refusal line kind.OpenText) text e refl
-  lexed_reading (lex.TooLong line) text e = IsRefused.no_tokens (lex.TooLong line) (refusal line kind.TooLong) text e refl
-  lexed_reading lex.NoMemory text e = tt
+  pub no_text_reading : (n line : ℕ) → IsValidUpTo bytes n → line ≡ line_of bytes n
+      → IsReading bytes (Err (refused_at line kind.BadChar))
+  no_text_reading n line valid is =
+      let len : utf8_valid_len bytes ≡ n = utf8_valid_len-IsValidUpTo bytes n valid in
+      let short : n < length bytes = valid.short in
+      let P : ℕ → Type 0 = λ l. IsRefused bytes (refusal l kind.BadChar) in
+      subst P (ap (λ m. line_of bytes m) len ∙ sym is)
+      (IsRefused.no_text (λ e. let never : ⊥ = omega arith in never))
+
+  pub lexed_reading : (f : LexFault) (a : Result (List Token) LexFault) → IsText bytes → a ≡ Err f
+      → (a ≡ tokens_of bytes) ⊎ (a ≡ Err lex.NoMemory) → IsReading bytes (Err (lexed f))
+  lexed_reading (lex.BadChar line) a text is (inl e) =
+      IsRefused.no_tokens (lex.BadChar line) (refusal line kind.BadChar) text (sym e ∙ is) refl
+  lexed_reading (lex.OpenText line) a text is (inl e) =
+      IsRefused.no_tokens (lex.OpenText line) (refusal line kind.OpenText) text (sym e ∙ is) refl
+  lexed_reading (lex.TooLong line) a text is (inl e) =
+      IsRefused.no_tokens (lex.TooLong line) (refusal line kind.TooLong) text (sym e ∙ is) refl
+  lexed_reading lex.NoMemory a text is (inl e) = tt
+  lexed_reading (lex.BadChar line) a text is (inr e) = absurd (let never : ⊥ = cc in never)
+  lexed_reading (lex.OpenText line) a text is (inr e) = absurd (let never : ⊥ = cc in never)
+  lexed_reading (lex.TooLong line) a text is (inr e) = absurd (let never : ⊥ = cc in never)
+  lexed_reading lex.NoMemory a text is (inr e) = tt
+
+  pub unexpected_reading : (ts : List Token) (line : ℕ) → HasTokens bytes ts
+      → HasUnexpected (defs (last_line_of bytes)) (last_line_of bytes) (all_spelled bytes ts) line
+      → IsReading bytes (Err (refused_at line kind.Expected))
+  unexpected_reading ts line has at =
+      IsRefused.no_definitions ts (refusal line kind.Expected) has (AreNoDefinitions.unexpected line at)
+
+  pub left_out_reading : (ts : List Token) (line : ℕ) → HasTokens bytes ts
+      → HasLeftOut (defs (last_line_of bytes)) (all_spelled bytes ts) line
+      → IsReading bytes (Err (refused_at line kind.LeftOut))
+  left_out_reading ts line has at =
+      IsRefused.no_definitions ts (refusal line kind.LeftOut) has (AreNoDefinitions.left_out line at)
 
   pub checked_reading : (d : Defs) (a : Result Defs NotRead) → AreDefinitions bytes d → IsChecking d a → IsReading bytes a
   checked_reading d (Ok e) are (same, faultless) =
@@ -183,15 +215,15 @@ module _ (bytes : List ℕ) where
 pub checked_fault : (d : Defs) (e : DefFault) → ((f : Fault) → e ≡ told f → IsFirstFault d f)
     → IsChecking d (Err (checked e))
 checked_fault d (def.Duplicate line) causes =
-    let f : Fault = record { line = line; kind = of.Duplicate } in (f, causes f refl, refl)
+    let f : Fault = record { line = line; kind = found.Duplicate } in (f, causes f refl, refl)
 checked_fault d (def.UnknownName line) causes =
-    let f : Fault = record { line = line; kind = of.UnknownName } in (f, causes f refl, refl)
+    let f : Fault = record { line = line; kind = found.UnknownName } in (f, causes f refl, refl)
 checked_fault d (def.OutOfRange line) causes =
-    let f : Fault = record { line = line; kind = of.OutOfRange } in (f, causes f refl, refl)
+    let f : Fault = record { line = line; kind = found.OutOfRange } in (f, causes f refl, refl)
 checked_fault d (def.ForeignResource line) causes =
-    let f : Fault = record { line = line; kind = of.ForeignResource } in (f, causes f refl, refl)
+    let f : Fault = record { line = line; kind = found.ForeignResource } in (f, causes f refl, refl)
 checked_fault d (def.FollowsCycle line) causes =
-    let f : Fault = record { line = line; kind = of.FollowsCycle } in (f, causes f refl, refl)
+    let f : Fault = record { line = line; kind = found.FollowsCycle } in (f, causes f refl, refl)
 checked_fault d (def.Tree line) causes =
-    let f : Fault = record { line = line; kind = of.Tree } in (f, causes f refl, refl)
+    let f : Fault = record { line = line; kind = found.Tree } in (f, causes f refl, refl)
 checked_fault d def.NoMemory causes = tt

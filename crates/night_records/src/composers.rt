@@ -1,6 +1,6 @@
 //! The composer text of a record.
 ghost use Rattle.std.specs.Prelude.{◌≡◌, ◌+◌, ◌<◌, ◌++◌, ◌∷◌, ◌^◌, [], IfOk, OnOk, drop, length, map};
-ghost use Rattle.std.specs.Str.{string_bytes};
+ghost use Rattle.std.specs.String.{string_bytes};
 ghost use Rattle.night_records.specs.Composers as spec;
 
 use base_types::NoMemory;
@@ -67,9 +67,8 @@ pub(crate) fn composer_text(alloc: Global, text: &str, place: usize) -> Result<S
     ensures { IfOk result (λ s. string_bytes s ≡ spec.composer_text text.now place) }
 {
     let texts = lines(alloc, text)?;
-    let behind = match texts.get(place + 1..) {
-        Some(behind) => behind,
-        None => &[],
-    };
-    before_steps(alloc, behind)
+    if place >= texts.len() {
+        return Ok(String::new(alloc));
+    }
+    before_steps(alloc, &texts[place + 1..])
 }

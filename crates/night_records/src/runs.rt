@@ -13,13 +13,13 @@ use std::alloc::Global;
 
 /// Takes the lines of a record. `Done` comes exactly where the run takes all lines, with a world that stands for the one
 /// which it reaches, and `Stopped` exactly where a line cannot be taken. `NoMemory` where memory runs out.
-pub fn run_record(alloc: Global, record: Record) -> Result<RunEnd, NoMemory>
-    requires accepted { net_fault record.script.net ≡ None }
-    requires inside { AreLinesInside record.script.net record.script.steps }
-    ensures end { (day : Day) → ArePlans record.workload day → IfOk result (IsEnd day record.script) }
-    ensures net { IfOk result (IsOver record.script.net) }
+pub fn run_record(alloc: Global, night: Record) -> Result<RunEnd, NoMemory>
+    requires accepted { net_fault night.script.net ≡ None }
+    requires inside { AreLinesInside night.script.net night.script.steps }
+    ensures end { (day : Day) → ArePlans night.workload day → IfOk result (IsEnd day night.script) }
+    ensures net { IfOk result (IsOver night.script.net) }
 {
-    let (script, workload) = record.into_parts();
+    let (script, workload) = night.into_parts();
     let days = Days { workload };
     run_days(alloc, script, &days)
 }

@@ -75,11 +75,7 @@ fn take_lines<D: DayPlans>(
 /// Takes the lines of a record, whose days have these plans. `Done` comes exactly where the run takes all lines, with a
 /// world that stands for the one which it reaches, and `Stopped` exactly where a line cannot be taken. `NoMemory` where
 /// memory runs out.
-pub fn run_days<D: DayPlans>(
-    alloc: Global,
-    script: Script,
-    days: &D,
-) -> Result<RunEnd, NoMemory>
+pub fn run_days<D: DayPlans>(alloc: Global, script: Script, days: &D) -> Result<RunEnd, NoMemory>
     requires accepted { net_fault script.net ≡ None }
     requires inside { AreLinesInside script.net script.steps }
     ensures end { (day : Day) → IsPlanOf (D.gives days.now) day → IfOk result (IsEnd day script) }

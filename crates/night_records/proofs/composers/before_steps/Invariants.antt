@@ -1,5 +1,5 @@
 use Rattle.std.proofs.Common.{◌≡◌, ◌++◌, drop, map}
-use Rattle.std.specs.Str.{string_bytes}
+use Rattle.std.specs.String.{string_bytes}
 use Rattle.night_records.specs.Composers.{text_before_steps}
 use Rattle.night_records.proofs.composers.before_steps.Given as goal
 

@@ -1,6 +1,6 @@
 -- Each record has plans for its days, and the drafts that a day gives are one list.
 use Rattle.std.proofs.Common.{◌≡◌, ◌⊎◌, ◌∙◌, ◌<◌, ◌≤◌, ℕ, Bool, true, false, List, [], ◌∷◌, Option, Some, None, Result, Ok, Err, inl, inr, refl, ap, sym, subst, slice_get, arith, unwrap_or, map}
-use Rattle.std.specs.Prelude.{filter_map, nat_lt, option_map, if◌then◌else◌}
+use Rattle.std.specs.Prelude.{filter_map, nat_le, option_map, if◌then◌else◌}
 use Rattle.std.specs.List.{cons_option}
 use Rattle.std.specs.Option.{option_map_or}
 use Rattle.std.proofs.lemmas.Bool.Decides.{nat_tests}
@@ -155,26 +155,20 @@ by_fault d day (Some (OutOfRange line)) = Err no_moment
 by_fault d day (Some NoMemory) = Err no_moment
 
 abbrev by_day : Defs → ℕ → Bool → Result (List StreamDraft) Cause
-by_day d day true = Err no_moment
-by_day d day false = by_fault d day (plan_fault d day)
+by_day d day false = Err no_moment
+by_day d day true = by_fault d day (plan_fault d day)
 
 abbrev pub plans_of : Option Defs → Day
 plans_of None day = Err no_moment
-plans_of (Some d) day = by_day d day (nat_lt last_day day)
-
-is_behind : (day : ℕ) → last_day < day → nat_lt last_day day ≡ true
-is_behind day low = grind (arith, nat_tests)
-
-is_within : (day : ℕ) → day ≤ last_day → nat_lt last_day day ≡ false
-is_within day low = grind (arith, nat_tests)
+plans_of (Some d) day = by_day d day (nat_le day last_day)
 
 one_plan : (d : Defs) (day : ℕ) (answer : Result (List StreamDraft) Cause) → GivesDay d day answer
-    → by_day d day (nat_lt last_day day) ≡ answer
-one_plan d day _ (behind low) = ap (by_day d day) (is_behind day low)
-one_plan d day _ (full most low is) = ap (by_day d day) (is_within day low) ∙ ap (by_fault d day) is
-one_plan d day _ (timeless line low is) = ap (by_day d day) (is_within day low) ∙ ap (by_fault d day) is
+    → by_day d day (nat_le day last_day) ≡ answer
+one_plan d day _ (behind is) = ap (by_day d day) is
+one_plan d day _ (full most low is) = ap (by_day d day) low ∙ ap (by_fault d day) is
+one_plan d day _ (timeless line low is) = ap (by_day d day) low ∙ ap (by_fault d day) is
 one_plan d day _ (drafts streams low is are) =
-    ap (by_day d day) (is_within day low)
+    ap (by_day d day) low
     ∙ (ap (by_fault d day) is ∙ ap Ok (sym (one_drafts d (plan_day d day) (running d day) streams are)))
 
 pub are_plans : (workload : Option Defs) → ArePlans workload (plans_of workload)

@@ -1,5 +1,5 @@
 //! The plans of days in a record.
-ghost use Rattle.std.specs.Prelude.{◌≡◌, ◌≤◌, ℕ, List, Err, IfErr, IfOk, Ok, Result};
+ghost use Rattle.std.specs.Prelude.{◌≡◌, ℕ, List, Err, IfErr, IfOk, Ok, Result, nat_le, true};
 ghost use Rattle.calendars.specs.Dates.{last_day};
 ghost use Rattle.night_records.specs.Days.{Gives, GivesDay};
 ghost use Rattle.record_runs.specs.Days.{GivesFault};
@@ -27,14 +27,20 @@ impl Model for Days {
     ghost view = { λ days. days.workload };
 }
 
-/// The drafts that definitions give for a day.
+/// Whether a day lies before the year 10000.
+fn is_day(day: u32) -> bool
+    ensures { result ≡ nat_le day last_day }
+{
+    day <= LAST_DAY
+}
+
+/// The drafts that definitions give for a day of the calendar.
+#[tactic(none)]
 fn drafts_of(alloc: Global, workload: &Workload, day: u32) -> Result<StreamDrafts, DayFault>
+    requires { nat_le day last_day ≡ true }
     ensures drafts { IfOk result (λ l. GivesDay workload.now day (Ok l)) }
     ensures fault { IfErr result (GivesFault (GivesDay workload.now day)) }
 {
-    if day > LAST_DAY {
-        return Err(DayFault::NoMoment);
-    }
     match day_docs(alloc, workload, day) {
         Ok(drafts) => Ok(drafts),
         Err(PlanFault::Limit(most)) => Err(DayFault::TooMany(most)),
@@ -43,13 +49,27 @@ fn drafts_of(alloc: Global, workload: &Workload, day: u32) -> Result<StreamDraft
     }
 }
 
+/// What definitions give for a day.
+#[tactic(none)]
+fn given(alloc: Global, workload: &Workload, day: u32) -> Result<StreamDrafts, DayFault>
+    ensures drafts { IfOk result (λ l. GivesDay workload.now day (Ok l)) }
+    ensures fault { IfErr result (GivesFault (GivesDay workload.now day)) }
+{
+    if is_day(day) {
+        drafts_of(alloc, workload, day)
+    } else {
+        Err(DayFault::NoMoment)
+    }
+}
+
 impl DayPlans for Days {
     ghost gives = { Gives };
 
+    #[tactic(none)]
     fn drafts(&self, alloc: Global, day: u32) -> Result<StreamDrafts, DayFault> {
         match &self.workload {
             None => Err(DayFault::NoMoment),
-            Some(workload) => drafts_of(alloc, workload, day),
+            Some(workload) => given(alloc, workload, day),
         }
     }
 }

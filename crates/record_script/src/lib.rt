@@ -6,8 +6,8 @@
 //! network (`specs/Networks`), the plans (`specs/Plans`) and the steps (`specs/Steps`). Both answers of the call are the
 //! definition `specs/Scripts::read_of`.
 //!
-//! A record that begins with definitions of its network and its work is read above, by `night_records`; here the line of
-//! its definitions is refused as `NotBuilt`. What its steps mean is told here too, by the names of its workstations.
+//! The line of definitions in a record is refused as `NotBuilt`. What the steps of such a record mean is told here too, by
+//! the names of its workstations (`steps_by`), for those who read the definitions.
 #![tactic(auto)]
 
 mod deps;

@@ -1,20 +1,30 @@
 -- What is told of a text is what it is read to.
 use Rattle.std.proofs.Common.{◌≡◌, ◌∙◌, ◌+◌, ℕ, List, [], Option, Some, None, Result, Ok, Err, refl, ap, sym, subst}
-use Rattle.std.specs.Prelude.{IfErr, IfOk}
+use Rattle.std.specs.Prelude.{IfErr, IfOk, length, true}
+use Rattle.std.specs.List.{list_all}
+use Rattle.std.proofs.lemmas.List.{length-map}
 use Rattle.composer_parser.specs.declared.Defs.{Defs}
 use Rattle.definition_texts.specs.Refusals.{AreChecked, IsRefused}
 use Rattle.definition_texts.specs.declared.Refusal.{Refusal}
+use Rattle.model.specs.Network.{node_count}
+use Rattle.model.specs.Types.{Net, Node}
 use Rattle.record_faults.specs.Faults.{first_fault}
 use Rattle.record_faults.specs.Known.{named_by}
+use Rattle.record_faults.specs.declared.kinds.ScriptKind.{ScriptKind}
 use Rattle.record_rows.specs.declared.rows.Row.{Row}
+use Rattle.record_script.proofs.Elsewhere.{steps_inside}
+use Rattle.record_script.specs.Inside.{is_inside}
+use Rattle.record_script.specs.Steps.{steps_by}
 use Rattle.record_script.specs.Scripts.{placed, read_of}
 use Rattle.record_script.specs.declared.Script.{Script}
+use Rattle.record_script.specs.declared.ScriptStep.{ScriptStep}
 use Rattle.record_script.specs.declared.ScriptFault.{ScriptFault}
 use Rattle.record_script.specs.declared.ScriptFault.TheVariants as told
 use Rattle.night_records.specs.Composers.{composer_text, definitions_place}
-use Rattle.night_records.specs.Readings.{At, IsRead, IsTold, IsToldOf, Tells, defined, defined_record, faulty, lower, names_of, own_fault, plain}
+use Rattle.night_records.specs.Readings.{At, IsRead, IsTold, IsToldOf, Tells, defined, node_names, defined_record, faulty, lower, names_of, own_fault, plain}
 use Rattle.night_records.specs.Readings.{refusal_at, refused, without_definitions}
 use Rattle.night_records.specs.declared.records.Record.{Record}
+use Rattle.workload_defs.specs.Nets.{net_of}
 
 -- what holds of an answer for two reasons
 pub both_ok : {T E : Type 0} (P Q : T → Type 0) (R : T → Type 0) (r : Result T E) → ((t : T) → P t → Q t → R t)
@@ -58,9 +68,9 @@ defined_tells text bytes place d told.NoMemory at_ is reading own = tt
 pub refused_tells : (text bytes : List ℕ) (place : ℕ) (r : Refusal) (f : ScriptFault)
     → definitions_place text ≡ Some place → bytes ≡ composer_text text place → IsRefused bytes r
     → IsTold (lower (own_fault [] text) (refusal_at place r)) f → Tells text f
-refused_tells text bytes place r (told.At n k) at_ is no own =
-    subst (λ a. IsRead text (Err a)) own (refused place r at_ (subst (λ b. IsRefused b r) is no))
-refused_tells text bytes place r told.NoMemory at_ is no own = tt
+refused_tells text bytes place r (told.At n k) at_ is why own =
+    subst (λ a. IsRead text (Err a)) own (refused place r at_ (subst (λ b. IsRefused b r) is why))
+refused_tells text bytes place r told.NoMemory at_ is why own = tt
 
 -- the faults of lines that are no definitions
 pub own_is : (text : List ℕ) (rows : List Row) (names all : List (List ℕ)) (o : Option At) → rows ≡ placed text
@@ -68,3 +78,34 @@ pub own_is : (text : List ℕ) (rows : List Row) (names all : List (List ℕ)) (
 own_is text rows names all o rows_ names_ is =
     ap (λ l. first_fault (named_by l) (placed text)) (sym names_)
     ∙ (ap (first_fault (named_by names)) (sym rows_) ∙ sym is)
+
+pub refused_is : (text : List ℕ) (rows : List Row) (o : Option At) (n m : ℕ) (k j : ScriptKind) (f : ScriptFault)
+    → rows ≡ placed text → o ≡ first_fault (named_by []) rows → n ≡ m → k ≡ j → IsTold (lower o (n, k)) f
+    → IsTold (lower (own_fault [] text) (m, j)) f
+refused_is text rows o n m k j f rows_ is line kind_ h =
+    let own : o ≡ own_fault [] text = is ∙ ap (first_fault (named_by [])) rows_ in
+    let same : lower o (n, k) ≡ lower (own_fault [] text) (m, j) = λ i. lower (own i) (line i, kind_ i) in
+    subst (λ (a : At). IsTold a f) same h
+
+-- the record that definitions give
+pub defined_is : (d : Defs) (text : List ℕ) (s : Script) (net : Net) (steps : List ScriptStep) → s.net ≡ net → s.plans ≡ []
+    → s.steps ≡ steps → net ≡ net_of d → steps ≡ steps_by (node_names net) (placed text)
+    → record { script = s; workload = Some d } ≡ defined_record d text
+defined_is d text s net steps a b c e f =
+    λ i.
+    record {
+      script = record {
+        net = (a ∙ e) i;
+        plans = b i;
+        steps = (c ∙ (f ∙ ap (λ n. steps_by (node_names n) (placed text)) e)) i;
+      };
+      workload = Some d;
+    }
+
+-- whose steps stay inside its network
+pub inside_of : (net : Net) (names : List (List ℕ)) (rows : List Row) (o : Option At) (steps : List ScriptStep)
+    → names ≡ node_names net → o ≡ first_fault (named_by names) rows → o ≡ None → steps ≡ steps_by names rows
+    → list_all (is_inside net) steps ≡ true
+inside_of net names rows o steps names_ is none steps_ =
+    let many : node_count net ≡ length names = sym (ap length names_ ∙ length-map net.nodes (λ (n : Node). n.name)) in
+    ap (list_all (is_inside net)) steps_ ∙ steps_inside names net rows many (sym is ∙ none)

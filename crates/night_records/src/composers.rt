@@ -32,6 +32,7 @@ fn place_among(texts: &[&str]) -> Option<usize>
 
 /// The place of the line `$DEFINITIONS` among the lines of a text, from 0, where the text begins with it but for empty
 /// lines and comments.
+#[tactic(auto, unfolding(crate::specs::Composers::definitions_place))]
 pub(crate) fn find_definitions(alloc: Global, text: &str) -> Result<Option<usize>, NoMemory>
     ensures { IfOk result (λ o. o ≡ spec.definitions_place text.now) }
 {
@@ -63,6 +64,7 @@ fn before_steps(alloc: Global, texts: &[&str]) -> Result<String, NoMemory>
 }
 
 /// The composer text behind the line at a place, from 0, up to the first line that is exactly `$STEPS`.
+#[tactic(auto, unfolding(crate::specs::Composers::composer_text))]
 pub(crate) fn composer_text(alloc: Global, text: &str, place: usize) -> Result<String, NoMemory>
     ensures { IfOk result (λ s. string_bytes s ≡ spec.composer_text text.now place) }
 {

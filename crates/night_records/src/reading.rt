@@ -81,7 +81,6 @@ fn lower(own: Option<(usize, ScriptKind)>, line: usize, kind: ScriptKind) -> Scr
 }
 
 /// The fault of a record whose definitions, behind the line at a place, are refused.
-#[tactic(none)]
 fn refused(
     alloc: Global,
     text: &str,
@@ -140,7 +139,6 @@ fn script(alloc: Global, net: Net, steps: ScriptSteps) -> Script
 }
 
 /// The steps of a record over a network that is defined elsewhere, or the first fault of the lines that are no definitions.
-#[tactic(none)]
 fn steps_over(alloc: Global, text: &str, net: &Net) -> Result<ScriptSteps, ScriptFault>
     requires few { length text.now < 2 ^ 32 }
     requires accepted { net_fault net.now ≡ None }
@@ -160,7 +158,6 @@ fn steps_over(alloc: Global, text: &str, net: &Net) -> Result<ScriptSteps, Scrip
 }
 
 /// A record with these definitions, which stand behind the line at a place.
-#[tactic(none)]
 fn defined(alloc: Global, text: &str, workload: Workload) -> Result<Record, ScriptFault>
     requires { length text.now < 2 ^ 32 }
     ensures read { IfOk result (λ r. r ≡ spec.defined_record workload text.now) }
@@ -171,15 +168,16 @@ fn defined(alloc: Global, text: &str, workload: Workload) -> Result<Record, Scri
 {
     let net = workload.net().copy()?;
     test_net(alloc, &net)?;
-    let steps = steps_over(alloc, text, &net)?;
-    Ok(Record {
-        script: script(alloc, net, steps),
-        workload: Some(workload),
-    })
+    match steps_over(alloc, text, &net) {
+        Ok(steps) => Ok(Record {
+            script: script(alloc, net, steps),
+            workload: Some(workload),
+        }),
+        Err(fault) => Err(fault),
+    }
 }
 
 /// A record whose definitions stand behind the line at a place.
-#[tactic(none)]
 fn read_defined(alloc: Global, text: &str, place: usize) -> Result<Record, ScriptFault>
     requires few { length text.now < 2 ^ 32 }
     requires place { definitions_place text.now ≡ Some place }
@@ -221,7 +219,6 @@ fn read_plain(alloc: Global, text: &str) -> Result<Record, ScriptFault>
 ///
 /// The network of a record is one that `Network::new` accepts. Each workstation that stands in a step is in it. Without
 /// definitions no step takes the plan of a day.
-#[tactic(none)]
 pub fn read_record(alloc: Global, text: &str) -> Result<Record, ScriptFault>
     requires { length text.now < 2 ^ 32 }
     ensures read { IfOk result (λ r. IsRead text.now (Ok r)) }

@@ -13,6 +13,7 @@ use std::alloc::Global;
 
 /// Takes the lines of a record. `Done` comes exactly where the run takes all lines, with a world that stands for the one
 /// which it reaches, and `Stopped` exactly where a line cannot be taken. `NoMemory` where memory runs out.
+#[tactic(none)]
 pub fn run_record(alloc: Global, night: Record) -> Result<RunEnd, NoMemory>
     requires accepted { net_fault night.script.net ≡ None }
     requires inside { AreLinesInside night.script.net night.script.steps }

@@ -1,5 +1,5 @@
 -- The workstations of a network without faults have names of their own.
-use Rattle.std.proofs.Common.{◌≡◌, ◌<◌, ◌≤◌, ◌+◌, ℕ, Bool, false, List, [], ◌∷◌, ◌++◌, Option, Some, None, length, map, refl, ap, sym, subst, ◌∙◌, arith, bytes_eq, slice_get, take, ◌||◌, length-append}
+use Rattle.std.proofs.Common.{◌≡◌, ◌<◌, ℕ, false, List, [], ◌∷◌, ◌++◌, Option, Some, None, length, map, refl, ap, sym, ◌∙◌, arith, bytes_eq, slice_get, take, ◌||◌, length-append}
 use Rattle.std.specs.List.{AllByRecursion, list_any}
 use Rattle.std.specs.Option.{option_map_or}
 use Rattle.std.specs.Prelude.{option_map}
@@ -7,8 +7,7 @@ use Rattle.std.proofs.Math.Seq.{take-append_seam}
 use Rattle.std.proofs.lemmas.List.{length-map}
 use Rattle.model.specs.Network.{node_count}
 use Rattle.model.specs.Types.{Net, Node}
-use Rattle.network_tree.specs.Faults.{first_there, first_ws, have_one_name, net_fault, net_faults, repeats_a_name}
-use Rattle.network_tree.specs.Repeats.{stands_before}
+use Rattle.network_tree.specs.Faults.{first_there, have_one_name, net_fault, net_faults, repeats_a_name}
 use Rattle.network_tree.specs.declared.faults.NetFault.{NetFault}
 use Rattle.network_tree.proofs.Belows.{nothing_found}
 use Rattle.network_tree.proofs.Trees.{few}

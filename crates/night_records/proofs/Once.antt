@@ -1,5 +1,5 @@
 -- A text is read to one answer.
-use Rattle.std.proofs.Common.{◌≡◌, ◌∙◌, ◌+◌, ℕ, List, [], Option, Some, None, Result, Ok, Err, refl, ap, sym, subst}
+use Rattle.std.proofs.Common.{◌≡◌, ◌∙◌, ℕ, List, [], Option, Some, None, Result, Ok, Err, refl, ap, sym, subst}
 use Rattle.composer_parser.specs.declared.Defs.{Defs}
 use Rattle.definition_texts.proofs.Readings.{not_refused, one_checked, one_refusal}
 use Rattle.definition_texts.specs.Refusals.{AreChecked, IsRefused}

@@ -1,9 +1,7 @@
 -- Each record has plans for its days, and the drafts that a day gives are one list.
-use Rattle.std.proofs.Common.{◌≡◌, ◌⊎◌, ◌∙◌, ◌<◌, ◌≤◌, ℕ, Bool, true, false, List, [], ◌∷◌, Option, Some, None, Result, Ok, Err, inl, inr, refl, ap, sym, subst, slice_get, arith, unwrap_or, map}
-use Rattle.std.specs.Prelude.{filter_map, nat_le, option_map, if◌then◌else◌}
+use Rattle.std.proofs.Common.{◌≡◌, ◌∙◌, ℕ, Bool, true, false, List, [], ◌∷◌, Option, Some, None, Result, Ok, Err, inl, inr, refl, ap, sym, subst, slice_get, map}
+use Rattle.std.specs.Prelude.{filter_map, nat_le, option_map}
 use Rattle.std.specs.List.{cons_option}
-use Rattle.std.specs.Option.{option_map_or}
-use Rattle.std.proofs.lemmas.Bool.Decides.{nat_tests}
 use Rattle.base_types.specs.declared.Recovery.TheVariants.{Stop}
 use Rattle.base_types.specs.declared.Work.TheVariants.{Command}
 use Rattle.calendars.specs.Dates.{last_day}
@@ -16,7 +14,7 @@ use Rattle.definition_names.specs.Stations.{ws_of_entry, ws_of_stream}
 use Rattle.model.specs.Types.{CondOp, JobDraft, StreamDraft}
 use Rattle.plan_builder.specs.Clauses as clauses
 use Rattle.plan_builder.specs.Dependencies as dependencies
-use Rattle.plan_builder.specs.Drafts.{AreDrafts, AreDraftsOf, AreJobDrafts, IsDraftAt, IsJobDraft, IsStreamDraft, number_or_master, run_in}
+use Rattle.plan_builder.specs.Drafts.{AreDraftsOf, AreJobDrafts, IsDraftAt, IsJobDraft, IsStreamDraft, number_or_master, run_in}
 use Rattle.plan_builder.specs.Limits.{plan_fault, running}
 use Rattle.plan_builder.specs.Times.{plan_day}
 use Rattle.plan_builder.specs.Works.{IsCondOf, IsRunOf, logon_of, work_of}
@@ -30,7 +28,7 @@ use Rattle.rc_conditions.proofs.Readings.{Cause as Caused, cause_is_read, read_h
 use Rattle.record_runs.specs.Causes.{Cause, full_day, no_moment}
 use Rattle.record_runs.specs.Lines.{Day}
 use Rattle.record_script.specs.Plans.{operations}
-use Rattle.night_records.specs.Days.{ArePlans, Gives, GivesDay, behind, drafts, full, timeless}
+use Rattle.night_records.specs.Days.{ArePlans, GivesDay, behind, drafts, full, timeless}
 
 -- the condition of a text
 abbrev cond_of : Option (List ℕ) → List CondOp

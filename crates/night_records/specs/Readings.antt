@@ -1,6 +1,5 @@
 -- What a text is: a record of either kind, or its first fault.
 use Rattle.std.specs.Prelude.{◌≡◌, ℕ, ◌+◌, [], List, Option, Some, None, Result, Ok, Err, map, nat_le, if◌then◌else◌}
-use Rattle.std.specs.Option.{option_map_or}
 use Rattle.composer_parser.specs.declared.Defs.{Defs}
 use Rattle.definition_texts.specs.Refusals.{AreChecked, IsRefused}
 use Rattle.definition_texts.specs.declared.Refusal.{Refusal}

@@ -1,5 +1,4 @@
 use Rattle.std.proofs.Common.{◌∙◌, Err, ap}
-use Rattle.night_records.specs.Readings.{IsToldOf, names_of, own_fault}
 use Rattle.night_records.proofs.Told.{both_ok, defined_read, defined_tells, if_err, refused_tells}
 use Rattle.night_records.proofs.reading.read_defined.Goals as goal
 

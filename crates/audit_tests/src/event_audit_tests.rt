@@ -1,0 +1,73 @@
+//! Histories and starts as rows, and what an audit answers.
+mod smallest;
+
+use base_types::{Carry, Entries, Items, JobNo, NoMemory, Start, Starts, Ws};
+use event_audit::{Audit, audit};
+use network_tree::Network;
+use std::alloc::Global;
+use std::test::Fail;
+use test_builders::{ALONE, EntryRow, NodeRow, PromptRow, ResourceRow, entries, net};
+
+/// A start: its workstation, its job and the number of its launch.
+type StartRow = (u16, u32, u32);
+
+/// What a network is made of.
+#[derive(Clone, Copy)]
+struct Place<'a> {
+    nodes: &'a [NodeRow<'a>],
+    resources: &'a [ResourceRow<'a>],
+    prompts: &'a [PromptRow<'a>],
+    carry: Carry,
+}
+
+/// The master alone.
+const MASTER: Place = Place {
+    nodes: &ALONE,
+    resources: &[],
+    prompts: &[],
+    carry: Carry::Yes,
+};
+
+fn network(alloc: Global, place: &Place) -> Result<Network, Fail> {
+    let mut net = net(alloc, place.nodes, place.resources, place.prompts)?;
+    net.carry = place.carry;
+    Ok(Network::new(alloc, net)?)
+}
+
+fn starts(alloc: Global, rows: &[StartRow]) -> Result<Starts, NoMemory> {
+    let mut list = Items::new(alloc);
+    for (ws, job, number) in rows {
+        list.push(Start {
+            ws: Ws(*ws),
+            job: JobNo(*job),
+            number: *number,
+        })?;
+    }
+    Ok(list)
+}
+
+/// What an audit of these lists answers.
+fn answer_to(
+    alloc: Global,
+    net: &Network,
+    entries: &Entries,
+    starts: &Starts,
+) -> Result<Audit, Fail> {
+    if entries.len() > 1000 || starts.len() > 1000 {
+        return Err("too many items")?;
+    }
+    Ok(audit(alloc, net, entries, starts)?)
+}
+
+/// What an audit of what was made and started at a place answers.
+fn answer(
+    alloc: Global,
+    place: &Place,
+    entry_rows: &[EntryRow],
+    start_rows: &[StartRow],
+) -> Result<Audit, Fail> {
+    let net = network(alloc, place)?;
+    let entries = entries(alloc, entry_rows)?;
+    let starts = starts(alloc, start_rows)?;
+    answer_to(alloc, &net, &entries, &starts)
+}

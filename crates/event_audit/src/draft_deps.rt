@@ -1,0 +1,92 @@
+//! What the dependencies of a submitted draft become in its document.
+ghost use Rattle.std.specs.Prelude.{◌≡◌, filter_map, option_map};
+ghost use Rattle.std.specs.Bool.{Decides};
+ghost use Rattle.model.specs.Types.{Plain, StreamDraft as Draft};
+ghost use Rattle.model.specs.History.{View, view_of};
+ghost use Rattle.event_audit.specs.Drafts.{gives, told};
+
+use crate::draft_names::{followed_job, followed_stream};
+use base_types::{Dep, DraftDep, StreamDraft};
+use owner_fold::Owners;
+use value_equality::is_same_dep;
+
+/// What a dependency of a draft becomes. A number may be one that no field holds.
+#[derive(Drop)]
+enum Resolved<'a> {
+    Job(u128),
+    Stream(u64),
+    Plain(&'a Dep),
+}
+
+/// What a dependency that names nothing becomes: itself. One on a job or a stream by its number goes.
+fn plain(dep: &Dep) -> Option<Resolved<'_>>
+    ensures { (V : View) (draft : Draft) → option_map told result ≡ gives V draft (Plain dep.now) }
+{
+    match dep {
+        Dep::FollowsJob(_) => None,
+        Dep::FollowsStream(_) => None,
+        _ => Some(Resolved::Plain(dep)),
+    }
+}
+
+/// What a dependency of a draft becomes. None where its names stand for nothing.
+fn resolved<'a>(owners: &Owners, draft: &StreamDraft, dep: &'a DraftDep) -> Option<Resolved<'a>>
+    ensures { option_map told result ≡ gives (view_of owners.now) draft.now dep.now }
+{
+    match dep {
+        DraftDep::Follows(ws, name, None) => match followed_stream(owners, draft, *ws, name) {
+            None => None,
+            Some(number) => Some(Resolved::Stream(number)),
+        },
+        DraftDep::Follows(ws, name, Some(job)) => {
+            match followed_job(owners, draft, *ws, name, job) {
+                None => None,
+                Some(number) => Some(Resolved::Job(number)),
+            }
+        }
+        DraftDep::Plain(dep) => plain(dep),
+    }
+}
+
+/// Whether it became this dependency.
+fn is_resolved_as(resolved: &Resolved, dep: &Dep) -> bool
+    ensures { Decides result (told resolved.now ≡ dep.now) }
+{
+    match resolved {
+        Resolved::Job(number) => match dep {
+            Dep::FollowsJob(j) => *number == u128::from(j.0),
+            _ => false,
+        },
+        Resolved::Stream(number) => match dep {
+            Dep::FollowsStream(s) => *number == u64::from(s.0),
+            _ => false,
+        },
+        Resolved::Plain(found) => is_same_dep(*found, dep),
+    }
+}
+
+/// Whether dependencies of a document are what those of a submitted draft become, in order.
+pub(crate) fn are_resolved_as(
+    owners: &Owners,
+    draft: &StreamDraft,
+    drafted: &[DraftDep],
+    deps: &[Dep],
+) -> bool
+    ensures { Decides result (filter_map (gives (view_of owners.now) draft.now) drafted.now ≡ deps.now) }
+{
+    let mut met = 0;
+    for dep in drafted {
+        if let Some(found) = resolved(owners, draft, dep) {
+            match deps.get(met) {
+                None => return false,
+                Some(dep) => {
+                    if !is_resolved_as(&found, dep) {
+                        return false;
+                    }
+                }
+            }
+            met += 1;
+        }
+    }
+    met == deps.len()
+}

@@ -1,4 +1,8 @@
 //! Histories and starts as rows, and what an audit answers.
+mod changes;
+mod days;
+mod faults;
+mod nights;
 mod smallest;
 
 use base_types::{Carry, Entries, Items, JobNo, NoMemory, Start, Starts, Ws};
@@ -6,7 +10,21 @@ use event_audit::{Audit, audit};
 use network_tree::Network;
 use std::alloc::Global;
 use std::test::Fail;
-use test_builders::{ALONE, EntryRow, NodeRow, PromptRow, ResourceRow, entries, net};
+use test_builders::{
+    ALONE, EntryRow, FeedRow, NodeRow, PromptRow, ResourceRow, TWO_AGENTS, entries, entry,
+    net,
+};
+
+/// The events of the master, and of the agents P and Q.
+const M: FeedRow = FeedRow::Events(0);
+const P: FeedRow = FeedRow::Events(1);
+const Q: FeedRow = FeedRow::Events(2);
+
+/// The master's orders to itself.
+const MASTERS_OWN: FeedRow = FeedRow::Orders(0, 0);
+
+/// The orders of P to itself.
+const P_TO_ITSELF: FeedRow = FeedRow::Orders(1, 1);
 
 /// A start: its workstation, its job and the number of its launch.
 type StartRow = (u16, u32, u32);
@@ -23,6 +41,14 @@ struct Place<'a> {
 /// The master alone.
 const MASTER: Place = Place {
     nodes: &ALONE,
+    resources: &[],
+    prompts: &[],
+    carry: Carry::Yes,
+};
+
+/// The master with the agents P and Q.
+const AGENTS: Place = Place {
+    nodes: &TWO_AGENTS,
     resources: &[],
     prompts: &[],
     carry: Carry::Yes,
@@ -70,4 +96,26 @@ fn answer(
     let entries = entries(alloc, entry_rows)?;
     let starts = starts(alloc, start_rows)?;
     answer_to(alloc, &net, &entries, &starts)
+}
+
+/// The first of these entries, by its place from 0, which an audit takes otherwise than is told, where each by itself
+/// stands behind a night. None where each is right or wrong as it is told.
+fn first_unexpected(
+    alloc: Global,
+    place: &Place,
+    night: &[EntryRow],
+    last: &[(EntryRow, bool)],
+) -> Result<Option<usize>, Fail> {
+    let net = network(alloc, place)?;
+    let nobody = Items::new(alloc);
+    for (i, (row, right)) in last.iter().enumerate() {
+        let mut list = entries(alloc, night)?;
+        list.push(entry(alloc, row)?)?;
+        let number = Audit::Not(night.len() as u32 + 1);
+        let expected = if *right { Audit::Sound } else { number };
+        if answer_to(alloc, &net, &list, &nobody)? != expected {
+            return Ok(Some(i));
+        }
+    }
+    Ok(None)
 }

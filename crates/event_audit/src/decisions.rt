@@ -6,7 +6,7 @@ ghost use Rattle.model.specs.Facts.{is_launch_of};
 ghost use Rattle.model.specs.Sound.{IsRightEnd, IsRightLaunch, IsRightRelease};
 ghost use Rattle.event_audit.specs.Counted.{ArePlaced};
 
-use crate::prefixes::{has_the_counts, held_prefix};
+use crate::prefixes::{has_the_counts, held_prefix, taken};
 use crate::witnesses::{names_end_witnesses, names_witnesses};
 use base_types::{Body, Entry, JobNo, NoMemory, Obj, Seen, StreamNo, Ws};
 use dependencies::{may_end, may_release, ready};
@@ -30,11 +30,10 @@ pub(crate) fn is_right_launch(
     if !has_the_counts(owners, w, seen) {
         return Ok(false);
     }
-    let before = owners.kept().entries();
-    if n == 0 || launches_before(before, j) != n as usize - 1 {
+    if n == 0 || launches_before(taken(owners), j) != n as usize - 1 {
         return Ok(false);
     }
-    let view = held_prefix(alloc, before, seen)?;
+    let view = held_prefix(alloc, owners, seen)?;
     let obj = Obj::Job(j);
     if !names_witnesses(&view, w, &obj, seen) {
         return Ok(false);
@@ -80,7 +79,7 @@ pub(crate) fn is_right_release(
     if !has_the_counts(owners, w, seen) {
         return Ok(false);
     }
-    let view = held_prefix(alloc, owners.kept().entries(), seen)?;
+    let view = held_prefix(alloc, owners, seen)?;
     let obj = Obj::Stream(s);
     if !names_witnesses(&view, w, &obj, seen) {
         return Ok(false);
@@ -103,7 +102,7 @@ pub(crate) fn is_right_end(
     if !has_the_counts(owners, w, seen) {
         return Ok(false);
     }
-    let view = held_prefix(alloc, owners.kept().entries(), seen)?;
+    let view = held_prefix(alloc, owners, seen)?;
     if !names_end_witnesses(&view, w, s, seen) {
         return Ok(false);
     }

@@ -8,6 +8,7 @@ ghost use Rattle.model.specs.NewEntry as spec;
 ghost use Rattle.event_audit.specs.Launches.{ends_launch};
 ghost use Rattle.model.specs.Sound.{IsOpenLaunch, NamesItsLaunch, is_numbered_launch};
 
+use crate::prefixes::taken;
 use base_types::{Body, Entry, Feed, JobNo, Ws};
 use owner_fold::Owners;
 use rc_conditions::holds;
@@ -50,7 +51,7 @@ fn is_launch(body: &Body, j: JobNo, n: u32) -> bool
 pub(crate) fn is_open_launch(owners: &Owners, w: Ws, j: JobNo, n: u32) -> bool
     ensures { Decides result (IsOpenLaunch (list_of owners.now (Events w)) j n) }
 {
-    let before = owners.kept().entries();
+    let before = taken(owners);
     is_launched(before, w, j, n) && !is_ended(before, w, j, n)
 }
 

@@ -54,6 +54,6 @@ pub(crate) fn is_right_plan(
     if !are_right_documents(owners, docs.as_slice(), carried.as_slice()) {
         return Ok(false);
     }
-    let view = held_prefix(alloc, owners.kept().entries(), cut)?;
+    let view = held_prefix(alloc, owners, cut)?;
     Ok(carries_exactly(net, &view, carried.as_slice()))
 }

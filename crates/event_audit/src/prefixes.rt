@@ -27,8 +27,27 @@ fn is_counted(seen: &Seen, entry: &Entry) -> bool
     entry.place <= held(seen, &entry.feed)
 }
 
-/// The entries that the counts take in.
-pub(crate) fn held_prefix(alloc: Global, before: &[Entry], seen: &Seen) -> Result<Owners, NoMemory>
+/// The entries that were taken.
+pub(crate) fn taken(owners: &Owners) -> &[Entry]
+    ensures { result.now ≡ owners.now }
+{
+    owners.kept().entries()
+}
+
+/// What a node holds that took what the counts take in.
+pub(crate) fn held_prefix(
+    alloc: Global,
+    owners: &Owners,
+    seen: &Seen,
+) -> Result<Owners, NoMemory>
+    requires { ArePlaced owners.now }
+    ensures { IfOk result (λ held. held ≡ counted seen.now owners.now) }
+{
+    holding(alloc, taken(owners), seen)
+}
+
+/// What a node holds that took those of these entries that the counts take in.
+fn holding(alloc: Global, before: &[Entry], seen: &Seen) -> Result<Owners, NoMemory>
     requires { ArePlaced before.now }
     ensures { IfOk result (λ held. held ≡ counted seen.now before.now) }
 {

@@ -9,6 +9,7 @@ ghost use Rattle.model.specs.History.{list_of};
 ghost use Rattle.model.specs.Sound.{IsInTime};
 ghost use Rattle.event_audit.specs.Times.{IsPast};
 
+use crate::prefixes::taken;
 use base_types::{Body, Dep, Entry, Feed, Moment, Obj, OnUntil, Ws};
 use owner_fold::Owners;
 use value_equality::is_same_mark;
@@ -17,7 +18,7 @@ use value_equality::is_same_mark;
 pub(crate) fn is_later(owners: &Owners, w: Ws, t: Moment) -> bool
     ensures { Decides result (IsInTime owners.now w (Clock t)) }
 {
-    is_after_all(owners.kept().entries(), w, t)
+    is_after_all(taken(owners), w, t)
 }
 
 /// Whether every reading of w's clock in these entries is less than this one.

@@ -1,10 +1,8 @@
 //! The night of one job, and histories that are smaller still.
-use super::{MASTER, answer};
+use super::{M, MASTER, answer};
 use event_audit::Audit;
 use std::test::Fail;
-use test_builders::{EntryRow, FeedRow, JobRow, Says, StreamRow};
-
-const M: FeedRow = FeedRow::Events(0);
+use test_builders::{EntryRow, JobRow, Says, StreamRow};
 
 /// The stream S of the master with the job A.
 const JOBS: [JobRow; 1] = [(1, 0, "A", 10, &[])];

@@ -30,9 +30,7 @@ fn is_taken(net: &Network, view: &Owners, s: StreamNo) -> bool
     match view.stream(s) {
         None => false,
         Some(doc) => {
-            takes(net.net().carry, doc)
-                && !view.is_cancelled(Obj::Stream(s))
-                && !view.is_ended(s)
+            takes(net.net().carry, doc) && !view.is_cancelled(Obj::Stream(s)) && !view.is_ended(s)
         }
     }
 }
@@ -72,12 +70,7 @@ pub(crate) fn carries_exactly(net: &Network, view: &Owners, carried: &[StreamNo]
 }
 
 /// Whether exactly those of the members are carried that the option takes.
-fn are_the_taken(
-    net: &Network,
-    view: &Owners,
-    carried: &[StreamNo],
-    members: &[StreamNo],
-) -> bool
+fn are_the_taken(net: &Network, view: &Owners, carried: &[StreamNo], members: &[StreamNo]) -> bool
     ensures { Decides result (AreTheTaken net.now.carry (view_of view.now) carried.now members.now) }
 {
     for s in members {

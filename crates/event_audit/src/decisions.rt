@@ -30,7 +30,7 @@ pub(crate) fn is_right_launch(
     if !has_the_counts(owners, w, seen) {
         return Ok(false);
     }
-    if n == 0 || launches_before(taken(owners), j) != n as usize - 1 {
+    if n == 0 || launches_before(owners, j) != n as usize - 1 {
         return Ok(false);
     }
     let view = held_prefix(alloc, owners, seen)?;
@@ -41,8 +41,15 @@ pub(crate) fn is_right_launch(
     Ok(ready(net, &view, w, j))
 }
 
-/// How many launches of a job there are, in all lists.
-fn launches_before(before: &[Entry], j: JobNo) -> usize
+/// How many launches of a job were taken, in all lists.
+fn launches_before(owners: &Owners, j: JobNo) -> usize
+    ensures { result ≡ count_by (λ (e : Kept). is_launch_of j e.body) owners.now }
+{
+    launches_in(taken(owners), j)
+}
+
+/// How many launches of a job there are among these entries.
+fn launches_in(before: &[Entry], j: JobNo) -> usize
     ensures { result ≡ count_by (λ (e : Kept). is_launch_of j e.body) before.now }
 {
     let mut count = 0;

@@ -27,7 +27,7 @@ pub(crate) fn followed_stream(
 ) -> Option<u64>
     ensures { let V = view_of owners.now in
         result ≡ option_map (λ (s : Named). s.number)
-            (resolve_stream (own_named V draft.now) (members_named V) ws name.now) }
+        (resolve_stream (own_named V draft.now) (members_named V) ws name.now) }
 {
     if is_itself(draft, ws, name) {
         return Some(1 + u64::from(owners.last_stream().0));
@@ -49,7 +49,7 @@ pub(crate) fn followed_job(
 ) -> Option<u128>
     ensures { let V = view_of owners.now in
         result ≡ option_and_then (resolve_job job.now)
-            (resolve_stream (own_named V draft.now) (members_named V) ws name.now) }
+        (resolve_stream (own_named V draft.now) (members_named V) ws name.now) }
 {
     if is_itself(draft, ws, name) {
         return drafted_job(

@@ -39,7 +39,7 @@ fn streams_follow_so(owners: &Owners, docs: &[StreamDoc], carried: &[StreamNo]) 
 fn jobs_follow_so(owners: &Owners, docs: &[StreamDoc], carried: &[StreamNo]) -> bool
     ensures { let known = filter_map (stream (view_of owners.now)) carried.now in
         result ≡ list_all (follows_what_is_meant docs.now known)
-            (flat_map (λ (j : Job). j.deps) (jobs_in_docs docs.now)) }
+        (flat_map (λ (j : Job). j.deps) (jobs_in_docs docs.now)) }
 {
     for doc in docs {
         if !jobs_of_one_follow_so(owners, docs, carried, doc.jobs.as_slice()) {

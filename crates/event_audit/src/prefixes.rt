@@ -35,11 +35,7 @@ pub(crate) fn taken(owners: &Owners) -> &[Entry]
 }
 
 /// What a node holds that took what the counts take in.
-pub(crate) fn held_prefix(
-    alloc: Global,
-    owners: &Owners,
-    seen: &Seen,
-) -> Result<Owners, NoMemory>
+pub(crate) fn held_prefix(alloc: Global, owners: &Owners, seen: &Seen) -> Result<Owners, NoMemory>
     requires { ArePlaced owners.now }
     ensures { IfOk result (λ held. held ≡ counted seen.now owners.now) }
 {

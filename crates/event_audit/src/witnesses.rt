@@ -88,11 +88,8 @@ fn is_cited_by(view: &Owners, dep: &Dep, v: Ws) -> bool
         },
         Dep::Prompt(PromptRef::Global(_)) => v.0 == 0,
         Dep::Prompt(PromptRef::Own(_)) => false,
-        Dep::Needs(_, _)
-        | Dep::At(_)
-        | Dep::Until(_, _)
-        | Dep::Outside(_)
-        | Dep::Deadline(_) => false,
+        Dep::Needs(_, _) | Dep::At(_) | Dep::Until(_, _) | Dep::Outside(_) | Dep::Deadline(_) =>
+            false,
     }
 }
 

@@ -4,16 +4,19 @@ use Rattle.model.specs.Types.{Dep, DraftDep, FollowsJob, FollowsStream, JobDoc, 
 use Rattle.model.specs.History.{View}
 use Rattle.model.specs.Catalogue.{members, stream}
 use Rattle.model.specs.NewPlan.{Fresh, Named, doc_of_job, last_job, last_stream, named_doc, named_fresh, resolve_dep}
-use Rattle.event_audit.specs.declared.draft_deps.Resolved.{Resolved}
-use Rattle.event_audit.specs.declared.draft_deps.Resolved.TheVariants.{Job, Plain, Stream}
+use Rattle.event_audit.specs.declared.draft_deps.Resolution.{Resolution}
+use Rattle.event_audit.specs.declared.draft_deps.Resolution.TheVariants.{Job, Plain, Stream}
 
 -- the draft as the only fresh stream
 abbrev pub only_fresh : View → StreamDraft → Fresh
 only_fresh V draft = record { number = 1 + last_stream V; first_job = 1 + last_job V; draft = draft }
 
 -- the streams that its names may stand for: itself, and the members
+abbrev pub own_one : View → StreamDraft → Named
+own_one V draft = named_fresh (only_fresh V draft)
+
 abbrev pub own_named : View → StreamDraft → List Named
-own_named V draft = named_fresh (only_fresh V draft) ∷ []
+own_named V draft = own_one V draft ∷ []
 
 abbrev pub members_named : View → List Named
 members_named V = map named_doc (filter_map (stream V) (members V))
@@ -27,7 +30,7 @@ abbrev pub job_given : View → StreamDraft → ℕ × JobDraft → JobDoc
 job_given V draft = doc_of_job (own_named V draft) (members_named V)
 
 -- the dependency that was found
-abbrev pub told : Resolved → Dep
+abbrev pub told : Resolution → Dep
 told (Job number) = FollowsJob number
 told (Stream number) = FollowsStream number
 told (Plain dep) = dep.now

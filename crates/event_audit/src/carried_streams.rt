@@ -1,11 +1,10 @@
 //! Whether a plan carries exactly what the network's option takes of the streams that were unfinished.
-ghost use Rattle.std.specs.Prelude.{◌≡◌};
+ghost use Rattle.std.specs.Prelude.{◌≡◌, Some, slice_get};
 ghost use Rattle.std.specs.Bool.{Decides};
 ghost use Rattle.model.specs.Words as words;
 ghost use Rattle.model.specs.Words.{IsPartOf};
 ghost use Rattle.model.specs.History.{view_of};
 ghost use Rattle.model.specs.NewPlan as spec;
-ghost use Rattle.model.specs.Sound.{IsTakenUnfinished};
 ghost use Rattle.event_audit.specs.Plans.{AreTheTaken, CarriesExactly};
 
 use base_types::{Carry, Obj, StreamDoc, StreamNo};
@@ -24,13 +23,20 @@ fn takes(option: Carry, doc: &StreamDoc) -> bool
 }
 
 /// Whether the network's option takes a stream that is neither cancelled nor ended. False outside the catalogue.
+#[tactic(auto, unfolding(model::specs::NewPlan::is_carried, model::specs::Catalogue::owner))]
 fn is_taken(net: &Network, view: &Owners, s: StreamNo) -> bool
-    ensures { Decides result (IsTakenUnfinished net.now.carry (view_of view.now) s) }
+    ensures { result ≡ spec.is_carried net.now (view_of view.now) s }
 {
     match view.stream(s) {
         None => false,
         Some(doc) => {
-            takes(net.net().carry, doc) && !view.is_cancelled(Obj::Stream(s)) && !view.is_ended(s)
+            if !takes(net.net().carry, doc) {
+                return false;
+            }
+            if view.is_cancelled(Obj::Stream(s)) {
+                return false;
+            }
+            !view.is_ended(s)
         }
     }
 }
@@ -47,13 +53,23 @@ fn has(numbers: &[StreamNo], s: StreamNo) -> bool
     false
 }
 
+/// Whether a number stands at a place, counted from 0.
+fn stands_at(numbers: &[StreamNo], place: usize, s: StreamNo) -> bool
+    ensures { Decides result (slice_get numbers.now place ≡ Some s) }
+{
+    match numbers.get(place) {
+        None => false,
+        Some(number) => number.0 == s.0,
+    }
+}
+
 /// Whether the first numbers are some of the second, in the same order.
 fn is_part_of(part: &[StreamNo], whole: &[StreamNo]) -> bool
     ensures { Decides result (IsPartOf part.now whole.now) }
 {
     let mut found = 0;
     for number in whole {
-        if found < part.len() && part[found].0 == number.0 {
+        if stands_at(part, found, *number) {
             found += 1;
         }
     }

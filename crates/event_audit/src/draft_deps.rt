@@ -12,36 +12,36 @@ use value_equality::is_same_dep;
 
 /// What a dependency of a draft becomes. A number may be one that no field holds.
 #[derive(Drop)]
-enum Resolved<'a> {
+enum Resolution<'a> {
     Job(u128),
     Stream(u64),
     Plain(&'a Dep),
 }
 
 /// What a dependency that names nothing becomes: itself. One on a job or a stream by its number goes.
-fn plain(dep: &Dep) -> Option<Resolved<'_>>
+fn plain(dep: &Dep) -> Option<Resolution<'_>>
     ensures { (V : View) (draft : Draft) → option_map told result ≡ gives V draft (Plain dep.now) }
 {
     match dep {
         Dep::FollowsJob(_) => None,
         Dep::FollowsStream(_) => None,
-        _ => Some(Resolved::Plain(dep)),
+        _ => Some(Resolution::Plain(dep)),
     }
 }
 
 /// What a dependency of a draft becomes. None where its names stand for nothing.
-fn resolved<'a>(owners: &Owners, draft: &StreamDraft, dep: &'a DraftDep) -> Option<Resolved<'a>>
+fn resolved<'a>(owners: &Owners, draft: &StreamDraft, dep: &'a DraftDep) -> Option<Resolution<'a>>
     ensures { option_map told result ≡ gives (view_of owners.now) draft.now dep.now }
 {
     match dep {
         DraftDep::Follows(ws, name, None) => match followed_stream(owners, draft, *ws, name) {
             None => None,
-            Some(number) => Some(Resolved::Stream(number)),
+            Some(number) => Some(Resolution::Stream(number)),
         },
         DraftDep::Follows(ws, name, Some(job)) => {
             match followed_job(owners, draft, *ws, name, job) {
                 None => None,
-                Some(number) => Some(Resolved::Job(number)),
+                Some(number) => Some(Resolution::Job(number)),
             }
         }
         DraftDep::Plain(dep) => plain(dep),
@@ -49,19 +49,19 @@ fn resolved<'a>(owners: &Owners, draft: &StreamDraft, dep: &'a DraftDep) -> Opti
 }
 
 /// Whether it became this dependency.
-fn is_resolved_as(resolved: &Resolved, dep: &Dep) -> bool
+fn is_resolved_as(resolved: &Resolution, dep: &Dep) -> bool
     ensures { Decides result (told resolved.now ≡ dep.now) }
 {
     match resolved {
-        Resolved::Job(number) => match dep {
+        Resolution::Job(number) => match dep {
             Dep::FollowsJob(j) => *number == u128::from(j.0),
             _ => false,
         },
-        Resolved::Stream(number) => match dep {
+        Resolution::Stream(number) => match dep {
             Dep::FollowsStream(s) => *number == u64::from(s.0),
             _ => false,
         },
-        Resolved::Plain(found) => is_same_dep(*found, dep),
+        Resolution::Plain(found) => is_same_dep(*found, dep),
     }
 }
 

@@ -1,5 +1,5 @@
 //! The streams and jobs that the names in a submitted draft stand for: itself, or else the last of the members.
-ghost use Rattle.std.specs.Prelude.{ℕ, ◌≡◌, ◌&&◌, ◌==◌, ◌×◌, find, option_and_then, option_map};
+ghost use Rattle.std.specs.Prelude.{ℕ, ◌≡◌, ◌&&◌, ◌==◌, find, option_and_then, option_map};
 ghost use Rattle.std.specs.List.{enumerate_from};
 ghost use Rattle.model.specs.Types.{JobDoc as Doc, JobDraft as Draft};
 ghost use Rattle.model.specs.Equalities.{text_eq};

@@ -1,5 +1,5 @@
 //! Whether documents have the numbers after the catalogue's, stream by stream and job by job.
-ghost use Rattle.std.specs.Prelude.{◌≡◌, ◌+◌, ◌==◌, IsNone, ¬◌, length, map};
+ghost use Rattle.std.specs.Prelude.{◌≡◌, ◌+◌, ◌==◌, IsNone, length, map};
 ghost use Rattle.std.specs.Bool.{Decides};
 ghost use Rattle.std.specs.Option.{IfSome};
 ghost use Rattle.model.specs.Types.{JobDoc as Job, StreamDoc as Stream};

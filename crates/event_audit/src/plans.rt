@@ -1,12 +1,13 @@
 //! Whether a new plan is right: its run, its cut, what it carries and its documents.
-ghost use Rattle.std.specs.Prelude.{◌≡◌, ◌+◌, ◌==◌, IfOk};
+ghost use Rattle.std.specs.Prelude.{◌≡◌, ◌&&◌, ◌+◌, ◌==◌, IfOk, length};
 ghost use Rattle.std.specs.Bool.{Decides};
 ghost use Rattle.model.specs.Types.{Events, NewPlan};
-ghost use Rattle.model.specs.History.{list_of, view_of};
+ghost use Rattle.model.specs.History.{count_in, list_of, view_of};
 ghost use Rattle.model.specs.NewPlan.{last_run};
 ghost use Rattle.model.specs.Sound.{CarriesByTheOption};
 ghost use Rattle.event_audit.specs.Counted.{ArePlaced};
 ghost use Rattle.event_audit.specs.Plans.{AreRightDocuments};
+ghost use Rattle.event_audit.specs.Prefixes.{are_there};
 
 use crate::carried_streams::carries_exactly;
 use crate::follows::follow_what_is_meant;
@@ -22,6 +23,14 @@ fn is_next_run(owners: &Owners, run: u32) -> bool
     ensures { result ≡ (run == 1 + last_run (list_of owners.now (Events 0))) }
 {
     run > 0 && owners.run() == run - 1
+}
+
+/// Whether a plan has the next run, and its cut counts all that the master made and no more than there is of the others.
+fn begins_right(owners: &Owners, run: u32, cut: &Seen) -> bool
+    ensures { result ≡ ((run == 1 + last_run (list_of owners.now (Events 0)))
+        && ((count_in cut.now 0 == length (list_of owners.now (Events 0))) && are_there owners.now cut.now cut.now)) }
+{
+    is_next_run(owners, run) && has_the_counts(owners, Ws(0), cut)
 }
 
 /// Whether the documents of a plan have the next numbers, and follow what is meant.
@@ -48,7 +57,10 @@ pub(crate) fn is_right_plan(
     ensures { IfOk result (λ right. Decides right
         (CarriesByTheOption net.now.carry owners.now (Events w) (NewPlan run cut.now carried.now docs.now))) }
 {
-    if w.0 != 0 || !is_next_run(owners, run) || !has_the_counts(owners, Ws(0), cut) {
+    if w.0 != 0 {
+        return Ok(false);
+    }
+    if !begins_right(owners, run, cut) {
         return Ok(false);
     }
     if !are_right_documents(owners, docs.as_slice(), carried.as_slice()) {

@@ -1,0 +1,32 @@
+-- Drafts that are numbered one after the other, by their places.
+use Rattle.std.proofs.Common.{[], ℕ, ◌+◌, ◌∙◌, ◌∷◌, ◌≡◌, ◌≤◌, List, Option, Some, ap, arith, drop, length, map, refl}
+use Rattle.std.proofs.Common.{subst, suc, sym, zero}
+use Rattle.std.specs.List.{enumerate_from}
+use Rattle.std.specs.Prelude.{option_map, slice_get}
+use Rattle.event_audit.proofs.Behind.{left_none, left_some}
+
+pub placed_at : {X Y : Type 0} (f : ℕ × X → Y) (first : ℕ) (xs : List X) (i : ℕ) (x : X) → slice_get xs i ≡ Some x
+    → slice_get (map f (enumerate_from first xs)) i ≡ Some (f (first + i, x))
+placed_at f first [] i x e = cc
+placed_at f first (y ∷ xs) zero x e =
+    let same : first + 0 ≡ first = omega arith in
+    rw same (ap (λ z. Some (f (first, z))) (inside e))
+  where
+    inside : {A : Type 0} {a b : A} → Some a ≡ Some b → a ≡ b
+    inside e = cc
+placed_at f first (y ∷ xs) (suc i) x e =
+    let same : first + suc i ≡ first + 1 + i = omega arith in
+    rw same (placed_at f (first + 1) xs i x e)
+
+pub placed_length : {X Y : Type 0} (f : ℕ × X → Y) (first : ℕ) (xs : List X)
+    → length (map f (enumerate_from first xs)) ≡ length xs
+placed_length f first [] = refl
+placed_length f first (x ∷ xs) = ap suc (placed_length f (first + 1) xs)
+
+-- what is left of them
+pub left_placed : {X : Type 0} (first : ℕ) (xs : List X) (i : ℕ) (x : X) → slice_get xs i ≡ Some x
+    → enumerate_from (first + i) (drop i xs) ≡ (first + i, x) ∷ enumerate_from (first + (i + 1)) (drop (i + 1) xs)
+left_placed {X} first xs i x there =
+    let more : first + i + 1 ≡ first + (i + 1) = omega arith in
+    ap (λ (l : List X). enumerate_from (first + i) l) (left_some xs i x there)
+    ∙ ap (λ n. (first + i, x) ∷ enumerate_from n (drop (i + 1) xs)) more

@@ -3,13 +3,14 @@ use Rattle.std.proofs.Common.{[], ℕ, ◌&&◌, ◌+◌, ◌++◌, ◌∙◌, �
 use Rattle.std.proofs.Common.{map, option_map, refl, reverse, sym, true}
 use Rattle.std.proofs.Math.Path.{fun_ext}
 use Rattle.std.proofs.lemmas.List.{map-append, reverse-append}
+use Rattle.std.specs.List.{enumerate_from}
 use Rattle.std.specs.Option.{option_map_or, option_or}
 use Rattle.std.specs.Prelude.{◌==◌, filter_map, option_and_then}
-use Rattle.model.specs.Types.{StreamDoc, StreamDraft}
+use Rattle.model.specs.Types.{JobDoc, JobDraft, StreamDoc, StreamDraft}
 use Rattle.model.specs.Equalities.{text_eq}
 use Rattle.model.specs.History.{View}
 use Rattle.model.specs.Catalogue.{members, stream}
-use Rattle.model.specs.NewPlan.{Named, is_named, named_doc, resolve_stream}
+use Rattle.model.specs.NewPlan.{Named, NamedJob, is_named, last_job, named_doc, resolve_job, resolve_stream}
 use Rattle.model.specs.Sound.{have_one_name, is_meant}
 use Rattle.event_audit.specs.Drafts.{members_named, own_named, own_one}
 use Rattle.event_audit.specs.Meanings.{is_called}
@@ -72,3 +73,77 @@ pub another : (V : View) (draft : StreamDraft) (w : ℕ) (name : List ℕ)
     → resolve_stream (own_named V draft) (members_named V) w name
     ≡ option_map named_doc (find (is_called w name) (reverse (filter_map (stream V) (members V))))
 another V draft w name h = rw h (last_member V w name)
+
+-- what two functions make of an item
+made_twice : {X Y Z : Type 0} (f : X → Y) (g : Y → Z) (o : Option X)
+    → option_map g (option_map f o) ≡ option_map (λ x. g (f x)) o
+made_twice f g None = refl
+made_twice f g (Some x) = refl
+
+-- the number of the stream that a name stands for
+pub stream_none : (V : View) (draft : StreamDraft) (w : ℕ) (name : List ℕ)
+    → ((draft.ws == w) && text_eq draft.name name) ≡ false
+    → None ≡ find (is_called w name) (reverse (filter_map (stream V) (members V)))
+    → None ≡ option_map (λ (s : Named). s.number) (resolve_stream (own_named V draft) (members_named V) w name)
+stream_none V draft w name not_ e =
+    sym (ap (option_map (λ (s : Named). s.number))
+    (another V draft w name not_ ∙ ap (option_map named_doc) (sym e)))
+
+pub stream_some : (V : View) (draft : StreamDraft) (w : ℕ) (name : List ℕ) (d : StreamDoc) (n : ℕ)
+    → ((draft.ws == w) && text_eq draft.name name) ≡ false
+    → Some d ≡ find (is_called w name) (reverse (filter_map (stream V) (members V))) → n ≡ d.no
+    → Some n ≡ option_map (λ (s : Named). s.number) (resolve_stream (own_named V draft) (members_named V) w name)
+stream_some V draft w name d n not_ e same =
+    ap Some same
+    ∙ sym (ap (option_map (λ (s : Named). s.number))
+    (another V draft w name not_ ∙ ap (option_map named_doc) (sym e)))
+
+-- the number of the job
+drafted : (job_ : List ℕ) (ps : List (ℕ × JobDraft))
+    → option_map (λ (p : ℕ × JobDraft). p.0) (find (λ (p : ℕ × JobDraft). text_eq p.1.name job_) ps)
+    ≡ option_map (λ (j : NamedJob). j.number)
+    (find (λ (j : NamedJob). text_eq j.name job_)
+    (map (λ (p : ℕ × JobDraft). record { name = p.1.name; number = p.0 }) ps))
+drafted job_ ps =
+    sym (ap (option_map (λ (j : NamedJob). j.number))
+    (find_made (λ (p : ℕ × JobDraft). record { name = p.1.name; number = p.0 })
+    (λ (j : NamedJob). text_eq j.name job_) ps)
+    ∙ made_twice (λ (p : ℕ × JobDraft). record { name = p.1.name; number = p.0 }) (λ (j : NamedJob). j.number)
+    (find (λ (p : ℕ × JobDraft). text_eq p.1.name job_) ps))
+
+documented : (job_ : List ℕ) (js : List JobDoc)
+    → option_map (λ (j : JobDoc). j.no) (find (λ (j : JobDoc). text_eq j.name job_) js)
+    ≡ option_map (λ (j : NamedJob). j.number)
+    (find (λ (j : NamedJob). text_eq j.name job_) (map (λ (j : JobDoc). record { name = j.name; number = j.no }) js))
+documented job_ js =
+    sym (ap (option_map (λ (j : NamedJob). j.number))
+    (find_made (λ (j : JobDoc). record { name = j.name; number = j.no }) (λ (j : NamedJob). text_eq j.name job_) js)
+    ∙ made_twice (λ (j : JobDoc). record { name = j.name; number = j.no }) (λ (j : NamedJob). j.number)
+    (find (λ (j : JobDoc). text_eq j.name job_) js))
+
+pub job_itself : (V : View) (draft : StreamDraft) (w : ℕ) (name job_ : List ℕ) (r : Option ℕ)
+    → ((draft.ws == w) && text_eq draft.name name) ≡ true
+    → r ≡ option_map (λ (p : ℕ × JobDraft). p.0)
+    (find (λ (p : ℕ × JobDraft). text_eq p.1.name job_) (enumerate_from (1 + last_job V) draft.jobs))
+    → r ≡ option_and_then (resolve_job job_) (resolve_stream (own_named V draft) (members_named V) w name)
+job_itself V draft w name job_ r yes_ e =
+    e ∙ drafted job_ (enumerate_from (1 + last_job V) draft.jobs)
+    ∙ sym (ap (option_and_then (resolve_job job_)) (itself V draft w name yes_))
+
+pub job_none : (V : View) (draft : StreamDraft) (w : ℕ) (name job_ : List ℕ)
+    → ((draft.ws == w) && text_eq draft.name name) ≡ false
+    → None ≡ find (is_called w name) (reverse (filter_map (stream V) (members V)))
+    → None ≡ option_and_then (resolve_job job_) (resolve_stream (own_named V draft) (members_named V) w name)
+job_none V draft w name job_ not_ e =
+    sym (ap (option_and_then (resolve_job job_))
+    (another V draft w name not_ ∙ ap (option_map named_doc) (sym e)))
+
+pub job_known : (V : View) (draft : StreamDraft) (w : ℕ) (name job_ : List ℕ) (d : StreamDoc) (r : Option ℕ)
+    → ((draft.ws == w) && text_eq draft.name name) ≡ false
+    → Some d ≡ find (is_called w name) (reverse (filter_map (stream V) (members V)))
+    → r ≡ option_map (λ (j : JobDoc). j.no) (find (λ (j : JobDoc). text_eq j.name job_) d.jobs)
+    → r ≡ option_and_then (resolve_job job_) (resolve_stream (own_named V draft) (members_named V) w name)
+job_known V draft w name job_ d r not_ e is =
+    is ∙ documented job_ d.jobs
+    ∙ sym (ap (option_and_then (resolve_job job_))
+    (another V draft w name not_ ∙ ap (option_map named_doc) (sym e)))

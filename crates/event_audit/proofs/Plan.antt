@@ -2,7 +2,8 @@
 use Rattle.std.proofs.Common.{ℕ, ◌&&◌, ◌+◌, ◌∙◌, ◌≡◌, Bool, List, false, inl, inr, refl, subst, sym, true}
 use Rattle.std.proofs.lemmas.Bool.Decides.{eqb_tells}
 use Rattle.std.specs.Bool.{Decides}
-use Rattle.std.specs.Prelude.{◌==◌}
+use Rattle.std.specs.Prelude.{◌==◌, Err, IfOk, Ok, Result}
+use Rattle.base_types.specs.declared.NoMemory.{NoMemory}
 use Rattle.model.specs.Types.{Carry, Entry, Events, StreamDoc}
 use Rattle.model.specs.History.{Seen, View, list_of, view_of}
 use Rattle.model.specs.NewPlan.{last_run}
@@ -65,20 +66,34 @@ plan_of_parts option before run cut carried docs b d e =
       follows = d.follows;
     }
 
-pub plan_decided : (option : Carry) (before held : List Entry) (w run : ℕ) (cut : Seen) (carried : List ℕ)
-    (docs : List StreamDoc) (r : Bool) → ArePlaced before → held ≡ counted cut before → w ≡ 0
+pub plan_decided : (option : Carry) (before held : List Entry) (run : ℕ) (cut : Seen) (carried : List ℕ)
+    (docs : List StreamDoc) (r : Bool) → ArePlaced before → held ≡ counted cut before
     → begins before run cut ≡ true → AreRightDocuments (view_of before) carried docs
     → Decides r (CarriesExactly option (view_of held) carried)
-    → Decides r ((w ≡ 0) × IsCarried option before run cut carried docs)
-plan_decided option before held w run cut carried docs r placed is first b d h =
+    → Decides r (IsCarried option before run cut carried docs)
+plan_decided option before held run cut carried docs r placed is b d h =
     let same : view_of held ≡ seen_view before cut =
     subst (λ (l : List Entry). view_of l ≡ seen_view before cut) (sym is) (counted_view cut before placed) in (
-      λ t. (
-        first,
-        plan_of_parts option before run cut carried docs b d
-            (subst (λ (V : View). CarriesExactly option V carried) same (h.0 t)),
-      ),
-      λ (all : (w ≡ 0) × IsCarried option before run cut carried docs). h.1
+      λ t. plan_of_parts option before run cut carried docs b d
+          (subst (λ (V : View). CarriesExactly option V carried) same (h.0 t)),
+      λ (all : IsCarried option before run cut carried docs). h.1
           (subst (λ (V : View). CarriesExactly option V carried) (sym same)
-          (record { in_order = all.1.in_order; exactly = all.1.exactly })),
+          (record { in_order = all.in_order; exactly = all.exactly })),
     )
+
+-- a plan of the master
+pub masters_plan : (option : Carry) (before : List Entry) (w run : ℕ) (cut : Seen) (S carried : List ℕ)
+    (D docs : List StreamDoc) (r : Result Bool NoMemory) → w ≡ 0 → S ≡ carried → D ≡ docs
+    → IfOk r (λ right. Decides right (IsCarried option before run cut S D))
+    → IfOk r (λ right. Decides right ((w ≡ 0) × IsCarried option before run cut carried docs))
+masters_plan option before w run cut S carried D docs (Ok right) first s d h = (
+  λ t. (
+    first,
+    subst (λ (x : List ℕ). IsCarried option before run cut x docs) s
+        (subst (λ (y : List StreamDoc). IsCarried option before run cut S y) d (h.0 t)),
+  ),
+  λ (all : (w ≡ 0) × IsCarried option before run cut carried docs). h.1
+      (subst (λ (x : List ℕ). IsCarried option before run cut x D) (sym s)
+      (subst (λ (y : List StreamDoc). IsCarried option before run cut carried y) (sym d) all.1)),
+)
+masters_plan option before w run cut S carried D docs (Err x) first s d h = h

@@ -4,6 +4,7 @@ ghost use Rattle.std.specs.Bool.{Decides};
 ghost use Rattle.model.specs.Words as words;
 ghost use Rattle.model.specs.Words.{IsPartOf};
 ghost use Rattle.model.specs.History.{view_of};
+ghost use Rattle.model.specs.Catalogue.{members};
 ghost use Rattle.model.specs.NewPlan as spec;
 ghost use Rattle.event_audit.specs.Plans.{AreTheTaken, CarriesExactly};
 
@@ -81,11 +82,27 @@ fn is_part_of(part: &[StreamNo], whole: &[StreamNo]) -> bool
 pub(crate) fn carries_exactly(net: &Network, view: &Owners, carried: &[StreamNo]) -> bool
     ensures { Decides result (CarriesExactly net.now.carry (view_of view.now) carried.now) }
 {
-    let members = view.members().as_slice();
-    is_part_of(carried, members) && are_the_taken(net, view, carried, members)
+    if !carries_in_order(view, carried) {
+        return false;
+    }
+    carries_the_taken(net, view, carried)
+}
+
+/// Whether the carried streams are members, in order.
+fn carries_in_order(view: &Owners, carried: &[StreamNo]) -> bool
+    ensures { Decides result (IsPartOf carried.now (members (view_of view.now))) }
+{
+    is_part_of(carried, view.members().as_slice())
 }
 
 /// Whether exactly those of the members are carried that the option takes.
+fn carries_the_taken(net: &Network, view: &Owners, carried: &[StreamNo]) -> bool
+    ensures { let V = view_of view.now in Decides result (AreTheTaken net.now.carry V carried.now (members V)) }
+{
+    are_the_taken(net, view, carried, view.members().as_slice())
+}
+
+/// Whether exactly those of these streams are carried that the option takes.
 fn are_the_taken(net: &Network, view: &Owners, carried: &[StreamNo], members: &[StreamNo]) -> bool
     ensures { Decides result (AreTheTaken net.now.carry (view_of view.now) carried.now members.now) }
 {

@@ -1,12 +1,12 @@
 //! What the dependencies of a submitted draft become in its document.
-ghost use Rattle.std.specs.Prelude.{◌≡◌, filter_map, option_map};
+ghost use Rattle.std.specs.Prelude.{◌≡◌, Some, filter_map, option_map, slice_get};
 ghost use Rattle.std.specs.Bool.{Decides};
 ghost use Rattle.model.specs.Types.{Plain, StreamDraft as Draft};
 ghost use Rattle.model.specs.History.{View, view_of};
 ghost use Rattle.event_audit.specs.Drafts.{gives, told};
 
 use crate::draft_names::{followed_job, followed_stream};
-use base_types::{Dep, DraftDep, StreamDraft};
+use base_types::{Dep, Deps, DraftDep, DraftDeps, StreamDraft};
 use owner_fold::Owners;
 use value_equality::is_same_dep;
 
@@ -69,24 +69,36 @@ fn is_resolved_as(resolved: &Resolution, dep: &Dep) -> bool
 pub(crate) fn are_resolved_as(
     owners: &Owners,
     draft: &StreamDraft,
-    drafted: &[DraftDep],
-    deps: &[Dep],
+    drafted: &DraftDeps,
+    deps: &Deps,
 ) -> bool
+    ensures { Decides result (filter_map (gives (view_of owners.now) draft.now) drafted.now ≡ deps.now) }
+{
+    become_these(owners, draft, drafted.as_slice(), deps.as_slice())
+}
+
+/// Whether the first dependencies become the second, in order.
+fn become_these(owners: &Owners, draft: &StreamDraft, drafted: &[DraftDep], deps: &[Dep]) -> bool
     ensures { Decides result (filter_map (gives (view_of owners.now) draft.now) drafted.now ≡ deps.now) }
 {
     let mut met = 0;
     for dep in drafted {
         if let Some(found) = resolved(owners, draft, dep) {
-            match deps.get(met) {
-                None => return false,
-                Some(dep) => {
-                    if !is_resolved_as(&found, dep) {
-                        return false;
-                    }
-                }
+            if !stands_at(deps, met, &found) {
+                return false;
             }
             met += 1;
         }
     }
     met == deps.len()
+}
+
+/// Whether what was resolved stands at a place, counted from 0.
+fn stands_at(deps: &[Dep], place: usize, found: &Resolution) -> bool
+    ensures { Decides result (slice_get deps.now place ≡ Some (told found.now)) }
+{
+    match deps.get(place) {
+        None => false,
+        Some(dep) => is_resolved_as(found, dep),
+    }
 }

@@ -7,8 +7,8 @@ ghost use Rattle.model.specs.History.{view_of};
 ghost use Rattle.model.specs.NewPlan.{Named, resolve_job, resolve_stream};
 ghost use Rattle.event_audit.specs.Drafts.{own_named, members_named};
 
-use crate::names::{is_text, last_called};
-use base_types::{JobDoc, JobDraft, JobNo, StreamDraft, Text, Ws};
+use crate::names::{is_text, last_member};
+use base_types::{JobDoc, JobDraft, StreamDraft, Text, Ws};
 use owner_fold::Owners;
 
 /// Whether a draft has this workstation and name.
@@ -32,7 +32,7 @@ pub(crate) fn followed_stream(
     if is_itself(draft, ws, name) {
         return Some(1 + u64::from(owners.last_stream().0));
     }
-    match last_called(owners, owners.members().as_slice(), ws, name) {
+    match last_member(owners, ws, name) {
         None => None,
         Some(doc) => Some(u64::from(doc.no.0)),
     }
@@ -58,12 +58,9 @@ pub(crate) fn followed_job(
             job,
         );
     }
-    match last_called(owners, owners.members().as_slice(), ws, name) {
+    match last_member(owners, ws, name) {
         None => None,
-        Some(doc) => match planned_job(doc.jobs.as_slice(), job) {
-            None => None,
-            Some(number) => Some(u128::from(number.0)),
-        },
+        Some(doc) => planned_job(doc.jobs.as_slice(), job),
     }
 }
 
@@ -81,12 +78,12 @@ fn drafted_job(first: u64, jobs: &[JobDraft], name: &Text) -> Option<u128>
 }
 
 /// The number of the first of these jobs with this name.
-fn planned_job(jobs: &[JobDoc], name: &Text) -> Option<JobNo>
+fn planned_job(jobs: &[JobDoc], name: &Text) -> Option<u128>
     ensures { result ≡ option_map (λ (j : Doc). j.no) (find (λ (j : Doc). text_eq j.name name.now) jobs.now) }
 {
     for job in jobs {
         if is_text(&job.name, name) {
-            return Some(job.no);
+            return Some(u128::from(job.no.0));
         }
     }
     None

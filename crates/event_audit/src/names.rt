@@ -3,7 +3,7 @@ ghost use Rattle.std.specs.Prelude.{◌≡◌, find, reverse, filter_map};
 ghost use Rattle.std.specs.Option.{option_copied};
 ghost use Rattle.model.specs.Equalities.{text_eq};
 ghost use Rattle.model.specs.History.{view_of};
-ghost use Rattle.model.specs.Catalogue.{stream};
+ghost use Rattle.model.specs.Catalogue.{members, stream};
 ghost use Rattle.event_audit.specs.Meanings as spec;
 
 use base_types::{StreamDoc, StreamNo, Text, Ws};
@@ -48,11 +48,22 @@ pub(crate) fn last_called<'a>(
 {
     let mut last = None;
     for number in numbers {
-        if let Some(doc) = owners.stream(*number) {
-            if is_called(doc, ws, name) {
-                last = Some(doc);
+        match owners.stream(*number) {
+            None => {}
+            Some(doc) => {
+                if is_called(doc, ws, name) {
+                    last = Some(doc);
+                }
             }
         }
     }
     last
+}
+
+/// The last member of the plan with this workstation and name.
+pub(crate) fn last_member<'a>(owners: &'a Owners, ws: Ws, name: &Text) -> Option<&'a StreamDoc>
+    ensures { let V = view_of owners.now in option_copied result ≡
+        find (spec.is_called ws name.now) (reverse (filter_map (stream V) (members V))) }
+{
+    last_called(owners, owners.members().as_slice(), ws, name)
 }

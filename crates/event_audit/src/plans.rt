@@ -4,7 +4,7 @@ ghost use Rattle.std.specs.Bool.{Decides};
 ghost use Rattle.model.specs.Types.{Events, NewPlan};
 ghost use Rattle.model.specs.History.{count_in, list_of, view_of};
 ghost use Rattle.model.specs.NewPlan.{last_run};
-ghost use Rattle.model.specs.Sound.{CarriesByTheOption};
+ghost use Rattle.model.specs.Sound.{CarriesByTheOption, IsCarried};
 ghost use Rattle.event_audit.specs.Counted.{ArePlaced};
 ghost use Rattle.event_audit.specs.Plans.{AreRightDocuments};
 ghost use Rattle.event_audit.specs.Prefixes.{are_there};
@@ -60,12 +60,37 @@ pub(crate) fn is_right_plan(
     if w.0 != 0 {
         return Ok(false);
     }
+    is_plan_of_the_master(
+        alloc,
+        net,
+        owners,
+        run,
+        cut,
+        carried.as_slice(),
+        docs.as_slice(),
+    )
+}
+
+/// Whether a new plan of the master is right after the entries that were taken.
+fn is_plan_of_the_master(
+    alloc: Global,
+    net: &Network,
+    owners: &Owners,
+    run: u32,
+    cut: &Seen,
+    carried: &[StreamNo],
+    docs: &[StreamDoc],
+) -> Result<bool, NoMemory>
+    requires placed { ArePlaced owners.now }
+    ensures { IfOk result (λ right. Decides right
+        (IsCarried net.now.carry owners.now run cut.now carried.now docs.now)) }
+{
     if !begins_right(owners, run, cut) {
         return Ok(false);
     }
-    if !are_right_documents(owners, docs.as_slice(), carried.as_slice()) {
+    if !are_right_documents(owners, docs, carried) {
         return Ok(false);
     }
     let view = held_prefix(alloc, owners, cut)?;
-    Ok(carries_exactly(net, &view, carried.as_slice()))
+    Ok(carries_exactly(net, &view, carried))
 }

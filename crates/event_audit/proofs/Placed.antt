@@ -3,20 +3,17 @@ use Rattle.std.proofs.Common.{[], ℕ, ◌+◌, ◌∙◌, ◌∷◌, ◌≡◌,
 use Rattle.std.proofs.Common.{subst, suc, sym, zero}
 use Rattle.std.specs.List.{enumerate_from}
 use Rattle.std.specs.Prelude.{option_map, slice_get}
-use Rattle.event_audit.proofs.Behind.{left_none, left_some}
+use Rattle.event_audit.proofs.Behind.{inside, left_some}
 
 pub placed_at : {X Y : Type 0} (f : ℕ × X → Y) (first : ℕ) (xs : List X) (i : ℕ) (x : X) → slice_get xs i ≡ Some x
     → slice_get (map f (enumerate_from first xs)) i ≡ Some (f (first + i, x))
 placed_at f first [] i x e = cc
-placed_at f first (y ∷ xs) zero x e =
-    let same : first + 0 ≡ first = omega arith in
-    rw same (ap (λ z. Some (f (first, z))) (inside e))
-  where
-    inside : {A : Type 0} {a b : A} → Some a ≡ Some b → a ≡ b
-    inside e = cc
-placed_at f first (y ∷ xs) (suc i) x e =
-    let same : first + suc i ≡ first + 1 + i = omega arith in
-    rw same (placed_at f (first + 1) xs i x e)
+placed_at {X} {Y} f first (y ∷ xs) zero x e =
+    let same : first ≡ first + 0 = omega arith in
+    ap (λ (z : X). Some (f (first, z))) (inside y x e) ∙ ap (λ (n : ℕ). Some (f (n, x))) same
+placed_at {X} {Y} f first (y ∷ xs) (suc i) x e =
+    let same : first + 1 + i ≡ first + suc i = omega arith in
+    placed_at f (first + 1) xs i x e ∙ ap (λ (n : ℕ). Some (f (n, x))) same
 
 pub placed_length : {X Y : Type 0} (f : ℕ × X → Y) (first : ℕ) (xs : List X)
     → length (map f (enumerate_from first xs)) ≡ length xs

@@ -13,6 +13,12 @@ use Rattle.event_audit.proofs.Behind.{left_none, left_some}
 abbrev pub GoesOn : {X : Type 0} → (X → ℕ) → ℕ → List X → Type 0
 GoesOn number last xs = map number xs ≡ numbers_from (1 + last) (length xs)
 
+head : {a b : ℕ} {ps qs : List ℕ} → a ∷ ps ≡ b ∷ qs → a ≡ b
+head e = cc
+
+tail : {a b : ℕ} {ps qs : List ℕ} → a ∷ ps ≡ b ∷ qs → ps ≡ qs
+tail e = cc
+
 module _ {X : Type 0} (number : X → ℕ) where
   step : (last : ℕ) (x : X) (xs : List X) → number x ≡ 1 + last
       → numbers_from (1 + last) (length (x ∷ xs)) ≡ number x ∷ numbers_from (1 + number x) (length xs)
@@ -27,7 +33,7 @@ module _ {X : Type 0} (number : X → ℕ) where
       go (subst (λ (l : List X). GoesOn number last l) (left_some xs i x there) h)
     where
       go : GoesOn number last (x ∷ drop (i + 1) xs) → GoesOn number (number x) (drop (i + 1) xs)
-      go g = let all = g ∙ step last x (drop (i + 1) xs) e in cc
+      go g = tail (g ∙ step last x (drop (i + 1) xs) e)
 
   pub one_back : (last : ℕ) (xs : List X) (i : ℕ) (x : X) → slice_get xs i ≡ Some x → number x ≡ 1 + last
       → GoesOn number (number x) (drop (i + 1) xs) → GoesOn number last (drop i xs)
@@ -43,9 +49,6 @@ module _ {X : Type 0} (number : X → ℕ) where
     where
       go : GoesOn number last (x ∷ drop (i + 1) xs) → ⊥
       go g = apart (head g)
-        where
-          head : {a b : ℕ} {ps qs : List ℕ} → a ∷ ps ≡ b ∷ qs → a ≡ b
-          head e = cc
 
   -- nothing is left
   pub none_wrong : (last : ℕ) (xs : List X) (i : ℕ) → length xs ≤ i → GoesOn number last (drop i xs)
@@ -76,18 +79,17 @@ joined (x ∷ a) b (y ∷ c) d e l =
     let rest : (a ≡ c) × (b ≡ d) = joined a b c d (tail e) (omega (arith, l)) in
     let first : x ≡ y = head e in
     (rw (first, rest.0) refl, rest.1)
-  where
-    head : {p q : ℕ} {ps qs : List ℕ} → p ∷ ps ≡ q ∷ qs → p ≡ q
-    head e = cc
-
-    tail : {p q : ℕ} {ps qs : List ℕ} → p ∷ ps ≡ q ∷ qs → ps ≡ qs
-    tail e = cc
 
 numbers_append : (n a b : ℕ) → numbers_from n (a + b) ≡ numbers_from n a ++ numbers_from (n + a) b
-numbers_append n zero b = let same : n + 0 ≡ n = omega arith in rw same refl
+numbers_append n zero b =
+    let count : 0 + b ≡ b = omega arith in
+    let from : n ≡ n + 0 = omega arith in
+    ap (λ (c : ℕ). numbers_from n c) count ∙ ap (λ (m : ℕ). numbers_from m b) from
 numbers_append n (suc a) b =
-    let same : n + suc a ≡ n + 1 + a = omega arith in
-    rw same (ap (λ l. n ∷ l) (numbers_append (n + 1) a b))
+    let count : suc a + b ≡ suc (a + b) = omega arith in
+    let from : n + 1 + a ≡ n + suc a = omega arith in
+    ap (λ (c : ℕ). numbers_from n c) count ∙ ap (λ (l : List ℕ). n ∷ l) (numbers_append (n + 1) a b)
+    ∙ ap (λ (m : ℕ). n ∷ (numbers_from (n + 1) a ++ numbers_from m b)) from
 
 numbers_length : (n a : ℕ) → length (numbers_from n a) ≡ a
 numbers_length n zero = refl

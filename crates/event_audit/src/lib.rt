@@ -5,6 +5,13 @@
 //! entries that it counts, taken anew for each decision.
 #![tactic(auto)]
 
+// NOT PROVED YET, though it runs. Proved are the prefixes, the witnesses, the decisions, the launches but for
+// `is_open_launch` and what calls it, the times, the lateness, the answers, the starts, `sound_means_each_item`, and
+// of the other modules the functions without a loop over documents. Open are: numbers, names, draft_names, draft_deps,
+// draft_documents, additions, meanings, follows, carried_streams (from `is_part_of` on), plans, and with them
+// `meets_its_kind`, `meets_its_feed`, `is_right_entry`, `first_wrong_entry` and `audit`. Their lemmas stand in
+// proofs/ (Behind, Running, Parts, Passing, Placed, Alike, Taken, Named, Becoming, Document, Plan), not checked yet.
+
 mod additions;
 mod answers;
 mod audits;

@@ -1,9 +1,6 @@
-//! What `tws` answers: whole reports, summaries, canonical texts, plans and samples, refusals, limits, and each call that
-//! fails.
-mod definitions;
+//! What `tws` answers: whole reports, summaries and samples, refusals, limits, and each call that fails.
 mod faults;
 mod networks;
-mod plans;
 mod refusals;
 mod samples;
 mod stations;

@@ -2,5 +2,4 @@ mod Bridges
 mod Tellings
 mod Calling
 mod Dues
-mod Outcomes
 mod Rows

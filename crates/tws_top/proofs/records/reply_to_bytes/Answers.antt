@@ -2,7 +2,7 @@ use Rattle.std.proofs.Common.{ap, sym, arith}
 use Rattle.tws_top.proofs.Calling.{bad_line_result, reading_result}
 use Rattle.tws_top.proofs.Tellings.{text_read, no_text_read}
 use Rattle.record_faults.specs.declared.kinds.ScriptKind.TheVariants.{BadLine}
-use Rattle.tws_top.proofs.records.reply_to_record.Goals as goal
+use Rattle.tws_top.proofs.records.reply_to_bytes.Goals as goal
 
 pub returns-in-Ok : goal.returns-in-Ok
 returns-in-Ok c =

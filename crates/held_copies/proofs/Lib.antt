@@ -1,0 +1,4 @@
+pub mod Front
+pub mod Named
+pub mod Kept
+pub mod Agreed

@@ -1,6 +1,9 @@
-//! What `tws` answers: whole reports, summaries and samples, refusals, limits, and each call that fails.
+//! What `tws` answers: whole reports, summaries, canonical texts, plans and samples, refusals, limits, and each call that
+//! fails.
+mod definitions;
 mod faults;
 mod networks;
+mod plans;
 mod refusals;
 mod samples;
 mod stations;

@@ -2,4 +2,5 @@ mod Bridges
 mod Tellings
 mod Calling
 mod Dues
+mod Outcomes
 mod Rows

@@ -7,6 +7,7 @@ use Rattle.std.specs.Str.Lossy.{utf8_valid_len}
 use Rattle.std.proofs.lemmas.Str.{utf8_valid_len-IsUtf8, utf8_valid_len-IsValidUpTo}
 use Rattle.std.proofs.lemmas.Bool.Decides.{Decides-eqb}
 use Rattle.base_types.specs.declared.Net.{Net}
+use Rattle.definition_texts.specs.Refusals.{bad_byte_line}
 use Rattle.base_types.specs.declared.ReportParts.{ReportParts}
 use Rattle.model.specs.Types.{Entry}
 use Rattle.model.specs.History.{View, view_of}
@@ -22,7 +23,7 @@ use Rattle.record_script.specs.declared.scripts.Script.{Script}
 use Rattle.record_script.specs.Scripts.{read_of}
 use Rattle.report_text.specs.Reports.{report_of}
 use Rattle.report_text.specs.Summaries.{summary_of}
-use Rattle.tws_top.specs.Nights.{bad_byte_line, read_bytes, report_at, summary_at}
+use Rattle.tws_top.specs.Nights.{read_bytes, report_at, summary_at}
 
 pub report_told : (w : WorldState) (x : World) (net : Net) (parts : ReportParts) (text : List ℕ) → net ≡ w.net
     → parts ≡ parts_of w.net x → text ≡ report_of net parts → text ≡ report_at w.net x

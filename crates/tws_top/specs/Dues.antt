@@ -9,6 +9,9 @@ use Rattle.model.specs.Sound.{IsSound}
 use Rattle.model.specs.World as model
 use Rattle.network_world.specs.Stations.{WorldState}
 use Rattle.network_world.specs.Standing.{StandsFor}
+use Rattle.definition_replies.specs.Replies.{ComesOf}
+use Rattle.definition_replies.specs.declared.Outcome.{Outcome}
+use Rattle.definition_replies.specs.declared.Wish.{Wish}
 use Rattle.record_faults.specs.declared.kinds.ScriptKind.{ScriptKind}
 use Rattle.record_runs.specs.Causes.{Cause, told}
 use Rattle.record_runs.specs.Ends.{run_of_script}
@@ -19,47 +22,60 @@ use Rattle.tws_top.specs.declared.replies.Reply.{Reply}
 use Rattle.tws_top.specs.declared.statuses.Status.{Status}
 use Rattle.tws_top.specs.declared.statuses.Status.TheVariants.{Success, WordsRefused, RecordRefused, LimitPassed}
 use Rattle.tws_top.specs.declared.words.Telling.{Telling}
+use Rattle.tws_top.specs.declared.words.Wanted.{Wanted}
+use Rattle.tws_top.specs.declared.words.Wanted.TheVariants.{Night as ANight, Definitions}
 use Rattle.tws_top.specs.declared.words.Asked.TheVariants as asks
 use Rattle.tws_top.specs.Words.{asked_of}
 use Rattle.tws_top.specs.Statuses.{number_of}
 use Rattle.tws_top.specs.Lines.{refused_line, limit_line, limit_word, kind_word, stop_status, stop_line}
+use Rattle.tws_top.specs.Lines.{outcome_status, outcome_text}
 use Rattle.tws_top.specs.Nights.{Night, no_days, read_bytes, told_at}
 
--- What the bytes of an input call for, by what they are: 3 with the first faulty line, 3 or 10 with the line that
+-- What the bytes of a record call for, by what they are: 3 with the first faulty line, 3 or 10 with the line that
 -- cannot be taken or the limit, and 0 with what is told of the world that the steps make.
-pub data CallsFor (telling : Telling) (reading : Result Script (ℕ × ScriptKind)) : Status → List ℕ → Option Night → Type 0
+pub data RecordCallsFor (telling : Telling) (reading : Result Script (ℕ × ScriptKind)) : Status → List ℕ → Option Night → Type 0
   where
     no_record : (line : ℕ) (kind : ScriptKind) → reading ≡ Err (line, kind)
-        → CallsFor telling reading RecordRefused (refused_line line (kind_word kind)) None
+        → RecordCallsFor telling reading RecordRefused (refused_line line (kind_word kind)) None
     stopped : (s : Script) (line : ℕ) (cause : Cause) → reading ≡ Ok s
         → run_of_script no_days s ≡ runs.stopped line cause
-        → CallsFor telling reading (stop_status (told cause)) (stop_line line (told cause)) None
+        → RecordCallsFor telling reading (stop_status (told cause)) (stop_line line (told cause)) None
     ran : (s : Script) (x : model.World) → reading ≡ Ok s → run_of_script no_days s ≡ runs.done x
-        → CallsFor telling reading Success (told_at telling s.net x) (Some (record { net = s.net; world = x }))
+        → RecordCallsFor telling reading Success (told_at telling s.net x) (Some (record { net = s.net; world = x }))
+
+-- What bytes call for where definitions are wanted: what comes of them.
+pub data DefinitionsCallFor (wish : Wish) (bytes : List ℕ) : Status → List ℕ → Option Night → Type 0 where
+  comes : (o : Outcome) → ComesOf wish bytes o
+      → DefinitionsCallFor wish bytes (outcome_status o) (outcome_text o) None
+
+-- what the bytes of an input call for, by what is wanted of it
+abbrev pub CallsFor : Wanted → List ℕ → Status → List ℕ → Option Night → Type 0
+CallsFor (ANight telling) bytes status text night = RecordCallsFor telling (read_bytes bytes) status text night
+CallsFor (Definitions wish) bytes status text night = DefinitionsCallFor wish bytes status text night
 
 -- What an input calls for, by what was read of it: more bytes than the limit call for 10, and fewer for what they are.
-pub data ReadCallsFor (telling : Telling) (old new : Option Stream) : Status → List ℕ → Option Night → Type 0 where
+pub data ReadCallsFor (wanted : Wanted) (old new : Option Stream) : Status → List ℕ → Option Night → Type 0 where
   too_long : TakesCount 16777217 old new
-      → ReadCallsFor telling old new LimitPassed (limit_line (limit_word limit.Input) 16777216) None
+      → ReadCallsFor wanted old new LimitPassed (limit_line (limit_word limit.Input) 16777216) None
   read : {status : Status} {text : List ℕ} {night : Option Night} → (bytes : List ℕ) → TakesAll old new bytes
-      → length bytes ≤ 16777216 → CallsFor telling (read_bytes bytes) status text night
-      → ReadCallsFor telling old new status text night
+      → length bytes ≤ 16777216 → CallsFor wanted bytes status text night
+      → ReadCallsFor wanted old new status text night
 
 -- The status, the text and the night that are due, in the order of the causes: the words, then the input.
 pub data Due (words : List (List ℕ)) (old new : Option Stream) : Status → List ℕ → Option Night → Type 0 where
   other_words : asked_of words ≡ None → Due words old new WordsRefused (codes "words refused\n") None
   sampled : (jobs seed : ℕ) → asked_of words ≡ Some (asks.Sample jobs seed)
       → Due words old new Success (sample_of jobs seed) None
-  by_input : {status : Status} {text : List ℕ} {night : Option Night} → (telling : Telling)
-      → asked_of words ≡ Some (asks.Night telling) → ReadCallsFor telling old new status text night
+  by_input : {status : Status} {text : List ℕ} {night : Option Night} → (wanted : Wanted)
+      → asked_of words ≡ Some (asks.Input wanted) → ReadCallsFor wanted old new status text night
       → Due words old new status text night
 
 -- what the bytes that a source still has call for
-pub data LeftCallsFor (telling : Telling) (left : List ℕ) : Status → List ℕ → Option Night → Type 0 where
+pub data LeftCallsFor (wanted : Wanted) (left : List ℕ) : Status → List ℕ → Option Night → Type 0 where
   too_long : 16777216 < length left
-      → LeftCallsFor telling left LimitPassed (limit_line (limit_word limit.Input) 16777216) None
+      → LeftCallsFor wanted left LimitPassed (limit_line (limit_word limit.Input) 16777216) None
   read : {status : Status} {text : List ℕ} {night : Option Night} → length left ≤ 16777216
-      → CallsFor telling (read_bytes left) status text night → LeftCallsFor telling left status text night
+      → CallsFor wanted left status text night → LeftCallsFor wanted left status text night
 
 -- The status is answered and the whole text was written; or 5 is answered, the sink failed, and a front of the text was
 -- written.

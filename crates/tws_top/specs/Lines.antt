@@ -3,6 +3,9 @@ use Rattle.std.specs.Prelude.{ℕ, List, ◌++◌, codes}
 use Rattle.std.specs.Fmt.{decimal}
 use Rattle.base_types.specs.declared.LimitName.{LimitName}
 use Rattle.base_types.specs.declared.LimitName.TheVariants as limit
+use Rattle.definition_replies.specs.declared.Outcome.{Outcome}
+use Rattle.definition_replies.specs.declared.Outcome.TheVariants as outcome
+use Rattle.definition_texts.specs.Kinds.{word_of}
 use Rattle.record_faults.specs.declared.kinds.ScriptKind.{ScriptKind}
 use Rattle.record_faults.specs.declared.kinds.ScriptKind.TheVariants as kind
 use Rattle.record_runs.specs.declared.stops.Stop.{Stop}
@@ -10,8 +13,15 @@ use Rattle.record_runs.specs.declared.stops.Stop.TheVariants as stop
 use Rattle.tws_top.specs.declared.statuses.Status.{Status}
 use Rattle.tws_top.specs.declared.statuses.Status.TheVariants as status
 
+-- what is refused, at which line, and why
+abbrev pub refusal_of : List ℕ → ℕ → List ℕ → List ℕ
+refusal_of what line kind_ = what ++ codes " refused: line " ++ decimal line ++ codes " " ++ kind_ ++ codes "\n"
+
 abbrev pub refused_line : ℕ → List ℕ → List ℕ
-refused_line line kind_ = codes "record refused: line " ++ decimal line ++ codes " " ++ kind_ ++ codes "\n"
+refused_line line kind_ = refusal_of (codes "record") line kind_
+
+abbrev pub definitions_line : ℕ → List ℕ → List ℕ
+definitions_line line kind_ = refusal_of (codes "definitions") line kind_
 
 abbrev pub limit_line : List ℕ → ℕ → List ℕ
 limit_line name number = codes "limit: " ++ name ++ codes " " ++ decimal number ++ codes "\n"
@@ -52,3 +62,14 @@ stop_line line stop.OutOfRange = refused_line line (codes "OutOfRange")
 stop_line line stop.NotInNetwork = refused_line line (codes "NotInNetwork")
 stop_line line stop.NotMaster = refused_line line (codes "NotMaster")
 stop_line line (stop.Limit name number) = limit_line (limit_word name) number
+
+-- what comes of definitions: their text with 0, the refusal with 1, a limit of the plan with 10
+abbrev pub outcome_status : Outcome → Status
+outcome_status (outcome.Text text) = status.Success
+outcome_status (outcome.Refused r) = status.DefinitionsRefused
+outcome_status (outcome.TooMany most) = status.LimitPassed
+
+abbrev pub outcome_text : Outcome → List ℕ
+outcome_text (outcome.Text text) = text
+outcome_text (outcome.Refused r) = definitions_line r.line (word_of r.kind)
+outcome_text (outcome.TooMany most) = limit_line (limit_word limit.Plan) most

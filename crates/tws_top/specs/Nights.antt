@@ -1,7 +1,8 @@
 -- Records of nights: what bytes are, and what is told of the world that their steps make.
-use Rattle.std.specs.Prelude.{ℕ, ◌+◌, ◌==◌, List, Result, Ok, Err, count_by, take, length, if◌then◌else◌}
+use Rattle.std.specs.Prelude.{ℕ, ◌==◌, List, Result, Ok, Err, length, if◌then◌else◌}
 use Rattle.std.specs.Str.Lossy.{utf8_valid_len}
 use Rattle.base_types.specs.declared.Net.{Net}
+use Rattle.definition_texts.specs.Refusals.{bad_byte_line}
 use Rattle.model.specs.World as model
 use Rattle.model.specs.World.{view_at}
 use Rattle.network_world.specs.Parts.{parts_of}
@@ -16,10 +17,6 @@ use Rattle.report_text.specs.Reports.{report_of}
 use Rattle.report_text.specs.Summaries.{summary_of}
 use Rattle.tws_top.specs.declared.words.Telling.{Telling}
 use Rattle.tws_top.specs.declared.words.Telling.TheVariants.{Report, Summary}
-
--- the line of the first byte that is no part of UTF-8: one more than the line feeds before it
-abbrev pub bad_byte_line : List ℕ → ℕ
-bad_byte_line bytes = 1 + count_by (λ b. b == 10) (take (utf8_valid_len bytes) bytes)
 
 -- The record that bytes are, or its first faulty line: bytes that are no UTF-8 come before every other fault.
 abbrev pub read_bytes : List ℕ → Result Script (ℕ × ScriptKind)

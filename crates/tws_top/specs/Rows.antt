@@ -1,13 +1,26 @@
--- The statuses of records one by one.
-use Rattle.std.specs.Prelude.{◌≡◌, ◌≤◌, ℕ, List, Option, Some, Ok, Err, length}
+-- The statuses one by one.
+use Rattle.std.specs.Prelude.{◌≡◌, ◌≤◌, ℕ, List, Option, Some, None, Ok, Err, length}
 use Rattle.std.specs.Io.KnownBytes.{Appends}
 use Rattle.base_types.specs.declared.LimitName.TheVariants as limit
+use Rattle.composer_parser.specs.declared.Defs.{Defs}
+use Rattle.composer_print.specs.Printed.{printed}
+use Rattle.definition_replies.specs.Replies.{ComesOf}
+use Rattle.definition_replies.specs.declared.Outcome.TheVariants as outcome
+use Rattle.definition_replies.specs.declared.Wish.{Wish}
+use Rattle.definition_texts.specs.Kinds.{word_of}
+use Rattle.definition_texts.specs.Refusals.{AreChecked}
+use Rattle.definition_texts.specs.declared.Refusal.{Refusal}
 use Rattle.outside.specs.Streams.{Stream, TakesAll}
 use Rattle.whole_io.specs.Whole.{TakesCount}
 use Rattle.model.specs.Sound.{IsSound}
+use Rattle.model.specs.Types.{StreamDraft}
 use Rattle.model.specs.World as model
 use Rattle.network_world.specs.Stations.{WorldState}
 use Rattle.network_world.specs.Standing.{StandsFor}
+use Rattle.plan_builder.specs.Drafts.{AreDrafts}
+use Rattle.plan_builder.specs.Limits.{plan_fault}
+use Rattle.plan_builder.specs.declared.PlanFault.TheVariants as fault
+use Rattle.plan_listing.specs.Listings.{listing_of}
 use Rattle.record_faults.specs.declared.kinds.ScriptKind.{ScriptKind}
 use Rattle.record_runs.specs.Causes.{Cause, told}
 use Rattle.record_runs.specs.Ends.{run_of_script}
@@ -15,8 +28,9 @@ use Rattle.record_runs.specs.Runs as runs
 use Rattle.record_script.specs.declared.scripts.Script.{Script}
 use Rattle.tws_top.specs.declared.statuses.Status.TheVariants.{RecordRefused, LimitPassed}
 use Rattle.tws_top.specs.declared.words.Telling.{Telling}
-use Rattle.tws_top.specs.Lines.{refused_line, limit_line, limit_word, kind_word, stop_status, stop_line}
+use Rattle.tws_top.specs.Lines.{refused_line, definitions_line, limit_line, limit_word, kind_word, stop_status, stop_line}
 use Rattle.tws_top.specs.Nights.{no_days, read_bytes, told_at}
+use Rattle.workload_defs.specs.Nets.{net_of}
 
 -- The input was read to its end as a record whose steps all were taken; what is told of that run was written and nothing
 -- else; and the world that is handed back is the one that they made, with a history and starts of its own that are sound.
@@ -52,8 +66,39 @@ pub record Refuses (old new : Option Stream) (written written' : Option (List �
   pub refused : IsRefused bytes line
   pub wrote : Appends written written' line
 
--- The input passes its limit, or a limit is passed in its run or refuses a step of it, and nothing but the line was
+-- The input was read to its end as definitions without a fault, and their canonical text was written and nothing else.
+pub record Compiles (old new : Option Stream) (written written' : Option (List ℕ)) : Type 0 where
+  pub bytes : List ℕ
+  pub defs : Defs
+  pub read : TakesAll old new bytes
+  pub short : length bytes ≤ 16777216
+  pub are : AreChecked bytes defs
+  pub wrote : Appends written written' (printed defs)
+
+-- The input was read to its end as definitions without a fault, no limit of the plan is passed on the day and each of its
+-- times has a moment, and the listing of the day was written and nothing else.
+pub record Plans (day : ℕ) (old new : Option Stream) (written written' : Option (List ℕ)) : Type 0 where
+  pub bytes : List ℕ
+  pub defs : Defs
+  pub drafts : List StreamDraft
+  pub read : TakesAll old new bytes
+  pub short : length bytes ≤ 16777216
+  pub are : AreChecked bytes defs
+  pub no_fault : plan_fault defs day ≡ None
+  pub are_drafts : AreDrafts defs day drafts
+  pub wrote : Appends written written' (listing_of (net_of defs) drafts)
+
+-- The input was read to its end, its bytes are refused where this is wished of definitions, and nothing but the line was
 -- written.
+pub record RefusesDefinitions (wish : Wish) (old new : Option Stream) (written written' : Option (List ℕ)) : Type 0 where
+  pub bytes : List ℕ
+  pub refusal : Refusal
+  pub read : TakesAll old new bytes
+  pub refused : ComesOf wish bytes (outcome.Refused refusal)
+  pub wrote : Appends written written' (definitions_line refusal.line (word_of refusal.kind))
+
+-- The input passes its limit, or a limit is passed in its run or refuses a step of it, or the plan of a day passes one,
+-- and nothing but the line was written.
 pub data PassesLimit (old new : Option Stream) (written written' : Option (List ℕ)) : Type 0 where
   of_input : TakesCount 16777217 old new
       → Appends written written' (limit_line (limit_word limit.Input) 16777216)
@@ -61,4 +106,7 @@ pub data PassesLimit (old new : Option Stream) (written written' : Option (List 
   of_run : (bytes : List ℕ) (s : Script) (line : ℕ) (cause : Cause) → TakesAll old new bytes
       → read_bytes bytes ≡ Ok s → run_of_script no_days s ≡ runs.stopped line cause
       → stop_status (told cause) ≡ LimitPassed → Appends written written' (stop_line line (told cause))
+      → PassesLimit old new written written'
+  of_plan : (wish : Wish) (bytes : List ℕ) (most : ℕ) → TakesAll old new bytes
+      → ComesOf wish bytes (outcome.TooMany most) → Appends written written' (limit_line (limit_word limit.Plan) most)
       → PassesLimit old new written written'

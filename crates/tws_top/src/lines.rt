@@ -1,21 +1,23 @@
 //! The lines of refusals.
 ghost use Rattle.std.specs.Prelude.{◌≡◌, ◌++◌, None, IfOk, OnOk, codes};
 ghost use Rattle.std.specs.Fmt.{decimal};
+ghost use Rattle.definition_texts.specs.Kinds.{word_of};
 ghost use Rattle.tws_top.specs.Lines as spec;
 ghost use Rattle.tws_top.specs.declared.statuses.Status.TheVariants as status;
 
 use crate::replies::Reply;
 use crate::statuses::Status;
 use base_types::{Items, LimitName, NoMemory};
+use definition_texts::Refusal;
 use record_runs::Stop;
 use record_script::ScriptKind;
 use std::alloc::Global;
 use std::io::{self, Write};
 
-fn write_refused(out: &mut Vec<u8>, line: u32, kind: &str) -> io::Result<()>
-    ensures { OnOk result (out.new.items ≡ out.old.items ++ spec.refused_line line kind.now) }
+fn write_refused(out: &mut Vec<u8>, what: &str, line: u32, kind: &str) -> io::Result<()>
+    ensures { OnOk result (out.new.items ≡ out.old.items ++ spec.refusal_of what.now line kind.now) }
 {
-    write!(out, "record refused: line {line} {kind}\n")
+    write!(out, "{what} refused: line {line} {kind}\n")
 }
 
 fn write_limit(out: &mut Vec<u8>, name: &str, number: u32) -> io::Result<()>
@@ -31,9 +33,26 @@ fn refused(alloc: Global, line: u32, kind: &str) -> Result<Reply, NoMemory>
     ensures world { IfOk result (λ r. r.world ≡ None) }
 {
     let mut out = Vec::new(alloc);
-    match write_refused(&mut out, line, kind) {
+    match write_refused(&mut out, "record", line, kind) {
         Ok(()) => Ok(Reply {
             status: Status::RecordRefused,
+            text: Items::of_vec(out),
+            world: None,
+        }),
+        Err(_) => Err(NoMemory),
+    }
+}
+
+/// Definitions that are refused at a line.
+pub(crate) fn definitions_refused(alloc: Global, refusal: Refusal) -> Result<Reply, NoMemory>
+    ensures status { IfOk result (λ r. r.status ≡ status.DefinitionsRefused) }
+    ensures text { IfOk result (λ r. r.text ≡ spec.definitions_line refusal.line (word_of refusal.kind)) }
+    ensures world { IfOk result (λ r. r.world ≡ None) }
+{
+    let mut out = Vec::new(alloc);
+    match write_refused(&mut out, "definitions", refusal.line, refusal.kind.word()) {
+        Ok(()) => Ok(Reply {
+            status: Status::DefinitionsRefused,
             text: Items::of_vec(out),
             world: None,
         }),

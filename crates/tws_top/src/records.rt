@@ -1,7 +1,5 @@
 //! Records of nights: what their bytes call for.
-ghost use Rattle.std.specs.Prelude.{◌≡◌, ◌==◌, ◌+◌, ◌<◌, ◌≤◌, ◌^◌, Ok, None, Some, IfOk, count_by, take, length};
-ghost use Rattle.std.specs.Result.{IsErrOf};
-ghost use Rattle.outside.specs.Causes.{Rose};
+ghost use Rattle.std.specs.Prelude.{◌≡◌, ◌<◌, ◌≤◌, ◌^◌, Ok, None, Some, IfOk, length};
 ghost use Rattle.model.specs.Sound.{IsSound};
 ghost use Rattle.model.specs.World as model;
 ghost use Rattle.network_tree.specs.Faults.{net_fault};
@@ -9,27 +7,22 @@ ghost use Rattle.network_world.specs.Standing.{StandsFor};
 ghost use Rattle.record_runs.specs.Ends.{AreLinesInside, AskNoDay};
 ghost use Rattle.record_script.specs.Scripts.{read_of};
 ghost use Rattle.tws_top.specs.Nights as spec;
-ghost use Rattle.tws_top.specs.Dues.{CallsFor, ReadCallsFor, IsReply};
-ghost use Rattle.tws_top.specs.declared.replies.Silence.TheVariants.{SourceFailed as Failed_};
+ghost use Rattle.tws_top.specs.Dues.{RecordCallsFor, IsReply};
 ghost use Rattle.tws_top.specs.declared.statuses.Status.TheVariants.{Success};
 
-use crate::lines::{bad_line, limit, stopped};
-use crate::replies::{Reply, Silence};
+use crate::lines::{bad_line, stopped};
+use crate::replies::Reply;
 use crate::statuses::Status;
 use crate::words::Telling;
-use base_types::{Bytes, LimitName, NoMemory, Ws};
+use base_types::{Bytes, NoMemory, Ws};
+use definition_texts::line_at;
 use network_world::World;
 use night_summary::state_counts;
-use outside::Source;
 use record_runs::{RunEnd, run_script};
 use record_script::{Script, ScriptFault, ScriptKind, read_script};
 use report_text::{print_report, print_summary};
 use std::alloc::Global;
 use std::str;
-use whole_io::{ReadError, read_whole};
-
-/// How many bytes an input may have.
-const INPUT_LIMIT: u32 = 16_777_216;
 
 /// The report of a world.
 fn report(alloc: Global, world: &World) -> Result<Bytes, NoMemory>
@@ -101,7 +94,7 @@ fn reply_to_script(alloc: Global, script: Script, telling: Telling) -> Result<Re
     requires accepted { net_fault script.net ≡ None }
     requires inside { AreLinesInside script.net script.steps }
     requires no_day { AskNoDay script.steps }
-    ensures { IfOk result (IsReply (CallsFor telling (Ok script))) }
+    ensures { IfOk result (IsReply (RecordCallsFor telling (Ok script))) }
 {
     match run_script(alloc, script)? {
         RunEnd::Done(world) => told(alloc, world, telling),
@@ -112,7 +105,7 @@ fn reply_to_script(alloc: Global, script: Script, telling: Telling) -> Result<Re
 /// What a text calls for.
 fn reply_to_text(alloc: Global, text: &str, telling: Telling) -> Result<Reply, NoMemory>
     requires { length text.now < 2 ^ 32 }
-    ensures { IfOk result (IsReply (CallsFor telling (read_of text.now))) }
+    ensures { IfOk result (IsReply (RecordCallsFor telling (read_of text.now))) }
 {
     match read_script(alloc, text) {
         Ok(script) => reply_to_script(alloc, script, telling),
@@ -121,21 +114,14 @@ fn reply_to_text(alloc: Global, text: &str, telling: Telling) -> Result<Reply, N
     }
 }
 
-/// The line, from 1, that has the byte at this place.
-fn line_at(bytes: &[u8], place: usize) -> u32
-    requires there { place ≤ length bytes.now }
-    requires few { length bytes.now ≤ 16777216 }
-    ensures { result ≡ 1 + count_by (λ b. b == 10) (take place bytes.now) }
-{
-    let above = &bytes[..place];
-    let feeds = above.iter().filter(|b| **b == b'\n').count();
-    feeds as u32 + 1
-}
-
-/// What the bytes of an input call for.
-fn reply_to_bytes(alloc: Global, bytes: &[u8], telling: Telling) -> Result<Reply, NoMemory>
+/// What the bytes of an input call for, where they are wanted as a record.
+pub(crate) fn reply_to_record(
+    alloc: Global,
+    bytes: &[u8],
+    telling: Telling,
+) -> Result<Reply, NoMemory>
     requires { length bytes.now ≤ 16777216 }
-    ensures { IfOk result (IsReply (CallsFor telling (spec.read_bytes bytes.now))) }
+    ensures { IfOk result (IsReply (RecordCallsFor telling (spec.read_bytes bytes.now))) }
 {
     match str::from_utf8(bytes) {
         Ok(text) => reply_to_text(alloc, text, telling),
@@ -144,24 +130,5 @@ fn reply_to_bytes(alloc: Global, bytes: &[u8], telling: Telling) -> Result<Reply
             line_at(bytes, fault.valid_up_to()),
             ScriptKind::BadLine,
         ),
-    }
-}
-
-/// Reads the input to its end, and answers what it calls for.
-pub(crate) fn reply_to_input<I: Source>(
-    alloc: Global,
-    input: &mut I,
-    telling: Telling,
-) -> Result<Reply, Silence>
-    ensures called { IfOk result (IsReply (ReadCallsFor telling (I.stream input.old) (I.stream input.new))) }
-    ensures failed { IsErrOf result Failed_ → Rose (I.faults input.old) (I.faults input.new) }
-    ensures no_fault { (result ≡ Err Failed_ → ⊥) → I.faults input.new ≡ I.faults input.old }
-    ensures later { I.faults input.old ≤ I.faults input.new }
-{
-    match read_whole(alloc, input, INPUT_LIMIT) {
-        Ok(bytes) => Ok(reply_to_bytes(alloc, &bytes, telling)?),
-        Err(ReadError::TooLong) => Ok(limit(alloc, LimitName::Input, INPUT_LIMIT)?),
-        Err(ReadError::Fault) => Err(Silence::SourceFailed),
-        Err(ReadError::NoMemory) => Err(Silence::NoMemory),
     }
 }

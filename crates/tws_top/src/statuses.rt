@@ -7,6 +7,8 @@ ghost use Rattle.tws_top.specs.Statuses.{number_of};
 pub enum Status {
     /// All is done.
     Success,
+    /// The definitions are none, or have a fault, or a time of the day that is planned has no moment.
+    DefinitionsRefused,
     /// The words have no form.
     WordsRefused,
     /// A line of the record is none, or its step cannot be taken.
@@ -28,6 +30,7 @@ impl Status {
     {
         match self {
             Status::Success => 0,
+            Status::DefinitionsRefused => 1,
             Status::WordsRefused => 2,
             Status::RecordRefused => 3,
             Status::SourceFailed => 4,

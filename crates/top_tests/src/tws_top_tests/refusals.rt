@@ -170,7 +170,7 @@ fn what_is_no_text_is_refused_at_its_line(rt: HostRuntime) -> Result<(), Fail> {
 }
 
 /// Words that have no form.
-const OTHER_WORDS: [&str; 15] = [
+const OTHER_WORDS: [&str; 25] = [
     "",
     "REPLAY",
     "replay now",
@@ -186,6 +186,16 @@ const OTHER_WORDS: [&str; 15] = [
     "sample 1 4294967296",
     "sample 1 0 0",
     "audit",
+    "COMPILE",
+    "compile now",
+    "plan",
+    "Plan 11/03/2003",
+    "plan 13/01/2003",
+    "plan 02/30/2003",
+    "plan 1/1/2003",
+    "plan 12/31/1969",
+    "plan 11/03/03",
+    "plan 11/03/2003 11/04/2003",
 ];
 
 /// No input is read for them, so the failing read does not come.
@@ -217,8 +227,10 @@ fn an_input_has_a_limit(rt: HostRuntime) -> Result<(), Fail> {
     let said = says(alloc, "replay", comment(alloc, 16_777_216)?, (0, 0), line)?;
     assert_eq!(rt; said, (3, true, false));
     let limit = "limit: input 16777216\n";
-    let said = says(alloc, "replay", comment(alloc, 16_777_217)?, (0, 0), limit)?;
-    assert_eq!(rt; said, (10, true, false));
+    for words in &["replay", "compile"] {
+        let said = says(alloc, words, comment(alloc, 16_777_217)?, (0, 0), limit)?;
+        assert_eq!(rt; said, (10, true, false), "the words {words}");
+    }
     Ok(())
 }
 

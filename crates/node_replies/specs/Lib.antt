@@ -1,0 +1,4 @@
+pub mod Answers
+pub mod Patterns
+pub mod Replies
+pub mod Shown

@@ -14,3 +14,4 @@ mod quotes;
 mod streams;
 
 pub use listings::listing_of;
+pub use networks::write_network;

@@ -7,9 +7,12 @@ use base_types::{Carry, Net, Node, PromptDef, Resource};
 use report_text::name;
 use std::io::{self, Write};
 
-/// Writes the workstations, resources, prompts and the option of a network.
+/// Writes the workstations, resources, prompts and the option of a network: what differs from the defaults.
+///
+/// A workstation that the network lacks has no name, and nothing stands in its place. An error comes where memory runs
+/// out, and `out` is of no use then.
 #[tactic(auto, unfolding(crate::specs::Networks::network_text))]
-pub(crate) fn write_network(out: &mut Vec<u8>, net: &Net) -> io::Result<()>
+pub fn write_network(out: &mut Vec<u8>, net: &Net) -> io::Result<()>
     ensures { OnOk result (out.new.items ≡ out.old.items ++ spec.network_text net.now) }
 {
     write!(out, "$NETWORK\n")?;

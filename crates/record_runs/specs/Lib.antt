@@ -2,5 +2,6 @@
 pub mod Causes
 pub mod Lines
 pub mod Runs
+pub mod Days
 pub mod Ends
 pub mod Taken

@@ -15,9 +15,11 @@ use Rattle.carry_forward.specs.declared.CarryFault.TheVariants as carry
 use Rattle.record_script.specs.declared.ScriptStep.{ScriptStep}
 use Rattle.conman_orders.specs.declared.ResolveFault.{ResolveFault}
 use Rattle.conman_orders.specs.declared.ResolveFault.TheVariants as unresolved
-use Rattle.record_runs.specs.Causes.{Cause, told, told_refused}
+use Rattle.record_runs.specs.Causes.{Cause, full_day, no_moment, told, told_refused}
 use Rattle.record_runs.specs.Lines.{Day}
 use Rattle.record_runs.specs.Runs.{done, run_lines, stopped}
+use Rattle.record_runs.specs.declared.days.DayFault.{DayFault}
+use Rattle.record_runs.specs.declared.days.DayFault.TheVariants as no_plan
 use Rattle.record_runs.specs.declared.acts.Act.{Act}
 use Rattle.record_runs.specs.declared.acts.Act.TheVariants.{Delivery, Own}
 use Rattle.record_runs.specs.declared.stops.Halt.{Halt}
@@ -97,6 +99,12 @@ abbrev pub halts_order : ResolveFault → Halt
 halts_order (unresolved.UnknownName n) = halt.At stop.UnknownName
 halts_order unresolved.NotACommand = halt.At stop.UnknownName
 halts_order unresolved.NoMemory = halt.NoMemory
+
+-- what halts where a day has no plan
+abbrev pub halts_day : DayFault → Halt
+halts_day (no_plan.TooMany most) = halt.At (told (full_day most))
+halts_day no_plan.NoMoment = halt.At (told no_moment)
+halts_day no_plan.NoMemory = halt.NoMemory
 
 -- what halts in a line is told with its number, but for want of memory
 abbrev pub IsStopIn : ℕ → Halt → Result (Option (ℕ × Stop)) NoMemory → Type 0

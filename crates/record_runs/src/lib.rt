@@ -11,6 +11,7 @@
 #![tactic(auto)]
 
 mod acts;
+mod days;
 mod lines;
 mod orders;
 mod plans;
@@ -18,5 +19,6 @@ mod runs;
 mod steps;
 mod stops;
 
-pub use runs::{RunEnd, run_script};
+pub use days::{DayFault, DayPlans};
+pub use runs::{RunEnd, run_days, run_script};
 pub use stops::Stop;

@@ -3,11 +3,12 @@ ghost use Rattle.std.specs.Prelude.{◌≡◌, IfOk, IfSome, None, Some};
 ghost use Rattle.model.specs.World.{empty_world};
 ghost use Rattle.network_tree.specs.Faults.{net_fault};
 ghost use Rattle.network_world.specs.Standing.{StandsFor};
+ghost use Rattle.record_runs.specs.Days.{IsPlanOf};
 ghost use Rattle.record_runs.specs.Lines.{Day};
 ghost use Rattle.record_runs.specs.Ends.{AreLinesInside, AskNoDay, IsEnd, IsOver};
 ghost use Rattle.record_runs.specs.Taken.{IsStopIn, LeadsAll, StopsIn};
 
-use crate::lines::take_line;
+use crate::days::{DayPlans, NoDays, take_any_line};
 use crate::plans::PlansLeft;
 use crate::stops::{Halt, Stop};
 use base_types::{Net, NoMemory};
@@ -48,27 +49,45 @@ fn stopped_in(line: u32, halt: Halt) -> Result<Option<(u32, Stop)>, NoMemory>
 }
 
 /// Takes lines up to the first that cannot be taken, and tells its number and why.
-fn take_lines(
+fn take_lines<D: DayPlans>(
     alloc: Global,
     world: &mut World,
     plans: &mut PlansLeft,
+    days: &D,
     lines: &[ScriptStep],
 ) -> Result<Option<(u32, Stop)>, NoMemory>
-    requires inside { AreLinesInside world.old.net lines.now }
-    requires no_day { AskNoDay lines.now }
+    requires { AreLinesInside world.old.net lines.now }
     ensures net { IfOk result (λ at. at ≡ None → world.new.net ≡ world.old.net) }
-    ensures all { (day : Day) → IfOk result (λ at. at ≡ None
+    ensures all { (day : Day) → IsPlanOf (D.gives days.now) day → IfOk result (λ at. at ≡ None
         → LeadsAll world.old day world.old.net plans.old lines.now world.new) }
-    ensures stopped { (day : Day) → IfOk result (λ at. IfSome at
+    ensures stopped { (day : Day) → IsPlanOf (D.gives days.now) day → IfOk result (λ at. IfSome at
         (StopsIn world.old day world.old.net plans.old lines.now)) }
 {
     for line in lines {
-        match take_line(alloc, world, plans, &line.form) {
+        match take_any_line(alloc, world, plans, days, &line.form) {
             Ok(()) => {}
             Err(halt) => return stopped_in(line.line, halt),
         }
     }
     Ok(None)
+}
+
+/// Takes the lines of a record, whose days have these plans. `Done` comes exactly where the run takes all lines, with a
+/// world that stands for the one which it reaches, and `Stopped` exactly where a line cannot be taken. `NoMemory` where
+/// memory runs out.
+pub fn run_days<D: DayPlans>(alloc: Global, script: Script, days: &D) -> Result<RunEnd, NoMemory>
+    requires accepted { net_fault script.net ≡ None }
+    requires inside { AreLinesInside script.net script.steps }
+    ensures end { (day : Day) → IsPlanOf (D.gives days.now) day → IfOk result (IsEnd day script) }
+    ensures net { IfOk result (IsOver script.net) }
+{
+    let (net, plans, steps) = script.into_parts();
+    let mut world = begun(alloc, net)?;
+    let mut left = PlansLeft::new(alloc, plans);
+    match take_lines(alloc, &mut world, &mut left, days, steps.as_slice())? {
+        None => Ok(RunEnd::Done(world)),
+        Some((line, stop)) => Ok(RunEnd::Stopped(line, stop)),
+    }
 }
 
 /// Takes the lines of a record, of which none asks for the drafts of a day. `Done` comes exactly where the run takes all
@@ -81,11 +100,5 @@ pub fn run_script(alloc: Global, script: Script) -> Result<RunEnd, NoMemory>
     ensures end { (day : Day) → IfOk result (IsEnd day script) }
     ensures net { IfOk result (IsOver script.net) }
 {
-    let (net, plans, steps) = script.into_parts();
-    let mut world = begun(alloc, net)?;
-    let mut left = PlansLeft::new(alloc, plans);
-    match take_lines(alloc, &mut world, &mut left, steps.as_slice())? {
-        None => Ok(RunEnd::Done(world)),
-        Some((line, stop)) => Ok(RunEnd::Stopped(line, stop)),
-    }
+    run_days(alloc, script, &NoDays)
 }

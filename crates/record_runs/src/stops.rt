@@ -3,9 +3,10 @@ ghost use Rattle.std.specs.Prelude.{◌≡◌, option_map};
 ghost use Rattle.model.specs.StepFaults.{StepFault as Faults};
 ghost use Rattle.model.specs.World.{StepRefused as Refusals};
 ghost use Rattle.record_runs.specs.Causes as spec;
-ghost use Rattle.record_runs.specs.Taken.{halts_at, meant, meant_carry, meant_fault};
+ghost use Rattle.record_runs.specs.Taken.{halts_at, halts_day, meant, meant_carry, meant_fault};
 ghost use Rattle.record_runs.specs.declared.stops.Halt.TheVariants.{At as Halted, NoMemory as NoRoom};
 
+use crate::days::DayFault;
 use agent_core::StepFault;
 use base_types::{LimitName, NoMemory};
 use carry_forward::CarryFault;
@@ -72,6 +73,18 @@ fn at_limit(limit: LimitName) -> Halt
     ensures { result ≡ Halted (spec.at_limit limit) }
 {
     Halt::At(Stop::Limit(limit, limit_number(limit)))
+}
+
+/// What halts where a day has no plan.
+#[tactic(auto, unfolding(crate::specs::Causes::told))]
+pub(crate) fn day_halt(fault: DayFault) -> Halt
+    ensures { result ≡ halts_day fault }
+{
+    match fault {
+        DayFault::TooMany(most) => Halt::At(Stop::Limit(LimitName::Plan, most)),
+        DayFault::NoMoment => Halt::At(Stop::OutOfRange),
+        DayFault::NoMemory => Halt::NoMemory,
+    }
 }
 
 /// What halts where there is no plan.

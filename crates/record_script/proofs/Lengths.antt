@@ -113,7 +113,7 @@ unfolding first_fault
 line_of_first n [] l k e = inl (sym (some_line 1 l kind.BadLine k e))
 line_of_first n (r ∷ rows) l k e = let low = line_from n [] (r ∷ rows) l k e in inr (omega (arith, low))
 
-place_within : {X : Type 0} (p : X → Bool) (xs : List X) (i : ℕ) → position p xs ≡ Some i → i < length xs
+pub place_within : {X : Type 0} (p : X → Bool) (xs : List X) (i : ℕ) → position p xs ≡ Some i → i < length xs
 place_within p xs i e = go (nat_lt (position_or_len p xs) (length xs)) refl
   where
     go : (b : Bool) → nat_lt (position_or_len p xs) (length xs) ≡ b → i < length xs

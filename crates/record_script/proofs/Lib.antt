@@ -12,6 +12,7 @@ pub mod Defined
 pub mod Totals
 pub mod Stepping
 pub mod Whole
+pub mod Elsewhere
 pub mod Taking
 pub mod Days
 pub mod Holding

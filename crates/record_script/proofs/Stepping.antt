@@ -11,9 +11,9 @@ use Rattle.record_rows.specs.declared.rows.OwnRow.{OwnRow}
 use Rattle.record_rows.specs.declared.rows.OwnRow.TheVariants as own
 use Rattle.record_rows.specs.declared.rows.CutRow.{CutRow}
 use Rattle.record_rows.specs.declared.rows.CutRow.TheVariants as cut
-use Rattle.record_faults.specs.Known.{stations, is_station}
+use Rattle.record_faults.specs.Known.{Station, is_station, stations}
 use Rattle.record_faults.specs.Faults.{lacks_station, step_is_unknown}
-use Rattle.record_script.specs.Numbers.{numbered, ws_no}
+use Rattle.record_script.specs.Numbers.{Numbered, numbered, ws_no}
 use Rattle.record_script.specs.Steps.{own_step, cut_step, step_form, steps_from}
 use Rattle.record_script.specs.Inside.{ws_in_one, ws_in}
 use Rattle.record_script.specs.declared.scripts.ScriptStep.{ScriptStep}
@@ -29,28 +29,26 @@ both_hold a b e h = ap (λ x. x && b) e ∙ h
 is_low : (a b : ℕ) → a < b → nat_lt a b ≡ true
 is_low a b low = grind (arith, nat_tests)
 
-module _ (rows : List Row) (count : ℕ) (many : count ≡ length (stations rows)) where
+module _ (all : List Station) (n : Numbered) (count : ℕ) (there : (w : List ℕ) → is_station all w ≡ true → ws_no n w < count) where
   abbrev no : List ℕ → ℕ
-  no w = ws_no (numbered rows) w
+  no w = ws_no n w
 
   abbrev low : ℕ → Bool
   low w = nat_lt w count
 
-  known_low : (w : List ℕ) → not (is_station (stations rows) w) ≡ false → low (no w) ≡ true
-  known_low w e =
-      let at_ = named_there rows w (not_lacking (is_station (stations rows) w) e) in
-      is_low (no w) count (subst (λ c. no w < c) (sym many) at_.1)
+  known_low : (w : List ℕ) → not (is_station all w) ≡ false → low (no w) ≡ true
+  known_low w e = is_low (no w) count (there w (not_lacking (is_station all w) e))
 
-  one_low : (w : List ℕ) → not (is_station (stations rows) w) ≡ false → list_all low (no w ∷ []) ≡ true
+  one_low : (w : List ℕ) → not (is_station all w) ≡ false → list_all low (no w ∷ []) ≡ true
   one_low w e = both_hold (low (no w)) true (known_low w e) refl
 
-  two_low : (a b : List ℕ) → (not (is_station (stations rows) a) || not (is_station (stations rows) b)) ≡ false
+  two_low : (a b : List ℕ) → (not (is_station all a) || not (is_station all b)) ≡ false
       → list_all low (no a ∷ no b ∷ []) ≡ true
   two_low a b e =
-      let parts = neither (not (is_station (stations rows) a)) (not (is_station (stations rows) b)) e in
+      let parts = neither (not (is_station all a)) (not (is_station all b)) e in
       both_hold (low (no a)) (low (no b) && true) (known_low a parts.0) (one_low b parts.1)
 
-  own_low : (w : List ℕ) (o : OwnRow) → not (is_station (stations rows) w) ≡ false
+  own_low : (w : List ℕ) (o : OwnRow) → not (is_station all w) ≡ false
       → list_all low (ws_in_one (own_step (no w) o)) ≡ true
   unfolding own_step
   own_low w (own.Turn t) e = one_low w e
@@ -59,18 +57,18 @@ module _ (rows : List Row) (count : ℕ) (many : count ≡ length (stations rows
   own_low w (own.Ended j rc) e = one_low w e
   own_low w (own.Typed l) e = one_low w e
 
-  cut_low : (w : List ℕ) (k : Bool) (c : CutRow) → step_is_unknown (stations rows) (step.CrashIn w k c) ≡ false
-      → list_all low (no w ∷ ws_in_one (cut_step (numbered rows) (no w) c)) ≡ true
+  cut_low : (w : List ℕ) (k : Bool) (c : CutRow) → step_is_unknown all (step.CrashIn w k c) ≡ false
+      → list_all low (no w ∷ ws_in_one (cut_step n (no w) c)) ≡ true
   unfolding step_is_unknown cut_step
   cut_low w k cut.Next e = one_low w e
   cut_low w k (cut.NextDay d) e = one_low w e
   cut_low w k (cut.Own o) e = both_hold (low (no w)) _ (known_low w e) (own_low w o e)
-  cut_low w k (cut.Deliver a n) e =
-      both_hold (low (no w)) _ (known_low w (neither (not (is_station (stations rows) a)) (not (is_station (stations rows) w)) e).1)
+  cut_low w k (cut.Deliver a d) e =
+      both_hold (low (no w)) _ (known_low w (neither (not (is_station all a)) (not (is_station all w)) e).1)
       (two_low a w e)
 
-  step_low : (s : StepRow) → step_is_unknown (stations rows) s ≡ false
-      → list_all low (ws_in (step_form (numbered rows) s)) ≡ true
+  step_low : (s : StepRow) → step_is_unknown all s ≡ false
+      → list_all low (ws_in (step_form n s)) ≡ true
   unfolding step_is_unknown step_form
   step_low step.Next e = refl
   step_low (step.NextDay d) e = refl
@@ -85,12 +83,20 @@ module _ (rows : List Row) (count : ℕ) (many : count ≡ length (stations rows
   step_low (step.Fulfil w o i) e = one_low w e
   step_low (step.Recover w) e = one_low w e
 
-  pub steps_low : (line : ℕ) (some : List Row) → list_any (lacks_station (stations rows)) some ≡ false
-      → list_all (λ (s : ScriptStep). list_all low (ws_in s.form)) (steps_from (numbered rows) line some) ≡ true
+  pub steps_at : (line : ℕ) (some : List Row) → list_any (lacks_station all) some ≡ false
+      → list_all (λ (s : ScriptStep). list_all low (ws_in s.form)) (steps_from n line some) ≡ true
   unfolding lacks_station
-  steps_low line [] e = refl
-  steps_low line (row.Step s ∷ some) e =
-      let parts = neither (step_is_unknown (stations rows) s) (list_any (lacks_station (stations rows)) some) e in
-      both_hold (list_all low (ws_in (step_form (numbered rows) s))) _ (step_low s parts.0) (steps_low (line + 1) some parts.1)
-  steps_low line (r ∷ some) e =
-      steps_low (line + 1) some (neither (lacks_station (stations rows) r) (list_any (lacks_station (stations rows)) some) e).1
+  steps_at line [] e = refl
+  steps_at line (row.Step s ∷ some) e =
+      let parts = neither (step_is_unknown all s) (list_any (lacks_station all) some) e in
+      both_hold (list_all low (ws_in (step_form n s))) _ (step_low s parts.0) (steps_at (line + 1) some parts.1)
+  steps_at line (r ∷ some) e =
+      steps_at (line + 1) some (neither (lacks_station all r) (list_any (lacks_station all) some) e).1
+
+-- The workstations of a record's own network.
+pub steps_low : (rows : List Row) (count : ℕ) → count ≡ length (stations rows) → (line : ℕ) (some : List Row)
+    → list_any (lacks_station (stations rows)) some ≡ false
+    → list_all (λ (s : ScriptStep). list_all (λ w. nat_lt w count) (ws_in s.form)) (steps_from (numbered rows) line some) ≡ true
+steps_low rows count many line some e =
+    steps_at (stations rows) (numbered rows) count
+    (λ w known. subst (λ c. ws_no (numbered rows) w < c) (sym many) (named_there rows w known).1) line some e

@@ -30,7 +30,7 @@ use Rattle.record_script.proofs.Stepping.{steps_low}
 
 -- No element passes.
 
-any_none : {A : Type 0} (p : A → Bool) (xs : List A)
+pub any_none : {A : Type 0} (p : A → Bool) (xs : List A)
     → ((front back : List A) (a : A) → xs ≡ front ++ a ∷ back → p a ≡ false) → list_any p xs ≡ false
 any_none p [] each = refl
 any_none p (x ∷ xs) each =

@@ -1,5 +1,5 @@
 -- What the rows of a record name, in the order of the numbers.
-use Rattle.std.specs.Prelude.{ℕ, ◌+◌, List, filter_map, unwrap_or}
+use Rattle.std.specs.Prelude.{ℕ, ◌+◌, List, [], filter_map, unwrap_or}
 use Rattle.std.specs.List.{position}
 use Rattle.std.specs.Str.{bytes_eq}
 use Rattle.record_rows.specs.declared.rows.Row.{Row}
@@ -20,6 +20,10 @@ numbered rows =
       resources = filter_map resource_of rows;
       prompts = filter_map prompt_of rows;
     }
+
+-- workstations that are defined elsewhere, whose steps name no resources and no prompts
+abbrev pub numbered_by : List (List ℕ) → Numbered
+numbered_by names = record { stations = names; resources = []; prompts = [] }
 
 -- The place of the first that is this one. In a record without faults each name that is asked for is there, and else
 -- nothing is said by the 0.

@@ -17,7 +17,7 @@ use Rattle.record_script.specs.declared.scripts.OneStep.TheVariants as one
 use Rattle.record_script.specs.declared.scripts.StepForm.{StepForm}
 use Rattle.record_script.specs.declared.scripts.StepForm.TheVariants as form
 use Rattle.record_script.specs.declared.scripts.ScriptStep.{ScriptStep}
-use Rattle.record_script.specs.Numbers.{Numbered, numbered, ws_no, within}
+use Rattle.record_script.specs.Numbers.{Numbered, numbered, numbered_by, ws_no, within}
 
 -- a step of workstation w
 unfoldable pub own_step : ℕ → OwnRow → OneStep
@@ -67,3 +67,7 @@ steps_from n line rows = filter_map (step_at n) (enumerate_from line rows)
 
 abbrev pub steps_of : List Row → List ScriptStep
 steps_of rows = steps_from (numbered rows) 1 rows
+
+-- the steps of a record whose workstations are defined elsewhere, in the order of their numbers
+abbrev pub steps_by : List (List ℕ) → List Row → List ScriptStep
+steps_by names rows = steps_from (numbered_by names) 1 rows

@@ -6,7 +6,8 @@
 //! network (`specs/Networks`), the plans (`specs/Plans`) and the steps (`specs/Steps`). Both answers of the call are the
 //! definition `specs/Scripts::read_of`.
 //!
-//! Definitions of a network and its work in a record cannot be read yet: their line is refused as `NotBuilt`.
+//! The line of definitions in a record is refused as `NotBuilt`. What the steps of such a record mean is told here too, by
+//! the names of its workstations (`steps_by`), for those who read the definitions.
 #![tactic(auto)]
 
 mod deps;
@@ -26,3 +27,4 @@ mod values;
 pub use reading::{ScriptFault, read_script};
 pub use record_faults::ScriptKind;
 pub use scripts::{OneStep, Plans, Script, ScriptStep, ScriptSteps, StepForm};
+pub use steps::steps_by;

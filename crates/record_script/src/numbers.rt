@@ -50,6 +50,18 @@ fn stations<'a>(alloc: Global, rows: &'a [Row]) -> Result<Names<'a>, NoMemory>
     Ok(names)
 }
 
+/// Workstations that are defined elsewhere.
+fn listed<'a>(alloc: Global, list: &'a [Text]) -> Result<Names<'a>, NoMemory>
+    requires { AreNew bytes_eq list.now }
+    ensures { IfOk result (λ names. names ≡ list.now) }
+{
+    let mut names = Names::new(alloc);
+    for name in list {
+        names.add(name)?;
+    }
+    Ok(names)
+}
+
 /// The resources that rows define.
 fn resources<'a>(alloc: Global, rows: &'a [Row]) -> Result<Keys<'a>, NoMemory>
     requires { AreNew known.key_eq (filter_map known.resource_of rows.now) }
@@ -91,6 +103,20 @@ impl<'a> Numbers<'a> {
             stations,
             resources,
             prompts,
+        })
+    }
+
+    /// The numbers of workstations that are defined elsewhere, in the order of their names, without resources and prompts.
+    /// The only error is that memory ran out.
+    pub(crate) fn of_names(alloc: Global, names: &'a [Text]) -> Result<Numbers<'a>, NoMemory>
+        requires { AreNew bytes_eq names.now }
+        ensures { IfOk result (λ n. n ≡ spec.numbered_by names.now) }
+    {
+        let stations = listed(alloc, names)?;
+        Ok(Numbers {
+            stations,
+            resources: Keys::new(alloc),
+            prompts: Names::new(alloc),
         })
     }
 

@@ -1,5 +1,6 @@
 //! The steps of a record.
-ghost use Rattle.std.specs.Prelude.{◌≡◌, ◌<◌, ◌^◌, IfOk, length};
+ghost use Rattle.std.specs.Prelude.{◌≡◌, ◌<◌, ◌^◌, IfOk, bytes_eq, length};
+ghost use Rattle.record_script.specs.Counted.{AreNew};
 ghost use Rattle.record_script.specs.Steps as spec;
 ghost use Rattle.record_script.specs.declared.scripts.StepForm.TheVariants as forms;
 
@@ -7,7 +8,7 @@ use crate::numbers::Numbers;
 use crate::operator_lines::copy_line;
 use crate::scripts::{OneStep, ScriptStep, ScriptSteps, StepForm};
 use crate::values::within;
-use base_types::{Items, JobNo, Moment, NoMemory, Obj, StreamNo, Ws};
+use base_types::{Items, JobNo, Moment, NoMemory, Obj, StreamNo, Text, Ws};
 use record_rows::{CutRow, ObjRow, OwnRow, Row, StepRow};
 use std::alloc::Global;
 
@@ -105,4 +106,20 @@ pub(crate) fn steps<'a>(
         }
     }
     Ok(steps)
+}
+
+/// The steps among the rows of a record whose workstations are defined elsewhere, and have these names in the order of
+/// their numbers. The rows have no fault (`record_faults::first_fault`), or else numbers outside their range and names
+/// that are not there count as 0. The only error is that memory ran out.
+pub fn steps_by<'a>(
+    alloc: Global,
+    names: &'a [Text],
+    rows: &'a [Row],
+) -> Result<ScriptSteps, NoMemory>
+    requires few { length rows.now < 2 ^ 32 }
+    requires once { AreNew bytes_eq names.now }
+    ensures { IfOk result (λ l. l ≡ spec.steps_by names.now rows.now) }
+{
+    let numbers = Numbers::of_names(alloc, names)?;
+    steps(alloc, &numbers, rows)
 }

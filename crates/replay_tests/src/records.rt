@@ -69,7 +69,7 @@ fn asks_day(form: &StepForm) -> bool
     }
 }
 
-fn are_inside(count: usize, lines: &[ScriptStep]) -> bool
+pub(crate) fn are_inside(count: usize, lines: &[ScriptStep]) -> bool
     ensures { result ≡ list_all (λ s. list_all (λ w. nat_lt w count) (ws_in_form s.form)) lines.now }
 {
     lines.iter().all(|line| is_inside(count, &line.form))
@@ -106,7 +106,7 @@ fn run_text(alloc: Global, text: &str) -> Option<RunEnd>
 }
 
 /// The text with its line feeds.
-fn lined(alloc: Global, text: &str) -> Result<String, NoMemory> {
+pub(crate) fn lined(alloc: Global, text: &str) -> Result<String, NoMemory> {
     let mut lines = String::new(alloc);
     for c in text.chars() {
         lines.push(if c == '|' { '\n' } else { c })?;
@@ -151,7 +151,7 @@ fn told(alloc: Global, world: &World, telling: Telling) -> Result<Bytes, NoMemor
 }
 
 /// Whether this is told of a world.
-fn is_told(alloc: Global, world: &World, telling: Telling, text: &str) -> bool {
+pub(crate) fn is_told(alloc: Global, world: &World, telling: Telling, text: &str) -> bool {
     match told(alloc, world, telling) {
         Ok(bytes) => bytes.as_slice() == text.as_bytes(),
         Err(_) => false,

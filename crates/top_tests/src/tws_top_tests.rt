@@ -1,6 +1,11 @@
-//! What `tws` answers: whole reports, summaries and samples, refusals, limits, and each call that fails.
+//! What `tws` answers: whole reports, summaries, canonical texts, plans, audits and samples, refusals, limits, and each
+//! call that fails.
+mod audits;
+mod defined_nights;
+mod definitions;
 mod faults;
 mod networks;
+mod plans;
 mod refusals;
 mod samples;
 mod stations;
@@ -24,6 +29,21 @@ fn calls(alloc: Global, n: u32) -> Result<Items<u32>, Fail> {
     Ok(calls)
 }
 
+/// The words, each behind a blank.
+fn listed_words(alloc: Global, words: &str) -> Result<Vec<Text>, Fail> {
+    let mut list = Vec::new(alloc);
+    for word in words.split(' ') {
+        list.push(Text::of(alloc, word)?)?;
+    }
+    Ok(list)
+}
+
+/// How a call ends: its status, and whether a world is handed back.
+fn ended(alloc: Global, words: &[Text], source: &mut MemSource, sink: &mut MemSink) -> (u8, bool) {
+    let done = tws(alloc, words, source, sink);
+    (done.status, done.world.is_some())
+}
+
 /// What is said to these words, each behind a blank, where the n-th read and the m-th write fail.
 fn says(
     alloc: Global,
@@ -32,24 +52,34 @@ fn says(
     failing: (u32, u32),
     text: &str,
 ) -> Result<Said, Fail> {
-    let mut list = Vec::new(alloc);
-    for word in words.split(' ') {
-        list.push(Text::of(alloc, word)?)?;
-    }
+    let list = listed_words(alloc, words)?;
     let mut source = MemSource::new(input, calls(alloc, failing.0)?);
     let mut sink = MemSink::new(alloc, calls(alloc, failing.1)?, 4096)?;
-    let done = tws(alloc, list.as_slice(), &mut source, &mut sink);
-    Ok((
-        done.status,
-        sink.bytes() == text.as_bytes(),
-        done.world.is_some(),
-    ))
+    let (status, world) = ended(alloc, list.as_slice(), &mut source, &mut sink);
+    Ok((status, sink.bytes() == text.as_bytes(), world))
+}
+
+/// What is said to these words where the input is a text and no call fails.
+fn answers(alloc: Global, words: &str, input: &str, text: &str) -> Result<Said, Fail> {
+    says(alloc, words, bytes(alloc, input)?, (0, 0), text)
 }
 
 fn replays(alloc: Global, record: &str, text: &str) -> Result<Said, Fail> {
-    says(alloc, "replay", bytes(alloc, record)?, (0, 0), text)
+    answers(alloc, "replay", record, text)
 }
 
 fn sums_up(alloc: Global, record: &str, text: &str) -> Result<Said, Fail> {
-    says(alloc, "summary", bytes(alloc, record)?, (0, 0), text)
+    answers(alloc, "summary", record, text)
+}
+
+/// The place of the first record that is not refused with its line, by its replay and its summary.
+fn first_accepted(alloc: Global, rows: &[(&str, &str)]) -> Result<Option<usize>, Fail> {
+    for (i, (record, line)) in rows.iter().enumerate() {
+        let replayed = replays(alloc, record, line)?;
+        let summed = sums_up(alloc, record, line)?;
+        if replayed != (3, true, false) || summed != (3, true, false) {
+            return Ok(Some(i));
+        }
+    }
+    Ok(None)
 }

@@ -1,39 +1,52 @@
 -- The statuses one by one, of what was answered.
-use Rattle.std.proofs.Common.{◌≡◌, ◌≢◌, ◌==◌, ◌≤◌, ◌⊎◌, ℕ, Bool, true, false, List, Option, Some, None, Ok, Err, inl, inr}
-use Rattle.std.proofs.Common.{sym, ap, ◌∙◌, subst, refl, length, arith}
+use Rattle.std.proofs.Common.{◌≡◌, ◌≢◌, ◌==◌, ◌≤◌, ◌⊎◌, ℕ, Bool, true, false, List, Option, Some, None, Ok, inl, inr}
+use Rattle.std.proofs.Common.{sym, ap, ◌∙◌, refl, length, arith}
 use Rattle.std.specs.Io.KnownBytes.{Appends}
 use Rattle.std.specs.Option.{is_some}
 use Rattle.std.proofs.lemmas.Bool.Decides.{Decides-eqb}
+use Rattle.definition_replies.specs.declared.Wish.{Wish}
+use Rattle.definition_replies.specs.declared.Wish.TheVariants.{CanonicalText, Plan}
+use Rattle.history_script.specs.declared.histories.HistoryText.{HistoryText}
 use Rattle.outside.specs.Causes.{Rose}
 use Rattle.outside.specs.Streams.{Stream, TakesAll}
 use Rattle.model.specs.World as model
 use Rattle.network_world.specs.Stations.{WorldState}
-use Rattle.record_runs.specs.Causes.{Cause, told}
-use Rattle.record_runs.specs.Ends.{run_of_script}
+use Rattle.night_records.specs.declared.Record.{Record}
+use Rattle.record_runs.specs.Causes.{told}
 use Rattle.record_runs.specs.Runs as runs
 use Rattle.record_runs.specs.declared.stops.Stop.{Stop}
 use Rattle.record_runs.specs.declared.stops.Stop.TheVariants as stop
-use Rattle.record_script.specs.declared.scripts.Script.{Script}
 use Rattle.tws_top.specs.declared.statuses.Status.{Status}
-use Rattle.tws_top.specs.declared.statuses.Status.TheVariants.{Success, WordsRefused, RecordRefused, LimitPassed}
+use Rattle.tws_top.specs.declared.statuses.Status.TheVariants.{RecordRefused, LimitPassed}
 use Rattle.tws_top.specs.declared.words.Telling.{Telling}
+use Rattle.tws_top.specs.declared.words.Wanted.{Wanted}
+use Rattle.tws_top.specs.declared.words.Wanted.TheVariants as wants
 use Rattle.tws_top.specs.declared.words.Asked.{Asked}
 use Rattle.tws_top.specs.declared.words.Asked.TheVariants as asks
-use Rattle.tws_top.specs.Lines.{stop_status, stop_line}
-use Rattle.tws_top.specs.Nights.{Night, no_days, read_bytes, told_at}
+use Rattle.tws_top.specs.Lines.{stop_status}
+use Rattle.tws_top.specs.Nights.{Night, AreRead, IsRun, told_at}
 use Rattle.tws_top.specs.Statuses.{number_of}
 use Rattle.tws_top.specs.Words.{asked_of, asks_record}
-use Rattle.tws_top.specs.Dues.{CallsFor, ReadCallsFor, Due, Says, IsOf, IsThatOf, IsAnswer}
-use Rattle.tws_top.specs.Rows.{Tells, IsRefused, Refuses, PassesLimit}
-use Rattle.tws_top.proofs.Calling.{IsOfRecord, success, refused, limit_, stop_of_record, read_of_record}
+use Rattle.tws_top.specs.Dues.{RunCallsFor, RecordCallsFor, DefinitionsCallFor, CallsFor, ReadCallsFor, Due, Says}
+use Rattle.tws_top.specs.Dues.{HistoryCallsFor, AuditCallsFor, IsOf, IsThatOf, IsAnswer}
+use Rattle.tws_top.specs.Rows.{Tells, Compiles, Plans, IsRefused, Refuses, RefusesDefinitions, PassesLimit}
+use Rattle.tws_top.specs.Rows.{FindsSound, FindsWrong, RefusesHistory}
+use Rattle.tws_top.proofs.Calling.{IsOfInput, success, definitions_, refused, limit_, wrong_, stop_of_input, read_of_input}
+use Rattle.tws_top.proofs.Histories as histories
+use Rattle.tws_top.proofs.Outcomes.{compiles_read, plans_read, refused_called, plan_limit, not_3, not_11}
+use Rattle.tws_top.proofs.Dues.{input_due}
 
 -- a status that a step is answered with is one of two, by its number
-record_or_limit : (status : Status) → IsOfRecord status → (number_of status ≡ 3 → status ≡ RecordRefused)
+record_or_limit : (status : Status) → IsOfInput status → (number_of status ≡ 3 → status ≡ RecordRefused)
     × (number_of status ≡ 10 → status ≡ LimitPassed)
 record_or_limit status success =
     (λ e. absurd (let never : ⊥ = omega arith in never), λ e. absurd (let never : ⊥ = omega arith in never))
+record_or_limit status definitions_ =
+    (λ e. absurd (let never : ⊥ = omega arith in never), λ e. absurd (let never : ⊥ = omega arith in never))
 record_or_limit status refused = (λ e. refl, λ e. absurd (let never : ⊥ = omega arith in never))
 record_or_limit status limit_ = (λ e. absurd (let never : ⊥ = omega arith in never), λ e. refl)
+record_or_limit status wrong_ =
+    (λ e. absurd (let never : ⊥ = omega arith in never), λ e. absurd (let never : ⊥ = omega arith in never))
 
 stop_is_no_success : (s : Stop) → number_of (stop_status s) ≡ 0 → ⊥
 stop_is_no_success stop.NoPacket e = omega arith
@@ -46,17 +59,39 @@ stop_is_no_success stop.NotInNetwork e = omega arith
 stop_is_no_success stop.NotMaster e = omega arith
 stop_is_no_success (stop.Limit name number) e = omega arith
 
+stop_not_1 : (s : Stop) → number_of (stop_status s) ≡ 1 → ⊥
+stop_not_1 stop.NoPacket e = omega arith
+stop_not_1 stop.NoProcess e = omega arith
+stop_not_1 stop.NoDep e = omega arith
+stop_not_1 stop.NotNeighbour e = omega arith
+stop_not_1 stop.UnknownName e = omega arith
+stop_not_1 stop.OutOfRange e = omega arith
+stop_not_1 stop.NotInNetwork e = omega arith
+stop_not_1 stop.NotMaster e = omega arith
+stop_not_1 (stop.Limit name number) e = omega arith
+
+stop_not_11 : (s : Stop) → number_of (stop_status s) ≡ 11 → ⊥
+stop_not_11 stop.NoPacket e = omega arith
+stop_not_11 stop.NoProcess e = omega arith
+stop_not_11 stop.NoDep e = omega arith
+stop_not_11 stop.NotNeighbour e = omega arith
+stop_not_11 stop.UnknownName e = omega arith
+stop_not_11 stop.OutOfRange e = omega arith
+stop_not_11 stop.NotInNetwork e = omega arith
+stop_not_11 stop.NotMaster e = omega arith
+stop_not_11 (stop.Limit name number) e = omega arith
+
 -- what was read, and what was written
 module _ (old new : Option Stream) (written written' : Option (List ℕ)) (handed : Option WorldState) where
-  tells_world : (telling : Telling) (bytes : List ℕ) (s : Script) (x : model.World) (h : Option WorldState) → handed ≡ h
-      → TakesAll old new bytes → length bytes ≤ 16777216 → read_bytes bytes ≡ Ok s
-      → run_of_script no_days s ≡ runs.done x → Appends written written' (told_at telling s.net x)
-      → IsOf h (Some (record { net = s.net; world = x })) → Tells telling old new written written' handed
-  tells_world telling bytes s x None e all short is run wrote of = absurd of
-  tells_world telling bytes s x (Some w) e all short is run wrote of =
-      let that : IsThatOf w (record { net = s.net; world = x }) = of in record {
+  tells_world : (telling : Telling) (bytes : List ℕ) (r : Record) (x : model.World) (h : Option WorldState) → handed ≡ h
+      → TakesAll old new bytes → length bytes ≤ 16777216 → AreRead bytes (Ok r) → IsRun r (runs.done x)
+      → Appends written written' (told_at telling r.script.net x)
+      → IsOf h (Some (record { net = r.script.net; world = x })) → Tells telling old new written written' handed
+  tells_world telling bytes r x None e all short is run wrote of = absurd of
+  tells_world telling bytes r x (Some w) e all short is run wrote of =
+      let that : IsThatOf w (record { net = r.script.net; world = x }) = of in record {
         bytes = bytes;
-        script = s;
+        recorded = r;
         reached = x;
         world = w;
         read = all;
@@ -70,117 +105,252 @@ module _ (old new : Option Stream) (written written' : Option (List ℕ)) (hande
         sound = that.sound;
       }
 
+  tells_run : (telling : Telling) (bytes : List ℕ) (r : Record) (status : Status) (text : List ℕ) (night : Option Night)
+      → TakesAll old new bytes → length bytes ≤ 16777216 → AreRead bytes (Ok r)
+      → RunCallsFor telling r status text night → number_of status ≡ 0 → Appends written written' text
+      → IsOf handed night → Tells telling old new written written' handed
+  tells_run telling bytes r status text night all short is (RunCallsFor.stopped line cause run) zero wrote of =
+      absurd (stop_is_no_success (told cause) zero)
+  tells_run telling bytes r status text night all short is (RunCallsFor.ran x run) zero wrote of =
+      tells_world telling bytes r x handed refl all short is run wrote of
+
   tells_called : (telling : Telling) (bytes : List ℕ) (status : Status) (text : List ℕ) (night : Option Night)
-      → TakesAll old new bytes → length bytes ≤ 16777216 → CallsFor telling (read_bytes bytes) status text night
+      → TakesAll old new bytes → length bytes ≤ 16777216 → RecordCallsFor telling bytes status text night
       → number_of status ≡ 0 → Appends written written' text → IsOf handed night
       → Tells telling old new written written' handed
-  tells_called telling bytes status text night all short (CallsFor.no_record line kind e) zero wrote of =
+  tells_called telling bytes status text night all short (RecordCallsFor.no_record line kind e) zero wrote of =
       absurd (let never : ⊥ = omega arith in never)
-  tells_called telling bytes status text night all short (CallsFor.stopped s line cause e run) zero wrote of =
-      absurd (stop_is_no_success (told cause) zero)
-  tells_called telling bytes status text night all short (CallsFor.ran s x e run) zero wrote of =
-      tells_world telling bytes s x handed refl all short e run wrote of
+  tells_called telling bytes status text night all short (RecordCallsFor.read r is run) zero wrote of =
+      tells_run telling bytes r status text night all short is run zero wrote of
 
   tells_read : (telling : Telling) (status : Status) (text : List ℕ) (night : Option Night)
-      → ReadCallsFor telling old new status text night → number_of status ≡ 0 → Appends written written' text
-      → IsOf handed night → Tells telling old new written written' handed
+      → ReadCallsFor (wants.Night telling) old new status text night → number_of status ≡ 0
+      → Appends written written' text → IsOf handed night → Tells telling old new written written' handed
   tells_read telling status text night (ReadCallsFor.too_long takes) zero wrote of =
       absurd (let never : ⊥ = omega arith in never)
   tells_read telling status text night (ReadCallsFor.read bytes all short called) zero wrote of =
       tells_called telling bytes status text night all short called zero wrote of
 
-  tells_due : (words : List (List ℕ)) (telling : Telling) (status : Status) (text : List ℕ) (night : Option Night)
-      → asked_of words ≡ Some (asks.Night telling) → Due words old new status text night → number_of status ≡ 0
-      → Appends written written' text → IsOf handed night → Tells telling old new written written' handed
-  tells_due words telling status text night asked (Due.other_words e) zero wrote of =
-      absurd (let never : ⊥ = omega arith in never)
-  tells_due words telling status text night asked (Due.sampled jobs seed e) zero wrote of =
-      let clash : Some (asks.Sample jobs seed) ≡ Some (asks.Night telling) = sym e ∙ asked in
-      absurd (let never : ⊥ = cc in never)
-  tells_due words telling status text night asked (Due.by_input t e read) zero wrote of =
-      let same : Some (asks.Night t) ≡ Some (asks.Night telling) = sym e ∙ asked in
-      let one : t ≡ telling = cc in
-      let P : Telling → Type 0 = λ z. Tells z old new written written' handed in
-      subst P one (tells_read t status text night read zero wrote of)
-
-  refuses_called : (telling : Telling) (bytes : List ℕ) (status : Status) (text : List ℕ) (night : Option Night)
-      → TakesAll old new bytes → CallsFor telling (read_bytes bytes) status text night → number_of status ≡ 3
-      → Appends written written' text → Refuses old new written written'
-  refuses_called telling bytes status text night all (CallsFor.no_record line kind e) three wrote =
-      record { bytes = bytes; line = text; read = all; refused = IsRefused.no_record line kind e; wrote = wrote }
-  refuses_called telling bytes status text night all (CallsFor.stopped s line cause e run) three wrote =
-      let is = (record_or_limit (stop_status (told cause)) (stop_of_record (told cause))).0 three in record {
+  refuses_run : (telling : Telling) (bytes : List ℕ) (r : Record) (status : Status) (text : List ℕ) (night : Option Night)
+      → TakesAll old new bytes → AreRead bytes (Ok r) → RunCallsFor telling r status text night
+      → number_of status ≡ 3 → Appends written written' text → Refuses old new written written'
+  refuses_run telling bytes r status text night all e (RunCallsFor.stopped line cause run) three wrote =
+      let is = (record_or_limit (stop_status (told cause)) (stop_of_input (told cause))).0 three in record {
         bytes = bytes;
         line = text;
         read = all;
-        refused = IsRefused.bad_step s line cause e run is;
+        refused = IsRefused.bad_step r line cause e run is;
         wrote = wrote;
       }
-  refuses_called telling bytes status text night all (CallsFor.ran s x e run) three wrote =
+  refuses_run telling bytes r status text night all e (RunCallsFor.ran x run) three wrote =
       absurd (let never : ⊥ = omega arith in never)
 
-  refuses_due : (words : List (List ℕ)) (status : Status) (text : List ℕ) (night : Option Night)
-      → Due words old new status text night → number_of status ≡ 3 → Appends written written' text
-      → Refuses old new written written'
-  refuses_due words status text night (Due.other_words e) three wrote = absurd (let never : ⊥ = omega arith in never)
-  refuses_due words status text night (Due.sampled jobs seed e) three wrote =
+  refuses_called : (telling : Telling) (bytes : List ℕ) (status : Status) (text : List ℕ) (night : Option Night)
+      → TakesAll old new bytes → RecordCallsFor telling bytes status text night → number_of status ≡ 3
+      → Appends written written' text → Refuses old new written written'
+  refuses_called telling bytes status text night all (RecordCallsFor.no_record line kind e) three wrote =
+      record { bytes = bytes; line = text; read = all; refused = IsRefused.no_record line kind e; wrote = wrote }
+  refuses_called telling bytes status text night all (RecordCallsFor.read r e run) three wrote =
+      refuses_run telling bytes r status text night all e run three wrote
+
+  limit_run : (telling : Telling) (bytes : List ℕ) (r : Record) (status : Status) (text : List ℕ) (night : Option Night)
+      → TakesAll old new bytes → AreRead bytes (Ok r) → RunCallsFor telling r status text night
+      → number_of status ≡ 10 → Appends written written' text → PassesLimit old new written written'
+  limit_run telling bytes r status text night all e (RunCallsFor.stopped line cause run) ten wrote =
+      let is = (record_or_limit (stop_status (told cause)) (stop_of_input (told cause))).1 ten in
+      PassesLimit.of_run bytes r line cause all e run is wrote
+  limit_run telling bytes r status text night all e (RunCallsFor.ran x run) ten wrote =
       absurd (let never : ⊥ = omega arith in never)
-  refuses_due words status text night (Due.by_input t e (ReadCallsFor.too_long takes)) three wrote =
-      absurd (let never : ⊥ = omega arith in never)
-  refuses_due words status text night (Due.by_input t e (ReadCallsFor.read bytes all short called)) three wrote =
-      refuses_called t bytes status text night all called three wrote
 
   limit_called : (telling : Telling) (bytes : List ℕ) (status : Status) (text : List ℕ) (night : Option Night)
-      → TakesAll old new bytes → CallsFor telling (read_bytes bytes) status text night → number_of status ≡ 10
+      → TakesAll old new bytes → RecordCallsFor telling bytes status text night → number_of status ≡ 10
       → Appends written written' text → PassesLimit old new written written'
-  limit_called telling bytes status text night all (CallsFor.no_record line kind e) ten wrote =
+  limit_called telling bytes status text night all (RecordCallsFor.no_record line kind e) ten wrote =
       absurd (let never : ⊥ = omega arith in never)
-  limit_called telling bytes status text night all (CallsFor.stopped s line cause e run) ten wrote =
-      let is = (record_or_limit (stop_status (told cause)) (stop_of_record (told cause))).1 ten in
-      PassesLimit.of_run bytes s line cause all e run is wrote
-  limit_called telling bytes status text night all (CallsFor.ran s x e run) ten wrote =
-      absurd (let never : ⊥ = omega arith in never)
+  limit_called telling bytes status text night all (RecordCallsFor.read r e run) ten wrote =
+      limit_run telling bytes r status text night all e run ten wrote
 
-  limit_due : (words : List (List ℕ)) (status : Status) (text : List ℕ) (night : Option Night)
-      → Due words old new status text night → number_of status ≡ 10 → Appends written written' text
-      → PassesLimit old new written written'
-  limit_due words status text night (Due.other_words e) ten wrote = absurd (let never : ⊥ = omega arith in never)
-  limit_due words status text night (Due.sampled jobs seed e) ten wrote = absurd (let never : ⊥ = omega arith in never)
-  limit_due words status text night (Due.by_input t e (ReadCallsFor.too_long takes)) ten wrote =
+  not_1_run : (telling : Telling) (r : Record) (status : Status) (text : List ℕ) (night : Option Night)
+      → RunCallsFor telling r status text night → number_of status ≡ 1 → ⊥
+  not_1_run telling r status text night (RunCallsFor.stopped line cause run) one = stop_not_1 (told cause) one
+  not_1_run telling r status text night (RunCallsFor.ran x run) one = omega arith
+
+  not_1 : (telling : Telling) (bytes : List ℕ) (status : Status) (text : List ℕ) (night : Option Night)
+      → RecordCallsFor telling bytes status text night → number_of status ≡ 1 → ⊥
+  not_1 telling bytes status text night (RecordCallsFor.no_record line kind e) one = omega arith
+  not_1 telling bytes status text night (RecordCallsFor.read r e run) one =
+      not_1_run telling r status text night run one
+
+  -- and of any input, by what is wanted of it
+  refuses_read : (wanted : Wanted) (bytes : List ℕ) (status : Status) (text : List ℕ) (night : Option Night)
+      → TakesAll old new bytes → CallsFor wanted bytes status text night → number_of status ≡ 3
+      → Appends written written' text → wanted ≢ wants.Audit → Refuses old new written written'
+  refuses_read (wants.Night telling) bytes status text night all called three wrote other =
+      refuses_called telling bytes status text night all called three wrote
+  refuses_read (wants.Definitions wish) bytes status text night all called three wrote other =
+      absurd (not_3 wish bytes status text night called three)
+  refuses_read wants.Audit bytes status text night all called three wrote other = absurd (other refl)
+
+  limit_read : (wanted : Wanted) (bytes : List ℕ) (status : Status) (text : List ℕ) (night : Option Night)
+      → TakesAll old new bytes → CallsFor wanted bytes status text night → number_of status ≡ 10
+      → Appends written written' text → PassesLimit old new written written'
+  limit_read (wants.Night telling) bytes status text night all called ten wrote =
+      limit_called telling bytes status text night all called ten wrote
+  limit_read (wants.Definitions wish) bytes status text night all called ten wrote =
+      plan_limit old new written written' wish bytes status text night all called ten wrote
+  limit_read wants.Audit bytes status text night all called ten wrote =
+      absurd (histories.not_1_or_10 bytes status text night called (inr ten))
+
+  refused_read : (wanted : Wanted) (bytes : List ℕ) (status : Status) (text : List ℕ) (night : Option Night)
+      → TakesAll old new bytes → CallsFor wanted bytes status text night → number_of status ≡ 1
+      → Appends written written' text
+      → (wish : Wish) × (wanted ≡ wants.Definitions wish) × RefusesDefinitions wish old new written written'
+  refused_read (wants.Night telling) bytes status text night all called one wrote =
+      absurd (not_1 telling bytes status text night called one)
+  refused_read (wants.Definitions wish) bytes status text night all called one wrote =
+      (wish, refl, refused_called old new written written' wish bytes status text night all called one wrote)
+  refused_read wants.Audit bytes status text night all called one wrote =
+      absurd (histories.not_1_or_10 bytes status text night called (inl one))
+
+  wrong_record : (telling : Telling) (bytes : List ℕ) (status : Status) (text : List ℕ) (night : Option Night)
+      → RecordCallsFor telling bytes status text night → number_of status ≡ 11 → ⊥
+  wrong_record telling bytes status text night (RecordCallsFor.no_record line kind e) eleven = omega arith
+  wrong_record telling bytes status text night (RecordCallsFor.read r e (RunCallsFor.stopped line cause run)) eleven =
+      stop_not_11 (told cause) eleven
+  wrong_record telling bytes status text night (RecordCallsFor.read r e (RunCallsFor.ran x run)) eleven = omega arith
+
+  wrong_read : (wanted : Wanted) (bytes : List ℕ) (status : Status) (text : List ℕ) (night : Option Night)
+      → TakesAll old new bytes → CallsFor wanted bytes status text night → number_of status ≡ 11
+      → Appends written written' text → (wanted ≡ wants.Audit) × FindsWrong old new written written'
+  wrong_read (wants.Night telling) bytes status text night all called eleven wrote =
+      absurd (wrong_record telling bytes status text night called eleven)
+  wrong_read (wants.Definitions wish) bytes status text night all called eleven wrote =
+      absurd (not_11 wish bytes status text night called eleven)
+  wrong_read wants.Audit bytes status text night all called eleven wrote =
+      (refl, histories.wrong_called old new written written' bytes status text night all called eleven wrote)
+
+-- what is due for these words
+module _ (old new : Option Stream) (written written' : Option (List ℕ)) (handed : Option WorldState)
+    (words : List (List ℕ)) where
+  refuses_due : (status : Status) (text : List ℕ) (night : Option Night) → Due words old new status text night
+      → number_of status ≡ 3 → Appends written written' text → asked_of words ≢ Some (asks.Input wants.Audit)
+      → Refuses old new written written'
+  refuses_due status text night (Due.other_words e) three wrote other =
+      absurd (let never : ⊥ = omega arith in never)
+  refuses_due status text night (Due.sampled jobs seed e) three wrote other =
+      absurd (let never : ⊥ = omega arith in never)
+  refuses_due status text night (Due.by_input w e (ReadCallsFor.too_long takes)) three wrote other =
+      absurd (let never : ⊥ = omega arith in never)
+  refuses_due status text night (Due.by_input w e (ReadCallsFor.read bytes all short called)) three wrote other =
+      refuses_read old new written written' handed w bytes status text night all called three wrote
+      (λ is. other (e ∙ ap (λ x. Some (asks.Input x)) is))
+
+  -- of a history
+  refuses_history_due : (status : Status) (text : List ℕ) (night : Option Night)
+      → asked_of words ≡ Some (asks.Input wants.Audit) → Due words old new status text night
+      → number_of status ≡ 3 → Appends written written' text → RefusesHistory old new written written'
+  refuses_history_due status text night asked due three wrote =
+      histories.refused_read old new written written' status text night
+      (input_due words old new wants.Audit status text night asked due) three wrote
+
+  sound_due : (status : Status) (text : List ℕ) (night : Option Night)
+      → asked_of words ≡ Some (asks.Input wants.Audit) → Due words old new status text night
+      → number_of status ≡ 0 → Appends written written' text → FindsSound old new written written'
+  sound_due status text night asked due zero wrote =
+      histories.sound_read old new written written' status text night
+      (input_due words old new wants.Audit status text night asked due) zero wrote
+
+  wrong_due : (status : Status) (text : List ℕ) (night : Option Night) → Due words old new status text night
+      → number_of status ≡ 11 → Appends written written' text
+      → (asked_of words ≡ Some (asks.Input wants.Audit)) × FindsWrong old new written written'
+  wrong_due status text night (Due.other_words e) eleven wrote = absurd (let never : ⊥ = omega arith in never)
+  wrong_due status text night (Due.sampled jobs seed e) eleven wrote =
+      absurd (let never : ⊥ = omega arith in never)
+  wrong_due status text night (Due.by_input w e (ReadCallsFor.too_long takes)) eleven wrote =
+      absurd (let never : ⊥ = omega arith in never)
+  wrong_due status text night (Due.by_input w e (ReadCallsFor.read bytes all short called)) eleven wrote =
+      let is = wrong_read old new written written' handed w bytes status text night all called eleven wrote in
+      (e ∙ ap (λ x. Some (asks.Input x)) is.0, is.1)
+
+  limit_due : (status : Status) (text : List ℕ) (night : Option Night) → Due words old new status text night
+      → number_of status ≡ 10 → Appends written written' text → PassesLimit old new written written'
+  limit_due status text night (Due.other_words e) ten wrote = absurd (let never : ⊥ = omega arith in never)
+  limit_due status text night (Due.sampled jobs seed e) ten wrote = absurd (let never : ⊥ = omega arith in never)
+  limit_due status text night (Due.by_input w e (ReadCallsFor.too_long takes)) ten wrote =
       PassesLimit.of_input takes wrote
-  limit_due words status text night (Due.by_input t e (ReadCallsFor.read bytes all short called)) ten wrote =
-      limit_called t bytes status text night all called ten wrote
+  limit_due status text night (Due.by_input w e (ReadCallsFor.read bytes all short called)) ten wrote =
+      limit_read old new written written' handed w bytes status text night all called ten wrote
+
+  refused_due : (status : Status) (text : List ℕ) (night : Option Night) → Due words old new status text night
+      → number_of status ≡ 1 → Appends written written' text → (wish : Wish)
+      × (asked_of words ≡ Some (asks.Input (wants.Definitions wish))) × RefusesDefinitions wish old new written written'
+  refused_due status text night (Due.other_words e) one wrote = absurd (let never : ⊥ = omega arith in never)
+  refused_due status text night (Due.sampled jobs seed e) one wrote = absurd (let never : ⊥ = omega arith in never)
+  refused_due status text night (Due.by_input w e (ReadCallsFor.too_long takes)) one wrote =
+      absurd (let never : ⊥ = omega arith in never)
+  refused_due status text night (Due.by_input w e (ReadCallsFor.read bytes all short called)) one wrote =
+      let is = refused_read old new written written' handed w bytes status text night all called one wrote in
+      (is.0, e ∙ ap (λ x. Some (asks.Input x)) is.1, is.2)
+
+  -- with 0, by what is asked for
+  tells_due : (telling : Telling) (status : Status) (text : List ℕ) (night : Option Night)
+      → asked_of words ≡ Some (asks.Input (wants.Night telling)) → Due words old new status text night
+      → number_of status ≡ 0 → Appends written written' text → IsOf handed night
+      → Tells telling old new written written' handed
+  tells_due telling status text night asked due zero wrote of =
+      tells_read old new written written' handed telling status text night (input_due words old new (wants.Night telling) status text night asked due)
+      zero wrote of
+
+  compiles_due : (status : Status) (text : List ℕ) (night : Option Night)
+      → asked_of words ≡ Some (asks.Input (wants.Definitions CanonicalText)) → Due words old new status text night
+      → number_of status ≡ 0 → Appends written written' text → Compiles old new written written'
+  compiles_due status text night asked due zero wrote =
+      compiles_read old new written written' status text night
+      (input_due words old new (wants.Definitions CanonicalText) status text night asked due) zero wrote
+
+  plans_due : (day : ℕ) (status : Status) (text : List ℕ) (night : Option Night)
+      → asked_of words ≡ Some (asks.Input (wants.Definitions (Plan day))) → Due words old new status text night
+      → number_of status ≡ 0 → Appends written written' text → Plans day old new written written'
+  plans_due day status text night asked due zero wrote =
+      plans_read old new written written' day status text night
+      (input_due words old new (wants.Definitions (Plan day)) status text night asked due) zero wrote
 
 words_due : (words : List (List ℕ)) (old new : Option Stream) (status : Status) (text : List ℕ) (night : Option Night)
     → Due words old new status text night → number_of status ≡ 2 → asked_of words ≡ None
 words_due words old new status text night (Due.other_words e) two = e
 words_due words old new status text night (Due.sampled jobs seed e) two = absurd (let never : ⊥ = omega arith in never)
-words_due words old new status text night (Due.by_input t e read) two =
-    absurd (by_status status (read_of_record t old new status text night read) two)
+words_due words old new status text night (Due.by_input w e read) two =
+    absurd (by_status status (read_of_input w old new status text night read) two)
   where
-    by_status : (s : Status) → IsOfRecord s → number_of s ≡ 2 → ⊥
+    by_status : (s : Status) → IsOfInput s → number_of s ≡ 2 → ⊥
     by_status s success f = omega arith
+    by_status s definitions_ f = omega arith
     by_status s refused f = omega arith
     by_status s limit_ f = omega arith
+    by_status s wrong_ f = omega arith
 
 -- the statuses that are said
 pub data IsSaid : ℕ → Type 0 where
   said_0 : IsSaid 0
+  said_1 : IsSaid 1
   said_2 : IsSaid 2
   said_3 : IsSaid 3
   said_10 : IsSaid 10
+  said_11 : IsSaid 11
 
 said_due : (words : List (List ℕ)) (old new : Option Stream) (status : Status) (text : List ℕ) (night : Option Night)
     → Due words old new status text night → IsSaid (number_of status)
 said_due words old new status text night (Due.other_words e) = said_2
 said_due words old new status text night (Due.sampled jobs seed e) = said_0
-said_due words old new status text night (Due.by_input t e read) =
-    by_status status (read_of_record t old new status text night read)
+said_due words old new status text night (Due.by_input w e read) =
+    by_status status (read_of_input w old new status text night read)
   where
-    by_status : (s : Status) → IsOfRecord s → IsSaid (number_of s)
+    by_status : (s : Status) → IsOfInput s → IsSaid (number_of s)
     by_status s success = said_0
+    by_status s definitions_ = said_1
     by_status s refused = said_3
     by_status s limit_ = said_10
+    by_status s wrong_ = said_11
 
 -- whether a world is handed back
 has_none : (h : Option WorldState) → IsOf h None → is_some h ≡ false
@@ -205,51 +375,82 @@ no_world asked status handed none other = record {
   only_records = λ is. let never : false ≡ true = sym (ap (λ (o : Option WorldState). is_some o) none) ∙ is in cc;
 }
 
-world_called : (asked : Option Asked) (telling : Telling) (bytes : List ℕ) (status : Status) (text : List ℕ)
-    (night : Option Night) (handed : Option WorldState) → asked ≡ Some (asks.Night telling)
-    → CallsFor telling (read_bytes bytes) status text night → IsOf handed night
-    → WorldIsFor asked (number_of status) handed
-world_called asked telling bytes status text night handed is (CallsFor.no_record line kind e) of =
-    let none = has_none handed of in record {
-      there = λ zero _. absurd (let never : ⊥ = omega arith in never);
-      only_0 = λ has. let never : false ≡ true = sym none ∙ has in cc;
-      only_records = λ has. ap asks_record is;
-    }
-world_called asked telling bytes status text night handed is (CallsFor.stopped s line cause e run) of =
-    let none = has_none handed of in record {
-      there = λ zero _. absurd (stop_is_no_success (told cause) zero);
-      only_0 = λ has. let never : false ≡ true = sym none ∙ has in cc;
-      only_records = λ has. ap asks_record is;
-    }
-world_called asked telling bytes status text night handed is (CallsFor.ran s x e run) of = record {
-  there = λ _ _. has_some handed (record { net = s.net; world = x }) of;
+-- nothing is handed back of an answer without a night, which has a cause of its own or is of no record
+without_night : (asked : Option Asked) (status : ℕ) (handed : Option WorldState) → IsOf handed None
+    → (status ≡ 0 → asks_record asked ≡ true → ⊥) → WorldIsFor asked status handed
+without_night asked status handed of never_both = record {
+  there = λ zero is. absurd (never_both zero is);
+  only_0 = λ has. let never : false ≡ true = sym (has_none handed of) ∙ has in cc;
+  only_records = λ has. let never : false ≡ true = sym (has_none handed of) ∙ has in cc;
+}
+
+world_run : (asked : Option Asked) (telling : Telling) (r : Record) (status : Status) (text : List ℕ)
+    (night : Option Night) (handed : Option WorldState) → asked ≡ Some (asks.Input (wants.Night telling))
+    → RunCallsFor telling r status text night → IsOf handed night → WorldIsFor asked (number_of status) handed
+world_run asked telling r status text night handed is (RunCallsFor.stopped line cause run) of =
+    without_night asked (number_of status) handed of (λ zero _. stop_is_no_success (told cause) zero)
+world_run asked telling r status text night handed is (RunCallsFor.ran x run) of = record {
+  there = λ _ _. has_some handed (record { net = r.script.net; world = x }) of;
   only_0 = λ _. refl;
   only_records = λ _. ap asks_record is;
 }
+
+world_called : (asked : Option Asked) (telling : Telling) (bytes : List ℕ) (status : Status) (text : List ℕ)
+    (night : Option Night) (handed : Option WorldState) → asked ≡ Some (asks.Input (wants.Night telling))
+    → RecordCallsFor telling bytes status text night → IsOf handed night → WorldIsFor asked (number_of status) handed
+world_called asked telling bytes status text night handed is (RecordCallsFor.no_record line kind e) of =
+    without_night asked (number_of status) handed of (λ zero _. let never : ⊥ = omega arith in never)
+world_called asked telling bytes status text night handed is (RecordCallsFor.read r e run) of =
+    world_run asked telling r status text night handed is run of
+
+definitions_called : (asked : Option Asked) (wish : Wish) (bytes : List ℕ) (status : Status) (text : List ℕ)
+    (night : Option Night) (handed : Option WorldState) → asked ≡ Some (asks.Input (wants.Definitions wish))
+    → DefinitionsCallFor wish bytes status text night → IsOf handed night → WorldIsFor asked (number_of status) handed
+definitions_called asked wish bytes status text night handed is (DefinitionsCallFor.comes o comes) of =
+    without_night asked (number_of status) handed of
+    (λ _ records. let never : false ≡ true = sym (ap asks_record is) ∙ records in cc)
+
+history_called : (asked : Option Asked) (h : HistoryText) (status : Status) (text : List ℕ) (night : Option Night)
+    (handed : Option WorldState) → asked ≡ Some (asks.Input wants.Audit) → HistoryCallsFor h status text night
+    → IsOf handed night → WorldIsFor asked (number_of status) handed
+history_called asked h status text night handed is (HistoryCallsFor.sound s) of =
+    without_night asked (number_of status) handed of
+    (λ _ records. let never : false ≡ true = sym (ap asks_record is) ∙ records in cc)
+history_called asked h status text night handed is (HistoryCallsFor.not_sound n w) of =
+    without_night asked (number_of status) handed of
+    (λ _ records. let never : false ≡ true = sym (ap asks_record is) ∙ records in cc)
+
+audit_called : (asked : Option Asked) (bytes : List ℕ) (status : Status) (text : List ℕ) (night : Option Night)
+    (handed : Option WorldState) → asked ≡ Some (asks.Input wants.Audit) → AuditCallsFor bytes status text night
+    → IsOf handed night → WorldIsFor asked (number_of status) handed
+audit_called asked bytes status text night handed is (AuditCallsFor.no_history line kind e) of =
+    without_night asked (number_of status) handed of
+    (λ _ records. let never : false ≡ true = sym (ap asks_record is) ∙ records in cc)
+audit_called asked bytes status text night handed is (AuditCallsFor.read h e called) of =
+    history_called asked h status text night handed is called of
+
+world_read : (asked : Option Asked) (wanted : Wanted) (bytes : List ℕ) (status : Status) (text : List ℕ)
+    (night : Option Night) (handed : Option WorldState) → asked ≡ Some (asks.Input wanted)
+    → CallsFor wanted bytes status text night → IsOf handed night → WorldIsFor asked (number_of status) handed
+world_read asked (wants.Night telling) bytes status text night handed is called of =
+    world_called asked telling bytes status text night handed is called of
+world_read asked (wants.Definitions wish) bytes status text night handed is called of =
+    definitions_called asked wish bytes status text night handed is called of
+world_read asked wants.Audit bytes status text night handed is called of =
+    audit_called asked bytes status text night handed is called of
 
 world_due : (words : List (List ℕ)) (old new : Option Stream) (status : Status) (text : List ℕ) (night : Option Night)
     (handed : Option WorldState) → Due words old new status text night → IsOf handed night
     → WorldIsFor (asked_of words) (number_of status) handed
 world_due words old new status text night handed (Due.other_words e) of =
-    let none = has_none handed of in record {
-      there = λ zero _. absurd (let never : ⊥ = omega arith in never);
-      only_0 = λ has. let never : false ≡ true = sym none ∙ has in cc;
-      only_records = λ has. let never : false ≡ true = sym none ∙ has in cc;
-    }
+    without_night (asked_of words) (number_of status) handed of (λ zero _. let never : ⊥ = omega arith in never)
 world_due words old new status text night handed (Due.sampled jobs seed e) of =
-    let none = has_none handed of in record {
-      there = λ _ asks_. let never : false ≡ true = sym (ap asks_record e) ∙ asks_ in cc;
-      only_0 = λ has. let never : false ≡ true = sym none ∙ has in cc;
-      only_records = λ has. let never : false ≡ true = sym none ∙ has in cc;
-    }
-world_due words old new status text night handed (Due.by_input t e (ReadCallsFor.too_long takes)) of =
-    let none = has_none handed of in record {
-      there = λ zero _. absurd (let never : ⊥ = omega arith in never);
-      only_0 = λ has. let never : false ≡ true = sym none ∙ has in cc;
-      only_records = λ has. ap asks_record e;
-    }
-world_due words old new status text night handed (Due.by_input t e (ReadCallsFor.read bytes all short called)) of =
-    world_called (asked_of words) t bytes status text night handed e called of
+    without_night (asked_of words) (number_of status) handed of
+    (λ _ records. let never : false ≡ true = sym (ap asks_record e) ∙ records in cc)
+world_due words old new status text night handed (Due.by_input w e (ReadCallsFor.too_long takes)) of =
+    without_night (asked_of words) (number_of status) handed of (λ zero _. let never : ⊥ = omega arith in never)
+world_due words old new status text night handed (Due.by_input w e (ReadCallsFor.read bytes all short called)) of =
+    world_read (asked_of words) w bytes status text night handed e called of
 
 -- what holds of an answer
 module _ (words : List (List ℕ)) (old new : Option Stream) (result : ℕ) (handed : Option WorldState)
@@ -258,21 +459,55 @@ module _ (words : List (List ℕ)) (old new : Option Stream) (result : ℕ) (han
   answered : (n : ℕ) → n ≢ 5 → result ≡ n → (number_of a.status ≡ n) × Appends written written' a.text
   answered n other is = let all = a.says.all (λ e. other (sym is ∙ e)) in (sym all.0 ∙ is, all.1)
 
-  pub done_said : result ≡ 0 → (telling : Telling) → asked_of words ≡ Some (asks.Night telling)
+  pub done_said : result ≡ 0 → (telling : Telling) → asked_of words ≡ Some (asks.Input (wants.Night telling))
       → Tells telling old new written written' handed
   done_said e telling asked =
       let said = answered 0 (λ f. omega arith) e in
       tells_due old new written written' handed words telling a.status a.text a.night asked a.due said.0 said.1
       (a.whole (λ f. let never : 0 ≡ 5 = sym e ∙ f in omega arith))
 
+  pub compiled_said : result ≡ 0 → asked_of words ≡ Some (asks.Input (wants.Definitions CanonicalText))
+      → Compiles old new written written'
+  compiled_said e asked =
+      let said = answered 0 (λ f. omega arith) e in
+      compiles_due old new written written' handed words a.status a.text a.night asked a.due said.0 said.1
+
+  pub planned_said : result ≡ 0 → (day : ℕ) → asked_of words ≡ Some (asks.Input (wants.Definitions (Plan day)))
+      → Plans day old new written written'
+  planned_said e day asked =
+      let said = answered 0 (λ f. omega arith) e in
+      plans_due old new written written' handed words day a.status a.text a.night asked a.due said.0 said.1
+
+  pub definitions_said : result ≡ 1 → (wish : Wish) × (asked_of words ≡ Some (asks.Input (wants.Definitions wish)))
+      × RefusesDefinitions wish old new written written'
+  definitions_said e =
+      let said = answered 1 (λ f. omega arith) e in
+      refused_due old new written written' handed words a.status a.text a.night a.due said.0 said.1
+
   pub words_said : result ≡ 2 → asked_of words ≡ None
   words_said e =
       let said = answered 2 (λ f. omega arith) e in words_due words old new a.status a.text a.night a.due said.0
 
-  pub refused_said : result ≡ 3 → Refuses old new written written'
-  refused_said e =
+  pub refused_said : result ≡ 3 → asked_of words ≢ Some (asks.Input wants.Audit) → Refuses old new written written'
+  refused_said e other =
       let said = answered 3 (λ f. omega arith) e in
-      refuses_due old new written written' handed words a.status a.text a.night a.due said.0 said.1
+      refuses_due old new written written' handed words a.status a.text a.night a.due said.0 said.1 other
+
+  pub history_refused_said : result ≡ 3 → asked_of words ≡ Some (asks.Input wants.Audit)
+      → RefusesHistory old new written written'
+  history_refused_said e asked =
+      let said = answered 3 (λ f. omega arith) e in
+      refuses_history_due old new written written' handed words a.status a.text a.night asked a.due said.0 said.1
+
+  pub sound_said : result ≡ 0 → asked_of words ≡ Some (asks.Input wants.Audit) → FindsSound old new written written'
+  sound_said e asked =
+      let said = answered 0 (λ f. omega arith) e in
+      sound_due old new written written' handed words a.status a.text a.night asked a.due said.0 said.1
+
+  pub wrong_said : result ≡ 11 → (asked_of words ≡ Some (asks.Input wants.Audit)) × FindsWrong old new written written'
+  wrong_said e =
+      let said = answered 11 (λ f. omega arith) e in
+      wrong_due old new written written' handed words a.status a.text a.night a.due said.0 said.1
 
   pub limit_said : result ≡ 10 → PassesLimit old new written written'
   limit_said e =
@@ -313,19 +548,23 @@ by_silence result Q four nine other = go (result == 4) (result == 9) refl refl
 pub apart : (result n m : ℕ) → result ≡ n → (n ≡ m → ⊥) → result ≢ m
 apart result n m e other f = other (sym e ∙ f)
 
-not_4 : (s : Status) → IsOfRecord s → number_of s ≡ 4 → ⊥
+not_4 : (s : Status) → IsOfInput s → number_of s ≡ 4 → ⊥
 not_4 s success e = omega arith
+not_4 s definitions_ e = omega arith
 not_4 s refused e = omega arith
 not_4 s limit_ e = omega arith
+not_4 s wrong_ e = omega arith
 
-not_9 : (s : Status) → IsOfRecord s → number_of s ≡ 9 → ⊥
+not_9 : (s : Status) → IsOfInput s → number_of s ≡ 9 → ⊥
 not_9 s success e = omega arith
+not_9 s definitions_ e = omega arith
 not_9 s refused e = omega arith
 not_9 s limit_ e = omega arith
+not_9 s wrong_ e = omega arith
 
 -- a reply is never silent
 pub no_silence : (status : Status) (text : List ℕ) (result : ℕ) (written written' : Option (List ℕ)) (faults faults' : ℕ)
-    → IsOfRecord status → Says status text result written written' faults faults' → (result ≡ 4) ⊎ (result ≡ 9) → ⊥
+    → IsOfInput status → Says status text result written written' faults faults' → (result ≡ 4) ⊎ (result ≡ 9) → ⊥
 no_silence status text result written written' faults faults' is says (inl e) =
     not_4 status is (sym (says.all (apart result 4 5 e (λ f. omega arith))).0 ∙ e)
 no_silence status text result written written' faults faults' is says (inr e) =

@@ -1,65 +1,105 @@
 -- What is due for words and input, and what saying it is.
-use Rattle.std.specs.Prelude.{◌≡◌, ◌≢◌, ◌<◌, ◌≤◌, ℕ, List, Option, Some, None, Result, Ok, Err, length, codes}
+use Rattle.std.specs.Prelude.{◌≡◌, ◌≢◌, ◌<◌, ◌≤◌, ℕ, List, Option, Some, None, Ok, Err, length, codes}
 use Rattle.std.specs.Io.KnownBytes.{Appends}
 use Rattle.base_types.specs.declared.LimitName.TheVariants as limit
 use Rattle.outside.specs.Causes.{Rose}
 use Rattle.outside.specs.Streams.{Stream, TakesAll}
 use Rattle.whole_io.specs.Whole.{TakesCount, WritesFront}
+use Rattle.event_audit.specs.Items.{IsFirstWrong}
+use Rattle.history_script.specs.declared.histories.HistoryKind.{HistoryKind}
+use Rattle.history_script.specs.declared.histories.HistoryText.{HistoryText}
 use Rattle.model.specs.Sound.{IsSound}
 use Rattle.model.specs.World as model
 use Rattle.network_world.specs.Stations.{WorldState}
 use Rattle.network_world.specs.Standing.{StandsFor}
+use Rattle.night_records.specs.declared.Record.{Record}
+use Rattle.definition_replies.specs.Replies.{ComesOf}
+use Rattle.definition_replies.specs.declared.Outcome.{Outcome}
+use Rattle.definition_replies.specs.declared.Wish.{Wish}
 use Rattle.record_faults.specs.declared.kinds.ScriptKind.{ScriptKind}
 use Rattle.record_runs.specs.Causes.{Cause, told}
-use Rattle.record_runs.specs.Ends.{run_of_script}
 use Rattle.record_runs.specs.Runs as runs
-use Rattle.record_script.specs.declared.scripts.Script.{Script}
 use Rattle.sample_record.specs.Samples.{sample_of}
 use Rattle.tws_top.specs.declared.replies.Reply.{Reply}
 use Rattle.tws_top.specs.declared.statuses.Status.{Status}
-use Rattle.tws_top.specs.declared.statuses.Status.TheVariants.{Success, WordsRefused, RecordRefused, LimitPassed}
+use Rattle.tws_top.specs.declared.statuses.Status.TheVariants.{Success, WordsRefused, RecordRefused, LimitPassed, NotSound}
 use Rattle.tws_top.specs.declared.words.Telling.{Telling}
+use Rattle.tws_top.specs.declared.words.Wanted.{Wanted}
+use Rattle.tws_top.specs.declared.words.Wanted.TheVariants.{Night as ANight, Definitions, Audit}
 use Rattle.tws_top.specs.declared.words.Asked.TheVariants as asks
 use Rattle.tws_top.specs.Words.{asked_of}
 use Rattle.tws_top.specs.Statuses.{number_of}
 use Rattle.tws_top.specs.Lines.{refused_line, limit_line, limit_word, kind_word, stop_status, stop_line}
-use Rattle.tws_top.specs.Nights.{Night, no_days, read_bytes, told_at}
+use Rattle.tws_top.specs.Lines.{outcome_status, outcome_text, history_word, sound_line, not_sound_line}
+use Rattle.tws_top.specs.Audits.{AreHistory}
+use Rattle.tws_top.specs.Nights.{Night, AreRead, IsRun, told_at}
 
--- What the bytes of an input call for, by what they are: 3 with the first faulty line, 3 or 10 with the line that
--- cannot be taken or the limit, and 0 with what is told of the world that the steps make.
-pub data CallsFor (telling : Telling) (reading : Result Script (ℕ × ScriptKind)) : Status → List ℕ → Option Night → Type 0
-  where
-    no_record : (line : ℕ) (kind : ScriptKind) → reading ≡ Err (line, kind)
-        → CallsFor telling reading RecordRefused (refused_line line (kind_word kind)) None
-    stopped : (s : Script) (line : ℕ) (cause : Cause) → reading ≡ Ok s
-        → run_of_script no_days s ≡ runs.stopped line cause
-        → CallsFor telling reading (stop_status (told cause)) (stop_line line (told cause)) None
-    ran : (s : Script) (x : model.World) → reading ≡ Ok s → run_of_script no_days s ≡ runs.done x
-        → CallsFor telling reading Success (told_at telling s.net x) (Some (record { net = s.net; world = x }))
+-- What the run of a record calls for: 3 or 10 with the line that cannot be taken or the limit, and 0 with what is told of
+-- the world that the steps make.
+pub data RunCallsFor (telling : Telling) (r : Record) : Status → List ℕ → Option Night → Type 0 where
+  stopped : (line : ℕ) (cause : Cause) → IsRun r (runs.stopped line cause)
+      → RunCallsFor telling r (stop_status (told cause)) (stop_line line (told cause)) None
+  ran : (x : model.World) → IsRun r (runs.done x)
+      → RunCallsFor telling r Success (told_at telling r.script.net x) (Some (record { net = r.script.net; world = x }))
+
+-- What the bytes of a record call for, by what they are read to: 3 with the first faulty line, and else what the run
+-- calls for.
+pub data RecordCallsFor (telling : Telling) (bytes : List ℕ) : Status → List ℕ → Option Night → Type 0 where
+  no_record : (line : ℕ) (kind : ScriptKind) → AreRead bytes (Err (line, kind))
+      → RecordCallsFor telling bytes RecordRefused (refused_line line (kind_word kind)) None
+  read : {status : Status} {text : List ℕ} {night : Option Night} → (r : Record) → AreRead bytes (Ok r)
+      → RunCallsFor telling r status text night → RecordCallsFor telling bytes status text night
+
+-- What bytes call for where definitions are wanted: what comes of them.
+pub data DefinitionsCallFor (wish : Wish) (bytes : List ℕ) : Status → List ℕ → Option Night → Type 0 where
+  comes : (o : Outcome) → ComesOf wish bytes o
+      → DefinitionsCallFor wish bytes (outcome_status o) (outcome_text o) None
+
+-- What a history calls for: 0 with the numbers of its entries and starts where it is sound, and else 11 with its first
+-- wrong item.
+pub data HistoryCallsFor (h : HistoryText) : Status → List ℕ → Option Night → Type 0 where
+  sound : IsSound h.net h.entries h.starts
+      → HistoryCallsFor h Success (sound_line (length h.entries) (length h.starts)) None
+  not_sound : (item : ℕ) → IsFirstWrong h.net h.entries h.starts item
+      → HistoryCallsFor h NotSound (not_sound_line item) None
+
+-- What the bytes of a history call for, by what they are read to: 3 with the first faulty line, and else what the history
+-- calls for.
+pub data AuditCallsFor (bytes : List ℕ) : Status → List ℕ → Option Night → Type 0 where
+  no_history : (line : ℕ) (kind : HistoryKind) → AreHistory bytes (Err (line, kind))
+      → AuditCallsFor bytes RecordRefused (refused_line line (history_word kind)) None
+  read : {status : Status} {text : List ℕ} {night : Option Night} → (h : HistoryText) → AreHistory bytes (Ok h)
+      → HistoryCallsFor h status text night → AuditCallsFor bytes status text night
+
+-- what the bytes of an input call for, by what is wanted of it
+abbrev pub CallsFor : Wanted → List ℕ → Status → List ℕ → Option Night → Type 0
+CallsFor (ANight telling) bytes status text night = RecordCallsFor telling bytes status text night
+CallsFor (Definitions wish) bytes status text night = DefinitionsCallFor wish bytes status text night
+CallsFor Audit bytes status text night = AuditCallsFor bytes status text night
 
 -- What an input calls for, by what was read of it: more bytes than the limit call for 10, and fewer for what they are.
-pub data ReadCallsFor (telling : Telling) (old new : Option Stream) : Status → List ℕ → Option Night → Type 0 where
+pub data ReadCallsFor (wanted : Wanted) (old new : Option Stream) : Status → List ℕ → Option Night → Type 0 where
   too_long : TakesCount 16777217 old new
-      → ReadCallsFor telling old new LimitPassed (limit_line (limit_word limit.Input) 16777216) None
+      → ReadCallsFor wanted old new LimitPassed (limit_line (limit_word limit.Input) 16777216) None
   read : {status : Status} {text : List ℕ} {night : Option Night} → (bytes : List ℕ) → TakesAll old new bytes
-      → length bytes ≤ 16777216 → CallsFor telling (read_bytes bytes) status text night
-      → ReadCallsFor telling old new status text night
+      → length bytes ≤ 16777216 → CallsFor wanted bytes status text night
+      → ReadCallsFor wanted old new status text night
 
 -- The status, the text and the night that are due, in the order of the causes: the words, then the input.
 pub data Due (words : List (List ℕ)) (old new : Option Stream) : Status → List ℕ → Option Night → Type 0 where
   other_words : asked_of words ≡ None → Due words old new WordsRefused (codes "words refused\n") None
   sampled : (jobs seed : ℕ) → asked_of words ≡ Some (asks.Sample jobs seed)
       → Due words old new Success (sample_of jobs seed) None
-  by_input : {status : Status} {text : List ℕ} {night : Option Night} → (telling : Telling)
-      → asked_of words ≡ Some (asks.Night telling) → ReadCallsFor telling old new status text night
+  by_input : {status : Status} {text : List ℕ} {night : Option Night} → (wanted : Wanted)
+      → asked_of words ≡ Some (asks.Input wanted) → ReadCallsFor wanted old new status text night
       → Due words old new status text night
 
 -- what the bytes that a source still has call for
-pub data LeftCallsFor (telling : Telling) (left : List ℕ) : Status → List ℕ → Option Night → Type 0 where
+pub data LeftCallsFor (wanted : Wanted) (left : List ℕ) : Status → List ℕ → Option Night → Type 0 where
   too_long : 16777216 < length left
-      → LeftCallsFor telling left LimitPassed (limit_line (limit_word limit.Input) 16777216) None
+      → LeftCallsFor wanted left LimitPassed (limit_line (limit_word limit.Input) 16777216) None
   read : {status : Status} {text : List ℕ} {night : Option Night} → length left ≤ 16777216
-      → CallsFor telling (read_bytes left) status text night → LeftCallsFor telling left status text night
+      → CallsFor wanted left status text night → LeftCallsFor wanted left status text night
 
 -- The status is answered and the whole text was written; or 5 is answered, the sink failed, and a front of the text was
 -- written.

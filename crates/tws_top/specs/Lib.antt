@@ -3,5 +3,6 @@ pub mod Words
 pub mod Statuses
 pub mod Lines
 pub mod Nights
+pub mod Audits
 pub mod Dues
 pub mod Rows

@@ -1,34 +1,35 @@
--- Records of nights: what bytes are, and what is told of the world that their steps make.
-use Rattle.std.specs.Prelude.{ℕ, ◌+◌, ◌==◌, List, Result, Ok, Err, count_by, take, length, if◌then◌else◌}
-use Rattle.std.specs.Str.Lossy.{utf8_valid_len}
+-- Records of nights: what bytes are read to, how a record runs, and what is told of the world that its steps make.
+use Rattle.std.specs.Prelude.{◌≡◌, ℕ, List, Result, Err, length}
 use Rattle.base_types.specs.declared.Net.{Net}
+use Rattle.definition_texts.specs.Refusals.{IsText, bad_byte_line}
 use Rattle.model.specs.World as model
 use Rattle.model.specs.World.{view_at}
 use Rattle.network_world.specs.Parts.{parts_of}
+use Rattle.night_records.specs.Days.{ArePlans}
+use Rattle.night_records.specs.Readings.{At, IsRead}
+use Rattle.night_records.specs.declared.Record.{Record}
 use Rattle.night_summary.specs.Counts.{stream_counts, job_counts}
-use Rattle.record_faults.specs.declared.kinds.ScriptKind.{ScriptKind}
 use Rattle.record_faults.specs.declared.kinds.ScriptKind.TheVariants.{BadLine}
-use Rattle.record_runs.specs.Causes.{no_moment}
+use Rattle.record_runs.specs.Ends.{run_of_script}
 use Rattle.record_runs.specs.Lines.{Day}
-use Rattle.record_script.specs.declared.scripts.Script.{Script}
-use Rattle.record_script.specs.Scripts.{read_of}
+use Rattle.record_runs.specs.Runs.{End}
 use Rattle.report_text.specs.Reports.{report_of}
 use Rattle.report_text.specs.Summaries.{summary_of}
 use Rattle.tws_top.specs.declared.words.Telling.{Telling}
 use Rattle.tws_top.specs.declared.words.Telling.TheVariants.{Report, Summary}
 
--- the line of the first byte that is no part of UTF-8: one more than the line feeds before it
-abbrev pub bad_byte_line : List ℕ → ℕ
-bad_byte_line bytes = 1 + count_by (λ b. b == 10) (take (utf8_valid_len bytes) bytes)
+-- What bytes are read to. Those that are no UTF-8 are refused at the line of the first byte that is no part of it, and
+-- that comes before every other fault.
+pub data AreRead (bytes : List ℕ) : Result Record At → Type 0 where
+  no_text : (IsText bytes → ⊥) → AreRead bytes (Err (bad_byte_line bytes, BadLine))
+  text : {reading : Result Record At} → IsText bytes → IsRead bytes reading → AreRead bytes reading
 
--- The record that bytes are, or its first faulty line: bytes that are no UTF-8 come before every other fault.
-abbrev pub read_bytes : List ℕ → Result Script (ℕ × ScriptKind)
-read_bytes bytes =
-    if utf8_valid_len bytes == length bytes then read_of bytes else Err (bad_byte_line bytes, BadLine)
-
--- No day has a plan: a record that asks for that of a day is refused where it is read.
-abbrev pub no_days : Day
-no_days day = Err no_moment
+-- How the run of a record ends. Its days have the plans that its definitions give; without definitions no line asks for
+-- one.
+pub record IsRun (r : Record) (end : End) : Type 0 where
+  pub days : Day
+  pub are_plans : ArePlans r.workload days
+  pub ends : run_of_script days r.script ≡ end
 
 -- the report of a world
 abbrev pub report_at : Net → model.World → List ℕ

@@ -1,14 +1,16 @@
 -- Exit statuses by their numbers.
 use Rattle.std.specs.Prelude.{ℕ}
 use Rattle.tws_top.specs.declared.statuses.Status.{Status}
-use Rattle.tws_top.specs.declared.statuses.Status.TheVariants.{Success, WordsRefused, RecordRefused, SourceFailed}
-use Rattle.tws_top.specs.declared.statuses.Status.TheVariants.{SinkFailed, NoMemory, LimitPassed}
+use Rattle.tws_top.specs.declared.statuses.Status.TheVariants.{Success, DefinitionsRefused, WordsRefused, RecordRefused}
+use Rattle.tws_top.specs.declared.statuses.Status.TheVariants.{SourceFailed, SinkFailed, NoMemory, LimitPassed, NotSound}
 
 abbrev pub number_of : Status → ℕ
 number_of Success = 0
+number_of DefinitionsRefused = 1
 number_of WordsRefused = 2
 number_of RecordRefused = 3
 number_of SourceFailed = 4
 number_of SinkFailed = 5
 number_of NoMemory = 9
 number_of LimitPassed = 10
+number_of NotSound = 11

@@ -1,11 +1,15 @@
 //! The top call of the program: its words, its input, what it writes, and its exit status.
 //!
 //! `tws` does what its words ask for, and `specs/Dues` is the table of what is due: one row for each cause, in the order
-//! in which causes count, with the status and the text. Each form of words has a part of its own: records of nights
-//! (`records`) are reported or summed up, and samples (`samples`) are made. The world of a night is handed back with its
-//! report or its summary, as the nodes made it, and its history is sound.
+//! in which causes count, with the status and the text. Each form of words has a part of its own: of the input
+//! (`inputs`), records of nights of either kind (`records`) are reported or summed up, and definitions (`definitions`) are
+//! printed or planned, and histories (`audits`) are judged; samples (`samples`) are made. The world of a night is handed
+//! back with its report or its summary, as the nodes made it, and its history is sound.
 #![tactic(auto)]
 
+mod audits;
+mod definitions;
+mod inputs;
 mod lines;
 mod records;
 mod replies;

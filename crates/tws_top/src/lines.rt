@@ -1,27 +1,42 @@
 //! The lines of refusals.
 ghost use Rattle.std.specs.Prelude.{◌≡◌, ◌++◌, None, IfOk, OnOk, codes};
 ghost use Rattle.std.specs.Fmt.{decimal};
+ghost use Rattle.definition_texts.specs.Kinds.{word_of};
 ghost use Rattle.tws_top.specs.Lines as spec;
 ghost use Rattle.tws_top.specs.declared.statuses.Status.TheVariants as status;
 
 use crate::replies::Reply;
 use crate::statuses::Status;
 use base_types::{Items, LimitName, NoMemory};
+use definition_texts::Refusal;
+use history_script::HistoryKind;
 use record_runs::Stop;
 use record_script::ScriptKind;
 use std::alloc::Global;
 use std::io::{self, Write};
 
-fn write_refused(out: &mut Vec<u8>, line: u32, kind: &str) -> io::Result<()>
-    ensures { OnOk result (out.new.items ≡ out.old.items ++ spec.refused_line line kind.now) }
+fn write_refused(out: &mut Vec<u8>, what: &str, line: u32, kind: &str) -> io::Result<()>
+    ensures { OnOk result (out.new.items ≡ out.old.items ++ spec.refusal_of what.now line kind.now) }
 {
-    write!(out, "record refused: line {line} {kind}\n")
+    write!(out, "{what} refused: line {line} {kind}\n")
 }
 
 fn write_limit(out: &mut Vec<u8>, name: &str, number: u32) -> io::Result<()>
     ensures { OnOk result (out.new.items ≡ out.old.items ++ spec.limit_line name.now number) }
 {
     write!(out, "limit: {name} {number}\n")
+}
+
+fn write_sound(out: &mut Vec<u8>, entries: usize, starts: usize) -> io::Result<()>
+    ensures { OnOk result (out.new.items ≡ out.old.items ++ spec.sound_line entries starts) }
+{
+    write!(out, "sound {entries} {starts}\n")
+}
+
+fn write_not_sound(out: &mut Vec<u8>, item: u32) -> io::Result<()>
+    ensures { OnOk result (out.new.items ≡ out.old.items ++ spec.not_sound_line item) }
+{
+    write!(out, "not sound: entry {item}\n")
 }
 
 /// A record that is refused at a line.
@@ -31,9 +46,26 @@ fn refused(alloc: Global, line: u32, kind: &str) -> Result<Reply, NoMemory>
     ensures world { IfOk result (λ r. r.world ≡ None) }
 {
     let mut out = Vec::new(alloc);
-    match write_refused(&mut out, line, kind) {
+    match write_refused(&mut out, "record", line, kind) {
         Ok(()) => Ok(Reply {
             status: Status::RecordRefused,
+            text: Items::of_vec(out),
+            world: None,
+        }),
+        Err(_) => Err(NoMemory),
+    }
+}
+
+/// Definitions that are refused at a line.
+pub(crate) fn definitions_refused(alloc: Global, refusal: Refusal) -> Result<Reply, NoMemory>
+    ensures status { IfOk result (λ r. r.status ≡ status.DefinitionsRefused) }
+    ensures text { IfOk result (λ r. r.text ≡ spec.definitions_line refusal.line (word_of refusal.kind)) }
+    ensures world { IfOk result (λ r. r.world ≡ None) }
+{
+    let mut out = Vec::new(alloc);
+    match write_refused(&mut out, "definitions", refusal.line, refusal.kind.word()) {
+        Ok(()) => Ok(Reply {
+            status: Status::DefinitionsRefused,
             text: Items::of_vec(out),
             world: None,
         }),
@@ -67,6 +99,53 @@ pub(crate) fn bad_line(alloc: Global, line: u32, kind: ScriptKind) -> Result<Rep
     refused(alloc, line, kind_word(kind))
 }
 
+/// A line of the history that is none.
+pub(crate) fn bad_history_line(
+    alloc: Global,
+    line: u32,
+    kind: HistoryKind,
+) -> Result<Reply, NoMemory>
+    ensures status { IfOk result (λ r. r.status ≡ status.RecordRefused) }
+    ensures text { IfOk result (λ r. r.text ≡ spec.refused_line line (spec.history_word kind)) }
+    ensures world { IfOk result (λ r. r.world ≡ None) }
+{
+    refused(alloc, line, history_word(kind))
+}
+
+/// A sound history with so many entries and starts.
+pub(crate) fn sound(alloc: Global, entries: usize, starts: usize) -> Result<Reply, NoMemory>
+    ensures status { IfOk result (λ r. r.status ≡ status.Success) }
+    ensures text { IfOk result (λ r. r.text ≡ spec.sound_line entries starts) }
+    ensures world { IfOk result (λ r. r.world ≡ None) }
+{
+    let mut out = Vec::new(alloc);
+    match write_sound(&mut out, entries, starts) {
+        Ok(()) => Ok(Reply {
+            status: Status::Success,
+            text: Items::of_vec(out),
+            world: None,
+        }),
+        Err(_) => Err(NoMemory),
+    }
+}
+
+/// A history whose first wrong item is this, from 1.
+pub(crate) fn not_sound(alloc: Global, item: u32) -> Result<Reply, NoMemory>
+    ensures status { IfOk result (λ r. r.status ≡ status.NotSound) }
+    ensures text { IfOk result (λ r. r.text ≡ spec.not_sound_line item) }
+    ensures world { IfOk result (λ r. r.world ≡ None) }
+{
+    let mut out = Vec::new(alloc);
+    match write_not_sound(&mut out, item) {
+        Ok(()) => Ok(Reply {
+            status: Status::NotSound,
+            text: Items::of_vec(out),
+            world: None,
+        }),
+        Err(_) => Err(NoMemory),
+    }
+}
+
 /// A line whose step cannot be taken, or is refused by a limit.
 pub(crate) fn stopped(alloc: Global, line: u32, stop: Stop) -> Result<Reply, NoMemory>
     ensures status { IfOk result (λ r. r.status ≡ spec.stop_status stop) }
@@ -97,6 +176,23 @@ fn kind_word(kind: ScriptKind) -> &'static str
         ScriptKind::OutOfRange => "OutOfRange",
         ScriptKind::BadTree => "BadTree",
         ScriptKind::NoPlan => "NoPlan",
+        ScriptKind::BadChar => "BadChar",
+        ScriptKind::OpenText => "OpenText",
+        ScriptKind::TooLong => "TooLong",
+        ScriptKind::Expected => "Expected",
+        ScriptKind::LeftOut => "LeftOut",
+        ScriptKind::ForeignResource => "ForeignResource",
+        ScriptKind::FollowsCycle => "FollowsCycle",
+        ScriptKind::Tree => "Tree",
+    }
+}
+
+fn history_word(kind: HistoryKind) -> &'static str
+    ensures { result.now ≡ spec.history_word kind }
+{
+    match kind {
+        HistoryKind::OfRecord(kind) => kind_word(kind),
+        HistoryKind::BadEntry => "BadEntry",
     }
 }
 

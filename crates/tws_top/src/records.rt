@@ -1,35 +1,32 @@
 //! Records of nights: what their bytes call for.
-ghost use Rattle.std.specs.Prelude.{◌≡◌, ◌==◌, ◌+◌, ◌<◌, ◌≤◌, ◌^◌, Ok, None, Some, IfOk, count_by, take, length};
-ghost use Rattle.std.specs.Result.{IsErrOf};
-ghost use Rattle.outside.specs.Causes.{Rose};
+ghost use Rattle.std.specs.Prelude.{◌≡◌, ◌≤◌, ℕ, Ok, Err, None, Some, IfOk, IsTrue, length};
+ghost use Rattle.std.specs.List.{list_all};
 ghost use Rattle.model.specs.Sound.{IsSound};
 ghost use Rattle.model.specs.World as model;
 ghost use Rattle.network_tree.specs.Faults.{net_fault};
 ghost use Rattle.network_world.specs.Standing.{StandsFor};
-ghost use Rattle.record_runs.specs.Ends.{AreLinesInside, AskNoDay};
-ghost use Rattle.record_script.specs.Scripts.{read_of};
+ghost use Rattle.record_faults.specs.declared.kinds.ScriptKind as kinds;
+ghost use Rattle.record_runs.specs.Ends.{AreLinesInside};
+ghost use Rattle.record_script.specs.Inside.{is_inside};
+ghost use Rattle.record_script.specs.declared.ScriptFault.TheVariants.{At as Told};
 ghost use Rattle.tws_top.specs.Nights as spec;
-ghost use Rattle.tws_top.specs.Dues.{CallsFor, ReadCallsFor, IsReply};
-ghost use Rattle.tws_top.specs.declared.replies.Silence.TheVariants.{SourceFailed as Failed_};
+ghost use Rattle.tws_top.specs.Dues.{RecordCallsFor, RunCallsFor, IsReply};
 ghost use Rattle.tws_top.specs.declared.statuses.Status.TheVariants.{Success};
 
-use crate::lines::{bad_line, limit, stopped};
-use crate::replies::{Reply, Silence};
+use crate::lines::{bad_line, stopped};
+use crate::replies::Reply;
 use crate::statuses::Status;
 use crate::words::Telling;
-use base_types::{Bytes, LimitName, NoMemory, Ws};
+use base_types::{Bytes, NoMemory, Ws};
+use definition_texts::line_at;
 use network_world::World;
+use night_records::{Record, read_record, run_record};
 use night_summary::state_counts;
-use outside::Source;
-use record_runs::{RunEnd, run_script};
-use record_script::{Script, ScriptFault, ScriptKind, read_script};
+use record_runs::RunEnd;
+use record_script::{ScriptFault, ScriptKind};
 use report_text::{print_report, print_summary};
 use std::alloc::Global;
 use std::str;
-use whole_io::{ReadError, read_whole};
-
-/// How many bytes an input may have.
-const INPUT_LIMIT: u32 = 16_777_216;
 
 /// The report of a world.
 fn report(alloc: Global, world: &World) -> Result<Bytes, NoMemory>
@@ -96,72 +93,48 @@ fn told(alloc: Global, world: World, telling: Telling) -> Result<Reply, NoMemory
     })
 }
 
-/// What the steps of a record call for.
-fn reply_to_script(alloc: Global, script: Script, telling: Telling) -> Result<Reply, NoMemory>
-    requires accepted { net_fault script.net ≡ None }
-    requires inside { AreLinesInside script.net script.steps }
-    requires no_day { AskNoDay script.steps }
-    ensures { IfOk result (IsReply (CallsFor telling (Ok script))) }
+/// What the run of a record calls for.
+fn reply_to_run(alloc: Global, recorded: Record, telling: Telling) -> Result<Reply, NoMemory>
+    requires accepted { net_fault recorded.script.net ≡ None }
+    requires inside { AreLinesInside recorded.script.net recorded.script.steps }
+    ensures { IfOk result (IsReply (RunCallsFor telling recorded)) }
 {
-    match run_script(alloc, script)? {
+    match run_record(alloc, recorded)? {
         RunEnd::Done(world) => told(alloc, world, telling),
         RunEnd::Stopped(line, stop) => stopped(alloc, line, stop),
     }
 }
 
-/// What a text calls for.
-fn reply_to_text(alloc: Global, text: &str, telling: Telling) -> Result<Reply, NoMemory>
-    requires { length text.now < 2 ^ 32 }
-    ensures { IfOk result (IsReply (CallsFor telling (read_of text.now))) }
-{
-    match read_script(alloc, text) {
-        Ok(script) => reply_to_script(alloc, script, telling),
-        Err(ScriptFault::At(line, kind)) => bad_line(alloc, line, kind),
-        Err(ScriptFault::NoMemory) => Err(NoMemory),
-    }
-}
-
-/// The line, from 1, that has the byte at this place.
-fn line_at(bytes: &[u8], place: usize) -> u32
-    requires there { place ≤ length bytes.now }
-    requires few { length bytes.now ≤ 16777216 }
-    ensures { result ≡ 1 + count_by (λ b. b == 10) (take place bytes.now) }
-{
-    let above = &bytes[..place];
-    let feeds = above.iter().filter(|b| **b == b'\n').count();
-    feeds as u32 + 1
-}
-
-/// What the bytes of an input call for.
-fn reply_to_bytes(alloc: Global, bytes: &[u8], telling: Telling) -> Result<Reply, NoMemory>
+/// The record that bytes are, or its lowest faulty line with the first kind of its faults. Bytes that are no UTF-8 are told
+/// before every other fault.
+fn read_bytes(alloc: Global, bytes: &[u8]) -> Result<Record, ScriptFault>
     requires { length bytes.now ≤ 16777216 }
-    ensures { IfOk result (IsReply (CallsFor telling (spec.read_bytes bytes.now))) }
+    ensures read { IfOk result (λ r. spec.AreRead bytes.now (Ok r)) }
+    ensures accepted { IfOk result (λ r. net_fault r.script.net ≡ None) }
+    ensures inside { IfOk result (λ r. IsTrue (list_all (is_inside r.script.net) r.script.steps)) }
+    ensures at { (n : ℕ) → (k : kinds.ScriptKind) → result ≡ Err (Told n k) → spec.AreRead bytes.now (Err (n, k)) }
 {
     match str::from_utf8(bytes) {
-        Ok(text) => reply_to_text(alloc, text, telling),
-        Err(fault) => bad_line(
-            alloc,
+        Ok(text) => read_record(alloc, text),
+        Err(fault) => Err(ScriptFault::At(
             line_at(bytes, fault.valid_up_to()),
             ScriptKind::BadLine,
-        ),
+        )),
     }
 }
 
-/// Reads the input to its end, and answers what it calls for.
-pub(crate) fn reply_to_input<I: Source>(
+/// What the bytes of an input call for, where they are wanted as a record.
+pub(crate) fn reply_to_record(
     alloc: Global,
-    input: &mut I,
+    bytes: &[u8],
     telling: Telling,
-) -> Result<Reply, Silence>
-    ensures called { IfOk result (IsReply (ReadCallsFor telling (I.stream input.old) (I.stream input.new))) }
-    ensures failed { IsErrOf result Failed_ → Rose (I.faults input.old) (I.faults input.new) }
-    ensures no_fault { (result ≡ Err Failed_ → ⊥) → I.faults input.new ≡ I.faults input.old }
-    ensures later { I.faults input.old ≤ I.faults input.new }
+) -> Result<Reply, NoMemory>
+    requires { length bytes.now ≤ 16777216 }
+    ensures { IfOk result (IsReply (RecordCallsFor telling bytes.now)) }
 {
-    match read_whole(alloc, input, INPUT_LIMIT) {
-        Ok(bytes) => Ok(reply_to_bytes(alloc, &bytes, telling)?),
-        Err(ReadError::TooLong) => Ok(limit(alloc, LimitName::Input, INPUT_LIMIT)?),
-        Err(ReadError::Fault) => Err(Silence::SourceFailed),
-        Err(ReadError::NoMemory) => Err(Silence::NoMemory),
+    match read_bytes(alloc, bytes) {
+        Ok(recorded) => reply_to_run(alloc, recorded, telling),
+        Err(ScriptFault::At(line, kind)) => bad_line(alloc, line, kind),
+        Err(ScriptFault::NoMemory) => Err(NoMemory),
     }
 }

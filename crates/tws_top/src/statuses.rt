@@ -7,9 +7,11 @@ ghost use Rattle.tws_top.specs.Statuses.{number_of};
 pub enum Status {
     /// All is done.
     Success,
+    /// The definitions are none, or have a fault, or a time of the day that is planned has no moment.
+    DefinitionsRefused,
     /// The words have no form.
     WordsRefused,
-    /// A line of the record is none, or its step cannot be taken.
+    /// A line of the record or of the history is none, or the step of one cannot be taken.
     RecordRefused,
     /// The source failed.
     SourceFailed,
@@ -19,6 +21,8 @@ pub enum Status {
     NoMemory,
     /// What is counted passes its limit.
     LimitPassed,
+    /// An item of the history is wrong.
+    NotSound,
 }
 
 impl Status {
@@ -28,12 +32,14 @@ impl Status {
     {
         match self {
             Status::Success => 0,
+            Status::DefinitionsRefused => 1,
             Status::WordsRefused => 2,
             Status::RecordRefused => 3,
             Status::SourceFailed => 4,
             Status::SinkFailed => 5,
             Status::NoMemory => 9,
             Status::LimitPassed => 10,
+            Status::NotSound => 11,
         }
     }
 }

@@ -1,19 +1,4 @@
-use Rattle.std.proofs.Common.{◌∙◌}
-use Rattle.record_runs.proofs.Nights.{all_of_it, script_done, script_stopped, some_of_it}
 use Rattle.record_runs.proofs.runs.run_script.Goals as goal
 
-pub returns-in-None-clause-end : goal.returns-in-None-clause-end
-returns-in-None-clause-end c = λ day.
-    script_done day c.args.script c.in_ok-world.world c.take_lines.new.world c.in_ok-world.world.net c.new-left.result
-    c.as_slice.result.now (c.in_ok-world.ensures.net ∙ c.into_parts-net.ensures.net)
-    (c.new-left.ensures ∙ c.into_parts-net.ensures.plans) (c.as_slice.ensures ∙ c.into_parts-net.ensures.steps)
-    c.in_ok-world.ensures.empty
-    (all_of_it _ _ c.in-None.is (c.in_ok-take_lines.ensures.all day))
-
 pub returns-clause-end : goal.returns-clause-end
-returns-clause-end c = λ day.
-    script_stopped day c.args.script c.in_ok-world.world c.in_ok-world.world.net c.new-left.result
-    c.as_slice.result.now (c.in-Some.line, c.in-Some.stop) (c.in_ok-world.ensures.net ∙ c.into_parts-net.ensures.net)
-    (c.new-left.ensures ∙ c.into_parts-net.ensures.plans) (c.as_slice.ensures ∙ c.into_parts-net.ensures.steps)
-    c.in_ok-world.ensures.empty
-    (some_of_it _ _ _ c.in-Some.is (c.in_ok-take_lines.ensures.stopped day))
+returns-clause-end c = λ day. c.run_days.ensures.end day (λ n answer none. absurd none)

@@ -1,9 +1,9 @@
-use Rattle.std.proofs.Common.{◌≡◌, ◌∙◌, ℕ, Some, sym, ap, refl, inl, inr}
+use Rattle.std.proofs.Common.{◌≡◌, ◌∙◌, ℕ, Some, sym, ap, refl, inl}
 use Rattle.sample_record.specs.Samples.{sample_of}
-use Rattle.tws_top.specs.declared.words.Telling.{Telling}
+use Rattle.tws_top.specs.declared.words.Wanted.{Wanted}
 use Rattle.tws_top.specs.Dues.{IsReply, ReadCallsFor}
-use Rattle.tws_top.proofs.Calling.{reply_not_sink, reply_of_record, by_value, by_two}
-use Rattle.tws_top.proofs.Dues.{answer_words, answer_sample, answer_night}
+use Rattle.tws_top.proofs.Calling.{reply_not_sink, reply_of_input, by_value, by_two}
+use Rattle.tws_top.proofs.Dues.{answer_words, answer_sample, answer_input}
 use Rattle.tws_top.proofs.Rows.{no_silence}
 use Rattle.tws_top.proofs.top.ended.Goals as goal
 
@@ -23,25 +23,25 @@ returns-in-Ok-clause-due g c = λ _ _.
 
 pub returns-in-Ok-reply_to_input-clause-due : goal.returns-in-Ok-reply_to_input-clause-due
 returns-in-Ok-reply_to_input-clause-due g c = λ _ _.
-    answer_night _ _ _ _ _ _ _ _ _ c.in-Some-Night.telling c.in-Ok-reply_to_input.reply
-    (sym c.read_words.ensures.form ∙ c.in-Some-Night.is ∙ ap Some c.in-Some-Night.field-0-is)
-    (by_value (λ (t : Telling). IsReply
-    (ReadCallsFor t (g.I.Source.stream c.args.input.now) (g.I.Source.stream c.reply_to_input.new.input))
-    c.in-Ok-reply_to_input.reply) _ _ c.in-Some-Night.telling-is c.in-Ok-reply_to_input.ensures.called)
+    answer_input _ _ _ _ _ _ _ _ _ c.in-Some-Input.wanted c.in-Ok-reply_to_input.reply
+    (sym c.read_words.ensures.form ∙ c.in-Some-Input.is ∙ ap Some c.in-Some-Input.field-0-is)
+    (by_value (λ (w : Wanted). IsReply
+    (ReadCallsFor w (g.I.Source.stream c.args.input.now) (g.I.Source.stream c.reply_to_input.new.input))
+    c.in-Ok-reply_to_input.reply) _ _ c.in-Some-Input.wanted-is c.in-Ok-reply_to_input.ensures.called)
     c.answer-in-Ok-reply_to_input.ensures.said c.answer-in-Ok-reply_to_input.ensures.with_it
     c.answer-in-Ok-reply_to_input.ensures.alone
 
 pub returns-in-Ok-reply_to_input-clause-source_failed : goal.returns-in-Ok-reply_to_input-clause-source_failed
 returns-in-Ok-reply_to_input-clause-source_failed g c = λ e.
-    absurd (no_silence _ _ _ _ _ _ _ (reply_of_record _ _ _ _ c.in-Ok-reply_to_input.ensures.called)
+    absurd (no_silence _ _ _ _ _ _ _ (reply_of_input _ _ _ _ c.in-Ok-reply_to_input.ensures.called)
     c.answer-in-Ok-reply_to_input.ensures.said (inl e))
 
 pub returns-in-Ok-reply_to_input-clause-silent : goal.returns-in-Ok-reply_to_input-clause-silent
 returns-in-Ok-reply_to_input-clause-silent g c = λ e.
-    absurd (no_silence _ _ _ _ _ _ _ (reply_of_record _ _ _ _ c.in-Ok-reply_to_input.ensures.called)
+    absurd (no_silence _ _ _ _ _ _ _ (reply_of_input _ _ _ _ c.in-Ok-reply_to_input.ensures.called)
     c.answer-in-Ok-reply_to_input.ensures.said e)
 
 pub returns-in-Ok-reply_to_input-clause-alone : goal.returns-in-Ok-reply_to_input-clause-alone
 returns-in-Ok-reply_to_input-clause-alone g c = λ e.
-    absurd (no_silence _ _ _ _ _ _ _ (reply_of_record _ _ _ _ c.in-Ok-reply_to_input.ensures.called)
+    absurd (no_silence _ _ _ _ _ _ _ (reply_of_input _ _ _ _ c.in-Ok-reply_to_input.ensures.called)
     c.answer-in-Ok-reply_to_input.ensures.said e)

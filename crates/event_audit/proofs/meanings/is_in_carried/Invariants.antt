@@ -1,0 +1,13 @@
+use Rattle.std.proofs.Common.{◌≡◌, drop, filter_map}
+use Rattle.std.specs.List.{list_any}
+use Rattle.model.specs.History.{view_of}
+use Rattle.model.specs.Catalogue.{stream}
+use Rattle.event_audit.specs.Meanings.{means}
+use Rattle.event_audit.proofs.meanings.is_in_carried.Given as goal
+
+abbrev pub invariant-loop-number : goal.invariant-loop-number
+invariant-loop-number l =
+    list_any (means l.docs (filter_map (stream (view_of l.owners)) l.carried) l.o)
+    (filter_map (stream (view_of l.owners)) l.carried)
+    ≡ list_any (means l.docs (filter_map (stream (view_of l.owners)) l.carried) l.o)
+    (filter_map (stream (view_of l.owners)) (drop l.number-index l.carried))

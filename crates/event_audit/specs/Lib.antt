@@ -1,0 +1,10 @@
+pub mod Items
+pub mod Audits
+pub mod Counted
+pub mod Prefixes
+pub mod Launches
+pub mod Times
+pub mod Meanings
+pub mod Numbers
+pub mod Plans
+pub mod Drafts

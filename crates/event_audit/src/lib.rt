@@ -1,0 +1,42 @@
+//! Whether a history and its starts are sound, entry by entry and start by start.
+//!
+//! `audit` decides `model::specs::Sound` of any lists, and names the first item that fails. `specs/Items` says what an
+//! item is, and the law that a history is sound exactly where each item is right. What a decision saw is read from the
+//! entries that it counts, taken anew for each decision.
+#![tactic(auto)]
+
+mod additions;
+mod answers;
+mod audits;
+mod carried_streams;
+mod decisions;
+mod draft_deps;
+mod draft_documents;
+mod draft_names;
+mod entries;
+mod findings;
+mod follows;
+mod lates;
+mod launches;
+mod meanings;
+mod names;
+mod numbers;
+mod plans;
+mod prefixes;
+mod starts;
+mod times;
+mod witnesses;
+
+ghost use Rattle.std.specs.Prelude.{ℕ, ◌↔◌, List};
+ghost use Rattle.model.specs.Types.{Entry as Kept, Net, Start as Started};
+ghost use Rattle.model.specs.Sound.{IsSound};
+ghost use Rattle.event_audit.specs.Items.{IsRightItem};
+
+pub use audits::audit;
+pub use findings::Audit;
+
+/// A history and its starts are sound exactly where each item is right.
+pub fn sound_means_each_item()
+    ensures { (net : Net) (G : List Kept) (starts : List Started)
+        → IsSound net G starts ↔ ((n : ℕ) → IsRightItem net G starts n) }
+{}

@@ -1,0 +1,4 @@
+pub mod Asked
+pub mod Circle
+pub mod Probes
+pub mod Walks

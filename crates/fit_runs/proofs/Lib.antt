@@ -1,0 +1,6 @@
+pub mod Lines
+pub mod Orders
+pub mod Plans
+pub mod Rows
+pub mod Steps
+pub mod Texts

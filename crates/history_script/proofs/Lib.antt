@@ -1,0 +1,8 @@
+pub mod Bytes
+pub mod Sizes
+pub mod RowSizes
+pub mod Walks
+pub mod Inside
+pub mod Whole
+pub mod Fits
+pub mod Returns

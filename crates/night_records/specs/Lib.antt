@@ -1,0 +1,3 @@
+pub mod Composers
+pub mod Readings
+pub mod Days

@@ -10,7 +10,7 @@ use Rattle.syntax.specs.Numbers.{number_of}
 use Rattle.conman_syntax.specs.Answers.{ended, first, within}
 use Rattle.conman_syntax.specs.Arguments.{argument_behind, behind_word, ends_word}
 use Rattle.conman_syntax.specs.Arguments.{left_behind, without_noask, word_of}
-use Rattle.conman_syntax.specs.Dates.{date_of}
+use Rattle.calendars.specs.Written.{date_of}
 use Rattle.conman_syntax.specs.Dependencies.{dependency_of}
 use Rattle.conman_syntax.specs.Fit.{IsFitDep, IsFitJob, IsFitLine, IsFitName, IsFitObj, IsFitPattern}
 use Rattle.conman_syntax.specs.Heads.{head_of}

@@ -1,6 +1,5 @@
 pub mod Answers
 pub mod Arguments
-pub mod Dates
 pub mod Dependencies
 pub mod Fit
 pub mod Heads

@@ -7,7 +7,7 @@ use Rattle.syntax.specs.Names.{name_of}
 use Rattle.syntax.specs.Numbers.{number_of}
 use Rattle.conman_syntax.specs.Answers.{first, next, next_word, ended, within, fault_of}
 use Rattle.conman_syntax.specs.Arguments.{without_noask, word_of, behind_word, argument_behind, left_behind}
-use Rattle.conman_syntax.specs.Dates.{date_of}
+use Rattle.calendars.specs.Written.{date_of}
 use Rattle.conman_syntax.specs.Dependencies.{dependency_of}
 use Rattle.conman_syntax.specs.Heads.{head_of}
 use Rattle.conman_syntax.specs.References.{before, behind, object_of, job_of, job_or_stream_of, resource_of}

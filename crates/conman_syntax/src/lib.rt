@@ -8,7 +8,6 @@
 #![tactic(auto)]
 
 mod arguments;
-mod dates;
 mod dependencies;
 mod faults;
 mod heads;

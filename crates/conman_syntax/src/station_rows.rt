@@ -7,7 +7,6 @@ ghost use Rattle.conman_syntax.specs.Rows as spec;
 ghost use Rattle.conman_syntax.specs.declared.references.ReplyTarget.TheVariants as replied;
 
 use crate::arguments::take_argument;
-use crate::dates::date;
 use crate::faults::{ArgumentFault, ended};
 use crate::heads::What;
 use crate::lines::{Line, ObjRef};
@@ -16,6 +15,7 @@ use crate::references::{
 };
 use crate::values::{number_u16, pattern, priority, yes};
 use base_types::{NoMemory, Text};
+use calendars::read_date;
 use std::alloc::Global;
 use syntax::name;
 
@@ -192,6 +192,6 @@ pub fn j_next_plan(left: &str) -> Result<Line, ArgumentFault>
     ensures { Gives result (spec.j_next_plan left.now) }
 {
     let (argument, left) = take_argument(left, ' ');
-    let day = date(argument).ok_or(ArgumentFault::BadArgument(1))?;
+    let day = read_date(argument).ok_or(ArgumentFault::BadArgument(1))?;
     ended(left, Line::JNextPlan(day))
 }

@@ -1,6 +1,6 @@
 //! The network as it stands for a node.
 ghost use Rattle.std.specs.Option.{option_to_list};
-ghost use Rattle.std.specs.Prelude.{◌≡◌, ◌∷◌, [], IfOk, Some, fold, unwrap_or};
+ghost use Rattle.std.specs.Prelude.{◌≡◌, ◌∷◌, [], IfOk, None, Some, fold, unwrap_or};
 ghost use Rattle.model.specs.Types.{Events, Net as Defined};
 ghost use Rattle.model.specs.History.{View, list_of, view_of, view_with};
 ghost use Rattle.model.specs.PresentNet as spec;
@@ -46,8 +46,9 @@ fn switch_in(e: &Entry) -> Option<Ws>
 /// The network after the switch that an entry obeys, where that makes another one. None where there is none, or where
 /// it is refused, and all stays.
 fn after_entry(alloc: Global, net: &Network, e: &Entry) -> Result<Option<Network>, NoMemory>
-    ensures { IfOk result (λ after. unwrap_or after net.now
+    ensures after { IfOk result (λ after. unwrap_or after net.now
         ≡ fold spec.switched net.now (switches_in (list_of (e.now ∷ []) (Events 0)))) }
+    ensures none { IfOk result (λ after. switches_in (list_of (e.now ∷ []) (Events 0)) ≡ [] → after ≡ None) }
 {
     match switch_in(e) {
         None => Ok(None),
@@ -87,8 +88,9 @@ pub fn present_after(
     present: &Network,
     e: &Entry,
 ) -> Result<Option<Network>, NoMemory>
-    ensures { IfOk result (λ after. (net : Defined) (V : View) → present.now ≡ spec.present_net net V
+    ensures after { IfOk result (λ after. (net : Defined) (V : View) → present.now ≡ spec.present_net net V
         → unwrap_or after present.now ≡ spec.present_net net (view_with V (Some e.now))) }
+    ensures none { IfOk result (λ after. switches_in (list_of (e.now ∷ []) (Events 0)) ≡ [] → after ≡ None) }
 {
     after_entry(alloc, present, e)
 }

@@ -16,7 +16,7 @@ pub invariant_of-self-2 : goal.invariant_of-self-2
 invariant_of-self-2 c =
     standing_next c.self.inside.net c.self.inside.present c.put_network.new.present _ c.self.inside.owners
     c.take.new.self c.args.e.now c.self.inside.tracker.index c.follow.new.self.index c.in_ok-after.after
-    c.self.invariant c.in_ok-take.ensures.ok c.in_ok-after.ensures c.put_network.ensures
+    c.self.invariant c.in_ok-take.ensures.ok c.in_ok-after.ensures.after c.put_network.ensures
     (c.follow.ensures c.self.inside.owners c.in_ok-take.ensures.ok c.self.invariant.tracks)
 
 on_err : {T E P : Type 0} (r : Result T E) → P → OnErr r P

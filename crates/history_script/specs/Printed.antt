@@ -1,6 +1,7 @@
 -- The text of a history.
 use Rattle.std.specs.Prelude.{ℕ, List, ◌++◌, codes, flat_map}
 use Rattle.std.specs.Fmt.{decimal}
+use Rattle.model.specs.Ranges.{IsU32}
 use Rattle.model.specs.Spelling.{entry_bytes}
 use Rattle.model.specs.Types.{Entry, Net, Start}
 use Rattle.plan_listing.specs.Networks.{network_text}
@@ -15,6 +16,10 @@ entry_line e = codes "entry " ++ digits_of (entry_bytes e) ++ codes "\n"
 unfoldable pub start_line : Net → Start → List ℕ
 start_line net s =
     codes "start " ++ name_of net s.ws ++ codes " " ++ decimal s.job ++ codes " " ++ decimal s.number ++ codes "\n"
+
+-- the job and the number of a start have four bytes
+abbrev pub IsStartInRange : Start → Type 0
+IsStartInRange s = IsU32 s.job × IsU32 s.number
 
 -- the network as a listing prints it, and `$HISTORY`
 unfoldable pub head_text : Net → List ℕ

@@ -1,6 +1,8 @@
 //! The text of a history.
 ghost use Rattle.std.specs.Prelude.{◌≡◌, ◌++◌, IfOk, IsOk, OnOk, flat_map};
+ghost use Rattle.std.specs.List.{All};
 ghost use Rattle.model.specs.Fit.{AreFitEntries, IsFit};
+ghost use Rattle.model.specs.Ranges.{InRange};
 ghost use Rattle.history_script.specs.Printed as spec;
 
 use crate::digits::write_digits;
@@ -15,7 +17,8 @@ use std::io::{self, Write};
 #[tactic(auto, unfolding(crate::specs::Printed::entry_line))]
 fn put_entry(alloc: Global, out: &mut Vec<u8>, entry: &Entry) -> Result<(), NoMemory>
     requires { IsFit entry.now }
-    ensures { OnOk result (out.new.items ≡ out.old.items ++ spec.entry_line entry.now) }
+    ensures added { OnOk result (out.new.items ≡ out.old.items ++ spec.entry_line entry.now) }
+    ensures range { OnOk result (InRange entry.now) }
 {
     let bytes = write_entry(alloc, entry)?;
     out.extend_from_slice(b"entry ")?;
@@ -27,7 +30,8 @@ fn put_entry(alloc: Global, out: &mut Vec<u8>, entry: &Entry) -> Result<(), NoMe
 /// Writes the lines of entries.
 fn put_entries(alloc: Global, out: &mut Vec<u8>, entries: &[Entry]) -> Result<(), NoMemory>
     requires { AreFitEntries entries.now }
-    ensures { OnOk result (out.new.items ≡ out.old.items ++ flat_map spec.entry_line entries.now) }
+    ensures added { OnOk result (out.new.items ≡ out.old.items ++ flat_map spec.entry_line entries.now) }
+    ensures range { OnOk result (All InRange entries.now) }
 {
     for entry in entries {
         put_entry(alloc, out, entry)?;
@@ -38,15 +42,18 @@ fn put_entries(alloc: Global, out: &mut Vec<u8>, entries: &[Entry]) -> Result<()
 /// Writes `start W JOB NUMBER`.
 #[tactic(auto, unfolding(crate::specs::Printed::start_line))]
 fn write_start(out: &mut Vec<u8>, net: &Net, start: &Start) -> io::Result<()>
-    ensures { OnOk result (out.new.items ≡ out.old.items ++ spec.start_line net.now start.now) }
+    ensures added { OnOk result (out.new.items ≡ out.old.items ++ spec.start_line net.now start.now) }
+    ensures range { OnOk result (spec.IsStartInRange start.now) }
 {
     let name = name(net, &start.ws);
-    write!(out, "start {name} {} {}\n", start.job.0, start.number)
+    let number = start.number;
+    write!(out, "start {name} {} {number}\n", start.job.0)
 }
 
 /// Writes the lines of starts.
 fn write_starts(out: &mut Vec<u8>, net: &Net, starts: &[Start]) -> io::Result<()>
-    ensures { OnOk result (out.new.items ≡ out.old.items ++ flat_map (spec.start_line net.now) starts.now) }
+    ensures added { OnOk result (out.new.items ≡ out.old.items ++ flat_map (spec.start_line net.now) starts.now) }
+    ensures range { OnOk result (All spec.IsStartInRange starts.now) }
 {
     for start in starts {
         write_start(out, net, start)?;
@@ -86,7 +93,8 @@ pub fn print_history(
     starts: &[Start],
 ) -> Result<Bytes, NoMemory>
     requires { AreFitEntries entries.now }
-    ensures { IfOk result (λ bytes. bytes ≡ spec.history_text net.now entries.now starts.now) }
+    ensures text { IfOk result (λ bytes. bytes ≡ spec.history_text net.now entries.now starts.now) }
+    ensures range { IfOk result (λ _. All InRange entries.now × All spec.IsStartInRange starts.now) }
 {
     let mut out = Vec::new(alloc);
     or_no_memory(write_head(&mut out, net))?;

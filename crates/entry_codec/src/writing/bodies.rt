@@ -1,7 +1,9 @@
 //! What entries say.
 ghost use Rattle.std.specs.Prelude.{◌≡◌, ◌++◌, ◌∷◌, OnOk};
 ghost use Rattle.model.specs.Fields.{flag_bytes, i32_bytes, u16_bytes, u32_bytes};
+ghost use Rattle.std.specs.List.{All};
 ghost use Rattle.model.specs.Fit.{IsFitBody, IsFitSeen};
+ghost use Rattle.model.specs.Ranges.{BodyInRange, CountInRange, IsI32, IsU16, IsU32, ObjInRange};
 ghost use Rattle.model.specs.Spelling.{body_bytes, obj_bytes, seen_bytes};
 
 use crate::writing::commands::put_cmd;
@@ -14,7 +16,8 @@ use byte_fields::{put_i32, put_u8, put_u16, put_u32, put_u64};
 #[tactic(auto, unfolding(model::specs::Spelling::body_bytes))]
 pub(crate) fn put_body(out: &mut Bytes, body: &Body) -> Result<(), NoMemory>
     requires { IsFitBody body.now }
-    ensures { OnOk result (out.new ≡ out.old ++ body_bytes body.now) }
+    ensures added { OnOk result (out.new ≡ out.old ++ body_bytes body.now) }
+    ensures range { OnOk result (BodyInRange body.now) }
 {
     match body {
         Body::NewPlan(run, cut, carried, docs) => {
@@ -62,7 +65,8 @@ pub(crate) fn put_body(out: &mut Bytes, body: &Body) -> Result<(), NoMemory>
 
 /// Adds a kind, and the issuer and the place of the order that is answered.
 fn put_answer(out: &mut Bytes, kind: u8, issuer: &Ws, order: u32) -> Result<(), NoMemory>
-    ensures { OnOk result (out.new ≡ out.old ++ (kind ∷ u16_bytes issuer.now ++ u32_bytes order)) }
+    ensures added { OnOk result (out.new ≡ out.old ++ (kind ∷ u16_bytes issuer.now ++ u32_bytes order)) }
+    ensures range { OnOk result (IsU16 issuer.now × IsU32 order) }
 {
     put_u8(out, kind)?;
     put_u16(out, issuer.0)?;
@@ -72,7 +76,8 @@ fn put_answer(out: &mut Bytes, kind: u8, issuer: &Ws, order: u32) -> Result<(), 
 /// Adds a kind, a stream and what the decision stands on.
 fn put_decision(out: &mut Bytes, kind: u8, stream: &StreamNo, seen: &Seen) -> Result<(), NoMemory>
     requires { IsFitSeen seen.now }
-    ensures { OnOk result (out.new ≡ out.old ++ (kind ∷ u32_bytes stream.now ++ seen_bytes seen.now)) }
+    ensures added { OnOk result (out.new ≡ out.old ++ (kind ∷ u32_bytes stream.now ++ seen_bytes seen.now)) }
+    ensures range { OnOk result (IsU32 stream.now × All CountInRange seen.now) }
 {
     put_u8(out, kind)?;
     put_u32(out, stream.0)?;
@@ -81,7 +86,8 @@ fn put_decision(out: &mut Bytes, kind: u8, stream: &StreamNo, seen: &Seen) -> Re
 
 /// Adds a kind, an object and the number of its dependency.
 fn put_dependency(out: &mut Bytes, kind: u8, obj: &Obj, dep: u16) -> Result<(), NoMemory>
-    ensures { OnOk result (out.new ≡ out.old ++ (kind ∷ obj_bytes obj.now ++ u16_bytes dep)) }
+    ensures added { OnOk result (out.new ≡ out.old ++ (kind ∷ obj_bytes obj.now ++ u16_bytes dep)) }
+    ensures range { OnOk result (ObjInRange obj.now × IsU16 dep) }
 {
     put_u8(out, kind)?;
     put_obj(out, obj)?;
@@ -90,7 +96,8 @@ fn put_dependency(out: &mut Bytes, kind: u8, obj: &Obj, dep: u16) -> Result<(), 
 
 /// Adds a kind, a job and the number of its launch.
 fn put_launch(out: &mut Bytes, kind: u8, job: &JobNo, number: u32) -> Result<(), NoMemory>
-    ensures { OnOk result (out.new ≡ out.old ++ (kind ∷ u32_bytes job.now ++ u32_bytes number)) }
+    ensures added { OnOk result (out.new ≡ out.old ++ (kind ∷ u32_bytes job.now ++ u32_bytes number)) }
+    ensures range { OnOk result (IsU32 job.now × IsU32 number) }
 {
     put_u8(out, kind)?;
     put_u32(out, job.0)?;
@@ -100,7 +107,9 @@ fn put_launch(out: &mut Bytes, kind: u8, job: &JobNo, number: u32) -> Result<(),
 /// Adds the kind of a launch, the job, the number of the launch and what it stands on.
 fn put_launched(out: &mut Bytes, job: &JobNo, number: u32, seen: &Seen) -> Result<(), NoMemory>
     requires { IsFitSeen seen.now }
-    ensures { OnOk result (out.new ≡ out.old ++ (7 ∷ u32_bytes job.now ++ u32_bytes number ++ seen_bytes seen.now)) }
+    ensures added { OnOk result (out.new ≡ out.old
+        ++ (7 ∷ u32_bytes job.now ++ u32_bytes number ++ seen_bytes seen.now)) }
+    ensures range { OnOk result (IsU32 job.now × IsU32 number × All CountInRange seen.now) }
 {
     put_launch(out, 7, job, number)?;
     put_seen(out, seen)
@@ -114,8 +123,9 @@ fn put_ended(
     code: i32,
     good: bool,
 ) -> Result<(), NoMemory>
-    ensures { OnOk result (out.new ≡ out.old
+    ensures added { OnOk result (out.new ≡ out.old
         ++ (10 ∷ u32_bytes job.now ++ u32_bytes number ++ i32_bytes code ++ flag_bytes good)) }
+    ensures range { OnOk result (IsU32 job.now × IsU32 number × IsI32 code) }
 {
     put_launch(out, 10, job, number)?;
     put_i32(out, code)?;

@@ -2,6 +2,7 @@
 ghost use Rattle.std.specs.Prelude.{◌≡◌, ◌++◌, ◌∷◌, OnOk};
 ghost use Rattle.model.specs.Fields.{u8_bytes, u16_bytes, u32_bytes};
 ghost use Rattle.model.specs.Fit.{IsFitCmd};
+ghost use Rattle.model.specs.Ranges.{CmdInRange, ObjInRange};
 ghost use Rattle.model.specs.Spelling.{cmd_bytes, obj_bytes};
 
 use crate::writing::lists::{Put, put_flag};
@@ -13,7 +14,8 @@ use byte_fields::{put_u8, put_u16, put_u32};
 #[tactic(auto, unfolding(model::specs::Spelling::cmd_bytes))]
 pub(crate) fn put_cmd(out: &mut Bytes, cmd: &Cmd) -> Result<(), NoMemory>
     requires { IsFitCmd cmd.now }
-    ensures { OnOk result (out.new ≡ out.old ++ cmd_bytes cmd.now) }
+    ensures added { OnOk result (out.new ≡ out.old ++ cmd_bytes cmd.now) }
+    ensures range { OnOk result (CmdInRange cmd.now) }
 {
     match cmd {
         Cmd::AddDep(obj, dep) => {
@@ -67,7 +69,8 @@ pub(crate) fn put_cmd(out: &mut Bytes, cmd: &Cmd) -> Result<(), NoMemory>
 
 /// Adds a choice and the object that it is about.
 fn put_for(out: &mut Bytes, choice: u8, obj: &Obj) -> Result<(), NoMemory>
-    ensures { OnOk result (out.new ≡ out.old ++ choice ∷ obj_bytes obj.now) }
+    ensures added { OnOk result (out.new ≡ out.old ++ choice ∷ obj_bytes obj.now) }
+    ensures range { OnOk result (ObjInRange obj.now) }
 {
     put_u8(out, choice)?;
     put_obj(out, obj)

@@ -1,5 +1,5 @@
 //! Dependencies, of documents and of drafts.
-ghost use Rattle.std.specs.Prelude.{◌≡◌, ◌++◌, IfSome, OnOk, length};
+ghost use Rattle.std.specs.Prelude.{◌≡◌, ◌++◌, IfSome, IsUtf8, OnOk, length};
 ghost use Rattle.std.specs.Option.{option_copied};
 ghost use Rattle.model.specs.Fields.{option_bytes, text_bytes};
 ghost use Rattle.model.specs.Fit.{IsFitText};
@@ -11,9 +11,12 @@ use byte_fields::{put_text, put_u8, put_u16, put_u32, put_u64};
 
 impl Put for Dep {
     ghost use Rattle.model.specs.Fit.{IsFitDep};
+    ghost use Rattle.model.specs.Ranges.{DepInRange};
     ghost use Rattle.model.specs.Spelling.{dep_bytes};
 
     ghost is_fit = { IsFitDep };
+
+    ghost in_range = { DepInRange };
 
     ghost spelling = { dep_bytes };
 
@@ -64,9 +67,12 @@ impl Put for Dep {
 
 impl Put for DraftDep {
     ghost use Rattle.model.specs.Fit.{IsFitDraftDep};
+    ghost use Rattle.model.specs.Ranges.{DraftDepInRange};
     ghost use Rattle.model.specs.Spelling.{draft_dep_bytes};
 
     ghost is_fit = { IsFitDraftDep };
+
+    ghost in_range = { DraftDepInRange };
 
     ghost spelling = { draft_dep_bytes };
 
@@ -87,7 +93,8 @@ impl Put for DraftDep {
 /// Adds a flag, and the name where there is one.
 fn put_job_name(out: &mut Bytes, name: &Option<Text>) -> Result<(), NoMemory>
     requires { IfSome name.now IsFitText }
-    ensures { OnOk result (out.new ≡ out.old ++ option_bytes text_bytes name.now) }
+    ensures added { OnOk result (out.new ≡ out.old ++ option_bytes text_bytes name.now) }
+    ensures range { OnOk result (IfSome name.now IsUtf8) }
 {
     match name {
         None => put_u8(out, 0),

@@ -1,7 +1,9 @@
 //! The documents of streams and jobs, and their parts.
 ghost use Rattle.std.specs.Prelude.{◌≡◌, ◌++◌, OnOk};
+ghost use Rattle.std.specs.List.{All};
 ghost use Rattle.model.specs.Fields.{i32_bytes};
 ghost use Rattle.model.specs.Fit.{IsFitCond, IsFitStream, IsFitWork};
+ghost use Rattle.model.specs.Ranges.{OpInRange, WorkInRange};
 ghost use Rattle.model.specs.Spelling.{cond_bytes, op_bytes, stream_doc_bytes, work_bytes};
 ghost use Rattle.model.specs.Spelling as spelled;
 
@@ -12,9 +14,12 @@ use byte_fields::{put_i32, put_text, put_u8, put_u16, put_u32};
 
 impl Put for JobDoc {
     ghost use Rattle.model.specs.Fit.{IsFitJob};
+    ghost use Rattle.model.specs.Ranges.{JobInRange};
     ghost use Rattle.model.specs.Spelling.{job_doc_bytes};
 
     ghost is_fit = { IsFitJob };
+
+    ghost in_range = { JobInRange };
 
     ghost spelling = { job_doc_bytes };
 
@@ -34,9 +39,12 @@ impl Put for JobDoc {
 
 impl Put for StreamDoc {
     ghost use Rattle.model.specs.Fit.{IsFitStream};
+    ghost use Rattle.model.specs.Ranges.{StreamInRange};
     ghost use Rattle.model.specs.Spelling.{stream_doc_bytes};
 
     ghost is_fit = { IsFitStream };
+
+    ghost in_range = { StreamInRange };
 
     ghost spelling = { stream_doc_bytes };
 
@@ -64,7 +72,8 @@ pub fn put_stream(out: &mut Bytes, doc: &StreamDoc) -> Result<(), NoMemory>
 /// Adds what a job runs: its choice and its text.
 pub(crate) fn put_work(out: &mut Bytes, work: &Work) -> Result<(), NoMemory>
     requires { IsFitWork work.now }
-    ensures { OnOk result (out.new ≡ out.old ++ work_bytes work.now) }
+    ensures added { OnOk result (out.new ≡ out.old ++ work_bytes work.now) }
+    ensures range { OnOk result (WorkInRange work.now) }
 {
     match work {
         Work::Command(text) => {
@@ -82,7 +91,8 @@ pub(crate) fn put_work(out: &mut Bytes, work: &Work) -> Result<(), NoMemory>
 #[tactic(auto, unfolding(model::specs::Spelling::cond_bytes))]
 pub(crate) fn put_cond(out: &mut Bytes, ops: &Cond) -> Result<(), NoMemory>
     requires { IsFitCond ops.now }
-    ensures { OnOk result (out.new ≡ out.old ++ cond_bytes ops.now) }
+    ensures added { OnOk result (out.new ≡ out.old ++ cond_bytes ops.now) }
+    ensures range { OnOk result (All OpInRange ops.now) }
 {
     put_u8(out, ops.len() as u8)?;
     for op in ops.as_slice() {
@@ -92,7 +102,8 @@ pub(crate) fn put_cond(out: &mut Bytes, ops: &Cond) -> Result<(), NoMemory>
 }
 
 fn put_op(out: &mut Bytes, op: &CondOp) -> Result<(), NoMemory>
-    ensures { OnOk result (out.new ≡ out.old ++ op_bytes op.now) }
+    ensures added { OnOk result (out.new ≡ out.old ++ op_bytes op.now) }
+    ensures range { OnOk result (OpInRange op.now) }
 {
     match op {
         CondOp::Cmp(rel, code) => {

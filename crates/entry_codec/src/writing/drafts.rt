@@ -7,9 +7,12 @@ use byte_fields::{put_text, put_u8, put_u16};
 
 impl Put for JobDraft {
     ghost use Rattle.model.specs.Fit.{IsFitJobDraft};
+    ghost use Rattle.model.specs.Ranges.{JobDraftInRange};
     ghost use Rattle.model.specs.Spelling.{job_draft_bytes};
 
     ghost is_fit = { IsFitJobDraft };
+
+    ghost in_range = { JobDraftInRange };
 
     ghost spelling = { job_draft_bytes };
 
@@ -28,9 +31,12 @@ impl Put for JobDraft {
 
 impl Put for StreamDraft {
     ghost use Rattle.model.specs.Fit.{IsFitDraft};
+    ghost use Rattle.model.specs.Ranges.{DraftInRange};
     ghost use Rattle.model.specs.Spelling.{stream_draft_bytes};
 
     ghost is_fit = { IsFitDraft };
+
+    ghost in_range = { DraftInRange };
 
     ghost spelling = { stream_draft_bytes };
 

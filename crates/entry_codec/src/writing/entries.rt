@@ -1,6 +1,7 @@
 //! Whole entries.
 ghost use Rattle.std.specs.Prelude.{◌≡◌, IfOk};
 ghost use Rattle.model.specs.Fit.{IsFit};
+ghost use Rattle.model.specs.Ranges.{InRange};
 ghost use Rattle.model.specs.Spelling.{entry_bytes};
 
 use crate::versions::version;
@@ -17,7 +18,8 @@ use std::alloc::Global;
 #[tactic(auto, unfolding(model::specs::Spelling::entry_bytes))]
 pub fn write_entry(alloc: Global, e: &Entry) -> Result<Bytes, NoMemory>
     requires { IsFit e.now }
-    ensures { IfOk result (λ bytes. bytes ≡ entry_bytes e.now) }
+    ensures bytes { IfOk result (λ bytes. bytes ≡ entry_bytes e.now) }
+    ensures range { IfOk result (λ _. InRange e.now) }
 {
     let mut out = Items::new(alloc);
     put_u8(&mut out, version(&e.body))?;

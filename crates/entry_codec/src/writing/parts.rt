@@ -1,15 +1,18 @@
 //! Feeds, counts, objects and choices.
 ghost use Rattle.std.specs.Prelude.{◌≡◌, ◌++◌, ◌<◌, ◌^◌, OnOk};
+ghost use Rattle.std.specs.List.{All};
 ghost use Rattle.model.specs.Fit.{IsFitSeen};
-ghost use Rattle.model.specs.Spelling.{feed_bytes, obj_bytes, seen_bytes};
+ghost use Rattle.model.specs.Ranges.{CountInRange, FeedInRange, ObjInRange};
+ghost use Rattle.model.specs.Spelling.{count_bytes, feed_bytes, obj_bytes, seen_bytes};
 ghost use Rattle.model.specs.Spelling as spelled;
 
-use base_types::{Bytes, Feed, NoMemory, Obj, OnUntil, Recovery, Seen, Why};
+use base_types::{Bytes, Feed, NoMemory, Obj, OnUntil, Recovery, Seen, Why, Ws};
 use byte_fields::{put_u8, put_u16, put_u32};
 
 /// Adds a feed: its choice and its workstations.
 pub(crate) fn put_feed(out: &mut Bytes, feed: &Feed) -> Result<(), NoMemory>
-    ensures { OnOk result (out.new ≡ out.old ++ feed_bytes feed.now) }
+    ensures added { OnOk result (out.new ≡ out.old ++ feed_bytes feed.now) }
+    ensures range { OnOk result (FeedInRange feed.now) }
 {
     match feed {
         Feed::Events(w) => {
@@ -27,19 +30,30 @@ pub(crate) fn put_feed(out: &mut Bytes, feed: &Feed) -> Result<(), NoMemory>
 /// Adds how many counts there are, and each workstation with its count.
 pub(crate) fn put_seen(out: &mut Bytes, seen: &Seen) -> Result<(), NoMemory>
     requires { IsFitSeen seen.now }
-    ensures { OnOk result (out.new ≡ out.old ++ seen_bytes seen.now) }
+    ensures added { OnOk result (out.new ≡ out.old ++ seen_bytes seen.now) }
+    ensures range { OnOk result (All CountInRange seen.now) }
 {
     put_u32(out, seen.len() as u32)?;
-    for (w, count) in seen.as_slice() {
-        put_u16(out, w.0)?;
-        put_u32(out, *count)?;
+    for pair in seen.as_slice() {
+        put_count(out, pair)?;
     }
     Ok(())
 }
 
+/// Adds a workstation and its count.
+fn put_count(out: &mut Bytes, pair: &(Ws, u32)) -> Result<(), NoMemory>
+    ensures added { OnOk result (out.new ≡ out.old ++ count_bytes pair.now) }
+    ensures range { OnOk result (CountInRange pair.now) }
+{
+    let (w, count) = pair;
+    put_u16(out, w.0)?;
+    put_u32(out, *count)
+}
+
 /// Adds a job or a stream: its choice and its number.
 pub(crate) fn put_obj(out: &mut Bytes, obj: &Obj) -> Result<(), NoMemory>
-    ensures { OnOk result (out.new ≡ out.old ++ obj_bytes obj.now) }
+    ensures added { OnOk result (out.new ≡ out.old ++ obj_bytes obj.now) }
+    ensures range { OnOk result (ObjInRange obj.now) }
 {
     match obj {
         Obj::Job(job) => {

@@ -14,7 +14,7 @@ use composer_lexer::tokens;
 use composer_parser::{Defs, SyntaxFault, parse};
 use std::alloc::Global;
 use std::str;
-use workload_defs::{Workload, check};
+use workload_defs::{Workload, check_whole};
 
 /// Reads definitions from bytes, and checks them. They are refused exactly where they are no checked definitions, with
 /// the line and the kind of the first cause.
@@ -73,7 +73,7 @@ fn from_tokens(alloc: Global, text: &str, tokens: &Tokens) -> Result<Workload, N
     ensures { IsReading text.now result }
 {
     match parse(alloc, text, tokens) {
-        Ok(defs) => from_defs(alloc, &defs),
+        Ok(defs) => from_defs(alloc, defs),
         Err(SyntaxFault::Expected(line)) => Err(refused(line, RefusalKind::Expected)),
         Err(SyntaxFault::LeftOut(line)) => Err(refused(line, RefusalKind::LeftOut)),
         Err(SyntaxFault::NotBuilt(_)) => unreachable!(),
@@ -81,10 +81,10 @@ fn from_tokens(alloc: Global, text: &str, tokens: &Tokens) -> Result<Workload, N
     }
 }
 
-fn from_defs(alloc: Global, defs: &Defs) -> Result<Workload, NotRead>
-    ensures { IsChecking defs.now result }
+fn from_defs(alloc: Global, defs: Defs) -> Result<Workload, NotRead>
+    ensures { IsChecking defs result }
 {
-    match check(alloc, defs) {
+    match check_whole(alloc, defs) {
         Ok(workload) => Ok(workload),
         Err(fault) => Err(checked(fault)),
     }

@@ -12,4 +12,4 @@ mod stations;
 mod workloads;
 
 pub use definition_faults::DefFault;
-pub use workloads::{Workload, check};
+pub use workloads::{Workload, check, check_whole};

@@ -5,8 +5,9 @@ ghost use Rattle.definition_faults.specs.declared.DefFault.TheVariants.{NoMemory
 ghost use Rattle.definition_faults.specs.Orders.{told};
 ghost use Rattle.definition_faults.specs.Faults.{IsFaultless, IsFirstFault};
 ghost use Rattle.network_tree.specs.Faults.{net_fault};
-ghost use Rattle.workload_defs.specs.Answers.{IsAnswer};
+ghost use Rattle.workload_defs.specs.Answers.{IsAnswer, IsGiven};
 ghost use Rattle.workload_defs.specs.Nets as spec;
+ghost use Rattle.workload_defs.specs.Tables.{IsWorkload};
 ghost use Rattle.workload_defs.specs.Days.{free_of, days_of as days_of_calendar};
 ghost use Rattle.workload_defs.specs.Stations.{number_of as number_of_station};
 
@@ -50,9 +51,39 @@ impl Model for Workload {
     ghost invariant = { λ w. IsWorkload w.defs w.hosts w.days };
 }
 
+/// What definitions without a fault give, beside themselves.
+#[derive(Drop)]
+struct Given {
+    hosts: Hosts,
+    days: DayTables,
+}
+
+/// Definitions that were handed over. Dropping them is a call for whoever owns them.
+struct Owned {
+    defs: Defs,
+}
+
+impl Drop for Owned {
+    fn drop(self) {
+        let Owned { defs: _defs } = self;
+    }
+}
+
+impl Owned {
+    /// The definitions with what they give.
+    fn with(self, given: Given) -> Workload
+        requires { IsWorkload self.defs given.hosts given.days }
+        ensures { result ≡ self.defs }
+    {
+        let Owned { defs } = self;
+        let Given { hosts, days } = given;
+        Workload { defs, hosts, days }
+    }
+}
+
 /// Checks definitions. They are accepted exactly where they have no fault. Else the fault at the lowest line is answered,
 /// and of several there the first in the order of `DefFault`. Of more than 4,294,967,295 streams it is answered that there
-/// is no memory.
+/// is no memory. What is accepted holds a copy of the definitions.
 pub fn check(alloc: Global, defs: &Defs) -> Result<Workload, DefFault>
     ensures checked { IfOk result (λ w. w ≡ defs.now) }
     ensures sound { IsOk result → IsFaultless defs.now }
@@ -63,36 +94,72 @@ pub fn check(alloc: Global, defs: &Defs) -> Result<Workload, DefFault>
     answered(alloc, defs)
 }
 
+/// The same of definitions that are handed over: what is accepted holds them, and no copy is made.
+pub fn check_whole(alloc: Global, defs: Defs) -> Result<Workload, DefFault>
+    ensures checked { IfOk result (λ w. w ≡ defs) }
+    ensures sound { IsOk result → IsFaultless defs }
+    ensures accepted { IsFaultless defs → IsOk result ⊎ (result ≡ Err NoRoom) }
+    ensures refused { (f : Fault) → IsFirstFault defs f → (result ≡ Err (told f)) ⊎ (result ≡ Err NoRoom) }
+    ensures causes { (f : Fault) → result ≡ Err (told f) → IsFirstFault defs f }
+{
+    kept(alloc, Owned { defs })
+}
+
 fn answered(alloc: Global, defs: &Defs) -> Result<Workload, DefFault>
     ensures { IsAnswer defs.now result }
+{
+    let given = given_of(alloc, defs)?;
+    Ok(copied(defs, given)?)
+}
+
+/// A copy of definitions, with what they give.
+fn copied(defs: &Defs, given: Given) -> Result<Workload, NoMemory>
+    requires { IsWorkload defs.now given.hosts given.days }
+    ensures { IfOk result (λ w. w ≡ defs.now) }
+{
+    let owned = Owned { defs: defs.copy()? };
+    Ok(owned.with(given))
+}
+
+fn kept(alloc: Global, owned: Owned) -> Result<Workload, DefFault>
+    ensures { IsAnswer owned.defs result }
+{
+    match given_of(alloc, &owned.defs) {
+        Ok(given) => Ok(owned.with(given)),
+        Err(fault) => Err(fault),
+    }
+}
+
+/// What definitions give, or their fault.
+fn given_of(alloc: Global, defs: &Defs) -> Result<Given, DefFault>
+    ensures { IsGiven defs.now result }
 {
     if defs.schedules.len() > u32::MAX as usize {
         return Err(DefFault::NoMemory);
     }
     let names = Names::of(alloc, defs)?;
-    checked(alloc, &names)
+    given_by(alloc, &names)
 }
 
-fn checked<'a>(alloc: Global, names: &Names<'a>) -> Result<Workload, DefFault>
+fn given_by<'a>(alloc: Global, names: &Names<'a>) -> Result<Given, DefFault>
     requires { length names.now.schedules < 2 ^ 32 }
-    ensures { IsAnswer names.now result }
+    ensures { IsGiven names.now result }
 {
     match first_fault(alloc, names)? {
         Some(fault) => Err(DefFault::from(fault)),
-        None => Ok(workload_of(alloc, names)?),
+        None => Ok(tables_of(alloc, names)?),
     }
 }
 
 /// What definitions without a fault give.
-fn workload_of<'a>(alloc: Global, names: &Names<'a>) -> Result<Workload, NoMemory>
+fn tables_of<'a>(alloc: Global, names: &Names<'a>) -> Result<Given, NoMemory>
     requires faultless { IsFaultless names.now }
     requires few { length names.now.schedules < 2 ^ 32 }
-    ensures { IfOk result (λ w. w ≡ names.now) }
+    ensures { IfOk result (λ given. IsWorkload names.now given.hosts given.days) }
 {
     let hosts = hosts_of(alloc, names)?;
     let days = day_tables(alloc, names)?;
-    let defs = names.defs().copy()?;
-    Ok(Workload { defs, hosts, days })
+    Ok(Given { hosts, days })
 }
 
 impl Workload {

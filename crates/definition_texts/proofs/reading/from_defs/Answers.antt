@@ -8,4 +8,4 @@ returns-in-Ok c = (c.in-Ok.ensures.checked, c.in-Ok.ensures.sound refl)
 pub returns-in-Err : goal.returns-in-Err
 returns-in-Err c =
     rw c.checked.ensures
-    (checked_fault c.args.defs.now c.in-Err.fault (λ f e. c.in-Err.ensures.causes f (ap (λ x. Err x) e)))
+    (checked_fault c.args.defs c.in-Err.fault (λ f e. c.in-Err.ensures.causes f (ap (λ x. Err x) e)))

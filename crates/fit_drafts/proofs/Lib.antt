@@ -1,0 +1,5 @@
+pub mod Sized
+pub mod Weights
+pub mod Texts
+pub mod Dependencies
+pub mod Drafts

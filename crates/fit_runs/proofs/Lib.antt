@@ -1,0 +1,14 @@
+pub mod ComposerTexts
+pub mod Days
+pub mod Drafts
+pub mod FitRows
+pub mod Fits
+pub mod Options
+pub mod Orders
+pub mod PlanRows
+pub mod Plans
+pub mod Records
+pub mod Rows
+pub mod Runs
+pub mod StepRows
+pub mod Steps

@@ -1,0 +1,2 @@
+-- What the text of a history tells.
+pub mod Returns

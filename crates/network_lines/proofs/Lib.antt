@@ -1,0 +1,14 @@
+pub mod Lines
+pub mod Kept
+pub mod Words
+pub mod Printed
+pub mod Accepted
+pub mod Named
+pub mod Sections
+pub mod Walking
+pub mod Faultless
+pub mod Meant
+pub mod Texts
+pub mod Read
+pub mod Histories
+pub mod Numbers

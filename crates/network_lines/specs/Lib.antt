@@ -1,0 +1,3 @@
+-- Networks whose lines are read back, and to what.
+pub mod Printables
+pub mod Returns

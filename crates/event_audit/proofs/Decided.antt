@@ -1,79 +1,96 @@
 -- What the tests of a launch, a release and an end tell.
-use Rattle.std.proofs.Common.{◌≡◌, ◌+◌, ◌-◌, arith, suc, zero, ◌∙◌, ℕ, Bool, List, false, true, refl, sym, ap}
+use Rattle.std.proofs.Common.{◌≡◌, ◌+◌, ◌-◌, arith, suc, zero, ◌∙◌, ℕ, Bool, List, None, Option, Some, ap, false, true, refl, sym}
+use Rattle.std.proofs.lemmas.Bool.{eqb-true}
 use Rattle.std.specs.Bool.{Decides}
-use Rattle.std.specs.Prelude.{count_by}
-use Rattle.model.specs.Types.{Entry, Job, Net, Stream}
-use Rattle.model.specs.History.{Seen, View, view_of}
+use Rattle.std.specs.List.{list_any}
+use Rattle.std.specs.Option.{option_map_or}
+use Rattle.std.specs.Prelude.{Err, IfOk, Ok, Result, count_by, option_map}
+use Rattle.model.specs.Types.{Entry, Events, Job, Net, Stream, StreamDoc}
+use Rattle.model.specs.History.{Seen, View}
+use Rattle.model.specs.Catalogue.{owner, stream}
 use Rattle.model.specs.Facts.{is_launch_of}
 use Rattle.model.specs.Readiness.{is_ready}
-use Rattle.model.specs.OwnMembers.{may_end, may_release}
+use Rattle.model.specs.OwnMembers.{may_end, may_end_in, may_release, may_release_in}
 use Rattle.model.specs.Turn.{end_witnesses, witnesses}
 use Rattle.model.specs.Sound.{IsHeldPrefix, IsRightEnd, IsRightLaunch, IsRightRelease, seen_view}
-use Rattle.event_audit.specs.Counted.{ArePlaced, counted}
+use Rattle.model_laws.proofs.Growth.{and_left}
+use Rattle.counted_facts.specs.Subjects.{brings}
+use Rattle.counted_decisions.proofs.Sighted.{brought_there}
 use Rattle.event_audit.specs.Prefixes.{name_only}
-use Rattle.event_audit.proofs.Prefix.{are_counts, counted_view, has_counts, is_prefix}
+use Rattle.event_audit.proofs.Prefix.{are_counts, has_counts, is_prefix}
 
-apart : (b : Bool) → b ≡ true → b ≡ false → ⊥
+pub apart : (b : Bool) → b ≡ true → b ≡ false → ⊥
 apart b x y = cc
+
+-- what holds of an answer
+pub if_ok_then : {X E : Type 0} {P Q : X → Type 0} (r : Result X E) → IfOk r P → ((x : X) → P x → Q x) → IfOk r Q
+if_ok_then (Ok x) h f = f x h
+if_ok_then (Err e) h f = h
 
 -- what does not count right is no prefix
 pub no_counts : (before : List Entry) (w : ℕ) (seen : Seen) (named : List ℕ) (r : Bool)
     → r ≡ are_counts before w seen → r ≡ false → IsHeldPrefix before w named seen → ⊥
 no_counts before w seen named r e wrong h = apart r (e ∙ has_counts before w named seen h) wrong
 
--- nor what names others, told in the view of the counted entries
-pub no_names : (before held : List Entry) (w : ℕ) (seen : Seen) (named : View → List ℕ) (r : Bool) → ArePlaced before
-    → held ≡ counted seen before → r ≡ name_only (named (view_of held)) seen → r ≡ false → IsHeldPrefix before w (named (seen_view before seen)) seen → ⊥
-no_names before held w seen named r placed is e wrong h =
-    apart r
-    (e ∙ ap (λ (V : View). name_only (named V) seen) (ap view_of is ∙ counted_view seen before placed) ∙ h.only)
-    wrong
-
-pub names_so : (before held : List Entry) (seen : Seen) (named : View → List ℕ) (r : Bool) → ArePlaced before
-    → held ≡ counted seen before → r ≡ name_only (named (view_of held)) seen → r ≡ true → name_only (named (seen_view before seen)) seen ≡ true
-names_so before held seen named true placed is e right =
-    ap (λ (V : View). name_only (named V) seen) (sym (ap view_of is ∙ counted_view seen before placed)) ∙ sym e
-names_so before held seen named false placed is e right = cc
-
--- a decision told in the view of the counted entries is that of the counts
-pub told_so : (before held : List Entry) (seen : Seen) (fact : View → Bool) (r : Bool) → ArePlaced before
-    → held ≡ counted seen before → r ≡ fact (view_of held) → r ≡ fact (seen_view before seen)
-told_so before held seen fact r placed is e = e ∙ ap fact (ap view_of is ∙ counted_view seen before placed)
-
-pub launch_decided : (net : Net) (before : List Entry) (w j n : ℕ) (seen : Seen) (r : Bool)
-    → are_counts before w seen ≡ true → name_only (witnesses (seen_view before seen) w (Job j)) seen ≡ true
-    → n ≡ 1 + count_by (λ (e : Entry). is_launch_of j e.body) before
-    → r ≡ is_ready net (seen_view before seen) w j → Decides r (IsRightLaunch net before w j n seen)
-launch_decided net before w j n seen r counts names number e = (
+-- a launch
+pub launch_told : (net : Net) (before : List Entry) (w j n : ℕ) (seen : Seen) (r : Bool)
+    → are_counts before w seen ≡ true → n ≡ 1 + count_by (λ (e : Entry). is_launch_of j e.body) before
+    → is_ready net (seen_view before seen) w j ≡ true
+    → r ≡ name_only (witnesses (seen_view before seen) w (Job j)) seen → Decides r (IsRightLaunch net before w j n seen)
+launch_told net before w j n seen r counts number ready e = (
   λ t. record {
-    prefix = is_prefix before w (witnesses (seen_view before seen) w (Job j)) seen counts names;
-    ready = sym e ∙ t;
+    prefix = is_prefix before w (witnesses (seen_view before seen) w (Job j)) seen counts (sym e ∙ t);
+    ready = ready;
     number = number;
   },
-  λ (h : IsRightLaunch net before w j n seen). e ∙ h.ready,
+  λ (h : IsRightLaunch net before w j n seen). e ∙ h.prefix.only,
 )
 
-pub release_decided : (net : Net) (before : List Entry) (w s : ℕ) (seen : Seen) (r : Bool)
-    → are_counts before w seen ≡ true → name_only (witnesses (seen_view before seen) w (Stream s)) seen ≡ true
-    → r ≡ may_release net (seen_view before seen) w s → Decides r (IsRightRelease net before w s seen)
-release_decided net before w s seen r counts names e = (
+-- a release
+pub release_told : (net : Net) (before : List Entry) (w s : ℕ) (seen : Seen) (r : Bool)
+    → are_counts before w seen ≡ true → may_release net (seen_view before seen) w s ≡ true
+    → r ≡ name_only (witnesses (seen_view before seen) w (Stream s)) seen → Decides r (IsRightRelease net before w s seen)
+release_told net before w s seen r counts ready e = (
   λ t. record {
-    prefix = is_prefix before w (witnesses (seen_view before seen) w (Stream s)) seen counts names;
-    ready = sym e ∙ t;
+    prefix = is_prefix before w (witnesses (seen_view before seen) w (Stream s)) seen counts (sym e ∙ t);
+    ready = ready;
   },
-  λ (h : IsRightRelease net before w s seen). e ∙ h.ready,
+  λ (h : IsRightRelease net before w s seen). e ∙ h.prefix.only,
 )
 
-pub end_decided : (before : List Entry) (w s : ℕ) (seen : Seen) (r : Bool) → are_counts before w seen ≡ true
-    → name_only (end_witnesses (seen_view before seen) w s) seen ≡ true → r ≡ may_end (seen_view before seen) w s
-    → Decides r (IsRightEnd before w s seen)
-end_decided before w s seen r counts names e = (
+-- an end
+pub end_told : (before : List Entry) (w s : ℕ) (seen : Seen) (r : Bool) → are_counts before w seen ≡ true
+    → may_end (seen_view before seen) w s ≡ true
+    → r ≡ name_only (end_witnesses (seen_view before seen) w s) seen → Decides r (IsRightEnd before w s seen)
+end_told before w s seen r counts ready e = (
   λ t. record {
-    prefix = is_prefix before w (end_witnesses (seen_view before seen) w s) seen counts names;
-    ready = sym e ∙ t;
+    prefix = is_prefix before w (end_witnesses (seen_view before seen) w s) seen counts (sym e ∙ t);
+    ready = ready;
   },
-  λ (h : IsRightEnd before w s seen). e ∙ h.ready,
+  λ (h : IsRightEnd before w s seen). e ∙ h.prefix.only,
 )
+
+-- who may release a stream owns it
+pub release_owner : (net : Net) (V : View) (w s : ℕ) → may_release net V w s ≡ true → owner V (Stream s) ≡ Some w
+unfolding may_release owner
+release_owner net V w s = go (stream V s)
+  where
+    go : (o : Option StreamDoc) → option_map_or (may_release_in net V w) o false ≡ true
+        → option_map (λ (d : StreamDoc). d.ws) o ≡ Some w
+    go None h = cc
+    go (Some d) h = ap Some (eqb-true d.ws w (and_left _ _ h))
+
+-- a stream that may end is brought
+pub end_brought : (before : List Entry) (w s : ℕ) (seen : Seen) → may_end (seen_view before seen) w s ≡ true
+    → list_any (brings s) (seen_view before seen (Events 0)) ≡ true
+unfolding may_end
+end_brought before w s seen h = go (stream (seen_view before seen) s) refl h
+  where
+    go : (o : Option StreamDoc) → stream (seen_view before seen) s ≡ o
+        → option_map_or (may_end_in (seen_view before seen) w) o false ≡ true
+        → list_any (brings s) (seen_view before seen (Events 0)) ≡ true
+    go None e k = cc
+    go (Some d) e k = brought_there before seen s d e
 
 -- a number that is one more
 pub next_number : (n count all : ℕ) → (n ≡ 0 → ⊥) → count ≡ all → count ≡ n - 1 → n ≡ 1 + all

@@ -1,6 +1,6 @@
 -- A history is sound exactly where each item is right, and which item is the first wrong one.
 use Rattle.std.proofs.Common.{◌≡◌, ℕ, ◌+◌, ◌-◌, ◌<◌, ◌≤◌, ◌⊎◌, List, arith, inl, inr, length, refl, subst, suc, sym, zero, Some}
-use Rattle.std.proofs.Common.{None, take, ap, ◌∙◌, ◌∷◌, []}
+use Rattle.std.proofs.Common.{None, take, ◌∙◌}
 use Rattle.std.specs.Prelude.{IsNone, Option, slice_get}
 use Rattle.std.specs.Option.{IfSome}
 use Rattle.std.proofs.lemmas.Option.{slice_get_within}
@@ -11,8 +11,6 @@ use Rattle.model.specs.Sound.{NamesItsLaunch, OfEvents, StandsOnItsPrefix, is_la
 use Rattle.event_audit.specs.Items.{AreRightBelow, AreStartsRightBelow, IsFirstWrong, IsRightEntry, IsRightItem}
 use Rattle.event_audit.specs.Items.{IsRightStart}
 use Rattle.event_audit.specs.Audits.{IsWrongEntryAt, IsWrongStartAt}
-use Rattle.event_audit.specs.Counted.{ArePlaced}
-use Rattle.model.specs.History.{list_of}
 use Rattle.event_audit.proofs.Each.{each_at, at_each}
 use Rattle.event_audit.proofs.Pairs.{all_of_each, each_of_all, each_once, once_each}
 
@@ -183,31 +181,6 @@ wrong_start net G starts i s h t there wrong =
         start = λ x e. low_start G starts i t (m - length G) (omega arith) x e;
       };
     }
-
--- where the entries so far are right, each has its place
-pub right_placed : (net : Net) (G : List Entry) (i : ℕ) → AreRightBelow net G i → ArePlaced (take i G)
-right_placed net G i h k e s =
-    subst (λ (l : List Entry). e.place ≡ 1 + length (list_of l e.feed)) (sym (take_take G k i e s))
-    (h k (below G i k e s) e (get_take G i k e s)).placed
-  where
-    below : (G : List Entry) (i k : ℕ) (e : Entry) → slice_get (take i G) k ≡ Some e → k < i
-    below G zero k e s = cc
-    below [] (suc i) k e s = cc
-    below (g ∷ G) (suc i) zero e s = omega arith
-    below (g ∷ G) (suc i) (suc k) e s = let less : k < i = below G i k e s in omega (arith, less)
-
-    get_take : (G : List Entry) (i k : ℕ) (e : Entry) → slice_get (take i G) k ≡ Some e → slice_get G k ≡ Some e
-    get_take G zero k e s = cc
-    get_take [] (suc i) k e s = cc
-    get_take (g ∷ G) (suc i) zero e s = s
-    get_take (g ∷ G) (suc i) (suc k) e s = get_take G i k e s
-
-    take_take : (G : List Entry) (k i : ℕ) (e : Entry) → slice_get (take i G) k ≡ Some e
-        → take k (take i G) ≡ take k G
-    take_take G k zero e s = cc
-    take_take [] k (suc i) e s = cc
-    take_take (g ∷ G) zero (suc i) e s = refl
-    take_take (g ∷ G) (suc k) (suc i) e s = ap (λ l. g ∷ l) (take_take G k i e s)
 
 -- the first wrong entry is the first wrong item, by its number
 pub first_entry : (net : Net) (G : List Entry) (starts : List Start) (i n : ℕ) → IsWrongEntryAt net G i → n ≡ i + 1

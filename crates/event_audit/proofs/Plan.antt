@@ -1,16 +1,16 @@
 -- What the tests of a new plan tell.
-use Rattle.std.proofs.Common.{ℕ, ◌&&◌, ◌+◌, ◌≡◌, Bool, List, false, inl, inr, refl, subst, sym, true}
+use Rattle.std.proofs.Common.{ℕ, ◌&&◌, ◌+◌, ◌≡◌, Bool, List, ap, false, inl, inr, refl, subst, sym, true}
 use Rattle.std.proofs.lemmas.Bool.Decides.{eqb_tells}
 use Rattle.std.specs.Bool.{Decides}
-use Rattle.std.specs.Prelude.{◌==◌, Err, IfOk, Ok, Result}
-use Rattle.base_types.specs.declared.NoMemory.{NoMemory}
-use Rattle.model.specs.Types.{Carry, Entry, Events, StreamDoc}
+use Rattle.std.specs.Prelude.{◌==◌}
+use Rattle.model.specs.Types.{Body, Carry, Entry, Events, StreamDoc}
+use Rattle.model.specs.Words.{IsPartOf}
 use Rattle.model.specs.History.{Seen, View, list_of, view_of}
+use Rattle.model.specs.Catalogue.{catalogue, members, named_members, stream}
 use Rattle.model.specs.NewPlan.{last_run}
 use Rattle.model.specs.Sound.{IsCarried, seen_view}
-use Rattle.event_audit.specs.Counted.{ArePlaced, counted}
-use Rattle.event_audit.specs.Plans.{AreRightDocuments, CarriesExactly}
-use Rattle.event_audit.proofs.Prefix.{are_counts, counted_view, counts_others, counts_own, counts_told}
+use Rattle.event_audit.specs.Plans.{AreRightDocuments, AreTheTaken, CarriesExactly}
+use Rattle.event_audit.proofs.Prefix.{are_counts, counts_others, counts_own, counts_told}
 
 and_left : (a b : Bool) → (a && b) ≡ true → a ≡ true
 and_left true b h = refl
@@ -66,27 +66,51 @@ plan_of_parts option before run cut carried docs b d e =
       follows = d.follows;
     }
 
-pub plan_decided : (option : Carry) (before held : List Entry) (run : ℕ) (cut : Seen) (carried : List ℕ)
-    (docs : List StreamDoc) (r : Bool) → ArePlaced before → held ≡ counted cut before
-    → begins before run cut ≡ true → AreRightDocuments (view_of before) carried docs
-    → Decides r (CarriesExactly option (view_of held) carried)
+pub plan_decided : (option : Carry) (before : List Entry) (run : ℕ) (cut : Seen) (carried : List ℕ)
+    (docs : List StreamDoc) (r : Bool) → begins before run cut ≡ true → AreRightDocuments (view_of before) carried docs
+    → Decides r (CarriesExactly option (seen_view before cut) carried)
     → Decides r (IsCarried option before run cut carried docs)
-plan_decided option before held run cut carried docs r placed is b d h =
-    let same : view_of held ≡ seen_view before cut =
-    subst (λ (l : List Entry). view_of l ≡ seen_view before cut) (sym is) (counted_view cut before placed) in (
-      λ t. plan_of_parts option before run cut carried docs b d
-          (subst (λ (V : View). CarriesExactly option V carried) same (h.0 t)),
-      λ (all : IsCarried option before run cut carried docs). h.1
-          (subst (λ (V : View). CarriesExactly option V carried) (sym same)
-          (record { in_order = all.in_order; exactly = all.exactly })),
-    )
+plan_decided option before run cut carried docs r b d h = (
+  λ t. plan_of_parts option before run cut carried docs b d (h.0 t),
+  λ (all : IsCarried option before run cut carried docs). h.1
+      (record { in_order = all.in_order; exactly = all.exactly }),
+)
+
+-- the counts of a plan's cut are there
+pub begins_counts : (before : List Entry) (run : ℕ) (cut : Seen) → begins before run cut ≡ true
+    → are_counts before 0 cut ≡ true
+begins_counts before run cut b =
+    and_right (run == 1 + last_run (list_of before (Events 0))) (are_counts before 0 cut) b
+
+-- who has all that the master made has the members
+pub same_members : (U V : View) → U (Events 0) ≡ V (Events 0) → members U ≡ members V
+unfolding members named_members stream catalogue
+same_members U V e = ap (λ (l : List Body). members (λ f. l)) e
+
+-- what is carried, told by the members of all that was taken
+pub carried_told : (option : Carry) (U V : View) (carried : List ℕ) (r : Bool) → U (Events 0) ≡ V (Events 0)
+    → IsPartOf carried (members V) → Decides r (AreTheTaken option U carried (members V))
+    → Decides r (CarriesExactly option U carried)
+carried_told option U V carried r e part h = (
+  λ t. record {
+    in_order = subst (λ (l : List ℕ). IsPartOf carried l) (sym (same_members U V e)) part;
+    exactly = subst (λ (l : List ℕ). AreTheTaken option U carried l) (sym (same_members U V e)) (h.0 t);
+  },
+  λ (all : CarriesExactly option U carried). h.1
+      (subst (λ (l : List ℕ). AreTheTaken option U carried l) (same_members U V e) all.exactly),
+)
+
+pub not_in_order : (option : Carry) (U V : View) (carried : List ℕ) → U (Events 0) ≡ V (Events 0)
+    → CarriesExactly option U carried → IsPartOf carried (members V)
+not_in_order option U V carried e all =
+    subst (λ (l : List ℕ). IsPartOf carried l) (same_members U V e) all.in_order
 
 -- a plan of the master
 pub masters_plan : (option : Carry) (before : List Entry) (w run : ℕ) (cut : Seen) (S carried : List ℕ)
-    (D docs : List StreamDoc) (r : Result Bool NoMemory) → w ≡ 0 → S ≡ carried → D ≡ docs
-    → IfOk r (λ right. Decides right (IsCarried option before run cut S D))
-    → IfOk r (λ right. Decides right ((w ≡ 0) × IsCarried option before run cut carried docs))
-masters_plan option before w run cut S carried D docs (Ok right) first s d h = (
+    (D docs : List StreamDoc) (right : Bool) → w ≡ 0 → S ≡ carried → D ≡ docs
+    → Decides right (IsCarried option before run cut S D)
+    → Decides right ((w ≡ 0) × IsCarried option before run cut carried docs)
+masters_plan option before w run cut S carried D docs right first s d h = (
   λ t. (
     first,
     subst (λ (x : List ℕ). IsCarried option before run cut x docs) s
@@ -96,4 +120,3 @@ masters_plan option before w run cut S carried D docs (Ok right) first s d h = (
       (subst (λ (x : List ℕ). IsCarried option before run cut x D) (sym s)
       (subst (λ (y : List StreamDoc). IsCarried option before run cut carried y) (sym d) all.1)),
 )
-masters_plan option before w run cut S carried D docs (Err x) first s d h = h

@@ -1,5 +1,5 @@
 -- What a plan carries: exactly what the option takes, one member further.
-use Rattle.std.proofs.Common.{[], ℕ, ◌&&◌, ◌+◌, ◌∙◌, ◌∷◌, ◌≡◌, ◌||◌, Bool, List, None, Option, Some, ap, false, refl, suc}
+use Rattle.std.proofs.Common.{[], ℕ, ◌&&◌, ◌+◌, ◌∙◌, ◌∷◌, ◌≡◌, ◌||◌, ◌++◌, Bool, List, None, Option, Some, ap, false, refl, suc}
 use Rattle.std.proofs.Common.{inl, inr, subst, sym, take, true, zero}
 use Rattle.std.proofs.Math.Bool.{beq}
 use Rattle.std.proofs.lemmas.Bool.Decides.{eqb_tells}
@@ -14,7 +14,15 @@ use Rattle.model.specs.NewPlan.{is_carried, takes}
 use Rattle.model.specs.Sound.{IsTakenUnfinished}
 use Rattle.event_audit.specs.Plans.{AreTheTaken}
 use Rattle.event_audit.proofs.Behind.{taken_some}
-use Rattle.event_audit.proofs.Cited.{has_append}
+
+or_assoc : (a b c : Bool) → ((a || b) || c) ≡ (a || (b || c))
+or_assoc true b c = refl
+or_assoc false b c = refl
+
+has_append : (xs ys : List ℕ) (v : ℕ) → has (xs ++ ys) v ≡ (has xs v || has ys v)
+has_append [] ys v = refl
+has_append (x ∷ xs) ys v =
+    ap (λ (b : Bool). (x == v) || b) (has_append xs ys v) ∙ sym (or_assoc (x == v) (has xs v) (has ys v))
 
 and_left : (a b : Bool) → (a && b) ≡ true → a ≡ true
 and_left true b h = refl

@@ -1,8 +1,8 @@
 pub mod Items
 pub mod Audits
-pub mod Counted
 pub mod Prefixes
 pub mod Launches
+pub mod Starts
 pub mod Times
 pub mod Meanings
 pub mod Numbers

@@ -1,7 +1,7 @@
 -- An UNTIL and a DEADLINE whose time has come, and an object that is done.
-use Rattle.std.specs.Prelude.{ℕ, ◌||◌, ◌≡◌, ◌≤◌, Bool, List}
+use Rattle.std.specs.Prelude.{ℕ, ◌||◌, ◌≡◌, ◌≤◌, Bool, List, is_some}
 use Rattle.model.specs.Types.{Body, Deadline, Dep, Obj, OnUntil, Until}
-use Rattle.model.specs.Facts.{is_cancelled, is_complete}
+use Rattle.model.specs.Facts.{is_cancelled, is_complete, reading}
 
 -- the dependency is an UNTIL of this mark, and its time is at most now
 pub record IsPast (mark : OnUntil) (now : ℕ) (d : Dep) : Type 0 where
@@ -18,3 +18,7 @@ pub record HasPassed (now : ℕ) (d : Dep) : Type 0 where
 -- the list tells the object as cancelled or complete
 abbrev pub is_over : List Body → Obj → Bool
 is_over events o = is_cancelled o events || is_complete events o
+
+-- a body is a reading of a clock
+abbrev pub is_reading : Body → Bool
+is_reading b = is_some (reading b)

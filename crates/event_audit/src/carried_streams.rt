@@ -5,42 +5,13 @@ ghost use Rattle.model.specs.Words as words;
 ghost use Rattle.model.specs.Words.{IsPartOf};
 ghost use Rattle.model.specs.History.{view_of};
 ghost use Rattle.model.specs.Catalogue.{members};
-ghost use Rattle.model.specs.NewPlan as spec;
+ghost use Rattle.counted_decisions.specs.Sights.{CountsAllOf, IsSight, seen_in};
 ghost use Rattle.event_audit.specs.Plans.{AreTheTaken, CarriesExactly};
 
-use base_types::{Carry, Obj, StreamDoc, StreamNo};
+use base_types::StreamNo;
+use counted_decisions::{Sight, is_carried};
 use network_tree::Network;
 use owner_fold::Owners;
-
-/// Whether the option takes an unfinished stream: a marked one, none, or any.
-fn takes(option: Carry, doc: &StreamDoc) -> bool
-    ensures { result ≡ spec.takes option doc.now }
-{
-    match option {
-        Carry::Yes => doc.carry,
-        Carry::No => false,
-        Carry::All => true,
-    }
-}
-
-/// Whether the network's option takes a stream that is neither cancelled nor ended. False outside the catalogue.
-#[tactic(auto, unfolding(model::specs::NewPlan::is_carried, model::specs::Catalogue::owner))]
-fn is_taken(net: &Network, view: &Owners, s: StreamNo) -> bool
-    ensures { result ≡ spec.is_carried net.now (view_of view.now) s }
-{
-    match view.stream(s) {
-        None => false,
-        Some(doc) => {
-            if !takes(net.net().carry, doc) {
-                return false;
-            }
-            if view.is_cancelled(Obj::Stream(s)) {
-                return false;
-            }
-            !view.is_ended(s)
-        }
-    }
-}
 
 /// Whether a number is among these.
 fn has(numbers: &[StreamNo], s: StreamNo) -> bool
@@ -77,37 +48,47 @@ fn is_part_of(part: &[StreamNo], whole: &[StreamNo]) -> bool
     found == part.len()
 }
 
-/// Whether a plan that was made of what this view holds carries its members in order, and exactly those that the
-/// network's option takes.
-pub(crate) fn carries_exactly(net: &Network, view: &Owners, carried: &[StreamNo]) -> bool
-    ensures { Decides result (CarriesExactly net.now.carry (view_of view.now) carried.now) }
+/// Whether a plan that was made of what is counted carries its members in order, and exactly those that the network's
+/// option takes.
+pub(crate) fn carries_exactly(net: &Network, sight: &Sight<'_>, carried: &[StreamNo]) -> bool
+    requires sight { IsSight sight.now }
+    requires own { CountsAllOf 0 sight.now }
+    ensures { Decides result (CarriesExactly net.now.carry (seen_in sight.now) carried.now) }
 {
-    if !carries_in_order(view, carried) {
+    if !carries_in_order(sight.owners, carried) {
         return false;
     }
-    carries_the_taken(net, view, carried)
+    carries_the_taken(net, sight, carried)
 }
 
 /// Whether the carried streams are members, in order.
-fn carries_in_order(view: &Owners, carried: &[StreamNo]) -> bool
-    ensures { Decides result (IsPartOf carried.now (members (view_of view.now))) }
+fn carries_in_order(owners: &Owners, carried: &[StreamNo]) -> bool
+    ensures { Decides result (IsPartOf carried.now (members (view_of owners.now))) }
 {
-    is_part_of(carried, view.members().as_slice())
+    is_part_of(carried, owners.members().as_slice())
 }
 
 /// Whether exactly those of the members are carried that the option takes.
-fn carries_the_taken(net: &Network, view: &Owners, carried: &[StreamNo]) -> bool
-    ensures { let V = view_of view.now in Decides result (AreTheTaken net.now.carry V carried.now (members V)) }
+fn carries_the_taken(net: &Network, sight: &Sight<'_>, carried: &[StreamNo]) -> bool
+    requires { IsSight sight.now }
+    ensures { let V = seen_in sight.now in
+        Decides result (AreTheTaken net.now.carry V carried.now (members (view_of sight.now.owners.now))) }
 {
-    are_the_taken(net, view, carried, view.members().as_slice())
+    are_the_taken(net, sight, carried, sight.owners.members().as_slice())
 }
 
 /// Whether exactly those of these streams are carried that the option takes.
-fn are_the_taken(net: &Network, view: &Owners, carried: &[StreamNo], members: &[StreamNo]) -> bool
-    ensures { Decides result (AreTheTaken net.now.carry (view_of view.now) carried.now members.now) }
+fn are_the_taken(
+    net: &Network,
+    sight: &Sight<'_>,
+    carried: &[StreamNo],
+    members: &[StreamNo],
+) -> bool
+    requires { IsSight sight.now }
+    ensures { Decides result (AreTheTaken net.now.carry (seen_in sight.now) carried.now members.now) }
 {
     for s in members {
-        if has(carried, *s) != is_taken(net, view, *s) {
+        if has(carried, *s) != is_carried(net, sight, *s) {
             return false;
         }
     }

@@ -1,22 +1,23 @@
 //! Whether a new plan is right: its run, its cut, what it carries and its documents.
-ghost use Rattle.std.specs.Prelude.{◌≡◌, ◌&&◌, ◌+◌, ◌==◌, IfOk, length};
+ghost use Rattle.std.specs.Prelude.{◌≡◌, ◌&&◌, ◌+◌, ◌==◌, length};
 ghost use Rattle.std.specs.Bool.{Decides};
 ghost use Rattle.model.specs.Types.{Events, NewPlan};
 ghost use Rattle.model.specs.History.{count_in, list_of, view_of};
 ghost use Rattle.model.specs.NewPlan.{last_run};
 ghost use Rattle.model.specs.Sound.{CarriesByTheOption, IsCarried};
-ghost use Rattle.event_audit.specs.Counted.{ArePlaced};
+ghost use Rattle.counted_facts.specs.Told.{AreCountedFacts};
 ghost use Rattle.event_audit.specs.Plans.{AreRightDocuments};
 ghost use Rattle.event_audit.specs.Prefixes.{are_there};
 
 use crate::carried_streams::carries_exactly;
 use crate::follows::follow_what_is_meant;
 use crate::numbers::are_numbered_on;
-use crate::prefixes::{has_the_counts, held_prefix};
-use base_types::{NoMemory, Seen, StreamDoc, StreamDocs, StreamNo, StreamNos, Ws};
+use crate::prefixes::has_the_counts;
+use base_types::{Seen, StreamDoc, StreamDocs, StreamNo, StreamNos, Ws};
+use counted_decisions::Sight;
+use counted_facts::CountedFacts;
 use network_tree::Network;
 use owner_fold::Owners;
-use std::alloc::Global;
 
 /// Whether it is the run after that of the master's last plan, 1 without one.
 fn is_next_run(owners: &Owners, run: u32) -> bool
@@ -44,26 +45,26 @@ fn are_right_documents(owners: &Owners, docs: &[StreamDoc], carried: &[StreamNo]
 /// its cut counts all that the master made and no more than there is of the others, it carries exactly what the
 /// network's option takes of the members that were unfinished by its cut, and its documents go on from the catalogue.
 pub(crate) fn is_right_plan(
-    alloc: Global,
     net: &Network,
     owners: &Owners,
+    facts: &CountedFacts,
     w: Ws,
     run: u32,
     cut: &Seen,
     carried: &StreamNos,
     docs: &StreamDocs,
-) -> Result<bool, NoMemory>
-    requires placed { ArePlaced owners.now }
-    ensures { IfOk result (λ right. Decides right
-        (CarriesByTheOption net.now.carry owners.now (Events w) (NewPlan run cut.now carried.now docs.now))) }
+) -> bool
+    requires { AreCountedFacts owners.now facts.now }
+    ensures { Decides result
+        (CarriesByTheOption net.now.carry owners.now (Events w) (NewPlan run cut.now carried.now docs.now)) }
 {
     if w.0 != 0 {
-        return Ok(false);
+        return false;
     }
     is_plan_of_the_master(
-        alloc,
         net,
         owners,
+        facts,
         run,
         cut,
         carried.as_slice(),
@@ -73,24 +74,27 @@ pub(crate) fn is_right_plan(
 
 /// Whether a new plan of the master is right after the entries that were taken.
 fn is_plan_of_the_master(
-    alloc: Global,
     net: &Network,
     owners: &Owners,
+    facts: &CountedFacts,
     run: u32,
     cut: &Seen,
     carried: &[StreamNo],
     docs: &[StreamDoc],
-) -> Result<bool, NoMemory>
-    requires placed { ArePlaced owners.now }
-    ensures { IfOk result (λ right. Decides right
-        (IsCarried net.now.carry owners.now run cut.now carried.now docs.now)) }
+) -> bool
+    requires { AreCountedFacts owners.now facts.now }
+    ensures { Decides result (IsCarried net.now.carry owners.now run cut.now carried.now docs.now) }
 {
     if !begins_right(owners, run, cut) {
-        return Ok(false);
+        return false;
     }
     if !are_right_documents(owners, docs, carried) {
-        return Ok(false);
+        return false;
     }
-    let view = held_prefix(alloc, owners, cut)?;
-    Ok(carries_exactly(net, &view, carried))
+    let sight = Sight {
+        owners,
+        facts,
+        seen: cut,
+    };
+    carries_exactly(net, &sight, carried)
 }

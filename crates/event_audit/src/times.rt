@@ -1,56 +1,54 @@
 //! Whether the clock goes on, and an UNTIL that is recorded is one whose time has come, once.
-ghost use Rattle.std.specs.Prelude.{◌≡◌, ◌∷◌, [], filter_map, nat_lt, not, true};
+ghost use Rattle.std.specs.Prelude.{◌≡◌};
 ghost use Rattle.std.specs.Bool.{Decides};
-ghost use Rattle.std.specs.List.{list_all};
-ghost use Rattle.std.specs.Option.{option_map_or};
+ghost use Rattle.std.specs.List.{list_any};
 ghost use Rattle.model.specs.Types.{Clock, Events, UntilPassed};
-ghost use Rattle.model.specs.Facts.{reading};
 ghost use Rattle.model.specs.History.{list_of};
 ghost use Rattle.model.specs.Sound.{IsInTime};
-ghost use Rattle.event_audit.specs.Times.{IsPast};
+ghost use Rattle.event_audit.specs.Times.{IsPast, is_reading};
 
-use crate::prefixes::taken;
-use base_types::{Body, Dep, Entry, Feed, Moment, Obj, OnUntil, Ws};
+use base_types::{Body, Dep, Feed, Moment, Obj, OnUntil, Ws};
 use owner_fold::Owners;
 use value_equality::is_same_mark;
 
-/// Whether every reading of w's clock so far is less than this one.
+/// Whether every reading of w's clock so far is less than this one. The greatest of them tells it, but that is 0 without
+/// a reading too: so one of 0 asks whether there is any.
 pub(crate) fn is_later(owners: &Owners, w: Ws, t: Moment) -> bool
     ensures { Decides result (IsInTime owners.now w (Clock t)) }
 {
-    is_after_all(taken(owners), w, t)
+    let now = owners.now(w);
+    if now.0 < t.0 {
+        return true;
+    }
+    if t.0 > 0 {
+        return false;
+    }
+    !has_reading(owners, w)
 }
 
-/// Whether every reading of w's clock in these entries is less than this one.
-#[tactic(auto, unfolding(model::specs::History::list_of))]
-fn is_after_all(before: &[Entry], w: Ws, t: Moment) -> bool
-    ensures { result ≡ list_all (λ u. nat_lt u t) (filter_map reading (list_of before.now (Events w))) }
+/// Whether w's list has a reading of its clock.
+fn has_reading(owners: &Owners, w: Ws) -> bool
+    ensures { result ≡ list_any is_reading (list_of owners.now (Events w)) }
 {
-    for entry in before {
-        if is_reading_from(entry, w, t) {
-            return false;
+    for passed in 0..owners.count(Feed::Events(w)) {
+        match owners.entry(Feed::Events(w), passed + 1) {
+            None => continue,
+            Some(body) => {
+                if is_reading(body) {
+                    return true;
+                }
+            }
         }
     }
-    true
+    false
 }
 
-/// Whether an entry is a reading of w's clock that is not less than this one.
-#[tactic(auto, unfolding(model::specs::History::list_of))]
-fn is_reading_from(entry: &Entry, w: Ws, t: Moment) -> bool
-    ensures { not result ≡ list_all (λ u. nat_lt u t) (filter_map reading (list_of (entry.now ∷ []) (Events w))) }
-{
-    match entry.feed {
-        Feed::Events(v) => w.0 == v.0 && is_reading(&entry.body, t),
-        Feed::Orders(_, _) => false,
-    }
-}
-
-/// Whether a body is a reading that is not less than this one.
-fn is_reading(body: &Body, t: Moment) -> bool
-    ensures { not result ≡ option_map_or (λ u. nat_lt u t) (reading body.now) true }
+/// Whether a body is a reading of a clock.
+fn is_reading(body: &Body) -> bool
+    ensures { result ≡ is_reading body.now }
 {
     match body {
-        Body::Clock(u) => u.0 >= t.0,
+        Body::Clock(_) => true,
         _ => false,
     }
 }

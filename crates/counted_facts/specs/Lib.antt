@@ -1,0 +1,5 @@
+pub mod Timelines
+pub mod Subjects
+pub mod Places
+pub mod Facts
+pub mod Told

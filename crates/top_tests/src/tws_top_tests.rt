@@ -1,9 +1,10 @@
-//! What `tws` answers: whole reports, summaries, canonical texts, plans, audits and samples, refusals, limits, and each
-//! call that fails.
+//! What `tws` answers: whole reports, summaries, histories, canonical texts, plans, audits and samples, refusals, limits,
+//! and each call that fails.
 mod audits;
 mod defined_nights;
 mod definitions;
 mod faults;
+mod histories;
 mod networks;
 mod plans;
 mod refusals;
@@ -14,7 +15,7 @@ use base_types::{Bytes, Items, Text};
 use outside_mem::{MemSink, MemSource};
 use std::alloc::Global;
 use std::test::Fail;
-use test_builders::bytes;
+use test_builders::{bytes, listed};
 use tws_top::tws;
 
 /// The status, whether this text was written and no other, and whether a world was handed back.
@@ -57,6 +58,15 @@ fn says(
     let mut sink = MemSink::new(alloc, calls(alloc, failing.1)?, 4096)?;
     let (status, world) = ended(alloc, list.as_slice(), &mut source, &mut sink);
     Ok((status, sink.bytes() == text.as_bytes(), world))
+}
+
+/// The status, and what is written, where no call fails.
+fn written(alloc: Global, words: &str, input: Bytes) -> Result<(u8, Bytes), Fail> {
+    let list = listed_words(alloc, words)?;
+    let mut source = MemSource::new(input, Items::new(alloc));
+    let mut sink = MemSink::new(alloc, Items::new(alloc), 262_144)?;
+    let (status, _) = ended(alloc, list.as_slice(), &mut source, &mut sink);
+    Ok((status, listed(alloc, sink.bytes())?))
 }
 
 /// What is said to these words where the input is a text and no call fails.

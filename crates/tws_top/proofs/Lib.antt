@@ -5,4 +5,7 @@ mod Calling
 mod Histories
 mod Dues
 mod Outcomes
+mod Stops
+mod SoundTexts
+mod Worlds
 mod Rows

@@ -2,7 +2,6 @@
 use Rattle.std.proofs.Common.{◌≡◌, ◌≢◌, ◌==◌, ◌≤◌, ◌⊎◌, ℕ, Bool, true, false, List, Option, Some, None, Ok, inl, inr}
 use Rattle.std.proofs.Common.{sym, ap, ◌∙◌, refl, length, arith}
 use Rattle.std.specs.Io.KnownBytes.{Appends}
-use Rattle.std.specs.Option.{is_some}
 use Rattle.std.proofs.lemmas.Bool.Decides.{Decides-eqb}
 use Rattle.definition_replies.specs.declared.Wish.{Wish}
 use Rattle.definition_replies.specs.declared.Wish.TheVariants.{CanonicalText, Plan}
@@ -14,8 +13,6 @@ use Rattle.network_world.specs.Stations.{WorldState}
 use Rattle.night_records.specs.declared.Record.{Record}
 use Rattle.record_runs.specs.Causes.{told}
 use Rattle.record_runs.specs.Runs as runs
-use Rattle.record_runs.specs.declared.stops.Stop.{Stop}
-use Rattle.record_runs.specs.declared.stops.Stop.TheVariants as stop
 use Rattle.tws_top.specs.declared.statuses.Status.{Status}
 use Rattle.tws_top.specs.declared.statuses.Status.TheVariants.{RecordRefused, LimitPassed}
 use Rattle.tws_top.specs.declared.words.Telling.{Telling}
@@ -35,51 +32,8 @@ use Rattle.tws_top.proofs.Calling.{IsOfInput, success, definitions_, refused, li
 use Rattle.tws_top.proofs.Histories as histories
 use Rattle.tws_top.proofs.Outcomes.{compiles_read, plans_read, refused_called, plan_limit, not_3, not_11}
 use Rattle.tws_top.proofs.Dues.{input_due}
-
--- a status that a step is answered with is one of two, by its number
-record_or_limit : (status : Status) → IsOfInput status → (number_of status ≡ 3 → status ≡ RecordRefused)
-    × (number_of status ≡ 10 → status ≡ LimitPassed)
-record_or_limit status success =
-    (λ e. absurd (let never : ⊥ = omega arith in never), λ e. absurd (let never : ⊥ = omega arith in never))
-record_or_limit status definitions_ =
-    (λ e. absurd (let never : ⊥ = omega arith in never), λ e. absurd (let never : ⊥ = omega arith in never))
-record_or_limit status refused = (λ e. refl, λ e. absurd (let never : ⊥ = omega arith in never))
-record_or_limit status limit_ = (λ e. absurd (let never : ⊥ = omega arith in never), λ e. refl)
-record_or_limit status wrong_ =
-    (λ e. absurd (let never : ⊥ = omega arith in never), λ e. absurd (let never : ⊥ = omega arith in never))
-
-stop_is_no_success : (s : Stop) → number_of (stop_status s) ≡ 0 → ⊥
-stop_is_no_success stop.NoPacket e = omega arith
-stop_is_no_success stop.NoProcess e = omega arith
-stop_is_no_success stop.NoDep e = omega arith
-stop_is_no_success stop.NotNeighbour e = omega arith
-stop_is_no_success stop.UnknownName e = omega arith
-stop_is_no_success stop.OutOfRange e = omega arith
-stop_is_no_success stop.NotInNetwork e = omega arith
-stop_is_no_success stop.NotMaster e = omega arith
-stop_is_no_success (stop.Limit name number) e = omega arith
-
-stop_not_1 : (s : Stop) → number_of (stop_status s) ≡ 1 → ⊥
-stop_not_1 stop.NoPacket e = omega arith
-stop_not_1 stop.NoProcess e = omega arith
-stop_not_1 stop.NoDep e = omega arith
-stop_not_1 stop.NotNeighbour e = omega arith
-stop_not_1 stop.UnknownName e = omega arith
-stop_not_1 stop.OutOfRange e = omega arith
-stop_not_1 stop.NotInNetwork e = omega arith
-stop_not_1 stop.NotMaster e = omega arith
-stop_not_1 (stop.Limit name number) e = omega arith
-
-stop_not_11 : (s : Stop) → number_of (stop_status s) ≡ 11 → ⊥
-stop_not_11 stop.NoPacket e = omega arith
-stop_not_11 stop.NoProcess e = omega arith
-stop_not_11 stop.NoDep e = omega arith
-stop_not_11 stop.NotNeighbour e = omega arith
-stop_not_11 stop.UnknownName e = omega arith
-stop_not_11 stop.OutOfRange e = omega arith
-stop_not_11 stop.NotInNetwork e = omega arith
-stop_not_11 stop.NotMaster e = omega arith
-stop_not_11 (stop.Limit name number) e = omega arith
+use Rattle.tws_top.proofs.Stops.{record_or_limit, stop_is_no_success, stop_not_1, stop_not_11}
+use Rattle.tws_top.proofs.Worlds.{WorldIsFor, no_world, world_due}
 
 -- what was read, and what was written
 module _ (old new : Option Stream) (written written' : Option (List ℕ)) (handed : Option WorldState) where
@@ -351,106 +305,6 @@ said_due words old new status text night (Due.by_input w e read) =
     by_status s refused = said_3
     by_status s limit_ = said_10
     by_status s wrong_ = said_11
-
--- whether a world is handed back
-has_none : (h : Option WorldState) → IsOf h None → is_some h ≡ false
-has_none None of = refl
-has_none (Some w) of = absurd of
-
-has_some : (h : Option WorldState) (night : Night) → IsOf h (Some night) → is_some h ≡ true
-has_some None night of = absurd of
-has_some (Some w) night of = refl
-
--- by 0 and words that ask for a record, and only then
-pub record WorldIsFor (asked : Option Asked) (status : ℕ) (handed : Option WorldState) : Type 0 where
-  pub there : status ≡ 0 → asks_record asked ≡ true → is_some handed ≡ true
-  pub only_0 : is_some handed ≡ true → status ≡ 0
-  pub only_records : is_some handed ≡ true → asks_record asked ≡ true
-
-pub no_world : (asked : Option Asked) (status : ℕ) (handed : Option WorldState) → handed ≡ None → status ≢ 0
-    → WorldIsFor asked status handed
-no_world asked status handed none other = record {
-  there = λ e _. absurd (other e);
-  only_0 = λ is. let never : false ≡ true = sym (ap (λ (o : Option WorldState). is_some o) none) ∙ is in cc;
-  only_records = λ is. let never : false ≡ true = sym (ap (λ (o : Option WorldState). is_some o) none) ∙ is in cc;
-}
-
--- nothing is handed back of an answer without a night, which has a cause of its own or is of no record
-without_night : (asked : Option Asked) (status : ℕ) (handed : Option WorldState) → IsOf handed None
-    → (status ≡ 0 → asks_record asked ≡ true → ⊥) → WorldIsFor asked status handed
-without_night asked status handed of never_both = record {
-  there = λ zero is. absurd (never_both zero is);
-  only_0 = λ has. let never : false ≡ true = sym (has_none handed of) ∙ has in cc;
-  only_records = λ has. let never : false ≡ true = sym (has_none handed of) ∙ has in cc;
-}
-
-world_run : (asked : Option Asked) (telling : Telling) (r : Record) (status : Status) (text : List ℕ)
-    (night : Option Night) (handed : Option WorldState) → asked ≡ Some (asks.Input (wants.Night telling))
-    → RunCallsFor telling r status text night → IsOf handed night → WorldIsFor asked (number_of status) handed
-world_run asked telling r status text night handed is (RunCallsFor.stopped line cause run) of =
-    without_night asked (number_of status) handed of (λ zero _. stop_is_no_success (told cause) zero)
-world_run asked telling r status text night handed is (RunCallsFor.ran x run) of = record {
-  there = λ _ _. has_some handed (record { net = r.script.net; world = x }) of;
-  only_0 = λ _. refl;
-  only_records = λ _. ap asks_record is;
-}
-
-world_called : (asked : Option Asked) (telling : Telling) (bytes : List ℕ) (status : Status) (text : List ℕ)
-    (night : Option Night) (handed : Option WorldState) → asked ≡ Some (asks.Input (wants.Night telling))
-    → RecordCallsFor telling bytes status text night → IsOf handed night → WorldIsFor asked (number_of status) handed
-world_called asked telling bytes status text night handed is (RecordCallsFor.no_record line kind e) of =
-    without_night asked (number_of status) handed of (λ zero _. let never : ⊥ = omega arith in never)
-world_called asked telling bytes status text night handed is (RecordCallsFor.read r e run) of =
-    world_run asked telling r status text night handed is run of
-
-definitions_called : (asked : Option Asked) (wish : Wish) (bytes : List ℕ) (status : Status) (text : List ℕ)
-    (night : Option Night) (handed : Option WorldState) → asked ≡ Some (asks.Input (wants.Definitions wish))
-    → DefinitionsCallFor wish bytes status text night → IsOf handed night → WorldIsFor asked (number_of status) handed
-definitions_called asked wish bytes status text night handed is (DefinitionsCallFor.comes o comes) of =
-    without_night asked (number_of status) handed of
-    (λ _ records. let never : false ≡ true = sym (ap asks_record is) ∙ records in cc)
-
-history_called : (asked : Option Asked) (h : HistoryText) (status : Status) (text : List ℕ) (night : Option Night)
-    (handed : Option WorldState) → asked ≡ Some (asks.Input wants.Audit) → HistoryCallsFor h status text night
-    → IsOf handed night → WorldIsFor asked (number_of status) handed
-history_called asked h status text night handed is (HistoryCallsFor.sound s) of =
-    without_night asked (number_of status) handed of
-    (λ _ records. let never : false ≡ true = sym (ap asks_record is) ∙ records in cc)
-history_called asked h status text night handed is (HistoryCallsFor.not_sound n w) of =
-    without_night asked (number_of status) handed of
-    (λ _ records. let never : false ≡ true = sym (ap asks_record is) ∙ records in cc)
-
-audit_called : (asked : Option Asked) (bytes : List ℕ) (status : Status) (text : List ℕ) (night : Option Night)
-    (handed : Option WorldState) → asked ≡ Some (asks.Input wants.Audit) → AuditCallsFor bytes status text night
-    → IsOf handed night → WorldIsFor asked (number_of status) handed
-audit_called asked bytes status text night handed is (AuditCallsFor.no_history line kind e) of =
-    without_night asked (number_of status) handed of
-    (λ _ records. let never : false ≡ true = sym (ap asks_record is) ∙ records in cc)
-audit_called asked bytes status text night handed is (AuditCallsFor.read h e called) of =
-    history_called asked h status text night handed is called of
-
-world_read : (asked : Option Asked) (wanted : Wanted) (bytes : List ℕ) (status : Status) (text : List ℕ)
-    (night : Option Night) (handed : Option WorldState) → asked ≡ Some (asks.Input wanted)
-    → CallsFor wanted bytes status text night → IsOf handed night → WorldIsFor asked (number_of status) handed
-world_read asked (wants.Night telling) bytes status text night handed is called of =
-    world_called asked telling bytes status text night handed is called of
-world_read asked (wants.Definitions wish) bytes status text night handed is called of =
-    definitions_called asked wish bytes status text night handed is called of
-world_read asked wants.Audit bytes status text night handed is called of =
-    audit_called asked bytes status text night handed is called of
-
-world_due : (words : List (List ℕ)) (old new : Option Stream) (status : Status) (text : List ℕ) (night : Option Night)
-    (handed : Option WorldState) → Due words old new status text night → IsOf handed night
-    → WorldIsFor (asked_of words) (number_of status) handed
-world_due words old new status text night handed (Due.other_words e) of =
-    without_night (asked_of words) (number_of status) handed of (λ zero _. let never : ⊥ = omega arith in never)
-world_due words old new status text night handed (Due.sampled jobs seed e) of =
-    without_night (asked_of words) (number_of status) handed of
-    (λ _ records. let never : false ≡ true = sym (ap asks_record e) ∙ records in cc)
-world_due words old new status text night handed (Due.by_input w e (ReadCallsFor.too_long takes)) of =
-    without_night (asked_of words) (number_of status) handed of (λ zero _. let never : ⊥ = omega arith in never)
-world_due words old new status text night handed (Due.by_input w e (ReadCallsFor.read bytes all short called)) of =
-    world_read (asked_of words) w bytes status text night handed e called of
 
 -- what holds of an answer
 module _ (words : List (List ℕ)) (old new : Option Stream) (result : ℕ) (handed : Option WorldState)

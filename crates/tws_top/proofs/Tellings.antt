@@ -8,13 +8,14 @@ use Rattle.std.specs.Str.Lossy.{utf8_valid_len}
 use Rattle.std.proofs.lemmas.Str.{utf8_valid_len-IsUtf8, utf8_valid_len-IsValidUpTo}
 use Rattle.base_types.specs.declared.Net.{Net}
 use Rattle.base_types.specs.declared.ReportParts.{ReportParts}
-use Rattle.model.specs.Types.{Entry}
+use Rattle.model.specs.Types.{Entry, Start}
 use Rattle.model.specs.History.{view_of}
 use Rattle.model.specs.World.{World, view_at}
 use Rattle.agent_core.specs.Nodes.{NodeState}
 use Rattle.network_world.specs.Parts.{parts_of}
 use Rattle.network_world.specs.Stations.{WorldState}
 use Rattle.network_world.specs.Standing.{NodeStandsFor, StandsFor}
+use Rattle.history_script.specs.Printed.{history_text}
 use Rattle.night_summary.specs.Counts.{stream_counts, job_counts}
 use Rattle.night_records.proofs.Once.{one_answer}
 use Rattle.night_records.specs.Readings.{At, IsRead}
@@ -25,7 +26,7 @@ use Rattle.record_script.specs.declared.ScriptFault.{ScriptFault}
 use Rattle.record_script.specs.declared.ScriptFault.TheVariants.{At as At_}
 use Rattle.report_text.specs.Reports.{report_of}
 use Rattle.report_text.specs.Summaries.{summary_of}
-use Rattle.tws_top.specs.Nights.{AreRead, report_at, summary_at}
+use Rattle.tws_top.specs.Nights.{AreRead, history_at, report_at, summary_at}
 
 pub report_told : (w : WorldState) (x : World) (net : Net) (parts : ReportParts) (text : List ℕ) → net ≡ w.net
     → parts ≡ parts_of w.net x → text ≡ report_of net parts → text ≡ report_at w.net x
@@ -53,6 +54,14 @@ summary_told w x net node kept streams jobs events starts text stands at_ over i
     ∙ ap (λ z. summary_of (stream_counts w.net (view_at x 0)) (job_counts w.net (view_at x 0)) z starts) e'
     ∙ ap
     (λ z. summary_of (stream_counts w.net (view_at x 0)) (job_counts w.net (view_at x 0)) (length x.history) z) t'
+
+pub history_told : (w : WorldState) (x : World) (net : Net) (entries : List Entry) (starts : List Start) (text : List ℕ)
+    → net ≡ w.net → entries ≡ w.journal.history → starts ≡ w.journal.starts → StandsFor w x
+    → text ≡ history_text net entries starts → text ≡ history_at w.net x
+history_told w x net entries starts text over es ss stands is =
+    is ∙ ap (λ n. history_text n entries starts) over
+    ∙ ap (λ e. history_text w.net e starts) (es ∙ stands.journal_.history_)
+    ∙ ap (λ s. history_text w.net x.history s) (ss ∙ stands.journal_.starts_)
 
 -- bytes that are a text are read as it is
 pub text_read : (bytes text : List ℕ) (reading : Result Record At) → text ≡ bytes → IsUtf8 bytes → IsRead text reading

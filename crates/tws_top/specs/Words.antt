@@ -1,4 +1,5 @@
--- The forms of words: `replay`, `summary`, `compile`, `audit`, `plan MM/DD/YYYY`, and `sample N K` with N from 1 to 2000.
+-- The forms of words: `replay`, `summary`, `history`, `compile`, `audit`, `plan MM/DD/YYYY`, and `sample N K` with N from 1
+-- to 2000.
 use Rattle.std.specs.Prelude.{ℕ, ◌≤◌, ◌&&◌, Bool, true, false, List, [], ◌∷◌, Option, Some, None, codes, nat_le}
 use Rattle.std.specs.Prelude.{if◌then◌else◌}
 use Rattle.std.specs.Str.{bytes_eq}
@@ -6,7 +7,7 @@ use Rattle.calendars.specs.Written.{date_of}
 use Rattle.definition_replies.specs.Replies.{HasDay}
 use Rattle.definition_replies.specs.declared.Wish.TheVariants.{CanonicalText, Plan}
 use Rattle.syntax.specs.Numbers.{number_of}
-use Rattle.tws_top.specs.declared.words.Telling.TheVariants.{Report, Summary}
+use Rattle.tws_top.specs.declared.words.Telling.TheVariants.{Report, Summary, History}
 use Rattle.tws_top.specs.declared.words.Wanted.{Wanted}
 use Rattle.tws_top.specs.declared.words.Wanted.TheVariants.{Night, Definitions, Audit}
 use Rattle.tws_top.specs.declared.words.Asked.{Asked}
@@ -17,6 +18,7 @@ unfoldable pub alone_of : List ℕ → Option Asked
 alone_of word =
     if bytes_eq word (codes "replay") then Some (Input (Night Report)) else
     if bytes_eq word (codes "summary") then Some (Input (Night Summary)) else
+    if bytes_eq word (codes "history") then Some (Input (Night History)) else
     if bytes_eq word (codes "compile") then Some (Input (Definitions CanonicalText)) else
     if bytes_eq word (codes "audit") then Some (Input Audit) else None
 

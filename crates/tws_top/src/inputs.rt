@@ -2,9 +2,13 @@
 ghost use Rattle.std.specs.Prelude.{◌≡◌, ◌≤◌, Ok, Err, IfOk, length};
 ghost use Rattle.std.specs.Result.{IsErrOf};
 ghost use Rattle.outside.specs.Causes.{Rose};
+ghost use Rattle.tws_top.specs.Audits.{IsSoundText};
 ghost use Rattle.tws_top.specs.Words.{FitsWanted};
 ghost use Rattle.tws_top.specs.Dues.{CallsFor, ReadCallsFor, IsReply};
 ghost use Rattle.tws_top.specs.declared.replies.Silence.TheVariants.{SourceFailed as Failed_};
+ghost use Rattle.tws_top.specs.declared.statuses.Status.TheVariants.{Success};
+ghost use Rattle.tws_top.specs.declared.words.Telling.TheVariants as tells;
+ghost use Rattle.tws_top.specs.declared.words.Wanted.TheVariants as wants;
 
 use crate::audits::reply_to_history;
 use crate::definitions::reply_to_definitions;
@@ -24,7 +28,8 @@ const INPUT_LIMIT: u32 = 16_777_216;
 fn reply_to_bytes(alloc: Global, bytes: &[u8], wanted: Wanted) -> Result<Reply, NoMemory>
     requires few { length bytes.now ≤ 16777216 }
     requires fits { FitsWanted wanted }
-    ensures { IfOk result (IsReply (CallsFor wanted bytes.now)) }
+    ensures called { IfOk result (IsReply (CallsFor wanted bytes.now)) }
+    ensures history { wanted ≡ wants.Night tells.History → IfOk result (λ r. r.status ≡ Success → IsSoundText r.text) }
 {
     match wanted {
         Wanted::Night(telling) => reply_to_record(alloc, bytes, telling),
@@ -41,6 +46,7 @@ pub(crate) fn reply_to_input<I: Source>(
 ) -> Result<Reply, Silence>
     requires { FitsWanted wanted }
     ensures called { IfOk result (IsReply (ReadCallsFor wanted (I.stream input.old) (I.stream input.new))) }
+    ensures history { wanted ≡ wants.Night tells.History → IfOk result (λ r. r.status ≡ Success → IsSoundText r.text) }
     ensures failed { IsErrOf result Failed_ → Rose (I.faults input.old) (I.faults input.new) }
     ensures no_fault { (result ≡ Err Failed_ → ⊥) → I.faults input.new ≡ I.faults input.old }
     ensures later { I.faults input.old ≤ I.faults input.new }

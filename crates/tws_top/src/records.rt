@@ -9,9 +9,12 @@ ghost use Rattle.record_faults.specs.declared.kinds.ScriptKind as kinds;
 ghost use Rattle.record_runs.specs.Ends.{AreLinesInside};
 ghost use Rattle.record_script.specs.Inside.{is_inside};
 ghost use Rattle.record_script.specs.declared.ScriptFault.TheVariants.{At as Told};
+ghost use Rattle.network_lines.specs.Printables.{IsPrintable};
+ghost use Rattle.tws_top.specs.Audits.{IsSoundText};
 ghost use Rattle.tws_top.specs.Nights as spec;
 ghost use Rattle.tws_top.specs.Dues.{RecordCallsFor, RunCallsFor, IsReply};
 ghost use Rattle.tws_top.specs.declared.statuses.Status.TheVariants.{Success};
+ghost use Rattle.tws_top.specs.declared.words.Telling.TheVariants as tells;
 
 use crate::lines::{bad_line, stopped};
 use crate::replies::Reply;
@@ -19,6 +22,7 @@ use crate::statuses::Status;
 use crate::words::Telling;
 use base_types::{Bytes, NoMemory, Ws};
 use definition_texts::line_at;
+use history_script::print_history;
 use network_world::World;
 use night_records::{Record, read_record, run_record};
 use night_summary::state_counts;
@@ -66,23 +70,38 @@ fn summary(alloc: Global, world: &World) -> Result<Bytes, NoMemory>
     )
 }
 
+/// The text of a world's history. It is one that `audit` reads, and finds sound.
+fn history(alloc: Global, world: &World) -> Result<Bytes, NoMemory>
+    requires { spec.IsTellable world.now }
+    ensures text { IfOk result (λ text. (x : model.World) → StandsFor world.now x → text ≡ spec.history_at world.now.net x) }
+    ensures sound { IfOk result IsSoundText }
+{
+    world.is_sound();
+    print_history(alloc, world.net().net(), world.history(), world.starts())
+}
+
 /// What is told of a world.
 fn text(alloc: Global, world: &World, telling: Telling) -> Result<Bytes, NoMemory>
-    ensures { IfOk result (λ text. (x : model.World) → StandsFor world.now x
+    requires { spec.IsTellable world.now }
+    ensures text { IfOk result (λ text. (x : model.World) → StandsFor world.now x
         → text ≡ spec.told_at telling world.now.net x) }
+    ensures history { telling ≡ tells.History → IfOk result IsSoundText }
 {
     match telling {
         Telling::Report => report(alloc, world),
         Telling::Summary => summary(alloc, world),
+        Telling::History => history(alloc, world),
     }
 }
 
 /// The reply of a run that took all its lines. Its history is sound, whatever they were.
 fn told(alloc: Global, world: World, telling: Telling) -> Result<Reply, NoMemory>
+    requires { spec.IsTellable world }
     ensures status { IfOk result (λ r. r.status ≡ Success) }
     ensures text { IfOk result (λ r. (x : model.World) → StandsFor world x → r.text ≡ spec.told_at telling world.net x) }
     ensures world { IfOk result (λ r. r.world ≡ Some world) }
     ensures sound { IfOk result (λ _. IsSound world.net world.journal.history world.journal.starts) }
+    ensures history { telling ≡ tells.History → IfOk result (λ r. IsSoundText r.text) }
 {
     let text = text(alloc, &world, telling)?;
     world.is_sound();
@@ -97,7 +116,10 @@ fn told(alloc: Global, world: World, telling: Telling) -> Result<Reply, NoMemory
 fn reply_to_run(alloc: Global, recorded: Record, telling: Telling) -> Result<Reply, NoMemory>
     requires accepted { net_fault recorded.script.net ≡ None }
     requires inside { AreLinesInside recorded.script.net recorded.script.steps }
-    ensures { IfOk result (IsReply (RunCallsFor telling recorded)) }
+    requires fit { spec.ReachesFit recorded }
+    requires printable { IsPrintable recorded.script.net }
+    ensures called { IfOk result (IsReply (RunCallsFor telling recorded)) }
+    ensures history { telling ≡ tells.History → IfOk result (λ r. r.status ≡ Success → IsSoundText r.text) }
 {
     match run_record(alloc, recorded)? {
         RunEnd::Done(world) => told(alloc, world, telling),
@@ -130,7 +152,8 @@ pub(crate) fn reply_to_record(
     telling: Telling,
 ) -> Result<Reply, NoMemory>
     requires { length bytes.now ≤ 16777216 }
-    ensures { IfOk result (IsReply (RecordCallsFor telling bytes.now)) }
+    ensures called { IfOk result (IsReply (RecordCallsFor telling bytes.now)) }
+    ensures history { telling ≡ tells.History → IfOk result (λ r. r.status ≡ Success → IsSoundText r.text) }
 {
     match read_bytes(alloc, bytes) {
         Ok(recorded) => reply_to_run(alloc, recorded, telling),

@@ -15,12 +15,13 @@ ghost use Rattle.plan_builder.specs.Limits.{plan_fault};
 ghost use Rattle.record_runs.specs.Runs.{done as reaches};
 ghost use Rattle.sample_record.specs.Samples.{sample_of};
 ghost use Rattle.tws_top.specs.declared.words.Telling.{Telling};
+ghost use Rattle.tws_top.specs.declared.words.Telling.TheVariants as tells;
 ghost use Rattle.tws_top.specs.declared.words.Wanted.{Wanted as Wants};
 ghost use Rattle.tws_top.specs.declared.words.Wanted.TheVariants as wants;
 ghost use Rattle.tws_top.specs.declared.words.Asked.TheVariants as asks;
 ghost use Rattle.tws_top.specs.declared.statuses.Status.{Status as Statuses};
 ghost use Rattle.tws_top.specs.Words.{asked_of, asks_input, asks_record};
-ghost use Rattle.tws_top.specs.Audits.{AreHistory};
+ghost use Rattle.tws_top.specs.Audits.{AreHistory, WritesHistory};
 ghost use Rattle.tws_top.specs.Nights.{AreRead, IsRun, Night};
 ghost use Rattle.tws_top.specs.Dues.{IsAnswer, LeftCallsFor, Says};
 ghost use Rattle.tws_top.specs.Rows.{Tells, Compiles, Plans, Refuses, RefusesDefinitions, PassesLimit};
@@ -46,6 +47,8 @@ fn ended<I: Source, O: Sink>(alloc: Global, words: &[Text], input: &mut I, out: 
     ensures alone { (result.status ≡ 4) ⊎ (result.status ≡ 9) → result.world ≡ None }
     ensures input_untouched { asks_input (asked_of words.now) ≡ false → input.new ≡ input.old }
     ensures memory { result.status ≡ 9 → asked_of words.now ≢ None }
+    ensures history { result.status ≡ 0 → asked_of words.now ≡ Some (asks.Input (wants.Night tells.History))
+        → WritesHistory (O.written out.old) (O.written out.new) }
     ensures words_alone { asked_of words.now ≡ None → (result.status ≡ 2) ⊎ (result.status ≡ 5) }
     ensures source_count { result.status ≢ 4 → I.faults input.new ≡ I.faults input.old }
     ensures sink_count { result.status ≢ 5 → O.faults out.new ≡ O.faults out.old }
@@ -69,17 +72,18 @@ fn ended<I: Source, O: Sink>(alloc: Global, words: &[Text], input: &mut I, out: 
 /// Does all that the program does, and ends with its exit status.
 ///
 /// The words are `replay`, which reads the record of a night from the input, takes its steps over the nodes of its
-/// network and writes the report of what happened; `summary`, which writes the counts of it instead; `compile`, which
-/// reads definitions from the input and writes their canonical text; `plan MM/DD/YYYY`, which writes the network and the
-/// drafts of that day instead; `audit`, which reads a history from the input and writes how many entries and starts it
-/// has, where it is sound; or `sample N K`, which reads nothing and writes a record with N jobs (1 to 2000), drawn from the
-/// seed K. A record has a network and plans, or begins with definitions. The statuses are 0 where that was written, 1 for an
+/// network and writes the report of what happened; `summary`, which writes the counts of it instead; `history`, which
+/// writes its network, entries and starts as a text that can be audited; `compile`, which reads definitions from the
+/// input and writes their canonical text; `plan MM/DD/YYYY`, which writes the network and the drafts of that day
+/// instead; `audit`, which reads a history from the input and writes how many entries and starts it has, where it is
+/// sound; or `sample N K`, which reads nothing and writes a record with N jobs (1 to 2000), drawn from the seed K. A
+/// record has a network and plans, or begins with definitions. The statuses are 0 where that was written, 1 for an
 /// input that is no definitions, or has a time without a moment on the day that is planned, 2 for other words, 3 for an
-/// input that is no record, or has definitions with a fault or a step that cannot be taken, and for one that is no history,
-/// 4 and 5 where the source or the sink failed, 9 for want of memory, 10 where the input, its run or a plan passes a limit,
-/// and 11 for a history that is not sound, with its first wrong item. Nothing is written before the run has ended. With 4
-/// and 9 nothing is written at all, and with 5 a front of the text that is due. With `replay`, `summary` and 0 the world
-/// that the steps made is handed back.
+/// input that is no record, or has definitions with a fault or a step that cannot be taken, and for one that is no
+/// history, 4 and 5 where the source or the sink failed, 9 for want of memory, 10 where the input, its run or a plan
+/// passes a limit, and 11 for a history that is not sound, with its first wrong item. Nothing is written before the run
+/// has ended. With 4 and 9 nothing is written at all, and with 5 a front of the text that is due. With `replay`,
+/// `summary`, `history` and 0 the world that the steps made is handed back.
 pub fn tws<I: Source, O: Sink>(alloc: Global, words: &[Text], input: &mut I, out: &mut O) -> Done
     // What is due is said and handed back, but for a fault of the source and want of memory.
     ensures due { result.status ≢ 4 → result.status ≢ 9 → IsAnswer words.now (I.stream input.old) (I.stream input.new)
@@ -120,6 +124,9 @@ pub fn tws<I: Source, O: Sink>(alloc: Global, words: &[Text], input: &mut I, out
     // The statuses one by one.
     ensures done { result.status ≡ 0 → (telling : Telling) → asked_of words.now ≡ Some (asks.Input (wants.Night telling))
         → Tells telling (I.stream input.old) (I.stream input.new) (O.written out.old) (O.written out.new) result.world }
+    // What `history` writes is a text that `audit` reads, and finds sound.
+    ensures history { result.status ≡ 0 → asked_of words.now ≡ Some (asks.Input (wants.Night tells.History))
+        → WritesHistory (O.written out.old) (O.written out.new) }
     ensures compiled { result.status ≡ 0
         → asked_of words.now ≡ Some (asks.Input (wants.Definitions wishes.CanonicalText))
         → Compiles (I.stream input.old) (I.stream input.new) (O.written out.old) (O.written out.new) }

@@ -14,6 +14,8 @@ pub enum Telling {
     Report,
     /// How many entries, starts, streams and jobs there are.
     Summary,
+    /// Its network, its entries and its starts, as a text that can be audited.
+    History,
 }
 
 /// What is wanted of an input.
@@ -60,6 +62,9 @@ fn alone(word: &str) -> Option<Asked>
     }
     if word == "summary" {
         return Some(Asked::Input(Wanted::Night(Telling::Summary)));
+    }
+    if word == "history" {
+        return Some(Asked::Input(Wanted::Night(Telling::History)));
     }
     if word == "compile" {
         return Some(Asked::Input(Wanted::Definitions(Wish::CanonicalText)));

@@ -6,7 +6,7 @@ use std::test::Fail;
 use test_builders::bytes;
 
 /// The night of one job: its plan, its release, its launch, its end, and the end of its stream.
-const NIGHT: &str = "$NETWORK
+pub(super) const NIGHT: &str = "$NETWORK
 ws M
 $HISTORY
 entry 010000000000000101000000010000000000000000000000010000000100000001530a000000000000000000010000000100000001410a0000066563686f20610000000000000000

@@ -175,7 +175,7 @@ static OTHER_WORDS: [&str; 27] = [
     "sample 1 0 0",
     "AUDIT",
     "audit now",
-    "history",
+    "history now",
     "COMPILE",
     "compile now",
     "plan",

@@ -1,5 +1,5 @@
 //! Samples, written and taken as records.
-use super::{calls, ended, listed_words, says};
+use super::{calls, ended, listed_words, says, written};
 use base_types::{Bytes, Items};
 use outside_mem::{MemSink, MemSource};
 use std::alloc::Global;
@@ -10,7 +10,7 @@ use test_builders::listed;
 fn sampled(alloc: Global, words: &str) -> Result<Bytes, Fail> {
     let list = listed_words(alloc, words)?;
     let mut source = MemSource::new(Items::new(alloc), calls(alloc, 1)?);
-    let mut sink = MemSink::new(alloc, Items::new(alloc), 65_536)?;
+    let mut sink = MemSink::new(alloc, Items::new(alloc), 262_144)?;
     let _ended = ended(alloc, list.as_slice(), &mut source, &mut sink);
     Ok(listed(alloc, sink.bytes())?)
 }
@@ -44,5 +44,17 @@ fn all_streams_of_a_sample_end(rt: HostRuntime) -> Result<(), Fail> {
     let summary = "events 89\nstarts 40\nstreams SUCC 4\njobs SUCC 40\n";
     let said = says(alloc, "summary", record, (0, 0), summary)?;
     assert_eq!(rt; said, (0, true, true));
+    Ok(())
+}
+
+/// Two summaries of one large record are the same.
+#[test]
+fn large_sample(rt: HostRuntime) -> Result<(), Fail> {
+    let alloc = rt.alloc();
+    let record = sampled(alloc, "sample 400 1")?;
+    let (first_status, first) = written(alloc, "summary", listed(alloc, record.as_slice())?)?;
+    let (second_status, second) = written(alloc, "summary", record)?;
+    assert_eq!(rt; (first_status, second_status), (0, 0));
+    assert!(rt; first.len() > 0 && first.as_slice() == second.as_slice());
     Ok(())
 }

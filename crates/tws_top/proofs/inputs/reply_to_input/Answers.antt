@@ -5,7 +5,7 @@ use Rattle.tws_top.proofs.inputs.reply_to_input.Goals as goal
 pub returns-in_ok-reply_to_bytes-in-Ok-clause-called : goal.returns-in_ok-reply_to_bytes-in-Ok-clause-called
 returns-in_ok-reply_to_bytes-in-Ok-clause-called g c =
     read_reply c.args.wanted _ _ c.in-Ok.bytes.items _ c.in-Ok.ensures.all c.in-Ok.ensures.short
-    (rw c.deref.ensures.value at c.in_ok-reply_to_bytes-in-Ok.ensures)
+    (rw c.deref.ensures.value at c.in_ok-reply_to_bytes-in-Ok.ensures.called)
 
 pub returns-in_ok-limit-in-Err-TooLong-clause-called : goal.returns-in_ok-limit-in-Err-TooLong-clause-called
 returns-in_ok-limit-in-Err-TooLong-clause-called g c =

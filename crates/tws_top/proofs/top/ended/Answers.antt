@@ -1,11 +1,19 @@
-use Rattle.std.proofs.Common.{◌≡◌, ◌∙◌, ℕ, Some, sym, ap, refl, inl}
+use Rattle.std.proofs.Common.{◌≡◌, ◌∙◌, ℕ, Option, Some, sym, ap, refl, inl}
 use Rattle.sample_record.specs.Samples.{sample_of}
+use Rattle.tws_top.specs.declared.words.Asked.{Asked}
+use Rattle.tws_top.specs.declared.words.Asked.TheVariants as asks
+use Rattle.tws_top.specs.declared.words.Telling.TheVariants as tells
 use Rattle.tws_top.specs.declared.words.Wanted.{Wanted}
+use Rattle.tws_top.specs.declared.words.Wanted.TheVariants as wants
 use Rattle.tws_top.specs.Dues.{IsReply, ReadCallsFor}
 use Rattle.tws_top.proofs.Calling.{reply_not_sink, reply_of_input, by_value, by_two}
 use Rattle.tws_top.proofs.Dues.{answer_words, answer_sample, answer_input}
 use Rattle.tws_top.proofs.Rows.{no_silence}
+use Rattle.tws_top.proofs.SoundTexts.{history_written}
 use Rattle.tws_top.proofs.top.ended.Goals as goal
+
+same_wanted : (a b : Wanted) → ◌≡◌ {A = Option Asked} (Some (asks.Input a)) (Some (asks.Input b)) → a ≡ b
+same_wanted a b e = cc
 
 pub answer-requires-in-Ok-reply_to_input : goal.answer-requires-in-Ok-reply_to_input
 answer-requires-in-Ok-reply_to_input g c = reply_not_sink _ _ _ _ c.in-Ok-reply_to_input.ensures.called
@@ -45,3 +53,10 @@ pub returns-in-Ok-reply_to_input-clause-alone : goal.returns-in-Ok-reply_to_inpu
 returns-in-Ok-reply_to_input-clause-alone g c = λ e.
     absurd (no_silence _ _ _ _ _ _ _ (reply_of_input _ _ _ _ c.in-Ok-reply_to_input.ensures.called)
     c.answer-in-Ok-reply_to_input.ensures.said e)
+
+pub returns-in-Ok-reply_to_input-clause-history : goal.returns-in-Ok-reply_to_input-clause-history
+returns-in-Ok-reply_to_input-clause-history g c = λ zero asked.
+    let is : c.in-Some-Input.wanted ≡ wants.Night tells.History =
+    same_wanted _ _ (sym (sym c.read_words.ensures.form ∙ c.in-Some-Input.is ∙ ap Some c.in-Some-Input.field-0-is) ∙ asked) in
+    history_written _ _ _ _ _ _ _ c.answer-in-Ok-reply_to_input.ensures.said zero
+    (c.in-Ok-reply_to_input.ensures.history (c.in-Some-Input.wanted-is ∙ is))

@@ -1,12 +1,13 @@
 use Rattle.std.proofs.Common.{◌≡◌, ◌∙◌, ◌⊎◌, ℕ, sym, ap, inl, inr, true, false, arith, rules}
 use Rattle.tws_top.specs.Words.{asked_of, asks_input}
 use Rattle.tws_top.proofs.Dues.{exact_said, complete_said, compiles_said, plans_said, audit_said, sample_said}
-use Rattle.tws_top.proofs.Rows.{IsSaid, said_0, said_1, said_2, said_3, said_10, said_11, WorldIsFor, no_world, done_said}
+use Rattle.tws_top.proofs.Rows.{IsSaid, said_0, said_1, said_2, said_3, said_10, said_11, done_said}
 use Rattle.tws_top.proofs.Rows.{compiled_said, planned_said, definitions_said, words_said}
 use Rattle.tws_top.proofs.Rows.{sound_said, wrong_said, history_refused_said}
 use Rattle.history_script.specs.declared.histories.HistoryText.{HistoryText}
 use Rattle.model.specs.Sound.{IsSound}
 use Rattle.tws_top.proofs.Rows.{refused_said, limit_said, said_statuses, world_said, sink_said, by_silence, apart}
+use Rattle.tws_top.proofs.Worlds.{WorldIsFor, no_world}
 use Rattle.tws_top.proofs.top.tws.Goals as goal
 
 pub returns-clause-exact : goal.returns-clause-exact

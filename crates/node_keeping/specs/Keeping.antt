@@ -1,11 +1,13 @@
--- What a stretch of a run keeps, and what a stop at any moment of it leaves.
-use Rattle.std.specs.Prelude.{[], ℕ, ◌++◌, ◌∷◌, ◌≡◌, ◌≤◌, ◌⊎◌, Bool, Err, List, None, Ok, Option, Result, Some, false}
-use Rattle.std.specs.Prelude.{length, map, option_map, take, ⊤}
+-- What a stretch of a run keeps, why an entry is refused, and what a stop at any moment of it leaves.
+use Rattle.std.specs.Prelude.{[], ℕ, ◌+◌, ◌++◌, ◌<◌, ◌∷◌, ◌≡◌, ◌≤◌, ◌⊎◌, Bool, Err, List, None, Ok, Option, Result, Some}
+use Rattle.std.specs.Prelude.{false, length, map, option_map, sum_by, take, ⊤}
 use Rattle.base_types.specs.declared.LimitName.TheVariants.{File}
 use Rattle.model.specs.Types.{Entry}
 use Rattle.model.specs.Spelling.{entry_bytes}
+use Rattle.outside.specs.Causes.{Rose}
 use Rattle.outside.specs.Kept.{Bodies, IsKept}
-use Rattle.node_keeping.specs.Traces.{Event, Trace, kept, tried}
+use Rattle.outside.specs.Records.{longest_file}
+use Rattle.node_keeping.specs.Traces.{Event, Trace, kept, refusals, tried}
 use Rattle.node_keeping.specs.declared.ends.NodeEnd.{NodeEnd}
 use Rattle.node_keeping.specs.declared.ends.NodeEnd.TheVariants.{DiskFault, Limit, NoMemory}
 
@@ -26,9 +28,22 @@ KeptBy e trace (Err why) = ((why ≡ NoMemory) × (trace ≡ [])) ⊎ (IsRefusal
 abbrev pub bodies : List Entry → Bodies
 bodies entries = map entry_bytes entries
 
+-- how many bytes the file of a keeper grows by an entry, and by all that a trace kept
+abbrev pub record_size : Entry → ℕ
+record_size e = 5 + length (entry_bytes e)
+
+abbrev pub kept_size : Trace → ℕ
+kept_size trace = sum_by record_size (kept trace)
+
 -- the bodies before, and behind them those of the trace
 abbrev pub KeeperTells : Trace → Option Bodies → Option Bodies → Type 0
 KeeperTells trace old new = new ≡ option_map (λ (before : Bodies). before ++ bodies (kept trace)) old
+
+-- the file has so many bytes, and had no room for the entry; or it had room, and the count of the disk's faults rose
+abbrev pub IsCause : ℕ → ℕ → ℕ → Entry → NodeEnd → Type 0
+IsCause size before now e (Limit File) = longest_file < size + record_size e
+IsCause size before now e DiskFault = (size + record_size e ≤ longest_file) × Rose before now
+IsCause size before now e _ = ⊥
 
 -- the bodies before, and some of those that were to be kept, in order and none skipped
 abbrev pub IsLeft : Trace → Option Bodies → Bodies → Type 0
@@ -43,11 +58,17 @@ IsLeftAtEnd trace (Some before) left =
     (n : ℕ) × (length (kept trace) ≤ n) × (n ≤ length (tried trace)) × (left ≡ before ++ bodies (take n (tried trace)))
 
 -- What is kept after a stretch of a run, and what a stop leaves: at any moment of it the bodies before and some of those
--- that were to be kept, in order; at its end all that were kept, with the one in hand or without.
-pub record Lasts {K : Type 0} (kept_in : K → Option Bodies) (may_leave : K → Bodies → Type 0) (moment : K → ℕ)
-    (left_since : K → ℕ → Bodies → Type 0) (trace : Trace) (old new : K) : Type 0 where
+-- that were to be kept, in order; at its end all that were kept, with the one in hand or without. An entry was refused
+-- for its cause, and a file that was within its limit stays so.
+pub record Lasts {K : Type 0} (kept_in : K → Option Bodies) (size faults moment : K → ℕ) (may_leave : K → Bodies → Type 0)
+    (left_since : K → ℕ → Bodies → Type 0) (opens_since : K → ℕ → ℕ → Type 0) (trace : Trace) (old new : K) : Type 0 where
   pub tells : KeeperTells trace (kept_in old) (kept_in new)
+  pub grows : size new ≡ size old + kept_size trace
+  pub within : size old ≤ longest_file → size new ≤ longest_file
+  pub no_less : faults old ≤ faults new
+  pub causes : (e : Entry) (why : NodeEnd) → refusals trace ≡ (e, why) ∷ [] → IsCause (size new) (faults old) (faults new) e why
   pub later : moment old ≤ moment new
   pub any_moment : (t : ℕ) (left : Bodies) → t ≤ moment old → left_since new t left
       → left_since old t left ⊎ IsLeft trace (kept_in old) left
   pub at_end : (left : Bodies) → may_leave new left → IsLeftAtEnd trace (kept_in old) left
+  pub opens : (owner t : ℕ) → t ≤ moment old → opens_since old owner t → opens_since new owner t

@@ -16,13 +16,14 @@ use std::alloc::Global;
 /// makes or that came by mail: it is fit, and has at most 4,194,304 bytes.
 ///
 /// It is kept, or it is not and the run ends: for want of memory before the keeper was asked, for want of room in its
-/// file, or for its disk. A stop at any moment leaves what was kept before, or that and the entry.
+/// file, exactly where that would pass 2,147,483,648 bytes, or for its disk, whose count of faults then rose. A stop at
+/// any moment leaves what was kept before, or that and the entry.
 pub fn keep<K: Keeper>(alloc: Global, keeper: &mut K, entry: &Entry) -> Result<(), NodeEnd>
     requires ready { IsReady K.kept K.spent K.may_leave keeper.old }
     requires fit { IsFit entry.now }
     requires short { length (entry_bytes entry.now) ≤ longest_body }
     ensures kept { (trace : Trace) × KeptBy entry.now trace result
-        × Lasts K.kept K.may_leave K.moment K.left_since trace keeper.old keeper.new }
+        × Lasts K.kept K.size K.faults K.moment K.may_leave K.left_since K.opens_since trace keeper.old keeper.new }
     ensures ready { OnOk result (IsReady K.kept K.spent K.may_leave keeper.new) }
 {
     let bytes = match write_entry(alloc, entry) {

@@ -1,0 +1,5 @@
+pub mod Actions
+pub mod Doings
+pub mod Inputs
+pub mod Stepping
+pub mod Tellings

@@ -1,0 +1,5 @@
+pub mod Keeping
+pub mod Turning
+pub mod Parts
+pub mod Inputs
+pub mod Advising

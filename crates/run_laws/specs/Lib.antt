@@ -1,0 +1,6 @@
+-- What a trace kept and did, as laws speak of it.
+pub mod Alone
+pub mod Files
+pub mod Held
+pub mod Launches
+pub mod Outgoing

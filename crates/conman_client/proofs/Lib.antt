@@ -1,0 +1,5 @@
+mod Telling
+mod Hearing
+mod Waiting
+mod Running
+mod Fixed

@@ -1,0 +1,23 @@
+//! The real outside of a running node: its message file, its connections, the processes of its jobs, the system's clock
+//! and the files that jobs wait for.
+//!
+//! Nothing can be proved of what a system holds or answers, so these objects tell nothing. Each counts the calls that
+//! failed. What is proved is that each call is safe, ends, and counts as its trait says.
+#![tactic(auto)]
+
+mod callers;
+mod clocks;
+mod connections;
+mod disks;
+mod faults;
+mod lines;
+mod links;
+mod probers;
+mod spawners;
+mod streams;
+
+pub use clocks::SystemClock;
+pub use disks::FileDisk;
+pub use links::TcpLink;
+pub use probers::FileProber;
+pub use spawners::ChildSpawner;

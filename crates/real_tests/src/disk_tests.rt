@@ -1,0 +1,47 @@
+//! The disk of a node.
+use outside::{Disk, Failed};
+use real_outside::FileDisk;
+use std::fs;
+use std::fs::{File, Files};
+use std::test::Fail;
+
+/// Writes `TWSMmore`, then `AB` at its third byte, reads what stands there, and cuts two bytes off.
+fn is_used<R: Files<File = File>>(disk: &mut FileDisk<R>) -> bool {
+    let mut buf = [0u8; 4];
+    disk.len() == Ok(0)
+        && disk.write_at(0, b"TWSM").is_ok()
+        && disk.write_at(4, b"more").is_ok()
+        && disk.sync().is_ok()
+        && disk.write_at(2, b"AB").is_ok()
+        && disk.read_at(2, &mut buf).is_ok()
+        && buf == *b"ABmo"
+        && disk.read_at(6, &mut buf) == Err(Failed)
+        && disk.cut(6).is_ok()
+        && disk.sync().is_ok()
+}
+
+#[test]
+fn a_disk_is_a_file_of_its_own(rt: HostRuntime) -> Result<(), Fail> {
+    let alloc = rt.alloc();
+    let _ = fs::remove_file(&rt, "OFDISK.msg");
+    let mut disk = FileDisk::new(alloc, rt, "OFDISK")?;
+    let mut second = FileDisk::new(alloc, rt, "OFDISK")?;
+    assert_eq!(rt; fs::exists(&rt, "OFDISK.msg").unwrap_or(true), false);
+    assert!(rt; is_used(&mut disk));
+
+    // Nobody else gets the file as long as the disk is there.
+    assert!(rt; second.len().is_err());
+    drop(disk);
+    assert_eq!(rt; second.len(), Ok(6));
+    let bytes = fs::read(&rt, "OFDISK.msg")?;
+    assert_eq!(rt; bytes.as_slice(), b"TWABmo".as_slice());
+    fs::remove_file(&rt, "OFDISK.msg")?;
+    Ok(())
+}
+
+#[test]
+fn a_disk_without_its_folder_fails(rt: HostRuntime) -> Result<(), Fail> {
+    let mut disk = FileDisk::new(rt.alloc(), rt, "no/folder")?;
+    assert!(rt; disk.sync().is_err());
+    Ok(())
+}

@@ -1,11 +1,11 @@
 -- An ask: the calls that it makes of a link, and what it answers by them.
-use Rattle.std.specs.Prelude.{◌≡◌, ◌<◌, ◌≤◌, ◌⊎◌, ◌||◌, not, ℕ, Bool, true, false, List, [], ◌∷◌, ◌++◌, length, Option, None, Some, Result, Ok, Err, ⊤}
+use Rattle.std.specs.Prelude.{◌≡◌, ◌≤◌, ◌⊎◌, ◌||◌, not, ℕ, Bool, true, false, List, [], ◌∷◌, length, Option, None, Some, Result, Ok, Err, ⊤}
 use Rattle.std.specs.List.{list_any}
 use Rattle.base_types.specs.declared.Peer.{Peer}
 use Rattle.mail_frames.specs.declared.frames.Frame.TheVariants.{Command}
 use Rattle.mail_frames.specs.Spelling.{frame_bytes}
 use Rattle.outside.specs.declared.links.Arrival.{Arrival}
-use Rattle.outside.specs.Calls.{Begin, Sent, LinkCalls}
+use Rattle.outside.specs.Calls.{AddsAllOrEnds, Begin, LinkCalls, Sent}
 use Rattle.outside.specs.Causes.{Rose}
 use Rattle.conman_client.specs.declared.ends.AskEnd.{AskEnd}
 use Rattle.conman_client.specs.declared.ends.AskEnd.TheVariants.{NoAnswer, NoMemory}
@@ -17,19 +17,11 @@ pub record Made : Type 0 where
   pub sent : List Sent
   pub arrived : List Arrival
 
--- These stand at the end of what is told. Where there are any, nothing may be told from one of them on, and what is not
--- told is never told again.
-abbrev pub AddAllOrEnd : {X : Type 0} → List X → Option (List X) → Option (List X) → Type 0
-AddAllOrEnd xs None None = ⊤
-AddAllOrEnd xs (Some old) (Some new) = new ≡ old ++ xs
-AddAllOrEnd xs None (Some new) = ⊥
-AddAllOrEnd xs (Some old) None = 0 < length xs
-
 -- the link tells these calls besides, and no other
 pub record Tells (made : Made) (old new : LinkCalls) : Type 0 where
-  pub begun : AddAllOrEnd made.begun old.begun new.begun
-  pub arrived : AddAllOrEnd made.arrived old.arrived new.arrived
-  pub sent : AddAllOrEnd made.sent old.sent new.sent
+  pub begun : AddsAllOrEnds made.begun old.begun new.begun
+  pub arrived : AddsAllOrEnds made.arrived old.arrived new.arrived
+  pub sent : AddsAllOrEnds made.sent old.sent new.sent
   pub replied : new.replied ≡ old.replied
   pub asked : new.asked ≡ old.asked
 
@@ -102,4 +94,4 @@ IsAsk peer command made answer =
 abbrev pub IsUnanswered : ℕ → LinkCalls → LinkCalls → Type 0
 IsUnanswered ws old new =
     (arrivals : List Arrival) × (length arrivals ≡ most_polls) × IsFirstReply ws arrivals None
-    × AddAllOrEnd arrivals old.arrived new.arrived
+    × AddsAllOrEnds arrivals old.arrived new.arrived

@@ -1,53 +1,19 @@
 -- What is told of stretches of a run, one behind the other, and of single calls.
 use Rattle.std.specs.Prelude.{filter_map}
-use Rattle.std.proofs.Common.{[], ◌++◌, ◌≡◌, ◌∙◌, ◌∷◌, ℕ, Bool, List, None, Option, Result, Some, ap, append_assoc, map, refl, subst, sym}
-use Rattle.std.proofs.lemmas.List.{append-nil, map-append}
+use Rattle.std.proofs.Common.{[], ◌++◌, ◌≡◌, ◌∙◌, ◌∷◌, ℕ, Bool, List, None, Option, Result, Some, ap, map, refl, subst, sym}
+use Rattle.std.proofs.lemmas.List.{map-append}
 use Rattle.std.proofs.lemmas.List.Elements.{filter_map-append}
 use Rattle.model.specs.Types.{Entry}
 use Rattle.file_watch.specs.Asked.{Probe}
-use Rattle.outside.specs.Calls.{AddsOrEnds, Asked, Asks, Kills, LinkCalls, Polls, Replied, Replies, Reports, Sends, Sent, SpawnerCalls, StartCall, Starts}
+use Rattle.outside.proofs.Told.{told_both, none_told, told_none, told_one, told_same}
+use Rattle.outside.specs.Calls.{AddsAllOrEnds, AddsOrEnds, Asked, Asks, Kills, LinkCalls, Polls, Replied, Replies, Reports, Sends, Sent, SpawnerCalls, StartCall, Starts}
 use Rattle.outside.specs.declared.Failed.{Failed}
 use Rattle.outside.specs.declared.links.Arrival.{Arrival}
 use Rattle.outside.specs.declared.spawners.End.{End}
 use Rattle.node_keeping.specs.Traces.{Event, Trace, arrival_of, arrivals, asked_of, asks, kill_of, kills, look_of, looks, reading_of}
 use Rattle.node_keeping.specs.Traces.{replies, reply_of, report_of, reports, send_of, sends, start_of, starts}
 use Rattle.node_keeping.specs.declared.ends.NodeEnd.{NodeEnd}
-use Rattle.node_inputs.specs.Tellings.{AddsAllOrEnds, HasCalls, LinkTells, SpawnerTells, Tells, Told, probe_of, probes, told_by}
-
--- nothing more
-told_none : {X : Type 0} (old : Option (List X)) → AddsAllOrEnds [] old old
-told_none None = tt
-told_none (Some old) = sym (append-nil old)
-
-told_same : {X : Type 0} (old new : Option (List X)) → new ≡ old → AddsAllOrEnds [] old new
-told_same {X} old new h = subst (λ (o : Option (List X)). AddsAllOrEnds [] old o) (sym h) (told_none old)
-
--- one more
-told_one : {X : Type 0} (x : X) (old new : Option (List X)) → AddsOrEnds x old new → AddsAllOrEnds (x ∷ []) old new
-told_one x None None h = tt
-told_one x (Some old) (Some new) h = h
-told_one x (Some old) None h = tt
-told_one x None (Some new) h = absurd h
-
--- some and then some more
-calls_left : {X : Type 0} (xs ys : List X) → HasCalls xs → HasCalls (xs ++ ys)
-calls_left [] ys h = absurd h
-calls_left (x ∷ xs) ys h = tt
-
-calls_right : {X : Type 0} (xs ys : List X) → HasCalls ys → HasCalls (xs ++ ys)
-calls_right [] ys h = h
-calls_right (x ∷ xs) ys h = tt
-
-told_both : {X : Type 0} (xs ys : List X) (old middle new : Option (List X)) → AddsAllOrEnds xs old middle
-    → AddsAllOrEnds ys middle new → AddsAllOrEnds (xs ++ ys) old new
-told_both xs ys None None None first second = tt
-told_both xs ys None None (Some new) first second = absurd second
-told_both xs ys None (Some middle) new first second = absurd first
-told_both xs ys (Some old) None None first second = calls_left xs ys first
-told_both xs ys (Some old) None (Some new) first second = absurd second
-told_both xs ys (Some old) (Some middle) None first second = calls_right xs ys second
-told_both {X} xs ys (Some old) (Some middle) (Some new) first second =
-    second ∙ ap (λ (l : List X). l ++ ys) first ∙ append_assoc old xs ys
+use Rattle.node_inputs.specs.Tellings.{LinkTells, SpawnerTells, Tells, Told, probe_of, probes, told_by}
 
 -- the same of what stands in the events of a trace
 told_along : {X : Type 0} (of_event : Event → Option X) (front back : Trace) (old middle new : Option (List X))
@@ -89,9 +55,6 @@ tells_both front back old middle new first second = record {
       subst (λ (l : List Probe). AddsAllOrEnds l old.files new.files) (sym (probes-append front back))
       (told_both (probes front) (probes back) old.files middle.files new.files first.files second.files);
 }
-
-none_told : {X : Type 0} (xs : List X) → xs ≡ [] → (old : Option (List X)) → AddsAllOrEnds xs old old
-none_told {X} xs h old = subst (λ (l : List X). AddsAllOrEnds l old old) (sym h) (told_none old)
 
 -- what asks nothing of links, and of the spawner
 same_links : (trace : Trace) → arrivals trace ≡ [] → sends trace ≡ [] → replies trace ≡ [] → asks trace ≡ []

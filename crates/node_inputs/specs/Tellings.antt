@@ -1,7 +1,7 @@
 -- What the objects of a run tell of it.
-use Rattle.std.specs.Prelude.{[], ℕ, ◌++◌, ◌∷◌, ◌≡◌, Bool, List, None, Option, Result, Some, map, ⊤}
+use Rattle.std.specs.Prelude.{ℕ, ◌≡◌, Bool, List, Option, Result, map}
 use Rattle.file_watch.specs.Asked.{Probe}
-use Rattle.outside.specs.Calls.{LinkCalls, SpawnerCalls}
+use Rattle.outside.specs.Calls.{AddsAllOrEnds, LinkCalls, SpawnerCalls}
 use Rattle.outside.specs.declared.Failed.{Failed}
 use Rattle.node_keeping.specs.Traces.{Trace, arrivals, asks, kills, looks, readings, replies, reports, sends, starts}
 
@@ -14,18 +14,6 @@ pub record Told : Type 0 where
 
 abbrev pub told_by : LinkCalls → SpawnerCalls → Option (List ℕ) → Option (List Probe) → Told
 told_by link jobs clock files = record { link = link; jobs = jobs; clock = clock; files = files }
-
--- there was a call from which on nothing is told
-abbrev pub HasCalls : {X : Type 0} → List X → Type 0
-HasCalls [] = ⊥
-HasCalls (x ∷ xs) = ⊤
-
--- These stand at the end of what is told, or from some call on nothing is told, and then never again.
-abbrev pub AddsAllOrEnds : {X : Type 0} → List X → Option (List X) → Option (List X) → Type 0
-AddsAllOrEnds xs None None = ⊤
-AddsAllOrEnds xs (Some old) None = HasCalls xs
-AddsAllOrEnds xs (Some old) (Some new) = new ≡ old ++ xs
-AddsAllOrEnds xs None (Some new) = ⊥
 
 pub record LinkTells (trace : Trace) (old new : LinkCalls) : Type 0 where
   pub begun : new.begun ≡ old.begun

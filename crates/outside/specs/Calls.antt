@@ -14,6 +14,18 @@ AddsOrEnds x (Some old) (Some new) = new ≡ old ++ x ∷ []
 AddsOrEnds x None (Some new) = ⊥
 AddsOrEnds x (Some old) None = ⊤
 
+-- there was a call from which on nothing is told
+abbrev pub HasCalls : {X : Type 0} → List X → Type 0
+HasCalls [] = ⊥
+HasCalls (x ∷ xs) = ⊤
+
+-- These stand at the end of what is told, or from some call on nothing is told, and then never again.
+abbrev pub AddsAllOrEnds : {X : Type 0} → List X → Option (List X) → Option (List X) → Type 0
+AddsAllOrEnds xs None None = ⊤
+AddsAllOrEnds xs (Some old) None = HasCalls xs
+AddsAllOrEnds xs (Some old) (Some new) = new ≡ old ++ xs
+AddsAllOrEnds xs None (Some new) = ⊥
+
 -- a link is to begin: the own number, the workstation to connect to, and the addresses of all workstations
 pub record Begin : Type 0 where
   pub me : Option ℕ

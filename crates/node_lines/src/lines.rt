@@ -10,7 +10,6 @@ ghost use Rattle.outside.specs.Calls.Asked.{Close, Raise};
 ghost use Rattle.node_replies.specs.Shown.{shown_lines};
 ghost use Rattle.symphony_view.specs.Listings.{listing_of};
 ghost use Rattle.conman_orders.specs.Names as names;
-ghost use Rattle.model.specs.Equalities.{text_eq};
 ghost use Rattle.node_keeping.specs.Keeping.{IsReady};
 ghost use Rattle.node_inputs.specs.Actions.{Each};
 ghost use Rattle.node_inputs.specs.Doings.{Does, DoesOutside, end_of};
@@ -23,6 +22,7 @@ use crate::orders::{order, plan_day};
 use crate::replies::{refuse, say};
 use agent_core::Agent;
 use base_types::{NoMemory, Text, Ws};
+use conman_orders::workstation;
 use conman_syntax::{CommandFault, Line, parse_command};
 use mail_frames::{Decoder, Frame};
 use node_keeping::NodeEnd;
@@ -227,26 +227,11 @@ fn shown_text(
     }
 }
 
-/// Whether two texts are the same.
-fn is_same_text(a: &str, b: &str) -> bool
-    ensures { result ≡ text_eq a.now b.now }
-{
-    a == b
-}
-
 /// The workstation of a name.
-#[tactic(auto, unfolding(conman_orders::specs::Names::workstation))]
-fn workstation(agent: &Agent, name: &Text) -> Option<Ws>
+fn workstation_of(agent: &Agent, name: &Text) -> Option<Ws>
     ensures { result ≡ names.workstation agent.now.net name.now }
 {
-    let _few = agent.defined().count();
-    let nodes = agent.defined().net().nodes.as_slice();
-    for (i, node) in nodes.iter().enumerate() {
-        if is_same_text(node.name.as_str(), name.as_str()) {
-            return Some(Ws(i as u16));
-        }
-    }
-    None
+    workstation(agent.defined(), name.as_str())
 }
 
 /// Asks for a link to begin.
@@ -260,7 +245,7 @@ fn begin_link<L: Link>(
         DoesOutside (AskLink Raise spec.link_text name.now) agent.now agent.now (told_by (L.calls link.old) jobs clock files)
         (told_by (L.calls link.new) jobs clock files) (end_of result) }
 {
-    match workstation(agent, name) {
+    match workstation_of(agent, name) {
         None => refuse(alloc, link, Refusal::UnknownName),
         Some(w) if w == agent.me() => refuse(alloc, link, Refusal::NotNeighbour),
         Some(w) => {
@@ -276,7 +261,7 @@ fn end_link<L: Link>(alloc: Global, agent: &Agent, link: &mut L, name: &Text) ->
         DoesOutside (AskLink Close spec.unlink_text name.now) agent.now agent.now (told_by (L.calls link.old) jobs clock files)
         (told_by (L.calls link.new) jobs clock files) (end_of result) }
 {
-    match workstation(agent, name) {
+    match workstation_of(agent, name) {
         None => refuse(alloc, link, Refusal::UnknownName),
         Some(w) if w == agent.me() => refuse(alloc, link, Refusal::NotNeighbour),
         Some(w) => {

@@ -1,43 +1,31 @@
 -- The input of a frame.
-use Rattle.std.proofs.Common.{◌≡◌, ◌≢◌, ◌⊎◌, ℕ, Err, List, None, Ok, Some, inl, inr, subst, sym}
+use Rattle.std.proofs.Common.{◌≡◌, ◌≢◌, ◌∙◌, ◌⊎◌, ℕ, Err, List, None, Ok, Option, Result, Some, ap, inl, inr, option_map, sym}
+use Rattle.entry_codec.specs.Entries.{entry_in}
 use Rattle.entry_codec.specs.Read.{Gives}
 use Rattle.entry_codec.specs.declared.EntryFault.{EntryFault}
 use Rattle.entry_codec.specs.declared.EntryFault.TheVariants as fault
 use Rattle.model.specs.Types.{Entry, Feed, Input}
-use Rattle.model.specs.Fit.{IsFit}
-use Rattle.model.specs.Ranges.{InRange}
-use Rattle.model.specs.Spelling.{entry_bytes}
 use Rattle.mail_frames.specs.declared.frames.Frame.{Frame}
 use Rattle.mail_frames.specs.declared.frames.Frame.TheVariants as frame
-use Rattle.node_loop.specs.Frames.{InputOf}
+use Rattle.node_loop.specs.Frames.{entry_of, input_of}
 
-pub mail_is : (x : ℕ) (f : Frame) (bytes : List ℕ) (e : Entry) → f ≡ frame.Mail bytes → IsFit e → bytes ≡ entry_bytes e
-    → InputOf x f (Some (Input.Mail x e))
-mail_is x f bytes e is fit spelled =
-    subst (λ (g : Frame). InputOf x g (Some (Input.Mail x e))) (sym is)
-    (subst (λ (b : List ℕ). InputOf x (frame.Mail b) (Some (Input.Mail x e))) (sym spelled) (InputOf.MailIs e fit))
+mailed : ℕ → Result Entry EntryFault → Option Input
+mailed x read = option_map (λ (e : Entry). Input.Mail x e) (entry_of read)
 
-none_gives : (f : EntryFault) (e : Entry) → f ≢ fault.NoMemory → Gives (Err f) (Ok e) → ⊥
-none_gives f e there h = apart (h there)
-  where
-    apart : Ok e ≡ Err f → ⊥
-    apart k = cc
+pub mail_is : (x : ℕ) (f : Frame) (bytes : List ℕ) (e : Entry) → f ≡ frame.Mail bytes → Gives (Ok e) (entry_in bytes)
+    → Some (Input.Mail x e) ≡ input_of x f
+unfolding mailed
+mail_is x f bytes e is read = sym (ap (input_of x) is ∙ ap (mailed x) read)
 
 pub no_entry : (x : ℕ) (f : Frame) (bytes : List ℕ) (why : EntryFault) → f ≡ frame.Mail bytes → why ≢ fault.NoMemory
-    → ((e : Entry) → IsFit e → InRange e → bytes ≡ entry_bytes e → Gives (Err why) (Ok e)) → InputOf x f None
-no_entry x f bytes why is there again =
-    subst (λ (g : Frame). InputOf x g None) (sym is)
-    (InputOf.NoEntry bytes (λ e fit inside spelled. none_gives why e there (again e fit inside spelled)))
+    → Gives (Err why) (entry_in bytes) → None ≡ input_of x f
+unfolding mailed
+no_entry x f bytes why is there read = sym (ap (input_of x) is ∙ ap (mailed x) (read there))
 
-pub ack_is : (x : ℕ) (f : Frame) (feed : Feed) (n : ℕ) → f ≡ frame.Ack feed n → InputOf x f (Some (Input.Ack x feed n))
-ack_is x f feed n is = subst (λ (g : Frame). InputOf x g (Some (Input.Ack x feed n))) (sym is) (InputOf.AckIs feed n)
+pub ack_is : (x : ℕ) (f : Frame) (feed : Feed) (n : ℕ) → f ≡ frame.Ack feed n → Some (Input.Ack x feed n) ≡ input_of x f
+ack_is x f feed n is = sym (ap (input_of x) is)
 
-command_is : (x : ℕ) (f : Frame) (text : List ℕ) → f ≡ frame.Command text → InputOf x f None
-command_is x f text is = subst (λ (g : Frame). InputOf x g None) (sym is) (InputOf.NoCommand text)
-
-reply_is : (x : ℕ) (f : Frame) (text : List ℕ) → f ≡ frame.Reply text → InputOf x f None
-reply_is x f text is = subst (λ (g : Frame). InputOf x g None) (sym is) (InputOf.NoReply text)
-
-pub no_input : (x : ℕ) (f : Frame) → ((text : List ℕ) × (f ≡ frame.Command text)) ⊎ ((text : List ℕ) × (f ≡ frame.Reply text)) → InputOf x f None
-no_input x f (inl (text, is)) = command_is x f text is
-no_input x f (inr (text, is)) = reply_is x f text is
+pub no_input : (x : ℕ) (f : Frame) → ((text : List ℕ) × (f ≡ frame.Command text)) ⊎ ((text : List ℕ) × (f ≡ frame.Reply text))
+    → None ≡ input_of x f
+no_input x f (inl (text, is)) = sym (ap (input_of x) is)
+no_input x f (inr (text, is)) = sym (ap (input_of x) is)

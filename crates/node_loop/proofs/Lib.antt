@@ -1,4 +1,3 @@
-pub mod Keeping
 pub mod Turning
 pub mod Parts
 pub mod Inputs

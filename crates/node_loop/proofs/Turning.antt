@@ -14,14 +14,14 @@ use Rattle.node_keeping.specs.Keeping.{IsReady}
 use Rattle.node_keeping.specs.Traces.{Event, Trace}
 use Rattle.node_keeping.specs.declared.ends.NodeEnd.{NodeEnd}
 use Rattle.node_keeping.specs.declared.ends.NodeEnd.TheVariants.{NoMemory}
-use Rattle.node_inputs.specs.Actions.{Action, Call, Then}
+use Rattle.node_inputs.specs.Actions.{Action, Call, IfThere, Then}
 use Rattle.node_inputs.specs.Doings.{Does, DoesOutside}
 use Rattle.node_inputs.specs.Inputs.{Lose, Take}
 use Rattle.node_inputs.specs.Tellings.{Told}
 use Rattle.node_inputs.proofs.Doing.{Completing, did_as, did_end, did_outside, did_then, out_as, out_stop}
 use Rattle.node_inputs.proofs.Telling.{nothing_told}
 use Rattle.link_streams.specs.Heard.{Completes, Heard}
-use Rattle.node_loop.specs.Frames.{Frames, InputOf}
+use Rattle.node_loop.specs.Frames.{Frames, input_of}
 use Rattle.node_loop.specs.Runs.{Hears, On, Run, Running, TurnOf, running_with}
 
 -- what was heard of a workstation is this
@@ -111,25 +111,31 @@ module _ {K : Type 0} {kept_in : K → Option Bodies} {size faults moment : K �
       done here at_keeper at_told (Some NoMemory)
       (did_outside spent at_keeper ready (out_as (λ trace h. inr h) (out_stop NoMemory here at_told)))
 
+  -- what its input asks for is one frame's part of the whole
+  by_input : {new : NodeState} {later : K} {now : Told} {end : Option NodeEnd} (input : Option Input) → input ≡ input_of x f
+      → Completing kept_in size faults moment may_leave left_since opens_since (Frames x bad (f ∷ rest)) whole here old at_keeper keeper at_told told
+      → Does kept_in size faults moment may_leave left_since opens_since (IfThere input (λ (i : Input). Then (Take i) (Frames x bad rest)) (Lose x)) here new at_keeper later at_told now end
+      → Does kept_in size faults moment may_leave left_since opens_since whole old new keeper later told now end
+  by_input {new} {later} {now} {end} input is done a =
+      done new later now end
+      (did_as (λ trace h. inl (subst (λ (o : Option Input). IfThere o (λ (i : Input). Then (Take i) (Frames x bad rest)) (Lose x) here trace end new) is h)) a)
+
   -- its input is taken, and the run ends or goes on
-  pub frame_ended : {new : NodeState} {later : K} {now : Told} {why : NodeEnd} (i : Input) → InputOf x f (Some i)
+  pub frame_ended : {new : NodeState} {later : K} {now : Told} {why : NodeEnd} (i : Input) → Some i ≡ input_of x f
       → Completing kept_in size faults moment may_leave left_since opens_since (Frames x bad (f ∷ rest)) whole here old at_keeper keeper at_told told
       → Does kept_in size faults moment may_leave left_since opens_since (Take i) here new at_keeper later at_told now (Some why)
       → Does kept_in size faults moment may_leave left_since opens_since whole old new keeper later told now (Some why)
-  frame_ended {new} {later} {now} {why} i is done a =
-      done new later now (Some why) (did_as (λ trace h. inl (Some i, is, h)) (did_end (Frames x bad rest) a))
+  frame_ended i is done a = by_input (Some i) is done (did_end (Frames x bad rest) a)
 
-  pub frame_taken : {middle : NodeState} {between : K} {meanwhile : Told} (i : Input) → InputOf x f (Some i)
+  pub frame_taken : {middle : NodeState} {between : K} {meanwhile : Told} (i : Input) → Some i ≡ input_of x f
       → Completing kept_in size faults moment may_leave left_since opens_since (Frames x bad (f ∷ rest)) whole here old at_keeper keeper at_told told
       → Does kept_in size faults moment may_leave left_since opens_since (Take i) here middle at_keeper between at_told meanwhile None
       → Completing kept_in size faults moment may_leave left_since opens_since (Frames x bad rest) whole middle old between keeper meanwhile told
-  frame_taken i is done a new later now end h =
-      done new later now end (did_as (λ trace k. inl (Some i, is, k)) (did_then a h))
+  frame_taken i is done a new later now end h = by_input (Some i) is done (did_then a h)
 
   -- it is a bad one
-  pub frame_bad : {new : NodeState} {later : K} {now : Told} {end : Option NodeEnd} → InputOf x f None
+  pub frame_bad : {new : NodeState} {later : K} {now : Told} {end : Option NodeEnd} → None ≡ input_of x f
       → Completing kept_in size faults moment may_leave left_since opens_since (Frames x bad (f ∷ rest)) whole here old at_keeper keeper at_told told
       → Does kept_in size faults moment may_leave left_since opens_since (Lose x) here new at_keeper later at_told now end
       → Does kept_in size faults moment may_leave left_since opens_since whole old new keeper later told now end
-  frame_bad {new} {later} {now} {end} is done a =
-      done new later now end (did_as (λ trace h. inl (None, is, h)) a)
+  frame_bad is done a = by_input None is done a

@@ -1,5 +1,5 @@
 //! What comes over the links.
-ghost use Rattle.std.specs.Prelude.{ℕ, IfOk, IfSome, List, OnOk, Option};
+ghost use Rattle.std.specs.Prelude.{ℕ, ◌≡◌, IfOk, IfSome, List, OnOk, Option};
 ghost use Rattle.std.specs.List.{All};
 ghost use Rattle.file_watch.specs.Asked.{Probe};
 ghost use Rattle.file_watch.specs.Circle.{Spot};
@@ -10,7 +10,8 @@ ghost use Rattle.node_lines.specs.Lines.{HasFitPlans};
 ghost use Rattle.node_loop.specs.Runs.{Anew, Arrive, Come, Hear, running_with};
 ghost use Rattle.node_inputs.specs.Stepping.{AreKeepable};
 ghost use Rattle.link_streams.specs.Heard.{AreHeard, Heard};
-ghost use Rattle.node_loop.specs.Frames.{Frames, InputOf};
+ghost use Rattle.node_loop.specs.Frames as spec;
+ghost use Rattle.node_loop.specs.Frames.{Frames};
 ghost use Rattle.mail_frames.specs.Spelling.{IsFrame};
 ghost use Rattle.node_inputs.specs.Tellings.{told_by};
 
@@ -29,7 +30,7 @@ use workload_defs::Workload;
 /// The input of a frame of a workstation. None for a bad frame: mail that is no entry, a command, a reply.
 fn input_of(alloc: Global, x: Ws, frame: &Frame) -> Result<Option<Input>, NoMemory>
     requires short { IsFrame frame.now }
-    ensures input { IfOk result (λ input. InputOf x frame.now input) }
+    ensures input { IfOk result (λ input. input ≡ spec.input_of x frame.now) }
     ensures fit { IfOk result (λ input. IfSome input IsFitInput) }
 {
     match frame {

@@ -6,6 +6,9 @@ use Rattle.model.specs.Types.{Entry, Net}
 use Rattle.outside.specs.Kept.{Bodies}
 use Rattle.outside.specs.Stops.{LeavesOnly}
 use Rattle.message_file.specs.Attaching.{LeftAttaching}
+use Rattle.message_file.specs.Refusals.{Untouched}
+use Rattle.message_file.specs.declared.attaches.AttachFault.{AttachFault}
+use Rattle.message_file.specs.declared.attaches.AttachFault.TheVariants as attach
 use Rattle.message_file.specs.State.{kept_in, FileState, IsOwn, KeepsOf, KeptLeft, OwnFiles}
 use Rattle.message_file.proofs.Own.{same_own}
 use Rattle.node_restart.specs.Restarting.{AreHeld, IsNoFile, IsRefused, IsWrongAt, Restarts}
@@ -29,6 +32,14 @@ wrong_refused net me place (Some file) (Some bodies) (inr none) wrong =
   where
     nothing_wrong : IsWrongAt net place [] → ⊥
     nothing_wrong w = cc w.first.stands
+
+-- a file that attaching refuses stays as it was
+pub same_refused : (fault : AttachFault) (old new : Option (List ℕ)) → (fault ≡ attach.Disk → ⊥) → Untouched fault old new
+    → new ≡ old
+same_refused (attach.NotAMessageFile place) old new other h = h
+same_refused (attach.OtherOwner place) old new other h = h
+same_refused attach.Disk old new other h = absurd (other refl)
+same_refused attach.NoMemory old new other h = h
 
 -- a file of the workstation is none that attaching refuses
 pub kept_is_file : (me place : ℕ) (told : Option (List ℕ)) (new : Option (List ℕ)) (kept : Option Bodies) → KeepsOf me told kept

@@ -44,6 +44,7 @@ fn not_attached(fault: AttachFault) -> RestartFault
     ensures place { (place : ℕ) → result ≡ NotThisFile place
         → (fault ≡ NotAMessageFile place) ⊎ (fault ≡ OtherOwner place) }
     ensures disk { result ≡ OfDisk → fault ≡ AttachDisk }
+    ensures is_disk { fault ≡ AttachDisk → result ≡ OfDisk }
 {
     match fault {
         AttachFault::NotAMessageFile(place) => RestartFault::NotThisFile(place),
@@ -57,7 +58,7 @@ fn not_attached(fault: AttachFault) -> RestartFault
 ///
 /// The node holds exactly the entries that the disk's file keeps, with nothing live, linked or acknowledged, and the file
 /// is ready to keep more. An empty disk gets a file that keeps nothing. A disk that is refused comes back, and its file
-/// keeps what it kept.
+/// keeps what it kept, but where the disk failed.
 pub fn restart_node<D: Disk>(
     alloc: Global,
     disk: D,
@@ -86,6 +87,8 @@ pub fn restart_node<D: Disk>(
         → IfSome (D.seen disk) (IsRefused net me place)) }
     ensures untouched { IfErr result (λ e. (place : ℕ) → e.fault ≡ NotThisFile place
         → IfSome (D.seen disk) (λ file. IsNoFile me place file → D.seen e.disk ≡ Some file)) }
+    ensures same_kept { IfErr result (λ e. (e.fault ≡ OfDisk → ⊥) → (D.seen e.disk ≡ D.seen disk)
+        ⊎ ((number : ℕ) × KeepsOf me (D.seen disk) (kept_in (D.seen e.disk) number))) }
     ensures cause { IfErr result (λ e. e.fault ≡ OfDisk → Rose (D.faults disk) (D.faults e.disk)) }
     ensures later { IfOk result (λ r. D.faults disk ≤ D.faults r.file.disk) }
     ensures later_err { IfErr result (λ e. D.faults disk ≤ D.faults e.disk) }

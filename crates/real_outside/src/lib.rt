@@ -2,7 +2,8 @@
 //! and the files that jobs wait for.
 //!
 //! Nothing can be proved of what a system holds or answers, so these objects tell nothing. Each counts the calls that
-//! failed. What is proved is that each call is safe, ends, and counts as its trait says.
+//! failed. What is proved is that each call is safe, counts as its trait says, and ends as far as the calls of the
+//! system that it makes end.
 #![tactic(auto)]
 
 mod callers;

@@ -29,9 +29,9 @@ use std::time::Clock;
 ///
 /// *Times.* A poll waits up to 50 milliseconds, and for a call up to 200 milliseconds more for each address of the host,
 /// of which four are tried; a client waits 2 seconds for each in `begin`. A send or a reply fails where the other end
-/// takes nothing for a second, and after 10 seconds at most. A peer that is silent is asked by the system whether it is
-/// still there, and given up after a minute without an answer. The look-up of a host's name, in `begin` and in each call,
-/// takes as long as the system's resolver takes, which nothing here bounds: addresses in numbers need none.
+/// takes nothing for a second, and after 10 seconds at most. A peer that is gone without a word is noticed when a send to
+/// it fails, or when it calls again. The look-up of a host's name, in `begin` and in each call, takes as long as the
+/// system's resolver takes, which nothing here bounds: addresses in numbers need none.
 #[derive(Drop)]
 pub struct TcpLink<R: Net> {
     connections: Connections<R>,

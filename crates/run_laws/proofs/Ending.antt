@@ -53,7 +53,7 @@ more_before front back end e (IsInHand.spent is) = IsInHand.spent is
 
 holds_joined : IsJoined (λ o t e n. HoldsWhatItKept o t e n)
 holds_joined = record {
-  rests = λ s end. nothing_in_hand s s [] end (sym (append-nil s.kept));
+  rests = λ s end free. nothing_in_hand s s [] end (sym (append-nil s.kept));
   joins = λ a b c front back end h k. record {
     in_hand = k.in_hand;
     holds =

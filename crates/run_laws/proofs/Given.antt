@@ -29,7 +29,7 @@ StartsNone old trace end new = starts trace ≡ []
 
 starts_none_joined : IsJoined StartsNone
 starts_none_joined = record {
-  rests = λ s end. refl;
+  rests = λ s end free. refl;
   joins = λ a b c front back end h k.
       filter_map-append start_of front back
       ∙ ap (λ (l : List StartCall). l ++ starts back) h ∙ k;
@@ -45,7 +45,7 @@ abbrev AreGiven : Action Carried
 AreGiven old trace end new = AllByRecursion IsGiven trace
 
 given_joined : IsJoined AreGiven
-given_joined = record { rests = λ s end. tt; joins = λ a b c front back end h k. all_append IsGiven front back h k }
+given_joined = record { rests = λ s end free. tt; joins = λ a b c front back end h k. all_append IsGiven front back h k }
 
 -- a start and a frame, event by event
 start_gives : (j n : ℕ) (work : Work) → Gives (StartIt j n work) AreGiven
@@ -58,7 +58,7 @@ frame_starts_none : (x : ℕ) (f : Frame) → Gives (SendFrame x f) StartsNone
 frame_starts_none x f old trace end new h = subst (λ (t : Trace). starts t ≡ []) (sym h.1) refl
 
 -- a send, whatever its event is known to be
-send_gives : (P : Action Carried) → IsJoined P → ((x : ℕ) (f : Frame) → Gives (SendFrame x f) P) → (node : NodeState) (x : ℕ) (p : Packet)
+pub send_gives : (P : Action Carried) → IsJoined P → ((x : ℕ) (f : Frame) → Gives (SendFrame x f) P) → (node : NodeState) (x : ℕ) (p : Packet)
     → Gives (SendIt node x p) P
 send_gives P j one node x p old trace end new h =
     if_gives P j (is_lost old.lost x) _ _ (nothing_gives P j)

@@ -8,6 +8,7 @@ use Rattle.run_laws.proofs.Starting.{StartsItsLaunches, one_starts_none, starts_
 use Rattle.run_laws.proofs.Marks.{MarksAll, one_marked}
 use Rattle.run_laws.proofs.Keeping.{Fact, IsMade, OfKept, keeping_rule}
 use Rattle.run_laws.proofs.Refusing.{EndsThere, refusal_rule}
+use Rattle.run_laws.proofs.Forcing.{IsForced, forced_rule, one_unforced}
 use Rattle.run_laws.proofs.Ending.{HoldsWhatItKept, holds_rule, one_holds}
 use Rattle.run_laws.proofs.Outgoing.{GoesOutHeld, out_rule}
 use Rattle.run_laws.proofs.Turning.{HoldsOfAll, Lifted, every_run_gives}
@@ -59,6 +60,18 @@ refusals_hold = record {
 
 pub run_ends : (defs : Defs) (turns : ℕ) → Gives (Run defs turns) (Lifted (MarksAll EndsThere))
 run_ends defs turns = every_run_gives (MarksAll EndsThere) refusals_hold defs turns
+
+forced_hold : HoldsOfAll (λ o t e n. IsForced o t e n)
+forced_hold = record {
+  rule = forced_rule;
+  reads = λ s t. one_unforced s (Event.Reads t) refl;
+  comes = λ s a. one_unforced s (Event.Comes a) refl;
+  reports = λ s answer. one_unforced s (Event.Reports answer) refl;
+  looks = λ s path answer. one_unforced s (Event.Looks path answer) refl;
+}
+
+pub run_forced : (defs : Defs) (turns : ℕ) → Gives (Run defs turns) (Lifted (λ o t e n. IsForced o t e n))
+run_forced defs turns = every_run_gives (λ o t e n. IsForced o t e n) forced_hold defs turns
 
 -- what holds of each entry that is made
 pub run_keeps : (F : Fact) → IsMade F (λ i. Unit {0}) → (defs : Defs) (turns : ℕ)

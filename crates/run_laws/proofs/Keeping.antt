@@ -14,7 +14,7 @@ use Rattle.node_keeping.specs.declared.ends.NodeEnd.{NodeEnd}
 use Rattle.node_keeping.specs.declared.ends.NodeEnd.TheVariants.{NoMemory}
 use Rattle.node_inputs.specs.Inputs.{Take}
 use Rattle.run_laws.specs.Held.{held_after}
-use Rattle.run_laws.proofs.Rules.{stop_gives}
+use Rattle.run_laws.proofs.Rules.{free_memory, stop_gives}
 use Rattle.run_laws.proofs.Taking.{IsRule, IsTold, Steps, StepsOrParts, its_effect, pass_over_gives, takes_parts, telling_gives}
 use Rattle.run_laws.proofs.Marks.{Follows, IsMark, Mark, Marks, MarksAll, StepEvent, held_first, held_joined, marks_joined, one_marked, step_marked}
 
@@ -114,4 +114,4 @@ module _ (F : Fact) where
   take_keeping Q r input old here trace end new (inl (inr h)) =
       pass_over_gives Q (MarksAll (OfKept F)) r h.0 old trace end new h.3
   take_keeping Q r input old here trace end new (inr h) =
-      stop_gives (MarksAll (OfKept F)) r.joined NoMemory old trace end new h
+      stop_gives (MarksAll (OfKept F)) r.joined NoMemory free_memory old trace end new h

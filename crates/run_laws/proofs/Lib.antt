@@ -19,4 +19,5 @@ mod Repeating
 mod Answering
 mod Ending
 mod Outgoing
+mod Forcing
 mod Holding

@@ -1,10 +1,12 @@
 -- What holds of each step holds of all that workstations and clients may ask of a node.
 use Rattle.std.proofs.Common.{[], ◌∷◌, ◌⊎◌, ℕ, Bool, List, None, Option, Some, inl, inr}
-use Rattle.std.specs.Prelude.{Err, Ok, Result, ◌==◌, nat_le}
+use Rattle.std.specs.Prelude.{Err, Ok, Result, ◌==◌, nat_le, option_map}
 use Rattle.base_types.specs.declared.LimitName.TheVariants.{Places}
 use Rattle.calendars.specs.Dates.{last_day}
 use Rattle.composer_parser.specs.declared.Defs.{Defs}
-use Rattle.model.specs.Types.{Cmd, Input, Linked, Next, Typed, Unlinked}
+use Rattle.entry_codec.specs.Entries.{entry_in}
+use Rattle.entry_codec.specs.declared.EntryFault.{EntryFault}
+use Rattle.model.specs.Types.{Cmd, Entry, Input, Linked, Next, Typed, Unlinked}
 use Rattle.agent_core.specs.Nodes.{NodeState, present_in, view_in}
 use Rattle.agent_core.specs.declared.faults.StepFault.{StepFault}
 use Rattle.agent_core.specs.declared.faults.StepFault.TheVariants as step_fault
@@ -33,10 +35,10 @@ use Rattle.node_keeping.specs.Traces.{Event}
 use Rattle.node_keeping.specs.declared.ends.NodeEnd.TheVariants.{Limit, Shutdown}
 use Rattle.node_inputs.specs.Actions.{Action, Call, Each, From, If, IfThere, Nothing, Stop, Then, Wants}
 use Rattle.node_inputs.specs.Inputs.{Follow, Lose, Refused, Take, Takes}
-use Rattle.node_loop.specs.Frames.{Frames, InputOf}
+use Rattle.node_loop.specs.Frames.{Frames, entry_of, input_of}
 use Rattle.node_lines.specs.Lines.{AnswerBy, AnswerFault, AnswerFrame, AskLink, AskOf, Listen, Obey, Order, OrderBy, PlanBy, PlanDay, Refuse, Reply}
 use Rattle.node_lines.specs.Lines.{Say, Serve, Show, command_refusal, kept_text, link_text, plan_refusal, plan_text, step_refusal, unlink_text}
-use Rattle.run_laws.proofs.Rules.{Gives, call_gives, each_gives, if_gives, if_there_gives, nothing_gives, stop_gives, then_gives, wants_gives}
+use Rattle.run_laws.proofs.Rules.{Gives, call_gives, each_gives, free_places, free_shutdown, if_gives, if_there_gives, nothing_gives, stop_gives, then_gives, wants_gives}
 use Rattle.run_laws.proofs.Taking.{IsRule, lose_gives, refused_gives, take_gives, takes_gives}
 
 -- what comes over links and from clients
@@ -63,7 +65,7 @@ module _ (Q : Input → Type 0) (P : Action NodeState) (r : IsRule Q P) (heard :
       (nothing_gives P r.joined)
 
   answer_fault_gives : (f : StepFault) → Gives (AnswerFault f) P
-  answer_fault_gives step_fault.PlaceSpent = stop_gives P r.joined (Limit Places)
+  answer_fault_gives step_fault.PlaceSpent = stop_gives P r.joined (Limit Places) free_places
   answer_fault_gives step_fault.NotInNetwork = refuse_gives (step_refusal step_fault.NotInNetwork)
   answer_fault_gives step_fault.NotNeighbour = refuse_gives (step_refusal step_fault.NotNeighbour)
   answer_fault_gives step_fault.NotMaster = refuse_gives (step_refusal step_fault.NotMaster)
@@ -138,7 +140,7 @@ module _ (Q : Input → Type 0) (P : Action NodeState) (r : IsRule Q P) (heard :
   obey_gives defs (line.Link name) = ask_link_gives Asked.Raise link_text name
   obey_gives defs (line.Unlink name) = ask_link_gives Asked.Close unlink_text name
   obey_gives defs line.Shutdown =
-      then_gives P r.joined (Say shutdown_line) (Stop Shutdown) (say_gives shutdown_line) (stop_gives P r.joined Shutdown)
+      then_gives P r.joined (Say shutdown_line) (Stop Shutdown) (say_gives shutdown_line) (stop_gives P r.joined Shutdown free_shutdown)
   obey_gives defs (line.JNextPlan day) = plan_day_gives defs day
   obey_gives defs l = order_gives l
 
@@ -166,19 +168,17 @@ module _ (Q : Input → Type 0) (P : Action NodeState) (r : IsRule Q P) (heard :
   then_rest x bad rest i is others =
       then_gives P r.joined (Take i) (Frames x bad rest) (take_gives Q P r i (heard i is)) others
 
-  of_input : (x : ℕ) (bad : Bool) (f : Frame) (rest : List Frame) (input : Option Input) → InputOf x f input
-      → Gives (Frames x bad rest) P
-      → Gives (IfThere input (λ (i : Input). Then (Take i) (Frames x bad rest)) (Lose x)) P
-  of_input x bad f rest input (InputOf.MailIs e fit) others = then_rest x bad rest (Input.Mail x e) tt others
-  of_input x bad f rest input (InputOf.NoEntry bytes none) others = lose_gives Q P r x
-  of_input x bad f rest input (InputOf.AckIs g n) others = then_rest x bad rest (Input.Ack x g n) tt others
-  of_input x bad f rest input (InputOf.NoCommand text) others = lose_gives Q P r x
-  of_input x bad f rest input (InputOf.NoReply text) others = lose_gives Q P r x
+  mail_gives : (x : ℕ) (bad : Bool) (rest : List Frame) (read : Result Entry EntryFault) → Gives (Frames x bad rest) P
+      → Gives (IfThere (option_map (λ (e : Entry). Input.Mail x e) (entry_of read)) (λ (i : Input). Then (Take i) (Frames x bad rest)) (Lose x)) P
+  mail_gives x bad rest (Ok e) others = then_rest x bad rest (Input.Mail x e) tt others
+  mail_gives x bad rest (Err fault) others = lose_gives Q P r x
 
   frame_gives : (x : ℕ) (bad : Bool) (f : Frame) (rest : List Frame) → Gives (Frames x bad rest) P
-      → Gives (λ old trace end new. (input : Option Input) × InputOf x f input
-      × IfThere input (λ (i : Input). Then (Take i) (Frames x bad rest)) (Lose x) old trace end new) P
-  frame_gives x bad f rest others old trace end new h = of_input x bad f rest h.0 h.1 others old trace end new h.2
+      → Gives (IfThere (input_of x f) (λ (i : Input). Then (Take i) (Frames x bad rest)) (Lose x)) P
+  frame_gives x bad (frame.Mail bytes) rest others = mail_gives x bad rest (entry_in bytes) others
+  frame_gives x bad (frame.Ack g n) rest others = then_rest x bad rest (Input.Ack x g n) tt others
+  frame_gives x bad (frame.Command text) rest others = lose_gives Q P r x
+  frame_gives x bad (frame.Reply text) rest others = lose_gives Q P r x
 
   -- the frames of a workstation
   pub frames_gives : (x : ℕ) (bad : Bool) (frames : List Frame) → Gives (Frames x bad frames) P

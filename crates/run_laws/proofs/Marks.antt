@@ -10,7 +10,7 @@ use Rattle.node_keeping.specs.Traces.{Event, Trace, kept}
 use Rattle.node_keeping.specs.declared.ends.NodeEnd.{NodeEnd}
 use Rattle.node_inputs.specs.Actions.{Action}
 use Rattle.run_laws.specs.Held.{held_after}
-use Rattle.run_laws.proofs.Rules.{IsJoined}
+use Rattle.run_laws.proofs.Rules.{EndsFree, IsJoined}
 use Rattle.run_laws.proofs.Splits.{InFirst, InSecond, IsFurther, IsHere, IsOnly, not_empty, only_one, split_append, split_cons}
 use Rattle.run_laws.proofs.Taking.{Steps}
 use Rattle.run_laws.proofs.Tracing.{IsDone, StepTrace, kept-append, step_keeps, step_trace}
@@ -53,8 +53,8 @@ pub record IsMark (R : Mark) : Type 0 where
       → R b more event back end → R a (front ++ more) event back end
 
 module _ (R : Mark) (m : IsMark R) where
-  rests : (s : NodeState) (end : Option NodeEnd) → Marks R s [] end s
-  rests s end = record {
+  rests : (s : NodeState) (end : Option NodeEnd) → EndsFree end → Marks R s [] end s
+  rests s end free = record {
     me_ = refl;
     net_ = refl;
     grows = λ h. sym (append-nil s.kept);

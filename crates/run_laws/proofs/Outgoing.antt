@@ -140,7 +140,7 @@ AreOut me node made old trace end new = AllByRecursion (IsOut me node made) trac
 
 module _ (me : ℕ) (node : NodeState) (made : Option Entry) where
   out_joined : IsJoined (AreOut me node made)
-  out_joined = record { rests = λ s end. tt; joins = λ a b c front back end h k. all_append (IsOut me node made) front back h k }
+  out_joined = record { rests = λ s end free. tt; joins = λ a b c front back end h k. all_append (IsOut me node made) front back h k }
 
   frame_goes : (x : ℕ) (f : Frame) → TellsOfHeld (view_in node) (frame_bytes f) → Gives (SendFrame x f) (AreOut me node made)
   frame_goes x f t old trace end new h = subst (AllByRecursion (IsOut me node made)) (sym h.1) (t, tt)

@@ -13,7 +13,7 @@ use Rattle.node_keeping.specs.declared.ends.NodeEnd.{NodeEnd}
 use Rattle.node_inputs.specs.Actions.{Then}
 use Rattle.node_inputs.specs.Inputs.{IsKeeping, Keep}
 use Rattle.run_laws.specs.Launches.{launch_of, launches_kept, launches_started}
-use Rattle.run_laws.proofs.Rules.{Gives, IsJoined}
+use Rattle.run_laws.proofs.Rules.{EndsFree, Gives, IsJoined}
 use Rattle.run_laws.proofs.Given.{all_front, carry_starts, launch_out}
 use Rattle.run_laws.proofs.Splits.{InFirst, InSecond, IsFurther, IsHere, not_empty, only_one, split_append, split_cons}
 use Rattle.run_laws.proofs.Tracing.{IsDone, StepTrace, all_done, done_keeps_none, front_kept, kept-append, step_trace, trace_keeps}
@@ -69,8 +69,8 @@ pub record StartsItsLaunches (old : NodeState) (trace : Trace) (end : Option Nod
 starts_joined : IsJoined (λ o t e n. StartsItsLaunches o t e n)
 starts_joined = record { rests = rests; joins = joins }
   where
-    rests : (s : NodeState) (end : Option NodeEnd) → StartsItsLaunches s [] end s
-    rests s end = record {
+    rests : (s : NodeState) (end : Option NodeEnd) → EndsFree end → StartsItsLaunches s [] end s
+    rests s end free = record {
       me_ = refl;
       started = refl;
       kept_first = λ front back call split. absurd (not_empty front back (Event.Starts call) split);

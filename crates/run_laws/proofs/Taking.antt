@@ -25,7 +25,7 @@ use Rattle.base_types.specs.declared.LimitName.TheVariants.{Places}
 use Rattle.node_inputs.specs.Actions.{Action, Call, Each, EndsBefore, If, Nothing, Then}
 use Rattle.node_inputs.specs.Inputs.{Carried, Carry, Follow, Give, IsKeeping, Keep, Lose, LoseAll, LoseIf, PassOver, Raise}
 use Rattle.node_inputs.specs.Inputs.{RaiseNew, Refused, Take, TakeQuietly, TakeWith, Takes, Tell, is_lost, is_new_neighbour, nothing_carried, start_told}
-use Rattle.run_laws.proofs.Rules.{Gives, IsJoined, call_gives, each_gives, if_gives, nothing_gives, stop_gives, then_gives, wants_gives}
+use Rattle.run_laws.proofs.Rules.{Gives, IsJoined, call_gives, each_gives, free_places, if_gives, nothing_gives, stop_gives, then_gives, wants_gives}
 use Rattle.run_laws.proofs.Given.{all_append}
 
 abbrev pub IsAsk : Event → Type 0
@@ -255,7 +255,7 @@ module _ (Q : Input → Type 0) (P : Action NodeState) (r : IsRule Q P) where
   pass_over_gives fault.NotMaster = nothing_gives P r.joined
   pass_over_gives fault.NoProcess = nothing_gives P r.joined
   pass_over_gives fault.NoDep = nothing_gives P r.joined
-  pass_over_gives fault.PlaceSpent = stop_gives P r.joined (Limit Places)
+  pass_over_gives fault.PlaceSpent = stop_gives P r.joined (Limit Places) free_places
   pass_over_gives (fault.Carry c) = nothing_gives P r.joined
   pass_over_gives fault.TooLong = nothing_gives P r.joined
   pass_over_gives fault.NoMemory = nothing_gives P r.joined

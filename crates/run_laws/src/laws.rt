@@ -11,7 +11,7 @@ ghost use Rattle.outside.specs.Calls.{Sent, StartCall};
 ghost use Rattle.agent_core.specs.Nodes.{NodeState};
 ghost use Rattle.recovery_watch.specs.Advice.{advice};
 ghost use Rattle.node_keeping.specs.Keeping.{IsRefusal};
-ghost use Rattle.node_keeping.specs.Traces.{Event, Trace, kept};
+ghost use Rattle.node_keeping.specs.Traces.{Event, Trace, kept, refusals};
 ghost use Rattle.node_keeping.specs.declared.ends.NodeEnd.{NodeEnd};
 ghost use Rattle.node_loop.specs.Runs.{Run, Running, running};
 ghost use Rattle.run_laws.specs.Alone.{IsOwnOrder, is_alone};
@@ -86,6 +86,15 @@ pub fn nothing_follows_a_refusal()
         → Run defs turns (running node) trace end new
         → (front back : Trace) (e : Entry) (why : NodeEnd) → trace ≡ front ++ Event.Refuses e why ∷ back
         → (back ≡ []) × (end ≡ Some why) × IsRefusal why }
+{}
+
+/// A run that ends for a refusal refused one entry, and for this end; and a run that ends otherwise refused none.
+pub fn ends_have_their_refusals()
+    ensures forced { (defs : Defs) (turns : ℕ) (node : NodeState) (trace : Trace) (why : NodeEnd) (new : Running)
+        → Run defs turns (running node) trace (Some why) new → IsRefusal why
+        → (e : Entry) × (refusals trace ≡ (e, why) ∷ []) }
+    ensures unforced { (defs : Defs) (turns : ℕ) (node : NodeState) (trace : Trace) (why : NodeEnd) (new : Running)
+        → Run defs turns (running node) trace (Some why) new → (IsRefusal why → ⊥) → refusals trace ≡ [] }
 {}
 
 /// A file is told among the node's own events directly behind a probe that found it, at the path of its dependency. What

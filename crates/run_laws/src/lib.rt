@@ -8,6 +8,7 @@
 mod laws;
 
 pub use laws::{
-    advice_reruns_once, files_follow_probes, launches_are_ready, launches_are_started_once,
-    nodes_hold_what_they_kept, nothing_follows_a_refusal, what_goes_out_was_kept,
+    advice_reruns_once, ends_have_their_refusals, files_follow_probes, launches_are_ready,
+    launches_are_started_once, nodes_hold_what_they_kept, nothing_follows_a_refusal,
+    what_goes_out_was_kept,
 };

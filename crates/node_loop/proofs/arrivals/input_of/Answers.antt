@@ -7,14 +7,14 @@ use Rattle.node_loop.proofs.arrivals.input_of.Goals as goal
 pub returns-in-Ok-clause-input : goal.returns-in-Ok-clause-input
 returns-in-Ok-clause-input c =
     let is : c.args.frame.now ≡ frame.Mail c.as_slice.result.now = search rules in
-    mail_is c.args.x c.args.frame.now c.as_slice.result.now c.in-Ok.entry is c.in-Ok.ensures.found.0 c.in-Ok.ensures.found.1
+    mail_is c.args.x c.args.frame.now c.as_slice.result.now c.in-Ok.entry is c.in-Ok.ensures.exact
 
 pub returns-in-Err : goal.returns-in-Err
 returns-in-Err c =
     let is : c.args.frame.now ≡ frame.Mail c.as_slice.result.now = search rules in
     let there : c.in-Err.field-0 ≢ fault.NoMemory = search rules in
     record {
-      input = no_entry c.args.x c.args.frame.now c.as_slice.result.now c.in-Err.field-0 is there c.in-Err.ensures.again;
+      input = no_entry c.args.x c.args.frame.now c.as_slice.result.now c.in-Err.field-0 is there c.in-Err.ensures.exact;
       fit = tt;
     }
 

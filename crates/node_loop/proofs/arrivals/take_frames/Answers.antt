@@ -1,5 +1,4 @@
-use Rattle.std.proofs.Common.{◌+◌, ◌<◌, ◌≡◌, ◌≤◌, Err, false, None, Option, Some, ap, drop, get_or, length, rules, subst}
-use Rattle.model.specs.Types.{Input}
+use Rattle.std.proofs.Common.{◌+◌, ◌<◌, ◌≡◌, ◌≤◌, ◌∙◌, Err, false, None, Some, ap, drop, get_or, length, rules, sym}
 use Rattle.node_keeping.specs.declared.ends.NodeEnd.TheVariants.{NoMemory}
 use Rattle.node_inputs.specs.Doings.{end_of}
 use Rattle.node_inputs.specs.Inputs.{Lose}
@@ -8,7 +7,7 @@ use Rattle.node_inputs.proofs.Choosing.{out_if_false}
 use Rattle.node_inputs.proofs.Doing.{did_outside, out_nothing}
 use Rattle.node_inputs.proofs.Looping.{next_item, no_item}
 use Rattle.node_inputs.proofs.Taking.{did_answer}
-use Rattle.node_loop.specs.Frames.{InputOf}
+use Rattle.node_loop.specs.Frames.{input_of}
 use Rattle.node_loop.proofs.Turning.{frame_bad, frame_ended, frame_taken, frame_unread, frames_more}
 use Rattle.node_loop.proofs.arrivals.take_frames.Goals as goal
 
@@ -29,7 +28,7 @@ returns-in_err-take-in-Some-clause-does g c = λ clock files.
     let f = c.frame-item.result in
     let inside : i < length c.args.frames.now = search rules in
     let item : get_or c.args.frames.now i f ≡ f = search rules in
-    let of : InputOf c.args.x f (Some c.in-Some.input) = subst (λ (o : Option Input). InputOf c.args.x f o) c.in-Some.is c.in_ok-input.ensures.input in
+    let of : Some c.in-Some.input ≡ input_of c.args.x f = sym c.in-Some.is ∙ c.in_ok-input.ensures.input in
     let is : c.from_residual-in_err-take-in-Some.result ≡ Err c.in_err-take-in-Some.field-0.0 = search rules in
     did_answer c.from_residual-in_err-take-in-Some.result (Some c.in_err-take-in-Some.field-0.0) (ap end_of is)
     (frame_ended c.args.x c.args.is_bad f (drop (i + 1) c.args.frames.now) c.in-Some.input of
@@ -42,7 +41,7 @@ returns-in-None-clause-does g c = λ clock files.
     let f = c.frame-item.result in
     let inside : i < length c.args.frames.now = search rules in
     let item : get_or c.args.frames.now i f ≡ f = search rules in
-    let of : InputOf c.args.x f None = subst (λ (o : Option Input). InputOf c.args.x f o) c.in-None.is c.in_ok-input.ensures.input in
+    let of : None ≡ input_of c.args.x f = sym c.in-None.is ∙ c.in_ok-input.ensures.input in
     frame_bad c.args.x c.args.is_bad f (drop (i + 1) c.args.frames.now) of
     (frames_more c.args.x c.args.is_bad (drop i c.args.frames.now) _ (next_item c.args.frames.now i f inside item) (c.loop-frame.invariant.does_ clock files))
     (c.lose.ensures.does (g.J.Spawner.calls c.loop-frame.jobs) clock files)
@@ -53,7 +52,7 @@ loop-frame-preserved g c =
     let f = c.frame-item.result in
     let inside : i < length c.args.frames.now = search rules in
     let item : get_or c.args.frames.now i f ≡ f = search rules in
-    let of : InputOf c.args.x f (Some c.in-Some.input) = subst (λ (o : Option Input). InputOf c.args.x f o) c.in-Some.is c.in_ok-input.ensures.input in
+    let of : Some c.in-Some.input ≡ input_of c.args.x f = sym c.in-Some.is ∙ c.in_ok-input.ensures.input in
     record {
       ready_ = c.in_ok-take-in-Some.ensures.ready;
       keepable_ = c.in_ok-take-in-Some.ensures.keepable;

@@ -5,7 +5,7 @@ use Rattle.node_inputs.specs.Stepping.{AreKeepable}
 use Rattle.node_inputs.specs.Tellings.{told_by}
 use Rattle.node_inputs.proofs.Doing.{Completing}
 use Rattle.node_loop.specs.Frames.{Frames}
-use Rattle.node_loop.proofs.Keeping.{Standing}
+use Rattle.node_lines.proofs.Keeping.{Standing}
 use Rattle.node_loop.proofs.arrivals.take_frames.Given as goal
 
 abbrev pub invariant-loop-frame : goal.invariant-loop-frame

@@ -5,7 +5,7 @@ use Rattle.node_inputs.specs.Tellings.{told_by}
 use Rattle.node_inputs.proofs.Doing.{Completing}
 use Rattle.link_streams.specs.Heard.{AreHeard, Heard}
 use Rattle.node_loop.specs.Runs.{Run, running, running_with}
-use Rattle.node_loop.proofs.Keeping.{Standing}
+use Rattle.node_lines.proofs.Keeping.{Standing}
 use Rattle.node_loop.proofs.turns.run_node.Given as goal
 
 abbrev pub invariant-loop-turn : goal.invariant-loop-turn

@@ -1,10 +1,11 @@
-use Rattle.std.proofs.Common.{Err, ap, subst, sym}
+use Rattle.std.proofs.Common.{Err, Option, ap, inl, inr, subst, sym}
 use Rattle.outside.specs.Stops.{LeavesOnly}
 use Rattle.message_file.specs.Attaching.{LeftAttaching}
-use Rattle.message_file.specs.State.{kept_in, KeptLeft}
+use Rattle.message_file.specs.State.{kept_in, KeepsOf, KeptLeft}
+use Rattle.outside.specs.Kept.{Bodies}
 use Rattle.node_restart.specs.Stopping.{KeptSince, StayOwn}
 use Rattle.node_restart.proofs.Fronts.{own_room}
-use Rattle.node_restart.proofs.Stopping.{attached_own, held_restarts, kept_is_file, kept_left, read_left, read_opens, read_own, wrong_refused}
+use Rattle.node_restart.proofs.Stopping.{attached_own, held_restarts, kept_is_file, kept_left, read_left, read_opens, read_own, same_refused, wrong_refused}
 use Rattle.node_restart.proofs.restarts.restart_node.Goals as goal
 
 pub agent_of-requires-clause-room : goal.agent_of-requires-clause-room
@@ -68,6 +69,25 @@ returns-in-Err-agent_of-clause-untouched g c =
     λ place is.
     kept_is_file c.args.me place (D.seen c.args.disk) (D.seen c.detach.result) (kept_in (D.seen file.disk) file.count)
     c.in-Ok.ensures.kept
+
+pub returns-in-Err-agent_of-clause-same_kept : goal.returns-in-Err-agent_of-clause-same_kept
+returns-in-Err-agent_of-clause-same_kept g c =
+    let D = g.D.Disk in
+    let later = c.agent_of.new.keeper in
+    λ other. inr (
+      later.count,
+      subst (λ (d : g.row.D.Denot). KeepsOf c.args.me (D.seen c.args.disk) (kept_in (D.seen d) later.count))
+          (sym c.detach.ensures)
+          (subst (λ (o : Option Bodies). KeepsOf c.args.me (D.seen c.args.disk) o) (sym c.agent_of.ensures.reads.kept)
+          c.in-Ok.ensures.kept),
+    )
+
+pub returns-in-Err-clause-same_kept : goal.returns-in-Err-clause-same_kept
+returns-in-Err-clause-same_kept g c =
+    let D = g.D.Disk in
+    λ other. inl
+    (same_refused c.in-Err.refused.fault (D.seen c.args.disk) (D.seen c.in-Err.refused.disk)
+    (λ is. other (c.not_attached.ensures.is_disk is)) c.in-Err.ensures.untouched)
 
 pub returns-in-Err-agent_of-clause-any_moment_err : goal.returns-in-Err-agent_of-clause-any_moment_err
 returns-in-Err-agent_of-clause-any_moment_err g c =

@@ -1,0 +1,2 @@
+-- What a service does.
+pub mod Serving

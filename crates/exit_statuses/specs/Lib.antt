@@ -1,0 +1,4 @@
+-- How a call of the program ends.
+pub mod Statuses
+pub mod Texts
+pub mod Sayings

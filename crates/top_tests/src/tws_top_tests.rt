@@ -10,13 +10,14 @@ mod plans;
 mod refusals;
 mod samples;
 mod stations;
+mod untouched;
 
 use base_types::{Bytes, Items, Text};
 use outside_mem::{MemSink, MemSource};
 use std::alloc::Global;
 use std::test::Fail;
 use test_builders::{bytes, listed};
-use tws_top::tws;
+use untouched::ended;
 
 /// The status, whether this text was written and no other, and whether a world was handed back.
 type Said = (u8, bool, bool);
@@ -37,12 +38,6 @@ fn listed_words(alloc: Global, words: &str) -> Result<Vec<Text>, Fail> {
         list.push(Text::of(alloc, word)?)?;
     }
     Ok(list)
-}
-
-/// How a call ends: its status, and whether a world is handed back.
-fn ended(alloc: Global, words: &[Text], source: &mut MemSource, sink: &mut MemSink) -> (u8, bool) {
-    let done = tws(alloc, words, source, sink);
-    (done.status, done.world.is_some())
 }
 
 /// What is said to these words, each behind a blank, where the n-th read and the m-th write fail.

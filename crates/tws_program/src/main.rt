@@ -1,9 +1,10 @@
-//! The program: its words, standard input and standard output, and its exit status.
+//! The program: its words, standard input and standard output, its exit status, and the real outside of a node.
 #![tactic(auto)]
 
 mod streams;
 
-use base_types::Text;
+use base_types::{NoMemory, Text};
+use real_outside::{ChildSpawner, FileDisk, FileProber, SystemClock, TcpLink};
 use std::alloc::{AllocError, Global};
 use std::process::ExitCode;
 use std::rt::Env;
@@ -26,11 +27,36 @@ fn words(rt: &(impl Env + AllocGlobal)) -> Result<Vec<Text>, AllocError> {
     Ok(words)
 }
 
-fn main(rt: HostRuntime) -> ExitCode {
+/// The second word, which names the workstation where there is one.
+fn name(words: &[Text]) -> &str {
+    match words {
+        [_, name, ..] => name.as_str(),
+        _ => "",
+    }
+}
+
+/// Does what the words ask for over the real objects. None of them is touched before `tws` calls it.
+fn run(rt: HostRuntime, words: &[Text]) -> Result<u8, NoMemory> {
+    let alloc = rt.alloc();
     let mut input = StdSource::new(rt.reader());
     let mut out = StdSink::new(io::writer(&rt));
+    let disk = FileDisk::new(alloc, rt, name(words))?;
+    let mut link = TcpLink::new(alloc, rt);
+    let mut jobs = ChildSpawner::new(alloc, rt);
+    let mut clock = SystemClock::new(rt);
+    let mut files = FileProber::new(rt);
+    let done = tws(
+        alloc, words, &mut input, &mut out, disk, &mut link, &mut jobs, &mut clock, &mut files,
+    );
+    Ok(done.status)
+}
+
+fn main(rt: HostRuntime) -> ExitCode {
     let status = match words(&rt) {
-        Ok(words) => tws(rt.alloc(), words.as_slice(), &mut input, &mut out).status,
+        Ok(words) => match run(rt, words.as_slice()) {
+            Ok(status) => status,
+            Err(NoMemory) => NO_MEMORY,
+        },
         Err(AllocError) => NO_MEMORY,
     };
     ExitCode::from(status)

@@ -1,11 +1,5 @@
-mod Bridges
-mod OneRun
-mod Tellings
-mod Calling
-mod Histories
-mod Dues
-mod Outcomes
-mod Stops
-mod SoundTexts
-mod Worlds
-mod Rows
+mod Services
+mod Numbers
+mod Completeness
+mod Disks
+mod Words

@@ -1,8 +1,3 @@
--- What the program answers to its words and its input, what it writes, and what it hands back.
-pub mod Words
-pub mod Statuses
-pub mod Lines
-pub mod Nights
-pub mod Audits
+-- What is due for all words, and the statuses of services one by one.
 pub mod Dues
 pub mod Rows

@@ -1,144 +1,75 @@
--- The statuses one by one.
-use Rattle.std.specs.Prelude.{◌≡◌, ◌≤◌, ℕ, List, Option, Some, None, Ok, Err, length}
+-- The statuses of services one by one.
+use Rattle.std.specs.Prelude.{ℕ, ◌≡◌, ◌⊎◌, IfSome, List, None, Option, Some, slice_get}
 use Rattle.std.specs.Io.KnownBytes.{Appends}
+use Rattle.base_types.specs.declared.LimitName.{LimitName}
 use Rattle.base_types.specs.declared.LimitName.TheVariants as limit
+use Rattle.base_types.specs.declared.Peer.{Peer}
 use Rattle.composer_parser.specs.declared.Defs.{Defs}
-use Rattle.composer_print.specs.Printed.{printed}
-use Rattle.definition_replies.specs.Replies.{ComesOf}
-use Rattle.definition_replies.specs.declared.Outcome.TheVariants as outcome
-use Rattle.definition_replies.specs.declared.Wish.{Wish}
+use Rattle.conman_client.specs.Asks.{IsUnanswered}
 use Rattle.definition_texts.specs.Kinds.{word_of}
-use Rattle.definition_texts.specs.Refusals.{AreChecked}
-use Rattle.definition_texts.specs.declared.Refusal.{Refusal}
-use Rattle.event_audit.specs.Items.{IsFirstWrong}
-use Rattle.history_script.specs.declared.histories.HistoryKind.{HistoryKind}
-use Rattle.history_script.specs.declared.histories.HistoryText.{HistoryText}
-use Rattle.outside.specs.Streams.{Stream, TakesAll}
+use Rattle.definition_texts.specs.declared.refusals.Refusal.{Refusal}
+use Rattle.node_restart.specs.Restarting.{IsRefused}
+use Rattle.outside.specs.Calls.{LinkCalls}
+use Rattle.outside.specs.Causes.{Rose}
+use Rattle.outside.specs.Streams.{Stream}
+use Rattle.exit_statuses.specs.Texts.{definitions_line, limit_line, limit_word}
 use Rattle.whole_io.specs.Whole.{TakesCount}
-use Rattle.model.specs.Sound.{IsSound}
-use Rattle.model.specs.Types.{StreamDraft}
-use Rattle.model.specs.World as model
-use Rattle.network_world.specs.Stations.{WorldState}
-use Rattle.network_world.specs.Standing.{StandsFor}
-use Rattle.night_records.specs.declared.Record.{Record}
-use Rattle.plan_builder.specs.Drafts.{AreDrafts}
-use Rattle.plan_builder.specs.Limits.{plan_fault}
-use Rattle.plan_listing.specs.Listings.{listing_of}
-use Rattle.record_faults.specs.declared.kinds.ScriptKind.{ScriptKind}
-use Rattle.record_runs.specs.Causes.{Cause, told}
-use Rattle.record_runs.specs.Runs as runs
-use Rattle.tws_top.specs.declared.statuses.Status.TheVariants.{RecordRefused, LimitPassed}
-use Rattle.tws_top.specs.declared.words.Telling.{Telling}
-use Rattle.tws_top.specs.Lines.{refused_line, definitions_line, limit_line, limit_word, kind_word, stop_status, stop_line}
-use Rattle.tws_top.specs.Lines.{history_word, sound_line, not_sound_line}
-use Rattle.tws_top.specs.Audits.{AreHistory}
-use Rattle.tws_top.specs.Nights.{AreRead, IsRun, told_at}
-use Rattle.workload_defs.specs.Nets.{net_of}
+use Rattle.workload_defs.specs.Nets.{net_of, peers_of}
+use Rattle.workload_defs.specs.Stations.{number_of}
+use Rattle.service_words.specs.Ends.{most_of, other_file_line}
+use Rattle.service_words.specs.Forms.{AskOf, NodeFor, Request, name_in, request_of}
+use Rattle.service_words.specs.Services.{ReadsDefs, RefusesDefs}
 
--- The input was read to its end as a record whose steps all were taken; what is told of that run was written and nothing
--- else; and the world that is handed back is the one that they made, with a history and starts of its own that are sound.
-pub record Tells (telling : Telling) (old new : Option Stream) (written written' : Option (List ℕ))
-    (handed : Option WorldState) : Type 0 where
-  pub bytes : List ℕ
-  pub recorded : Record
-  pub reached : model.World
-  pub world : WorldState
-  pub read : TakesAll old new bytes
-  pub short : length bytes ≤ 16777216
-  pub is_record : AreRead bytes (Ok recorded)
-  pub run : IsRun recorded (runs.done reached)
-  pub wrote : Appends written written' (told_at telling recorded.script.net reached)
-  pub handed_ : handed ≡ Some world
-  pub net_ : world.net ≡ recorded.script.net
-  pub stands : StandsFor world reached
-  pub sound : IsSound world.net world.journal.history world.journal.starts
-
--- The bytes are refused with this line: one of them is no line of a record, or has a step that cannot be taken.
-pub data IsRefused (bytes : List ℕ) : List ℕ → Type 0 where
-  no_record : (line : ℕ) (kind : ScriptKind) → AreRead bytes (Err (line, kind))
-      → IsRefused bytes (refused_line line (kind_word kind))
-  bad_step : (r : Record) (line : ℕ) (cause : Cause) → AreRead bytes (Ok r) → IsRun r (runs.stopped line cause)
-      → stop_status (told cause) ≡ RecordRefused → IsRefused bytes (stop_line line (told cause))
-
--- The input was read to its end, its bytes are refused, and nothing but the line was written.
-pub record Refuses (old new : Option Stream) (written written' : Option (List ℕ)) : Type 0 where
-  pub bytes : List ℕ
-  pub line : List ℕ
-  pub read : TakesAll old new bytes
-  pub refused : IsRefused bytes line
-  pub wrote : Appends written written' line
-
--- The input was read to its end as definitions without a fault, and their canonical text was written and nothing else.
-pub record Compiles (old new : Option Stream) (written written' : Option (List ℕ)) : Type 0 where
-  pub bytes : List ℕ
-  pub defs : Defs
-  pub read : TakesAll old new bytes
-  pub short : length bytes ≤ 16777216
-  pub are : AreChecked bytes defs
-  pub wrote : Appends written written' (printed defs)
-
--- The input was read to its end as definitions without a fault, no limit of the plan is passed on the day and each of its
--- times has a moment, and the listing of the day was written and nothing else.
-pub record Plans (day : ℕ) (old new : Option Stream) (written written' : Option (List ℕ)) : Type 0 where
-  pub bytes : List ℕ
-  pub defs : Defs
-  pub drafts : List StreamDraft
-  pub read : TakesAll old new bytes
-  pub short : length bytes ≤ 16777216
-  pub are : AreChecked bytes defs
-  pub no_fault : plan_fault defs day ≡ None
-  pub are_drafts : AreDrafts defs day drafts
-  pub wrote : Appends written written' (listing_of (net_of defs) drafts)
-
--- The input was read to its end, its bytes are refused where this is wished of definitions, and nothing but the line was
--- written.
-pub record RefusesDefinitions (wish : Wish) (old new : Option Stream) (written written' : Option (List ℕ)) : Type 0 where
-  pub bytes : List ℕ
+-- The input was read to its end as what is no checked definitions, and nothing but the line was written.
+pub record RefusesRequest (words : List (List ℕ)) (old new : Option Stream) (written written' : Option (List ℕ)) : Type 0 where
+  pub request : Request
   pub refusal : Refusal
-  pub read : TakesAll old new bytes
-  pub refused : ComesOf wish bytes (outcome.Refused refusal)
+  pub asked : request_of words ≡ Some request
+  pub refused : RefusesDefs refusal old new
   pub wrote : Appends written written' (definitions_line refusal.line (word_of refusal.kind))
 
--- The input was read to its end as a history that is sound, and the numbers of its entries and starts were written and
--- nothing else.
-pub record FindsSound (old new : Option Stream) (written written' : Option (List ℕ)) : Type 0 where
-  pub bytes : List ℕ
-  pub history : HistoryText
-  pub read : TakesAll old new bytes
-  pub short : length bytes ≤ 16777216
-  pub is_history : AreHistory bytes (Ok history)
-  pub sound : IsSound history.net history.entries history.starts
-  pub wrote : Appends written written' (sound_line (length history.entries) (length history.starts))
+-- The input was read to its end as definitions without a workstation of the name.
+pub record HasNoStation (words : List (List ℕ)) (old new : Option Stream) : Type 0 where
+  pub request : Request
+  pub defs : Defs
+  pub asked : request_of words ≡ Some request
+  pub read : ReadsDefs defs old new
+  pub none : number_of defs (name_in request) ≡ None
 
--- The input was read to its end as a history that is not sound, and its first wrong item was written and nothing else.
-pub record FindsWrong (old new : Option Stream) (written written' : Option (List ℕ)) : Type 0 where
-  pub bytes : List ℕ
-  pub history : HistoryText
-  pub item : ℕ
-  pub read : TakesAll old new bytes
-  pub is_history : AreHistory bytes (Ok history)
-  pub not_sound : IsSound history.net history.entries history.starts → ⊥
-  pub first : IsFirstWrong history.net history.entries history.starts item
-  pub wrote : Appends written written' (not_sound_line item)
+-- A node was asked for of a disk whose file is refused at a place, where the disk tells it, and nothing but the line was
+-- written.
+pub record FindsOtherFile (words : List (List ℕ)) (told : Option (List ℕ)) (old new : Option Stream)
+    (written written' : Option (List ℕ)) : Type 0 where
+  pub name : List ℕ
+  pub turns : ℕ
+  pub defs : Defs
+  pub me : ℕ
+  pub place : ℕ
+  pub asked : request_of words ≡ Some (NodeFor name turns)
+  pub read : ReadsDefs defs old new
+  pub there : number_of defs name ≡ Some me
+  pub refused : IfSome told (IsRefused (net_of defs) me place)
+  pub wrote : Appends written written' (other_file_line place)
 
--- The input was read to its end, a line of it is no line of a history, and nothing but the first of these was written.
-pub record RefusesHistory (old new : Option Stream) (written written' : Option (List ℕ)) : Type 0 where
-  pub bytes : List ℕ
-  pub line : ℕ
-  pub kind : HistoryKind
-  pub read : TakesAll old new bytes
-  pub refused : AreHistory bytes (Err (line, kind))
-  pub wrote : Appends written written' (refused_line line (history_word kind))
+-- A node was asked a command, and the link failed or 600 polls gave no whole reply.
+pub record HasNoAnswer (words : List (List ℕ)) (old new : Option Stream) (calls calls' : LinkCalls) (faults faults' : ℕ)
+    : Type 0 where
+  pub name : List ℕ
+  pub command : List ℕ
+  pub defs : Defs
+  pub me : ℕ
+  pub peer : Peer
+  pub asked : request_of words ≡ Some (AskOf name command)
+  pub read : ReadsDefs defs old new
+  pub there : number_of defs name ≡ Some me
+  pub its_peer : slice_get (peers_of defs) me ≡ Some peer
+  pub why : Rose faults faults' ⊎ IsUnanswered peer.ws calls calls'
 
--- The input passes its limit, or a limit is passed in its run or refuses a step of it, or the plan of a day passes one
--- where it is wished of definitions, and nothing but the line was written.
-pub data PassesLimit (old new : Option Stream) (written written' : Option (List ℕ)) : Type 0 where
-  of_input : TakesCount 16777217 old new
+-- The input of a request passes its limit, or the run of a node ends at one, and nothing but the line was written.
+pub data PassesLimit (words : List (List ℕ)) (old new : Option Stream) (written written' : Option (List ℕ)) : Type 0 where
+  of_input : (request : Request) → request_of words ≡ Some request → TakesCount 16777217 old new
       → Appends written written' (limit_line (limit_word limit.Input) 16777216)
-      → PassesLimit old new written written'
-  of_run : (bytes : List ℕ) (r : Record) (line : ℕ) (cause : Cause) → TakesAll old new bytes
-      → AreRead bytes (Ok r) → IsRun r (runs.stopped line cause) → stop_status (told cause) ≡ LimitPassed → Appends written written' (stop_line line (told cause))
-      → PassesLimit old new written written'
-  of_plan : (wish : Wish) (bytes : List ℕ) (most : ℕ) → TakesAll old new bytes
-      → ComesOf wish bytes (outcome.TooMany most) → Appends written written' (limit_line (limit_word limit.Plan) most)
-      → PassesLimit old new written written'
+      → PassesLimit words old new written written'
+  of_run : (name : List ℕ) (turns : ℕ) (which : LimitName) → request_of words ≡ Some (NodeFor name turns)
+      → Appends written written' (limit_line (limit_word which) (most_of which))
+      → PassesLimit words old new written written'

@@ -1,23 +1,10 @@
-//! The top call of the program: its words, its input, what it writes, and its exit status.
+//! The top call of the program: its words, all that it reads, writes and calls, and its exit status.
 //!
-//! `tws` does what its words ask for, and `specs/Dues` is the table of what is due: one row for each cause, in the order
-//! in which causes count, with the status and the text. Each form of words has a part of its own: of the input
-//! (`inputs`), records of nights of either kind (`records`) are reported or summed up, and definitions (`definitions`) are
-//! printed or planned, and histories (`audits`) are judged; samples (`samples`) are made. The world of a night is handed
-//! back with its report or its summary, as the nodes made it, and its history is sound.
+//! `tws` does what its words ask for: those that are answered by the input alone are `text_words`, and those that serve or
+//! ask a workstation are `service_words`. `specs/Dues` is the table of what is due for all of them, with the status and the
+//! text. What the words make no call on is as before.
 #![tactic(auto)]
 
-mod audits;
-mod definitions;
-mod inputs;
-mod lines;
-mod records;
-mod replies;
-mod samples;
-mod says;
-mod statuses;
 mod top;
-mod words;
 
-pub use says::Done;
-pub use top::tws;
+pub use top::{Done, tws};

@@ -6,67 +6,51 @@ ghost use Rattle.definition_replies.specs.declared.Wish.{Wish as Wishes};
 ghost use Rattle.definition_replies.specs.declared.Wish.TheVariants as wishes;
 ghost use Rattle.definition_texts.specs.Refusals.{AreChecked};
 ghost use Rattle.history_script.specs.declared.histories.HistoryText.{HistoryText as Histories};
-ghost use Rattle.outside.specs.Causes.{Rose};
-ghost use Rattle.outside.specs.Streams.{Stream};
 ghost use Rattle.model.specs.Sound.{IsSound};
 ghost use Rattle.model.specs.World as model;
 ghost use Rattle.night_records.specs.declared.Record.{Record as Records};
+ghost use Rattle.node_inputs.specs.Tellings.{told_by};
+ghost use Rattle.outside.specs.Causes.{Rose};
+ghost use Rattle.outside.specs.Streams.{Stream};
 ghost use Rattle.plan_builder.specs.Limits.{plan_fault};
 ghost use Rattle.record_runs.specs.Runs.{done as reaches};
 ghost use Rattle.sample_record.specs.Samples.{sample_of};
-ghost use Rattle.tws_top.specs.declared.words.Telling.{Telling};
-ghost use Rattle.tws_top.specs.declared.words.Telling.TheVariants as tells;
-ghost use Rattle.tws_top.specs.declared.words.Wanted.{Wanted as Wants};
-ghost use Rattle.tws_top.specs.declared.words.Wanted.TheVariants as wants;
-ghost use Rattle.tws_top.specs.declared.words.Asked.TheVariants as asks;
-ghost use Rattle.tws_top.specs.declared.statuses.Status.{Status as Statuses};
-ghost use Rattle.tws_top.specs.Words.{asked_of, asks_input, asks_record};
-ghost use Rattle.tws_top.specs.Audits.{AreHistory, WritesHistory};
-ghost use Rattle.tws_top.specs.Nights.{AreRead, IsRun, Night};
-ghost use Rattle.tws_top.specs.Dues.{IsAnswer, LeftCallsFor, Says};
-ghost use Rattle.tws_top.specs.Rows.{Tells, Compiles, Plans, Refuses, RefusesDefinitions, PassesLimit};
-ghost use Rattle.tws_top.specs.Rows.{FindsSound, FindsWrong, RefusesHistory};
+ghost use Rattle.text_words.specs.Audits.{AreHistory, WritesHistory};
+ghost use Rattle.exit_statuses.specs.Sayings.{Says};
+ghost use Rattle.text_words.specs.Dues.{LeftCallsFor};
+ghost use Rattle.text_words.specs.Nights.{AreRead, IsRun, Night};
+ghost use Rattle.text_words.specs.Rows.{Compiles, FindsSound, FindsWrong, PassesLimit, Plans, Refuses, RefusesDefinitions};
+ghost use Rattle.text_words.specs.Rows.{RefusesHistory, Tells};
+ghost use Rattle.text_words.specs.Words.{asked_of, asks_input, asks_record};
+ghost use Rattle.exit_statuses.specs.declared.statuses.Status.{Status as Statuses};
+ghost use Rattle.text_words.specs.declared.words.Asked.TheVariants as asks;
+ghost use Rattle.text_words.specs.declared.words.Telling.{Telling};
+ghost use Rattle.text_words.specs.declared.words.Telling.TheVariants as tells;
+ghost use Rattle.text_words.specs.declared.words.Wanted.{Wanted as Wants};
+ghost use Rattle.text_words.specs.declared.words.Wanted.TheVariants as wants;
+ghost use Rattle.workload_defs.specs.Stations.{number_of};
+ghost use Rattle.tws_top.specs.Dues.{IsAnswer, LeftCallsFor as ServiceLeftCallsFor};
+ghost use Rattle.service_words.specs.Forms.{AskOf, NodeFor, Request, request_of};
+ghost use Rattle.tws_top.specs.Rows.{FindsOtherFile, HasNoAnswer, HasNoStation, PassesLimit as ServicePassesLimit, RefusesRequest};
+ghost use Rattle.service_words.specs.Services.{AskedBy, IsService, ServedBy};
 
-use crate::inputs::reply_to_input;
-use crate::replies::Silence;
-use crate::samples::reply_to_sample;
-use crate::says::{Done, answer, say, silent};
-use crate::statuses::Status;
-use crate::words::{Asked, read_words};
 use base_types::Text;
-use outside::{Sink, Source};
+use file_watch::Prober;
+use network_world::World;
+use outside::{Clock, Disk, Link, Sink, Source, Spawner};
+use service_words::{Ended, asked_service, serve};
 use std::alloc::Global;
+use text_words::{Done as TextDone, answer_words};
 
-/// Does what the words ask for. All else that `tws` promises follows from these clauses.
-fn ended<I: Source, O: Sink>(alloc: Global, words: &[Text], input: &mut I, out: &mut O) -> Done
-    ensures due { result.status ≢ 4 → result.status ≢ 9 → IsAnswer words.now (I.stream input.old) (I.stream input.new)
-        result.status result.world (O.written out.old) (O.written out.new) (O.faults out.old) (O.faults out.new) }
-    ensures source_failed { result.status ≡ 4 → Rose (I.faults input.old) (I.faults input.new) }
-    ensures source_asked { result.status ≡ 4 → IsTrue (asks_input (asked_of words.now)) }
-    ensures silent { (result.status ≡ 4) ⊎ (result.status ≡ 9) → Keeps (O.written out.old) (O.written out.new) }
-    ensures alone { (result.status ≡ 4) ⊎ (result.status ≡ 9) → result.world ≡ None }
-    ensures input_untouched { asks_input (asked_of words.now) ≡ false → input.new ≡ input.old }
-    ensures memory { result.status ≡ 9 → asked_of words.now ≢ None }
-    ensures history { result.status ≡ 0 → asked_of words.now ≡ Some (asks.Input (wants.Night tells.History))
-        → WritesHistory (O.written out.old) (O.written out.new) }
-    ensures words_alone { asked_of words.now ≡ None → (result.status ≡ 2) ⊎ (result.status ≡ 5) }
-    ensures source_count { result.status ≢ 4 → I.faults input.new ≡ I.faults input.old }
-    ensures sink_count { result.status ≢ 5 → O.faults out.new ≡ O.faults out.old }
-{
-    match read_words(words) {
-        None => Done {
-            status: say(out, b"words refused\n", Status::WordsRefused),
-            world: None,
-        },
-        Some(Asked::Sample(jobs, seed)) => match reply_to_sample(alloc, jobs, seed) {
-            Ok(reply) => answer(out, reply),
-            Err(_) => silent(Silence::NoMemory),
-        },
-        Some(Asked::Input(wanted)) => match reply_to_input(alloc, input, wanted) {
-            Ok(reply) => answer(out, reply),
-            Err(why) => silent(why),
-        },
-    }
+/// How a call of the program ends.
+#[derive(Drop)]
+pub struct Done<D> {
+    /// The exit status.
+    pub status: u8,
+    /// The disk that was handed in.
+    pub disk: D,
+    /// The world that the steps of a record made, where it was told.
+    pub world: Option<World>,
 }
 
 /// Does all that the program does, and ends with its exit status.
@@ -76,23 +60,63 @@ fn ended<I: Source, O: Sink>(alloc: Global, words: &[Text], input: &mut I, out: 
 /// writes its network, entries and starts as a text that can be audited; `compile`, which reads definitions from the
 /// input and writes their canonical text; `plan MM/DD/YYYY`, which writes the network and the drafts of that day
 /// instead; `audit`, which reads a history from the input and writes how many entries and starts it has, where it is
-/// sound; or `sample N K`, which reads nothing and writes a record with N jobs (1 to 2000), drawn from the seed K. A
-/// record has a network and plans, or begins with definitions. The statuses are 0 where that was written, 1 for an
-/// input that is no definitions, or has a time without a moment on the day that is planned, 2 for other words, 3 for an
-/// input that is no record, or has definitions with a fault or a step that cannot be taken, and for one that is no
-/// history, 4 and 5 where the source or the sink failed, 9 for want of memory, 10 where the input, its run or a plan
-/// passes a limit, and 11 for a history that is not sound, with its first wrong item. Nothing is written before the run
-/// has ended. With 4 and 9 nothing is written at all, and with 5 a front of the text that is due. With `replay`,
-/// `summary`, `history` and 0 the world that the steps made is handed back.
-pub fn tws<I: Source, O: Sink>(alloc: Global, words: &[Text], input: &mut I, out: &mut O) -> Done
+/// sound; `sample N K`, which reads nothing and writes a record with N jobs (1 to 2000), drawn from the seed K; `node NAME
+/// TURNS`, which reads definitions from the input and serves their workstation NAME over the disk for at most so many
+/// turns (0 to 4,294,967,295), and writes nothing where a client shut it down; or `ask NAME COMMAND`, which reads
+/// definitions from the input, asks the node of their workstation NAME a command line of at most 4,096 bytes, and writes
+/// its reply. A record has a network and plans, or begins with definitions.
+///
+/// The statuses are 0 where that was written, 1 for an input that is no definitions, or has a time without a moment on the
+/// day that is planned, 2 for other words and for a NAME that is not defined, 3 for an input that is no record, or has
+/// definitions with a fault or a step that cannot be taken, and for one that is no history, 4, 5 and 6 where the source,
+/// the sink or the disk failed, 7 for a disk that holds another file than the workstation's, with the place that shows it,
+/// 8 for a node that took all its turns, 9 for want of memory, 10 where the input, a run or a plan passes a limit, 11 for a
+/// history that is not sound, with its first wrong item, and 12 for a node that gave no reply. Nothing is written before
+/// all is done. With 4, 6 and 9 nothing is written at all, and with 5 a front of the text that is due. With `replay`,
+/// `summary`, `history` and 0 the world that the steps made is handed back. The disk is handed back with every status, and
+/// words other than those of `node` make no call on it, and none on processes, clock and files; words other than those of
+/// `node` and `ask` make none on the link.
+pub fn tws<I: Source, O: Sink, D: Disk, L: Link, J: Spawner, C: Clock, F: Prober>(
+    alloc: Global,
+    words: &[Text],
+    input: &mut I,
+    out: &mut O,
+    disk: D,
+    link: &mut L,
+    jobs: &mut J,
+    clock: &mut C,
+    files: &mut F,
+) -> Done<D>
     // What is due is said and handed back, but for a fault of the source and want of memory.
-    ensures due { result.status ≢ 4 → result.status ≢ 9 → IsAnswer words.now (I.stream input.old) (I.stream input.new)
+    ensures due { result.status ≢ 4 → result.status ≢ 9
+        → IsAnswer (ServedBy D.seen D.faults D.moment D.may_leave D.left_since disk result.disk
+        (told_by (L.calls link.old) (J.calls jobs.old) (C.readings clock.old) (F.asked files.old))
+        (told_by (L.calls link.new) (J.calls jobs.new) (C.readings clock.new) (F.asked files.new)))
+        (AskedBy (L.calls link.old) (L.calls link.new) (L.faults link.old) (L.faults link.new))
+        words.now (I.stream input.old) (I.stream input.new)
         result.status result.world (O.written out.old) (O.written out.new) (O.faults out.old) (O.faults out.new) }
+
+    // What a service came to, whatever was said of it, with what a stop at any moment of it leaves.
+    ensures service { (request : Request) → request_of words.now ≡ Some request
+        → IsService (ServedBy D.seen D.faults D.moment D.may_leave D.left_since disk result.disk
+        (told_by (L.calls link.old) (J.calls jobs.old) (C.readings clock.old) (F.asked files.old))
+        (told_by (L.calls link.new) (J.calls jobs.new) (C.readings clock.new) (F.asked files.new)))
+        (AskedBy (L.calls link.old) (L.calls link.new) (L.faults link.old) (L.faults link.new))
+        ((result.disk ≡ disk) × (link.new ≡ link.old) × (jobs.new ≡ jobs.old) × (clock.new ≡ clock.old)
+        × (files.new ≡ files.old))
+        ((result.disk ≡ disk) × (jobs.new ≡ jobs.old) × (clock.new ≡ clock.old) × (files.new ≡ files.old))
+        request (I.stream input.old) (I.stream input.new) (I.faults input.old) (I.faults input.new) result.status
+        (O.written out.old) (O.written out.new) (O.faults out.old) (O.faults out.new) }
 
     // What the bytes of the source call for is not withheld, but for a fault of the source and want of memory.
     ensures exact { (source : Stream) (wanted : Wants) → I.stream input.old ≡ Some source
         → asked_of words.now ≡ Some (asks.Input wanted)
         → (status : Statuses) (text : List ℕ) (night : Option Night) → LeftCallsFor wanted source.left status text night
+        → result.status ≢ 4 → result.status ≢ 9
+        → Says status text result.status (O.written out.old) (O.written out.new) (O.faults out.old) (O.faults out.new) }
+    ensures exact_service { (source : Stream) (request : Request) → I.stream input.old ≡ Some source
+        → request_of words.now ≡ Some request
+        → (status : Statuses) (text : List ℕ) → ServiceLeftCallsFor request source.left status text
         → result.status ≢ 4 → result.status ≢ 9
         → Says status text result.status (O.written out.old) (O.written out.new) (O.faults out.old) (O.faults out.new) }
 
@@ -118,6 +142,17 @@ pub fn tws<I: Source, O: Sink>(alloc: Global, words: &[Text], input: &mut I, out
         → (Rose (I.faults input.old) (I.faults input.new) → ⊥) → (Rose (O.faults out.old) (O.faults out.new) → ⊥)
         → ((result.status ≡ 0) × IsSound h.net h.entries h.starts)
         ⊎ ((result.status ≡ 11) × (IsSound h.net h.entries h.starts → ⊥)) ⊎ (result.status ≡ 9) }
+    ensures complete_node { (source : Stream) (name : List ℕ) (turns me : ℕ) (d : Definitions)
+        → I.stream input.old ≡ Some source → request_of words.now ≡ Some (NodeFor name turns)
+        → length source.left ≤ 16777216 → AreChecked source.left d → number_of d name ≡ Some me
+        → (Rose (I.faults input.old) (I.faults input.new) → ⊥) → (Rose (O.faults out.old) (O.faults out.new) → ⊥)
+        → (Rose (D.faults disk) (D.faults result.disk) → ⊥)
+        → (result.status ≡ 0) ⊎ (result.status ≡ 7) ⊎ (result.status ≡ 8) ⊎ (result.status ≡ 9) ⊎ (result.status ≡ 10) }
+    ensures complete_ask { (source : Stream) (name command : List ℕ) (me : ℕ) (d : Definitions)
+        → I.stream input.old ≡ Some source → request_of words.now ≡ Some (AskOf name command)
+        → length source.left ≤ 16777216 → AreChecked source.left d → number_of d name ≡ Some me
+        → (Rose (I.faults input.old) (I.faults input.new) → ⊥) → (Rose (O.faults out.old) (O.faults out.new) → ⊥)
+        → (result.status ≡ 0) ⊎ (result.status ≡ 9) ⊎ (result.status ≡ 12) }
     ensures complete_sample { (jobs seed : ℕ) → asked_of words.now ≡ Some (asks.Sample jobs seed)
         → (Rose (O.faults out.old) (O.faults out.new) → ⊥) → (result.status ≡ 0) ⊎ (result.status ≡ 9) }
 
@@ -138,32 +173,68 @@ pub fn tws<I: Source, O: Sink>(alloc: Global, words: &[Text], input: &mut I, out
     ensures sampled { result.status ≡ 0 → (jobs seed : ℕ) → asked_of words.now ≡ Some (asks.Sample jobs seed)
         → Appends (O.written out.old) (O.written out.new) (sample_of jobs seed) }
     ensures definitions_refused { result.status ≡ 1
-        → (wish : Wishes) × (asked_of words.now ≡ Some (asks.Input (wants.Definitions wish)))
-        × RefusesDefinitions wish (I.stream input.old) (I.stream input.new) (O.written out.old) (O.written out.new) }
-    ensures words { result.status ≡ 2 → asked_of words.now ≡ None }
-    ensures no_words { asked_of words.now ≡ None → (result.status ≡ 2) ⊎ (result.status ≡ 5) }
+        → ((wish : Wishes) × (asked_of words.now ≡ Some (asks.Input (wants.Definitions wish)))
+        × RefusesDefinitions wish (I.stream input.old) (I.stream input.new) (O.written out.old) (O.written out.new))
+        ⊎ RefusesRequest words.now (I.stream input.old) (I.stream input.new) (O.written out.old) (O.written out.new) }
+    ensures words { result.status ≡ 2 → ((asked_of words.now ≡ None) × (request_of words.now ≡ None))
+        ⊎ HasNoStation words.now (I.stream input.old) (I.stream input.new) }
+    ensures no_words { asked_of words.now ≡ None → request_of words.now ≡ None
+        → (result.status ≡ 2) ⊎ (result.status ≡ 5) }
     ensures refused { result.status ≡ 3 → asked_of words.now ≢ Some (asks.Input wants.Audit)
         → Refuses (I.stream input.old) (I.stream input.new) (O.written out.old) (O.written out.new) }
     ensures history_refused { result.status ≡ 3 → asked_of words.now ≡ Some (asks.Input wants.Audit)
         → RefusesHistory (I.stream input.old) (I.stream input.new) (O.written out.old) (O.written out.new) }
     ensures source_failed { result.status ≡ 4 → Rose (I.faults input.old) (I.faults input.new) }
-    ensures source_asked { result.status ≡ 4 → IsTrue (asks_input (asked_of words.now)) }
+    ensures source_asked { result.status ≡ 4 → IsTrue (asks_input (asked_of words.now)) ⊎ IsSome (request_of words.now) }
     ensures sink_failed { result.status ≡ 5 → Rose (O.faults out.old) (O.faults out.new) }
+    ensures disk_failed { result.status ≡ 6 → Rose (D.faults disk) (D.faults result.disk) }
+    ensures other_file { result.status ≡ 7 → FindsOtherFile words.now (D.seen disk) (I.stream input.old)
+        (I.stream input.new) (O.written out.old) (O.written out.new) }
+    ensures turns_spent { result.status ≡ 8 → (name : List ℕ) × (turns : ℕ)
+        × (request_of words.now ≡ Some (NodeFor name turns)) }
+    ensures no_answer { result.status ≡ 12 → HasNoAnswer words.now (I.stream input.old) (I.stream input.new)
+        (L.calls link.old) (L.calls link.new) (L.faults link.old) (L.faults link.new) }
     ensures limit { result.status ≡ 10
-        → PassesLimit (I.stream input.old) (I.stream input.new) (O.written out.old) (O.written out.new) }
+        → PassesLimit (I.stream input.old) (I.stream input.new) (O.written out.old) (O.written out.new)
+        ⊎ ServicePassesLimit words.now (I.stream input.old) (I.stream input.new) (O.written out.old) (O.written out.new) }
     ensures not_sound { result.status ≡ 11 → (asked_of words.now ≡ Some (asks.Input wants.Audit))
         × FindsWrong (I.stream input.old) (I.stream input.new) (O.written out.old) (O.written out.new) }
     ensures statuses { (result.status ≡ 0) ⊎ (result.status ≡ 1) ⊎ (result.status ≡ 2) ⊎ (result.status ≡ 3)
-        ⊎ (result.status ≡ 4) ⊎ (result.status ≡ 5) ⊎ (result.status ≡ 9) ⊎ (result.status ≡ 10)
-        ⊎ (result.status ≡ 11) }
+        ⊎ (result.status ≡ 4) ⊎ (result.status ≡ 5) ⊎ (result.status ≡ 6) ⊎ (result.status ≡ 7)
+        ⊎ (result.status ≡ 8) ⊎ (result.status ≡ 9) ⊎ (result.status ≡ 10) ⊎ (result.status ≡ 11)
+        ⊎ (result.status ≡ 12) }
     ensures silent { (result.status ≡ 4) ⊎ (result.status ≡ 9) → Keeps (O.written out.old) (O.written out.new) }
     ensures world { IsSome result.world ↔ ((result.status ≡ 0) × IsTrue (asks_record (asked_of words.now))) }
 
     // What is left alone, and what the counts of faults tell.
-    ensures input_untouched { asks_input (asked_of words.now) ≡ false → input.new ≡ input.old }
-    ensures memory { result.status ≡ 9 → asked_of words.now ≢ None }
+    ensures input_untouched { asks_input (asked_of words.now) ≡ false → request_of words.now ≡ None
+        → input.new ≡ input.old }
+    ensures outside_untouched { request_of words.now ≡ None → (result.disk ≡ disk) × (link.new ≡ link.old)
+        × (jobs.new ≡ jobs.old) × (clock.new ≡ clock.old) × (files.new ≡ files.old) }
+    ensures ask_untouched { (name command : List ℕ) → request_of words.now ≡ Some (AskOf name command)
+        → (result.disk ≡ disk) × (jobs.new ≡ jobs.old) × (clock.new ≡ clock.old) × (files.new ≡ files.old) }
+    ensures memory { result.status ≡ 9 → asked_of words.now ≡ None → request_of words.now ≢ None }
     ensures source_count { result.status ≢ 4 → I.faults input.new ≡ I.faults input.old }
     ensures sink_count { result.status ≢ 5 → O.faults out.new ≡ O.faults out.old }
 {
-    ended(alloc, words, input, out)
+    match asked_service(words) {
+        None => {
+            let TextDone { status, world } = answer_words(alloc, words, input, out);
+            Done {
+                status,
+                disk,
+                world,
+            }
+        }
+        Some(service) => {
+            let Ended { status, disk } = serve(
+                alloc, service, words, input, out, disk, link, jobs, clock, files,
+            );
+            Done {
+                status,
+                disk,
+                world: None,
+            }
+        }
+    }
 }

@@ -161,7 +161,7 @@ submit_fits net ws text alias priority t a =
     known_fits 1 (workstation net ws) (λ w. Ok (0, Submit (submitted w text alias priority)))
     (λ w. draft_fits w text alias priority t a)
 
-order_fits : (net : Net) (V : View) (me : ℕ) (typed_line : Line) (most : ℕ) → IsFitLine most typed_line
+pub order_fits : (net : Net) (V : View) (me : ℕ) (typed_line : Line) (most : ℕ) → IsFitLine most typed_line
     → Fits (due_order net V me typed_line)
 unfolding due_order
 order_fits net V me (line.AddDep r d) most h = add_dep_fits net V me r d h.1

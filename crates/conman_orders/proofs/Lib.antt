@@ -1,6 +1,6 @@
 mod Commands
 mod Equal
-mod Fits
+pub mod Fits
 mod Latest
 mod Reasons
 mod Sizes

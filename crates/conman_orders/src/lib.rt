@@ -15,5 +15,6 @@ mod orders;
 mod rooms;
 mod verdicts;
 
+pub use names::workstation;
 pub use orders::{ResolveFault, resolve};
 pub use verdicts::{Verdict, judge};

@@ -4,7 +4,6 @@ pub mod Drafts
 pub mod FitRows
 pub mod Fits
 pub mod Options
-pub mod Orders
 pub mod PlanRows
 pub mod Plans
 pub mod Records

@@ -17,7 +17,7 @@ use Rattle.model.specs.World.{StepRefused, World, empty_world, result_map, step,
 use Rattle.model.specs.Fit.{AreFitEntries, IsFit, IsFitCmd, IsFitDraft, IsFitStep}
 use Rattle.model_laws.proofs.FitEntries.{fit_step}
 use Rattle.conman_orders.specs.Orders.{Answer, IsFitOrder, due_order}
-use Rattle.fit_runs.proofs.Orders.{order_fits}
+use Rattle.conman_orders.proofs.Fits.{order_fits}
 use Rattle.recovery_watch.specs.Advice.{advice, advised_at, advised_by, is_waiting, needs_advice}
 use Rattle.recovery_watch.specs.Advice as advices
 use Rattle.record_script.specs.declared.Script.{Script}

@@ -1,4 +1,5 @@
 pub mod Belows
+pub mod Chains
 pub mod Climbs
 pub mod Trees
 pub mod Fills

@@ -1,6 +1,5 @@
 pub mod Viewed
 pub mod Picked
-pub mod Chains
 pub mod Walked
 pub mod Shapes
 pub mod Distinct

@@ -22,7 +22,7 @@ use Rattle.record_faults.specs.Faults.{first_fault, is_bad_tree}
 use Rattle.record_script.specs.Numbers.{Numbered, numbered, ws_no, place_of}
 use Rattle.record_script.specs.Networks.{node_of, net_with, net_of}
 use Rattle.record_script.proofs.Picked.{around, same_length}
-use Rattle.record_script.proofs.Chains.{short, ends_there}
+use Rattle.network_tree.proofs.Chains.{short, ends_there}
 use Rattle.record_script.proofs.Shapes.{above_master, first_is_master}
 use Rattle.record_script.proofs.Walked.{Passes, each_passes}
 

@@ -1,6 +1,5 @@
 pub mod Lists
 pub mod Apart
-pub mod Chains
 pub mod Accepted
 pub mod Clean
 pub mod Numbers

@@ -19,7 +19,7 @@ use Rattle.definition_faults.specs.Items.{has_top}
 use Rattle.workload_defs.specs.Nets.{domain_of, hop_name, hop_of, manager_of, manages, net_of, node_of, parent_of}
 use Rattle.workload_defs.specs.Stations.{is_master, is_that, number_of, stations, those}
 use Rattle.workload_defs.proofs.Apart.{apart_at}
-use Rattle.workload_defs.proofs.Chains.{ends_there, short}
+use Rattle.network_tree.proofs.Chains.{ends_there, short}
 use Rattle.workload_defs.proofs.Clean.{IsClean, good_cpu, good_domain, one_top}
 use Rattle.workload_defs.proofs.Lists.{any_at, filtered, from_any, from_filtered, from_mapped, in_front, mapped, there}
 use Rattle.workload_defs.proofs.Numbers.{HasNumber, at_number, from_station, have_one_name, is_text, is_top_manager, managed_domain, named}

@@ -4,12 +4,12 @@ use Rattle.std.proofs.Common.{inl, inr, sym}
 use Rattle.std.proofs.lemmas.List.{append-nil}
 use Rattle.std.specs.Option.{option_to_list}
 use Rattle.std.specs.Prelude.{unwrap_or}
-use Rattle.model.specs.Types.{Entry, Events, Feed, Net}
+use Rattle.model.specs.Types.{Entry, Events, Feed, LiveJob, Net}
 use Rattle.model.specs.Network.{node_count}
 use Rattle.model.specs.History.{View, list_of, view_of, view_with}
 use Rattle.model.specs.PresentNet.{present_net}
 use Rattle.ready_index.specs.declared.index.Index.{Index}
-use Rattle.agent_core.specs.Standing.{IsStanding, Tracks}
+use Rattle.agent_core.specs.Standing.{Idles, IsStanding, Tracks}
 use Rattle.model_laws.proofs.Feeds.{feed_cases, pushed_cases}
 use Rattle.model_laws.proofs.PresentNets.{by_one, one_count}
 
@@ -20,9 +20,9 @@ count_same net V = one_count net (present_net net V) (by_one net (V (Events 0)))
 pub present_inside : (net : Net) (V : View) (me : ℕ) → me < node_count net → me < node_count (present_net net V)
 present_inside net V me h = subst (λ (n : ℕ). me < n) (sym (count_same net V)) h
 
-pub standing_inside : (net present : Net) (me : ℕ) (kept : List Entry) (index : Option Index)
-    → IsStanding net present me kept index → me < node_count present
-standing_inside net present me kept index h =
+pub standing_inside : (net present : Net) (me : ℕ) (kept : List Entry) (index : Option Index) (live : List LiveJob)
+    (idle_until : Option ℕ) → IsStanding net present me kept index live idle_until → me < node_count present
+standing_inside net present me kept index live idle_until h =
     subst (λ (n : Net). me < node_count n) (sym h.here) (present_inside net (view_of kept) me h.inside)
 
 -- the list of a feed with one entry more
@@ -57,20 +57,38 @@ view_later kept (Some e) = view_next kept e
 
 -- what a node keeps beside its entries, one entry further
 pub standing_next : (net present next : Net) (me : ℕ) (kept later : List Entry) (e : Entry) (index after : Option Index)
-    (switched : Option Net) → IsStanding net present me kept index → later ≡ kept ++ e ∷ []
+    (switched : Option Net) (live : List LiveJob) (idle_until : Option ℕ)
+    → IsStanding net present me kept index live idle_until → later ≡ kept ++ e ∷ []
     → ((defined : Net) (V : View) → present ≡ present_net defined V
     → unwrap_or switched present ≡ present_net defined (view_with V (Some e)))
-    → next ≡ unwrap_or switched present → Tracks after later me → IsStanding net next me later after
-standing_next net present next me kept later e index after switched h k s n t =
+    → next ≡ unwrap_or switched present → Tracks after later me → IsStanding net next me later after live None
+standing_next net present next me kept later e index after switched live idle_until h k s n t =
     record {
       inside = h.inside;
       here =
           n ∙ s net (view_of kept) h.here
           ∙ ap (present_net net) (sym (ap view_of k ∙ view_next kept e));
       tracks = t;
+      idles = tt;
     }
 
 -- with another index of the same entries
 pub standing_anew : (net present : Net) (me : ℕ) (kept : List Entry) (index after : Option Index)
-    → IsStanding net present me kept index → Tracks after kept me → IsStanding net present me kept after
-standing_anew net present me kept index after h t = record { inside = h.inside; here = h.here; tracks = t }
+    (live : List LiveJob) (idle_until : Option ℕ) → IsStanding net present me kept index live idle_until
+    → Tracks after kept me → IsStanding net present me kept after live idle_until
+standing_anew net present me kept index after live idle_until h t =
+    record { inside = h.inside; here = h.here; tracks = t; idles = h.idles }
+
+-- with other live launches, and no reading of an idle turn
+pub standing_awake : (net present : Net) (me : ℕ) (kept : List Entry) (index : Option Index) (live later : List LiveJob)
+    (idle_until : Option ℕ) → IsStanding net present me kept index live idle_until
+    → IsStanding net present me kept index later None
+standing_awake net present me kept index live later idle_until h =
+    record { inside = h.inside; here = h.here; tracks = h.tracks; idles = tt }
+
+-- after a turn that kept nothing
+pub standing_idle : (net present : Net) (me : ℕ) (kept : List Entry) (index : Option Index) (live : List LiveJob)
+    (idle_until : Option ℕ) (t : ℕ) → IsStanding net present me kept index live idle_until → Idles net me kept live t
+    → IsStanding net present me kept index live (Some t)
+standing_idle net present me kept index live idle_until t h k =
+    record { inside = h.inside; here = h.here; tracks = h.tracks; idles = k }

@@ -7,4 +7,5 @@ pub mod Owning
 pub mod Planning
 pub mod Mailing
 pub mod Turning
+pub mod Idling
 pub mod Splitting

@@ -5,7 +5,7 @@ use Rattle.std.proofs.Common.{◌≤◌, true}
 use Rattle.std.proofs.lemmas.Grind.{take_at_read}
 use Rattle.std.proofs.lemmas.List.{drop_all}
 use Rattle.std.specs.Prelude.{nat_lt}
-use Rattle.model.specs.Types.{Entry, Net}
+use Rattle.model.specs.Types.{Entry, LiveJob, Net}
 use Rattle.model.specs.Network.{node_count}
 use Rattle.model.specs.History.{list_of, view_of}
 use Rattle.model.specs.PresentNet.{net_by, present_net}
@@ -72,13 +72,14 @@ wrong_here net before i e left h =
     ap (λ (b : Bool). cond b (first_wrong_from net (before ++ e ∷ []) (i + 1) left) (Some i)) h
 
 -- a blank node stands for no entries
-pub blank_stands : (net present : Net) (me : ℕ) (kept : List Entry) (index : Option Index) → me < node_count net
-    → present ≡ net → kept ≡ [] → index ≡ None → IsStanding net present me kept index
-blank_stands net present me kept index h p k i =
+pub blank_stands : (net present : Net) (me : ℕ) (kept : List Entry) (index : Option Index) (live : List LiveJob)
+    → me < node_count net → present ≡ net → kept ≡ [] → index ≡ None → IsStanding net present me kept index live None
+blank_stands net present me kept index live h p k i =
     record {
       inside = h;
       here = p ∙ sym (ap (λ (l : List Entry). present_net net (view_of l)) k ∙ nothing_switched net);
       tracks = subst (λ (x : Option Index). Tracks x kept me) (sym i) tt;
+      idles = tt;
     }
 
 -- a walk over the entries

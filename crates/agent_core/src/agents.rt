@@ -6,7 +6,7 @@ ghost use Rattle.model.specs.Sessions.{restarted};
 ghost use Rattle.agent_core.specs.Nodes.{present_in, session_in};
 
 use crate::trackers::Tracker;
-use base_types::{Feed, Live, NoMemory, Ws};
+use base_types::{Feed, Live, Moment, NoMemory, Ws};
 use mailman_core::Mail;
 use network_tree::Network;
 use owner_fold::Owners;
@@ -24,6 +24,8 @@ pub struct Agent {
     pub(crate) tracker: Tracker,
     pub(crate) mail: Mail,
     pub(crate) live: Live,
+    /// Up to this reading turns keep nothing: one did not, and nothing has changed since.
+    pub(crate) idle_until: Option<Moment>,
 }
 
 impl Model for Agent {
@@ -34,7 +36,7 @@ impl Model for Agent {
 
     ghost view = { λ a. record { net = a.net; me = a.me; kept = a.owners; mail = a.mail; live = a.live } };
 
-    ghost invariant = { λ a. IsStanding a.net a.present a.me a.owners a.tracker.index };
+    ghost invariant = { λ a. IsStanding a.net a.present a.me a.owners a.tracker.index a.live a.idle_until };
 }
 
 /// Written out, so that dropping one is a call for whoever owns it.
@@ -49,6 +51,7 @@ impl Drop for Agent {
             tracker: _tracker,
             mail: _mail,
             live: _live,
+            idle_until: _idle_until,
         } = self;
     }
 }
@@ -108,6 +111,7 @@ impl Agent {
     {
         self.mail.clear();
         self.live = self.live.empty();
+        self.idle_until = None;
     }
 
     /// Makes the index of the best job anew where it was given up. Where memory runs out all stays.

@@ -60,6 +60,7 @@ impl Agent {
         self.owners.take(e)?;
         self.tracker.follow(&self.net, &self.owners, self.me, e);
         put_network(&mut self.present, after);
+        self.idle_until = None;
         Ok(())
     }
 
@@ -68,6 +69,7 @@ impl Agent {
         ensures { LivesOn self.old live self.new }
     {
         self.live = live;
+        self.idle_until = None;
     }
 
     /// Keeps an entry that is the next of its feed, and gives nothing out. The launches that live are these from then

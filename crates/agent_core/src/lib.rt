@@ -6,7 +6,9 @@
 //!
 //! What that costs: a step copies the entry that it keeps and what it gives out, and no list of entries. A
 //! turn costs what its choice and its sends cost. The best job is told by an index (`trackers`): where the index has no
-//! memory for an entry it is given up, and the next step makes it anew before it does anything else.
+//! memory for an entry it is given up, and the next step makes it anew before it does anything else. A turn that keeps
+//! nothing is remembered: until something changes, the next ones ask for times that have come and for nothing else, and
+//! for these once for each reading of the clock.
 #![tactic(auto)]
 
 mod agents;

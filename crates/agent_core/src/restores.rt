@@ -73,6 +73,7 @@ impl Agent {
             tracker,
             mail,
             live,
+            idle_until: None,
         })
     }
 

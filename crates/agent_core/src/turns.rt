@@ -1,5 +1,5 @@
 //! A turn.
-ghost use Rattle.std.specs.Prelude.{◌≡◌, ◌<◌, ◌≤◌, ◌*◌, ◌+◌, ◌++◌, ◌∷◌, [], IfOk, None, Some};
+ghost use Rattle.std.specs.Prelude.{◌≡◌, ◌<◌, ◌≤◌, ◌*◌, ◌+◌, ◌++◌, ◌∷◌, [], IfOk, None, Some, true};
 ghost use Rattle.std.specs.Option.{option_map_or, option_to_list};
 ghost use Rattle.model.specs.Types as types;
 ghost use Rattle.model.specs.Types.{Events};
@@ -17,7 +17,7 @@ use crate::faults::{Step, StepFault};
 use base_types::{
     Body, Cmd, Copied, Entry, Growing, JobNo, Live, LiveJob, Moment, NoMemory, Out, Ws,
 };
-use batchman_core::turn_body;
+use batchman_core::{is_clock_due, turn_body};
 
 /// Puts what is there at the end of a list with room for it.
 fn put(outs: &mut Growing<Out>, out: Option<Out>)
@@ -32,10 +32,32 @@ fn put(outs: &mut Growing<Out>, out: Option<Out>)
 }
 
 impl Agent {
+    /// Whether it is known that a turn keeps nothing: one kept nothing, nothing has changed since, and no time has come.
+    fn is_idle(&self, t: Moment) -> bool
+        ensures { result ≡ true
+            → None ≡ spec.turn_body (present_in self.now) (view_in self.now) self.now.me self.now.live t }
+    {
+        match self.idle_until {
+            None => false,
+            Some(until) => t.0 <= until.0 || !is_clock_due(&self.owners, self.me, t),
+        }
+    }
+
+    /// From a turn that kept nothing on, turns keep nothing until something changes or a time comes.
+    fn idle_from(&mut self, t: Moment)
+        requires { None ≡ spec.turn_body (present_in self.old) (view_in self.old) self.old.me self.old.live t }
+        ensures { self.new ≡ self.old }
+    {
+        self.idle_until = Some(t);
+    }
+
     /// The body of a turn's entry, if it keeps one.
     fn due_body(&self, t: Moment) -> Result<Option<Body>, StepFault>
         ensures { IsTurnBody self.now t result }
     {
+        if self.is_idle(t) {
+            return Ok(None);
+        }
         match turn_body(
             self.alloc,
             &self.present,
@@ -182,6 +204,7 @@ impl Agent {
         let _net = self.net();
         let mut outs = self.room_for_turn()?;
         self.put_sends(&mut outs);
+        self.idle_from(t);
         Ok(Step {
             kept: None,
             outs: outs.into_items(),

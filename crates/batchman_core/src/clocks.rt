@@ -14,9 +14,9 @@ use dependencies::unwaived_deps;
 use owner_fold::Owners;
 
 /// Whether the time of an AT, UNTIL or DEADLINE of an own member's object, which is not waived, lies above the clock of
-/// `me` and at most at t.
+/// `me` and at most at t, both in seconds since 1970. It takes no memory.
 #[tactic(auto, unfolding(model::specs::Turn::is_clock_due, model::specs::Turn::own_times, model::specs::OwnMembers::own_objects))]
-pub(crate) fn is_clock_due(o: &Owners, me: Ws, t: Moment) -> bool
+pub fn is_clock_due(o: &Owners, me: Ws, t: Moment) -> bool
     ensures { result ≡ spec.is_clock_due (view_of o.now) me t }
 {
     let now = o.now(me);

@@ -3,7 +3,8 @@
 //! `turn_choice` names the rule and its object, and `turn_body` gives the body, both as `model::specs::Turn` has them,
 //! in the view of the entries that an `Owners` took. Both are generic over `Readiness`, which knows the best job, and
 //! stand on its law: the value stands for the entries taken. The rules come in the order of `Choice`, and within a rule
-//! the lowest object comes first.
+//! the lowest object comes first. `is_clock_due` tells whether the first rule applies, the only one that goes by the
+//! reading.
 //!
 //! The network that is handed in is the one that stands at the node, after the switches of managers that the master
 //! obeyed among the entries taken.
@@ -27,4 +28,5 @@ mod witnesses;
 
 pub use bodies::turn_body;
 pub use choices::{Choice, turn_choice};
+pub use clocks::is_clock_due;
 pub use faults::TurnFault;

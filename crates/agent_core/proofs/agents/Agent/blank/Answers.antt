@@ -4,7 +4,7 @@ use Rattle.std.proofs.Common.{refl}
 
 pub invariant_of-result : goal.invariant_of-result
 invariant_of-result c =
-    blank_stands _ _ _ _ _ c.requires c.in_ok-present.ensures c.new-owners.ensures c.new-tracker.ensures
+    blank_stands _ _ _ _ _ _ c.requires c.in_ok-present.ensures c.new-owners.ensures c.new-tracker.ensures
 
 pub returns : goal.returns
 returns c =

@@ -9,7 +9,7 @@ use Rattle.agent_core.proofs.agents.Agent.due_body.Goals as goal
 
 pub turn_body-requires : goal.turn_body-requires
 turn_body-requires c =
-    record { inside = standing_inside _ _ _ _ _ c.self.invariant; stands = c.self.invariant.tracks }
+    record { inside = standing_inside _ _ _ _ _ _ _ c.self.invariant; stands = c.self.invariant.tracks }
 
 pub returns-in-Ok : goal.returns-in-Ok
 returns-in-Ok c =

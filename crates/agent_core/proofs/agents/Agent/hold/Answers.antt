@@ -10,13 +10,13 @@ pub invariant_of-self : goal.invariant_of-self
 invariant_of-self c =
     subst
     (λ (l : List Entry). IsStanding c.self.inside.net c.self.inside.present c.self.inside.me l
-    c.self.inside.tracker.index) (sym c.in_err-take.ensures.err) c.self.invariant
+    c.self.inside.tracker.index c.self.inside.live c.self.inside.idle_until) (sym c.in_err-take.ensures.err) c.self.invariant
 
 pub invariant_of-self-2 : goal.invariant_of-self-2
 invariant_of-self-2 c =
     standing_next c.self.inside.net c.self.inside.present c.put_network.new.present _ c.self.inside.owners
     c.take.new.self c.args.e.now c.self.inside.tracker.index c.follow.new.self.index c.in_ok-after.after
-    c.self.invariant c.in_ok-take.ensures.ok c.in_ok-after.ensures.after c.put_network.ensures
+    c.self.inside.live c.self.inside.idle_until c.self.invariant c.in_ok-take.ensures.ok c.in_ok-after.ensures.after c.put_network.ensures
     (c.follow.ensures c.self.inside.owners c.in_ok-take.ensures.ok c.self.invariant.tracks)
 
 on_err : {T E P : Type 0} (r : Result T E) → P → OnErr r P

@@ -10,5 +10,5 @@ returns c =
       value = c.self.invariant.here ∙ ap present_in c.self.view_is;
       inside =
           subst (λ (n : NodeState). n.me < node_count c.self.inside.present) c.self.view_is
-          (standing_inside _ _ _ _ _ c.self.invariant);
+          (standing_inside _ _ _ _ _ _ _ c.self.invariant);
     }

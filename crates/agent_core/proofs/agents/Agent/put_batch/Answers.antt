@@ -14,7 +14,7 @@ use Rattle.agent_core.proofs.agents.Agent.put_batch.Goals as goal
 pub put_sends-requires : goal.put_sends-requires
 put_sends-requires c =
     record {
-      from = standing_inside _ _ _ _ _ c.self.invariant;
+      from = standing_inside _ _ _ _ _ _ _ c.self.invariant;
       to =
           subst (λ (net : Net). c.args.m < node_count net)
           (sym (c.self.invariant.here ∙ ap present_in c.self.view_is)) c.requires.inside;

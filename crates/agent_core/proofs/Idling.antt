@@ -1,6 +1,6 @@
 -- Turns that keep nothing until something changes or a time comes.
-use Rattle.std.proofs.Common.{[], ℕ, ◌&&◌, ◌∷◌, ◌≡◌, ◌≤◌, ◌||◌, Bool, List, None, Option, Some, arith, eqb, false, filter}
-use Rattle.std.proofs.Common.{map, option_map, refl, subst, sym, true, unwrap_or}
+use Rattle.std.proofs.Common.{[], ℕ, ◌&&◌, ◌∷◌, ◌≡◌, ◌≤◌, ◌||◌, Bool, List, None, Option, Some, arith, false, filter}
+use Rattle.std.proofs.Common.{option_map, refl, subst, sym, true, unwrap_or}
 use Rattle.std.specs.Bool.{then_some}
 use Rattle.std.specs.List.{list_any}
 use Rattle.std.specs.Option.{option_or}

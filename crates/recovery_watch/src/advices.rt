@@ -1,5 +1,5 @@
 //! The job for which there is advice, and the advice.
-ghost use Rattle.std.specs.Prelude.{◌≡◌, filter};
+ghost use Rattle.std.specs.Prelude.{◌≡◌, ℕ, false, filter, true};
 ghost use Rattle.model.specs.Types.{Events};
 ghost use Rattle.model.specs.Words.{least, lesser};
 ghost use Rattle.model.specs.History.{view_of};
@@ -66,6 +66,9 @@ fn lower(lowest: Option<u32>, number: u32) -> u32
 fn needs_advice(o: &Owners, w: Ws, parent: &StreamDoc, doc: &JobDoc) -> bool
     ensures { result ≡ spec.needs_advice_in (view_of o.now) w (stream_job parent.now doc.now) }
 {
+    if stops(&doc.recovery) {
+        return false;
+    }
     if doc.ws != w {
         return false;
     }
@@ -100,6 +103,13 @@ fn is_called_off(o: &Owners, w: Ws, parent: &StreamDoc, doc: &JobDoc) -> bool
     let job = Obj::Job(doc.no);
     let stream = Obj::Stream(parent.no);
     o.kept().is_cancelled_at(w, &job) || o.kept().is_cancelled_at(parent.ws, &stream)
+}
+
+/// Whether a recovery is to stop, and so has never anything to do.
+fn stops(recovery: &Recovery) -> bool
+    ensures { result ≡ true → (reruns : ℕ) → spec.recovers recovery.now reruns ≡ false }
+{
+    matches!(recovery, Recovery::Stop)
 }
 
 /// Whether a recovery has something to do for a job that was rerun so often.

@@ -1,4 +1,4 @@
-use Rattle.std.proofs.Common.{◌∙◌, ◌<◌, [], None, subst, sym}
+use Rattle.std.proofs.Common.{◌∙◌, ◌<◌, None, subst, sym}
 use Rattle.model.specs.Types as types
 use Rattle.model.specs.Types.{Net}
 use Rattle.model.specs.Words.{below}

@@ -18,7 +18,7 @@ use Rattle.report_text.specs.Names.{name_of}
 use Rattle.record_faults.specs.Known.{Key, Station, ends_at_master, is_station, key_eq, reaches, station_at}
 use Rattle.record_faults.specs.Known as known
 use Rattle.record_script.specs.Numbers.{place_of}
-use Rattle.record_script.proofs.Chains.{short}
+use Rattle.network_tree.proofs.Chains.{short}
 use Rattle.record_script.proofs.Trees.{bytes_sym}
 use Rattle.network_lines.specs.Printables.{IsKeptName, IsNamedNode}
 use Rattle.network_lines.proofs.Accepted.{Accepted, IsGood, neither}

@@ -1,5 +1,5 @@
 //! What is read of whole texts, field by field.
-use base_types::{Carry, OnUntil, Recovery, Text, Work};
+use base_types::{OnUntil, Recovery, Text, Work};
 use composer_lexer::tokens;
 use composer_parser::{
     CalendarDef, Clause, CpuDef, Defs, DomainDef, EntryDef, JobDef, Lined, OnDef, OnItem, Pred,
@@ -221,7 +221,7 @@ fn is_priority(clause: &Clause, wanted: u32) -> bool {
     }
 }
 
-fn read(alloc: Global, text: &str) -> Result<Defs, Fail> {
+pub(crate) fn read(alloc: Global, text: &str) -> Result<Defs, Fail> {
     let found = tokens(alloc, text)?;
     Ok(parse(alloc, text, &found)?)
 }
@@ -363,19 +363,34 @@ fn is_close(found: &Lined<ScheduleDef>) -> bool {
     found.line == 24 && is_stream(&found.item, "MDM", "CLOSE") && on && after && report
 }
 
-#[test]
-fn the_night_of_a_bank(rt: HostRuntime) -> Result<(), Fail> {
-    let defs = read(rt.alloc(), BANK)?;
-    assert!(rt; defs.last_line == 26 && defs.start.is_none() && defs.zone.is_none());
-    assert!(rt; are_bank_cpus(defs.cpus.as_slice()));
-    assert!(rt; are_bank_domains(defs.domains.as_slice()));
-    assert!(rt; are_bank_groups(&defs));
-    assert!(rt; are_bank_jobs(defs.jobs.as_slice()));
-    let streams = match defs.schedules.as_slice() {
+fn are_bank_streams(schedules: &[Lined<ScheduleDef>]) -> bool {
+    match schedules {
         [night, close] => is_night(night) && is_close(close),
         _ => false,
-    };
-    assert!(rt; streams);
+    }
+}
+
+/// Which parts of the bank's night are as they are written: its lines and options, its workstations, its domains, its
+/// groups, its jobs and its streams.
+fn parts_of_bank(defs: &Defs) -> [bool; 6] {
+    [
+        defs.last_line == 26 && defs.start.is_none() && defs.zone.is_none(),
+        are_bank_cpus(defs.cpus.as_slice()),
+        are_bank_domains(defs.domains.as_slice()),
+        are_bank_groups(defs),
+        are_bank_jobs(defs.jobs.as_slice()),
+        are_bank_streams(defs.schedules.as_slice()),
+    ]
+}
+
+fn bank_as_read(alloc: Global) -> Result<[bool; 6], Fail> {
+    let defs = read(alloc, BANK)?;
+    Ok(parts_of_bank(&defs))
+}
+
+#[test]
+fn the_night_of_a_bank(rt: HostRuntime) -> Result<(), Fail> {
+    assert_eq!(rt; bank_as_read(rt.alloc())?, [true; 6]);
     Ok(())
 }
 
@@ -405,14 +420,12 @@ fn is_third(ons: &[Lined<OnDef>]) -> bool {
     }
 }
 
-#[test]
-fn streams_by_their_days(rt: HostRuntime) -> Result<(), Fail> {
-    let defs = read(rt.alloc(), DAYS)?;
+/// Whether the calendar and the days of the three streams are as they are written.
+fn are_days(defs: &Defs) -> (bool, bool) {
     let calendar = match defs.calendars.as_slice() {
         [found] => is_calendar(found, 4, None, &[12356]),
         _ => false,
     };
-    assert!(rt; calendar);
     let streams = match defs.schedules.as_slice() {
         [t, u, v] => {
             is_first(t.item.ons.as_slice())
@@ -421,45 +434,44 @@ fn streams_by_their_days(rt: HostRuntime) -> Result<(), Fail> {
         }
         _ => false,
     };
-    assert!(rt; streams);
+    (calendar, streams)
+}
+
+fn days_as_read(alloc: Global) -> Result<(bool, bool), Fail> {
+    let defs = read(alloc, DAYS)?;
+    Ok(are_days(&defs))
+}
+
+#[test]
+fn streams_by_their_days(rt: HostRuntime) -> Result<(), Fail> {
+    assert_eq!(rt; days_as_read(rt.alloc())?, (true, true));
     Ok(())
+}
+
+/// Whether the workstation and its domain are as they are written.
+fn is_small(defs: &Defs) -> bool {
+    let cpu = match defs.cpus.as_slice() {
+        [cpu] => is_cpu(cpu, &(1, "MDM", "mdm.example", None, "MASTERDM"))
+            && has_flags(&cpu.item, true, None, None),
+        _ => false,
+    };
+    let domain = match defs.domains.as_slice() {
+        [domain] => is_domain(domain, 2, "MASTERDM", "MDM", None),
+        _ => false,
+    };
+    cpu && domain
+}
+
+fn is_read_as_small(alloc: Global, text: &str) -> Result<bool, Fail> {
+    let defs = read(alloc, text)?;
+    Ok(is_small(&defs))
 }
 
 // Names and the words of OS are read in upper case, values are not, and the star says nothing.
 #[test]
 fn small_definitions(rt: HostRuntime) -> Result<(), Fail> {
     for text in SMALL {
-        let defs = read(rt.alloc(), text)?;
-        let cpu = match defs.cpus.as_slice() {
-            [cpu] => is_cpu(cpu, &(1, "MDM", "mdm.example", None, "MASTERDM"))
-                && has_flags(&cpu.item, true, None, None),
-            _ => false,
-        };
-        let domain = match defs.domains.as_slice() {
-            [domain] => is_domain(domain, 2, "MASTERDM", "MDM", None),
-            _ => false,
-        };
-        assert!(rt; cpu && domain, "at {text}");
+        assert!(rt; is_read_as_small(rt.alloc(), text)?, "at {text}");
     }
-    Ok(())
-}
-
-#[test]
-fn options_keep_their_lines(rt: HostRuntime) -> Result<(), Fail> {
-    let text = "$OPTIONS\nSTARTOFDAY 0630\nTIMEZONE \"UTC-0500\" ENCARRYFORWARD NO";
-    let defs = read(rt.alloc(), text)?;
-    let start = match &defs.start {
-        Some(start) => start.line == 2 && start.item == 390,
-        None => false,
-    };
-    let zone = match &defs.zone {
-        Some(zone) => zone.line == 3 && zone.item.as_str() == "UTC-0500",
-        None => false,
-    };
-    let carry = match &defs.carry {
-        Some(carry) => carry.line == 3 && carry.item == Carry::No,
-        None => false,
-    };
-    assert!(rt; start && zone && carry && defs.last_line == 3);
     Ok(())
 }

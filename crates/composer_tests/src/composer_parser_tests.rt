@@ -1,4 +1,6 @@
 //! Definitions that are read, and the line and the kind of the fault of texts that are none.
+use crate::composer_parser_rows::read;
+use base_types::Carry;
 use composer_lexer::tokens;
 use composer_parser::{Defs, SyntaxFault, parse};
 use std::alloc::Global;
@@ -8,7 +10,7 @@ use std::test::Fail;
 type Counts = [usize; 7];
 
 /// Texts without a fault.
-const READ: [(&str, Counts); 16] = [
+static READ: [(&str, Counts); 16] = [
     ("", [0, 0, 0, 0, 0, 0, 0]),
     ("# none\n\n", [0, 0, 0, 0, 0, 0, 0]),
     ("$OPTIONS", [0, 0, 0, 0, 0, 0, 0]),
@@ -74,7 +76,7 @@ const L1: SyntaxFault = SyntaxFault::LeftOut(1);
 const L2: SyntaxFault = SyntaxFault::LeftOut(2);
 
 /// Texts of workstations, domains, options and groups with their first faults.
-const REFUSED: [(&str, SyntaxFault); 36] = [
+static REFUSED: [(&str, SyntaxFault); 36] = [
     (
         "CPUNAME MDM OS UNIX NODE mdm DOMAIN MASTERDM FOR MAESTRO HOST X",
         L1,
@@ -141,7 +143,7 @@ const REFUSED: [(&str, SyntaxFault); 36] = [
 ];
 
 /// Texts of streams with their first faults.
-const REFUSED_STREAMS: [(&str, SyntaxFault); 38] = [
+static REFUSED_STREAMS: [(&str, SyntaxFault); 38] = [
     ("SCHEDULE AT : END", E1),
     ("SCHEDULE S : J", E1),
     ("SCHEDULE S KEYSCHED : END", L1),
@@ -200,10 +202,10 @@ fn counts(defs: &Defs) -> Counts {
     ]
 }
 
-fn has_counts(alloc: Global, text: &str, wanted: Counts) -> Result<bool, Fail> {
+fn has_counts(alloc: Global, text: &str, wanted: &Counts) -> Result<bool, Fail> {
     let found = tokens(alloc, text)?;
     match parse(alloc, text, &found) {
-        Ok(defs) => Ok(counts(&defs) == wanted),
+        Ok(defs) => Ok(counts(&defs) == *wanted),
         Err(_) => Ok(false),
     }
 }
@@ -216,21 +218,70 @@ fn has_fault(alloc: Global, text: &str, fault: SyntaxFault) -> Result<bool, Fail
     }
 }
 
+/// The first text of which something else is there.
+fn first_other<'a>(alloc: Global, rows: &[(&'a str, Counts)]) -> Result<Option<&'a str>, Fail> {
+    for (text, wanted) in rows {
+        if !has_counts(alloc, text, wanted)? {
+            return Ok(Some(*text));
+        }
+    }
+    Ok(None)
+}
+
+/// The first text that has another fault or none.
+fn first_without_its_fault<'a>(
+    alloc: Global,
+    rows: &[(&'a str, SyntaxFault)],
+) -> Result<Option<&'a str>, Fail> {
+    for (text, fault) in rows {
+        if !has_fault(alloc, text, *fault)? {
+            return Ok(Some(*text));
+        }
+    }
+    Ok(None)
+}
+
 #[test]
 fn texts_are_read(rt: HostRuntime) -> Result<(), Fail> {
-    for (text, wanted) in READ {
-        assert!(rt; has_counts(rt.alloc(), text, wanted)?, "at {text}");
-    }
+    assert_eq!(rt; first_other(rt.alloc(), &READ)?, None);
     Ok(())
 }
 
 #[test]
 fn the_first_fault_is_told(rt: HostRuntime) -> Result<(), Fail> {
-    for (text, fault) in REFUSED {
-        assert!(rt; has_fault(rt.alloc(), text, fault)?, "at {text}");
-    }
-    for (text, fault) in REFUSED_STREAMS {
-        assert!(rt; has_fault(rt.alloc(), text, fault)?, "at {text}");
-    }
+    assert_eq!(rt; first_without_its_fault(rt.alloc(), &REFUSED)?, None);
+    assert_eq!(rt;
+        first_without_its_fault(rt.alloc(), &REFUSED_STREAMS)?,
+        None
+    );
+    Ok(())
+}
+
+/// Whether the options are as they are written, at their lines.
+fn are_options(defs: &Defs) -> bool {
+    let start = match &defs.start {
+        Some(start) => start.line == 2 && start.item == 390,
+        None => false,
+    };
+    let zone = match &defs.zone {
+        Some(zone) => zone.line == 3 && zone.item.as_str() == "UTC-0500",
+        None => false,
+    };
+    let carry = match &defs.carry {
+        Some(carry) => carry.line == 3 && carry.item == Carry::No,
+        None => false,
+    };
+    start && zone && carry && defs.last_line == 3
+}
+
+fn are_read_as_options(alloc: Global, text: &str) -> Result<bool, Fail> {
+    let defs = read(alloc, text)?;
+    Ok(are_options(&defs))
+}
+
+#[test]
+fn options_keep_their_lines(rt: HostRuntime) -> Result<(), Fail> {
+    let text = "$OPTIONS\nSTARTOFDAY 0630\nTIMEZONE \"UTC-0500\" ENCARRYFORWARD NO";
+    assert!(rt; are_read_as_options(rt.alloc(), text)?);
     Ok(())
 }

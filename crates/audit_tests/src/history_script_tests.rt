@@ -1,10 +1,18 @@
 //! Histories that are printed as they were read. A `|` stands for a line feed.
 ghost use Rattle.model.specs.Fit.{AreFitEntries};
 
-use crate::texts::lined;
 use history_script::{HistoryText, print_history, read_history};
 use std::alloc::Global;
 use std::test::Fail;
+
+/// The text with its line feeds.
+fn lined(alloc: Global, text: &str) -> Result<String, Fail> {
+    let mut lines = String::new(alloc);
+    for c in text.chars() {
+        lines.push(if c == '|' { '\n' } else { c })?;
+    }
+    Ok(lines)
+}
 
 /// Whether the history that a text is has this text.
 fn is_printed(alloc: Global, text: &str, printed: &str) -> Result<bool, Fail> {

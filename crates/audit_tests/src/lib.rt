@@ -1,7 +1,9 @@
-//! Tests of the audit: worked histories that are sound, and the first item that fails in others.
+//! Tests of the audit, and of histories as texts.
 //!
 //! Each module holds the tests of the crate that it is named after.
 #![tactic(auto)]
 
 #[cfg(test)]
 mod event_audit_tests;
+#[cfg(test)]
+mod history_script_tests;

@@ -1,19 +1,11 @@
-//! Tests of checked definitions, run dates, plans and listings, at texts, days and refusals worked out by hand.
+//! Tests of checked definitions: what they give, run dates within bounds, and rules at days of an almanac. What is answered
+//! to whole texts of definitions stands in the cases of the repository.
 //!
-//! Each module holds the tests of the crate that it is named after, and `manual_tests` the examples of the manual of
-//! composer text. Definitions stand as texts; `replies` asks what is answered to them.
+//! Each module holds the tests of the crate that it is named after.
 #![tactic(auto)]
 
 #[cfg(test)]
-mod definition_faults_tests;
-#[cfg(test)]
 mod definition_replies_tests;
-#[cfg(test)]
-mod manual_tests;
-#[cfg(test)]
-mod plan_builder_tests;
-#[cfg(test)]
-mod replies;
 #[cfg(test)]
 mod run_cycles_tests;
 #[cfg(test)]

@@ -1,5 +1,4 @@
-//! The networks, addresses and free days of checked definitions.
-use crate::replies::{Told, plans};
+//! What checked definitions give: addresses, free days, workstations and calendars by their names.
 use base_types::Text;
 use calendars::is_free;
 use definition_texts::read_definition_text;
@@ -29,43 +28,6 @@ static NETWORK: &str = "$OPTIONS ENCARRYFORWARD NO\n\
     END\n\
     SCHEDULE T FREEDAYS HOLIDAYS -SU :\n\
     END\n";
-
-/// The master comes first, and the others in the order in which they are defined.
-static LISTED: &str = "$NETWORK\n\
-    ws M\n\
-    ws A W on\n\
-    ws W M manager\n\
-    ws B F\n\
-    ws F W manager\n\
-    res A R 0\n\
-    res M R 1024\n\
-    prompt P \":\"\n\
-    prompt Q \"q\"\n\
-    carryforward no\n\
-    $PLAN\n";
-
-#[test]
-fn networks_of_definitions(rt: HostRuntime) {
-    assert!(rt; plans(rt.alloc(), &[NETWORK], "11/03/2003", Told::Text(LISTED)));
-}
-
-/// Definitions in lower case, with the star of a domain and without.
-static SMALL: [&str; 2] = [
-    "cpuname mdm os unix node mdm.example domain masterdm for maestro type manager end\n\
-     domain masterdm manager mdm ismaster end",
-    "cpuname mdm os unix node mdm.example domain masterdm for maestro type manager end\n\
-     domain masterdm * manager mdm ismaster end",
-];
-
-fn is_alone(alloc: Global, text: &str) -> bool {
-    let listed = Told::Text("$NETWORK\nws MDM\n$PLAN\n");
-    plans(alloc, &[text], "01/01/1970", listed)
-}
-
-#[test]
-fn networks_of_one_workstation(rt: HostRuntime) {
-    assert!(rt; SMALL.iter().all(|text| is_alone(rt.alloc(), text)));
-}
 
 /// A workstation by its place, its host and its port.
 type PeerRow<'a> = (usize, &'a str, u16);

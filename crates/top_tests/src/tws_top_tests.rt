@@ -1,22 +1,15 @@
-//! What `tws` answers: whole reports, summaries, histories, canonical texts, plans, audits and samples, refusals, limits,
-//! and each call that fails.
-mod audits;
-mod defined_nights;
-mod definitions;
+//! What `tws` does with the objects that it is handed: each form of words once, calls that fail, and a large record. What is
+//! written for words and an input stands in the cases of the repository, which run on the program.
 mod faults;
-mod histories;
-mod networks;
-mod plans;
-mod refusals;
+mod forms;
 mod samples;
-mod stations;
 mod untouched;
 
-use base_types::{Bytes, Items, Text};
+use base_types::{Items, Text};
 use outside_mem::{MemSink, MemSource};
 use std::alloc::Global;
 use std::test::Fail;
-use test_builders::{bytes, listed};
+use test_builders::bytes;
 use untouched::ended;
 
 /// The status, whether this text was written and no other, and whether a world was handed back.
@@ -44,47 +37,13 @@ fn listed_words(alloc: Global, words: &str) -> Result<Vec<Text>, Fail> {
 fn says(
     alloc: Global,
     words: &str,
-    input: Bytes,
+    input: &str,
     failing: (u32, u32),
     text: &str,
 ) -> Result<Said, Fail> {
     let list = listed_words(alloc, words)?;
-    let mut source = MemSource::new(input, calls(alloc, failing.0)?);
+    let mut source = MemSource::new(bytes(alloc, input)?, calls(alloc, failing.0)?);
     let mut sink = MemSink::new(alloc, calls(alloc, failing.1)?, 4096)?;
     let (status, world) = ended(alloc, list.as_slice(), &mut source, &mut sink);
     Ok((status, sink.bytes() == text.as_bytes(), world))
-}
-
-/// The status, and what is written, where no call fails.
-fn written(alloc: Global, words: &str, input: Bytes) -> Result<(u8, Bytes), Fail> {
-    let list = listed_words(alloc, words)?;
-    let mut source = MemSource::new(input, Items::new(alloc));
-    let mut sink = MemSink::new(alloc, Items::new(alloc), 262_144)?;
-    let (status, _) = ended(alloc, list.as_slice(), &mut source, &mut sink);
-    Ok((status, listed(alloc, sink.bytes())?))
-}
-
-/// What is said to these words where the input is a text and no call fails.
-fn answers(alloc: Global, words: &str, input: &str, text: &str) -> Result<Said, Fail> {
-    says(alloc, words, bytes(alloc, input)?, (0, 0), text)
-}
-
-fn replays(alloc: Global, record: &str, text: &str) -> Result<Said, Fail> {
-    answers(alloc, "replay", record, text)
-}
-
-fn sums_up(alloc: Global, record: &str, text: &str) -> Result<Said, Fail> {
-    answers(alloc, "summary", record, text)
-}
-
-/// The place of the first record that is not refused with its line, by its replay and its summary.
-fn first_accepted(alloc: Global, rows: &[(&str, &str)]) -> Result<Option<usize>, Fail> {
-    for (i, (record, line)) in rows.iter().enumerate() {
-        let replayed = replays(alloc, record, line)?;
-        let summed = sums_up(alloc, record, line)?;
-        if replayed != (3, true, false) || summed != (3, true, false) {
-            return Ok(Some(i));
-        }
-    }
-    Ok(None)
 }

@@ -1,10 +1,3 @@
-//! What a world reports after the steps of worked nights.
-mod days;
-mod limits;
-mod nights;
-mod recoveries;
+//! Steps that a world refuses, and that nothing changes then.
 mod refusals;
-mod smallest;
-mod stops;
 mod too_large;
-mod ways;

@@ -1,4 +1,4 @@
-//! Networks and plans of the nights, and a night that two modules tell of.
+//! Networks and plans, and the night of the end of a day.
 use crate::rows::{Does, Here};
 use crate::worlds::after;
 use network_world::World;
@@ -10,10 +10,7 @@ use test_builders::{DraftWaits, JobDraftRow, NodeRow, StreamDraftRow};
 pub(crate) static ALONE: [NodeRow; 1] = [("M", None, true, false)];
 
 /// The master M with the agent P.
-pub(crate) static ONE_AGENT: [NodeRow; 2] = [
-    ("M", None, true, false),
-    ("P", Some(0), false, false),
-];
+static ONE_AGENT: [NodeRow; 2] = [("M", None, true, false), ("P", Some(0), false, false)];
 
 /// The master M with the agents P and Q.
 pub(crate) static AGENTS: [NodeRow; 3] = [
@@ -21,20 +18,6 @@ pub(crate) static AGENTS: [NodeRow; 3] = [
     ("P", Some(0), false, false),
     ("Q", Some(0), false, false),
 ];
-
-/// The master M, the manager D below it, and its agent L.
-pub(crate) static DOMAIN: [NodeRow; 3] = [
-    ("M", None, true, false),
-    ("D", Some(0), true, false),
-    ("L", Some(1), false, false),
-];
-
-const JOB: [JobDraftRow; 1] = [(0, "A", &[])];
-
-const STREAM: [StreamDraftRow; 1] = [(0, "S", false, &[], &JOB)];
-
-/// The plan of one stream of the master with one job.
-pub(crate) const NEXT: Does = Does::At(0, Here::Next(&STREAM));
 
 const JOB_B: [JobDraftRow; 1] = [(2, "B", &[])];
 
@@ -63,14 +46,14 @@ const FIRST_DAY: [StreamDraftRow; 3] = [
 ];
 
 /// The plan of a first day: streams of P and of M that are carried, and one of M that is not.
-pub(crate) const NEXT_DAY_1: Does = Does::At(0, Here::Next(&FIRST_DAY));
+const NEXT_DAY_1: Does = Does::At(0, Here::Next(&FIRST_DAY));
 
 const JOB_N: [JobDraftRow; 1] = [(0, "N1", &[])];
 
 const SECOND_DAY: [StreamDraftRow; 1] = [(0, "N", false, &[], &JOB_N)];
 
 /// The plan of the second day.
-pub(crate) const NEXT_DAY_2: Does = Does::At(0, Here::Next(&SECOND_DAY));
+const NEXT_DAY_2: Does = Does::At(0, Here::Next(&SECOND_DAY));
 
 /// A day ends while P is not linked.
 static END_OF_DAY: [Does; 20] = [

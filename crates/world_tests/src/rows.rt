@@ -3,7 +3,7 @@ ghost use Rattle.std.specs.Prelude.{◌≡◌, nat_lt};
 ghost use Rattle.std.specs.List.{list_all};
 ghost use Rattle.network_world.specs.Standing.{ws_in_step};
 
-use base_types::{JobNo, Local, Moment, NoMemory, Recovery, StreamDrafts, WorldStep, Ws};
+use base_types::{JobNo, Local, Moment, NoMemory, WorldStep, Ws};
 use std::alloc::Global;
 use test_builders::{Asks, ObjRow, StreamDraftRow, command, drafts, obj};
 
@@ -11,8 +11,6 @@ use test_builders::{Asks, ObjRow, StreamDraftRow, command, drafts, obj};
 #[derive(Clone, Copy)]
 pub(crate) enum Here<'a> {
     Next(&'a [StreamDraftRow<'a>]),
-    /// The first job of the first stream has this recovery.
-    NextWith(&'a [StreamDraftRow<'a>], Recovery),
     Turn(u64),
     Link(u16),
     Unlink(u16),
@@ -34,9 +32,6 @@ pub(crate) enum Does<'a> {
     Flow(u16, u16),
     /// Each launch that is live at the node ends with this return code, the lowest job first.
     Reap(u16, i32),
-    /// The node types what it advises itself, if it does.
-    Recover(u16),
-    Crash(u16),
     /// The node stops in this step. The flag says whether its entry is kept.
     CrashAt(u16, Here<'a>, bool),
     /// The node stops in this delivery. The flag says whether its entry is kept.
@@ -47,24 +42,6 @@ fn next(alloc: Global, rows: &[StreamDraftRow]) -> Result<Local, NoMemory> {
     Ok(Local::Next(drafts(alloc, rows)?))
 }
 
-fn set_recovery(drafts: &mut StreamDrafts, recovery: &Recovery) {
-    if let Some(draft) = drafts.get_mut(0) {
-        if let Some(job) = draft.jobs.get_mut(0) {
-            job.recovery = *recovery;
-        }
-    }
-}
-
-fn next_with(
-    alloc: Global,
-    rows: &[StreamDraftRow],
-    recovery: &Recovery,
-) -> Result<Local, NoMemory> {
-    let mut drafts = drafts(alloc, rows)?;
-    set_recovery(&mut drafts, recovery);
-    Ok(Local::Next(drafts))
-}
-
 fn typed(alloc: Global, to: u16, asks: &Asks) -> Result<Local, NoMemory> {
     Ok(Local::Typed(Ws(to), command(alloc, asks)?))
 }
@@ -73,7 +50,6 @@ fn typed(alloc: Global, to: u16, asks: &Asks) -> Result<Local, NoMemory> {
 pub(crate) fn local(alloc: Global, row: &Here) -> Result<Local, NoMemory> {
     match row {
         Here::Next(rows) => next(alloc, *rows),
-        Here::NextWith(rows, recovery) => next_with(alloc, *rows, recovery),
         Here::Turn(time) => Ok(Local::Turn(Moment(*time))),
         Here::Link(x) => Ok(Local::Linked(Ws(*x))),
         Here::Unlink(x) => Ok(Local::Unlinked(Ws(*x))),

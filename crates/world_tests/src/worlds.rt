@@ -1,8 +1,7 @@
 //! Worlds that take rows of steps.
 use crate::rows::{Does, Here, is_inside, local};
-use base_types::{Bytes, Cmd, JobNo, Local, WorldStep, Ws};
+use base_types::{Bytes, JobNo, Local, WorldStep, Ws};
 use network_world::{StepRefused, World};
-use recovery_watch::advice;
 use report_text::print_report;
 use std::alloc::Global;
 use std::test::Fail;
@@ -16,7 +15,7 @@ pub(crate) fn begun(alloc: Global, nodes: &[NodeRow]) -> Result<World, Fail> {
 }
 
 /// What a world answers to a step.
-pub(crate) fn answer(world: &mut World, step: &WorldStep) -> Result<Result<(), StepRefused>, Fail> {
+fn answer(world: &mut World, step: &WorldStep) -> Result<Result<(), StepRefused>, Fail> {
     let count = world.net().count();
     if !is_inside(count, step) {
         return Err("a workstation outside")?;
@@ -33,7 +32,7 @@ pub(crate) fn take(world: &mut World, step: &WorldStep) -> Result<(), Fail> {
 }
 
 /// How many packets were sent, and the greatest number delivered.
-pub(crate) fn sent_and_reached(world: &World, a: u16, b: u16) -> (u32, u32) {
+fn sent_and_reached(world: &World, a: u16, b: u16) -> (u32, u32) {
     let count = world.net().count();
     if a >= count || b >= count {
         return (0, 0);
@@ -84,25 +83,6 @@ fn reap(world: &mut World, w: u16, code: i32) -> Result<(), Fail> {
     Ok(())
 }
 
-/// What a node advises itself.
-fn advised(world: &World, w: u16) -> Option<Cmd> {
-    if w >= world.net().count() {
-        return None;
-    }
-    let node = world.node(Ws(w));
-    advice(node.net(), node.owners(), Ws(w))
-}
-
-fn recover(world: &mut World, w: u16) -> Result<(), Fail> {
-    match advised(world, w) {
-        None => Ok(()),
-        Some(cmd) => {
-            let step = WorldStep::Take(Ws(w), Local::Typed(Ws(w), cmd));
-            take(world, &step)
-        }
-    }
-}
-
 fn at(alloc: Global, w: u16, here: &Here) -> Result<WorldStep, Fail> {
     Ok(WorldStep::Take(Ws(w), local(alloc, here)?))
 }
@@ -112,14 +92,12 @@ fn crash_at(alloc: Global, w: u16, here: &Here, kept: bool) -> Result<WorldStep,
 }
 
 /// The step of a row that is one step.
-pub(crate) fn step(alloc: Global, row: &Does) -> Result<WorldStep, Fail> {
+fn step(alloc: Global, row: &Does) -> Result<WorldStep, Fail> {
     match row {
         Does::At(w, here) => at(alloc, *w, here),
         Does::Deliver(a, b, k) => Ok(WorldStep::Deliver(Ws(*a), Ws(*b), *k)),
         Does::Flow(_, _) => Err("no single step")?,
         Does::Reap(_, _) => Err("no single step")?,
-        Does::Recover(_) => Err("no single step")?,
-        Does::Crash(w) => Ok(WorldStep::Crash(Ws(*w))),
         Does::CrashAt(w, here, kept) => crash_at(alloc, *w, here, *kept),
         Does::CrashDeliver(a, b, k, kept) => {
             Ok(WorldStep::CrashDeliver(Ws(*a), Ws(*b), *k, *kept))
@@ -132,7 +110,6 @@ pub(crate) fn do_row(world: &mut World, alloc: Global, row: &Does) -> Result<(),
     match row {
         Does::Flow(a, b) => flow(world, *a, *b),
         Does::Reap(w, code) => reap(world, *w, *code),
-        Does::Recover(w) => recover(world, *w),
         _ => {
             let step = step(alloc, row)?;
             take(world, &step)
@@ -160,28 +137,6 @@ pub(crate) fn after(alloc: Global, nodes: &[NodeRow], rows: &[Does]) -> Result<W
     let mut world = begun(alloc, nodes)?;
     do_rows(&mut world, alloc, rows)?;
     Ok(world)
-}
-
-/// Whether a world reports this text after these further steps.
-pub(crate) fn then_reports(
-    alloc: Global,
-    mut world: World,
-    rows: &[Does],
-    text: &str,
-) -> Result<bool, Fail> {
-    do_rows(&mut world, alloc, rows)?;
-    let printed = report(alloc, &world)?;
-    Ok(printed.as_slice() == text.as_bytes())
-}
-
-/// Whether these workstations report this text after these steps.
-pub(crate) fn reports(
-    alloc: Global,
-    nodes: &[NodeRow],
-    rows: &[Does],
-    text: &str,
-) -> Result<bool, Fail> {
-    then_reports(alloc, begun(alloc, nodes)?, rows, text)
 }
 
 /// A step, and why it is refused.

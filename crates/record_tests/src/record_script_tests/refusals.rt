@@ -34,40 +34,10 @@ fn first_other<'a>(
     Ok(None)
 }
 
-const REFUSED: [(&str, u32, ScriptKind); 14] = [
-    ("", 1, ScriptKind::BadLine),
-    ("$NETWORK|ws M|", 2, ScriptKind::BadLine),
-    (
-        "$NETWORK|ws M|$PLAN|stream M S|job M A|do \"echo a\"|$STEPS|next|next|",
-        9,
-        ScriptKind::NoPlan,
-    ),
-    (
-        "$NETWORK|ws M|carryforward all|carryforward no|$STEPS|",
-        4,
-        ScriptKind::Duplicate,
-    ),
-    (
-        "$NETWORK|ws M|$STEPS|next 11/03/2003|",
-        4,
-        ScriptKind::BadLine,
-    ),
-    (
-        "$NETWORK|ws M|$PLAN|stream X S|$STEPS|",
-        4,
-        ScriptKind::UnknownName,
-    ),
-    (
-        "$NETWORK|ws M|res M R 1025|$STEPS|",
-        3,
-        ScriptKind::OutOfRange,
-    ),
-    (
-        "$NETWORK|ws M|ws P M|ws Q P|$STEPS|",
-        4,
-        ScriptKind::BadTree,
-    ),
+/// The first is read. Definitions are built by the reader of both kinds of records, and are refused here.
+static REFUSED: [(&str, u32, ScriptKind); 7] = [
     ("$NETWORK|ws M|$STEPS|turn M 1|", 0, ScriptKind::BadLine),
+    ("$NETWORK|ws M|", 2, ScriptKind::BadLine),
     (
         "$DEFINITIONS|CPUNAME M|$STEPS|next 11/03/2003|",
         1,

@@ -251,7 +251,7 @@ fn mended(alloc: Global, torn: Torn) -> Result<Done, Fail> {
 }
 
 /// A night whose disk tears the write behind so many calls, and makes none from then on.
-fn torn(alloc: Global, calls: usize) -> Result<Done, Fail> {
+fn after_tear(alloc: Global, calls: usize) -> Result<Done, Fail> {
     let disk = tearing(alloc, calls)?;
     let night = new_night(alloc, "node MDM 3", ONE_JOB, PLANNING, Items::new(alloc))?;
     mended(alloc, tear(alloc, night, disk))
@@ -259,7 +259,7 @@ fn torn(alloc: Global, calls: usize) -> Result<Done, Fail> {
 
 /// Whether a stop that tears its write leaves what one does that makes none of it.
 fn tears_well(alloc: Global, calls: usize, left: &Leaves) -> Result<bool, Fail> {
-    let first = torn(alloc, calls)?;
+    let first = after_tear(alloc, calls)?;
     let status = if calls < 20 { 6 } else { 8 };
     Ok(first.status == status && has_left(alloc, &first, left)? && goes_on(alloc, &first, left)?)
 }
@@ -282,7 +282,7 @@ no file5457534d
 
 /// What a node does that begins again over a header of which the first half was written.
 fn behind_a_torn_header(alloc: Global) -> Result<String, Fail> {
-    let first = torn(alloc, 2)?;
+    let first = after_tear(alloc, 2)?;
     let second = begun_again(alloc, &first)?;
     text_of(alloc, &second)
 }

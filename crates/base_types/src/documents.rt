@@ -42,7 +42,7 @@ pub enum OnUntil {
 }
 
 /// The prompt that a dependency asks.
-#[derive(Debug, Drop)]
+#[derive(Drop)]
 pub enum PromptRef {
     /// A prompt of the network, by its number from 1.
     Global(u16),
@@ -51,7 +51,6 @@ pub enum PromptRef {
 }
 
 /// What a job or a stream depends on.
-#[derive(Debug)]
 pub enum Dep {
     FollowsJob(JobNo),
     FollowsStream(StreamNo),
@@ -82,7 +81,6 @@ impl Drop for Dep {
 }
 
 /// What a draft depends on.
-#[derive(Debug)]
 pub enum DraftDep {
     /// A stream by its workstation and name, or a job of it by its name.
     Follows(Ws, Text, Option<Text>),
@@ -100,7 +98,7 @@ impl Drop for DraftDep {
 }
 
 /// What a job runs.
-#[derive(Debug, Drop)]
+#[derive(Drop)]
 pub enum Work {
     Command(Text),
     Script(Text),
@@ -136,7 +134,6 @@ pub enum CondOp {
 }
 
 /// A job of a plan.
-#[derive(Debug)]
 pub struct JobDoc {
     /// From 1, over the life of the network.
     pub no: JobNo,
@@ -170,7 +167,6 @@ impl Drop for JobDoc {
 }
 
 /// A job stream of a plan.
-#[derive(Debug)]
 pub struct StreamDoc {
     /// From 1, over the life of the network.
     pub no: StreamNo,
@@ -202,7 +198,6 @@ impl Drop for StreamDoc {
 }
 
 /// A job before it is planned.
-#[derive(Debug)]
 pub struct JobDraft {
     pub ws: Ws,
     pub name: Text,
@@ -233,7 +228,6 @@ impl Drop for JobDraft {
 }
 
 /// A job stream before it is planned.
-#[derive(Debug)]
 pub struct StreamDraft {
     pub ws: Ws,
     pub name: Text,

@@ -17,7 +17,6 @@ pub enum Feed {
 }
 
 /// What an entry says. The number of a launch counts from 1 for each job.
-#[derive(Debug)]
 pub enum Body {
     /// The run, what the master knew, the carried streams and the fresh ones.
     NewPlan(u32, Seen, StreamNos, StreamDocs),
@@ -72,7 +71,6 @@ impl Drop for Body {
 }
 
 /// An entry of a feed.
-#[derive(Debug)]
 pub struct Entry {
     pub feed: Feed,
     /// From 1, in its feed.

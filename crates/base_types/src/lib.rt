@@ -10,6 +10,7 @@ mod documents;
 mod entries;
 mod growing;
 mod inputs;
+mod limits;
 mod lists;
 mod network;
 mod numbers;
@@ -28,6 +29,11 @@ pub use documents::{
 pub use entries::{Body, Entries, Entry, Feed, Packet};
 pub use growing::Growing;
 pub use inputs::{Input, Local};
+pub use limits::{
+    DEFAULT_PRIORITY, GREATEST_LIMIT, GREATEST_PRIORITY, LONGEST_ENTRY, LONGEST_FILE,
+    LONGEST_INPUT, LONGEST_TEXT, MOST_DEPENDENCIES, MOST_JOBS, MOST_NUMBERED, MOST_STREAMS,
+    MOST_WORKSTATIONS,
+};
 pub use lists::{Items, NoMemory};
 pub use network::{
     Carry, Net, Node, Nodes, Peer, Peers, PromptDef, PromptDefs, Resource, Resources,

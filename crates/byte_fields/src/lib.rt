@@ -10,9 +10,6 @@ mod takes;
 pub use puts::{put_i32, put_text, put_u8, put_u16, put_u32, put_u64};
 pub use takes::{take_i32, take_text, take_u8, take_u16, take_u32, take_u64};
 
-/// The longest text of a field, in bytes.
-const LONGEST: usize = 4096;
-
 /// Why a field was not taken.
 #[derive(Clone, Copy, Debug, PartialEq, Eq)]
 pub enum FieldFault {

@@ -8,8 +8,8 @@ ghost use Rattle.byte_fields.specs.Places.{StandsAt};
 ghost use Rattle.byte_fields.specs.Texts.{IsShortText, IsBadText, TakesText};
 ghost use Rattle.byte_fields.specs.declared.FieldFault.TheVariants.{Short, BadText, NoMemory as NoRoom};
 
-use crate::{FieldFault, LONGEST};
-use base_types::{NoMemory, Text};
+use crate::FieldFault;
+use base_types::{LONGEST_TEXT, NoMemory, Text};
 use std::alloc::Global;
 use std::str;
 
@@ -114,7 +114,7 @@ pub fn take_text(alloc: Global, from: &[u8], at: usize) -> Result<(Text, usize),
 {
     let (length, start) = take_u16(from, at)?;
     let length = length as usize;
-    if length > LONGEST {
+    if length > LONGEST_TEXT {
         return Err(FieldFault::BadText);
     }
     if from.len() - start < length {

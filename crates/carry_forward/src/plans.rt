@@ -12,9 +12,10 @@ use crate::documents::{document, documents};
 use crate::faults::CarryFault;
 use crate::names::Names;
 use crate::numbers::{Fresh, are_spent, fresh_streams, last_job, last_stream};
-use crate::rooms::{MOST_JOBS, MOST_STREAMS, are_jobs_too_many, are_streams_too_many};
+use crate::rooms::{are_jobs_too_many, are_streams_too_many};
 use base_types::{
-    Body, Items, NoMemory, StreamDoc, StreamDocs, StreamDraft, StreamDrafts, StreamNo,
+    Body, Items, MOST_JOBS, MOST_STREAMS, NoMemory, StreamDoc, StreamDocs, StreamDraft,
+    StreamDrafts, StreamNo,
 };
 use network_tree::Network;
 use owner_fold::Owners;

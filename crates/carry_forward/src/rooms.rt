@@ -6,16 +6,10 @@ ghost use Rattle.model.specs.History.{view_of};
 ghost use Rattle.model.specs.NewPlan.{are_jobs_too_many, are_streams_too_many};
 
 use crate::numbers::left_after_jobs;
-use base_types::{NoMemory, StreamDraft, StreamNo};
+use base_types::{MOST_JOBS, MOST_STREAMS, NoMemory, StreamDraft, StreamNo};
 use indexmap::IndexSet;
 use owner_fold::Owners;
 use std::alloc::Global;
-
-/// The most streams of a plan.
-pub(crate) const MOST_STREAMS: u32 = 4096;
-
-/// The most jobs of a plan.
-pub(crate) const MOST_JOBS: u32 = 16_384;
 
 /// Whether these streams and the drafts are too many.
 #[tactic(auto, unfolding(model::specs::NewPlan::are_streams_too_many))]

@@ -4,7 +4,6 @@ ghost use Rattle.std.specs.Option.{option_copied};
 ghost use Rattle.model.specs.Words.{nth};
 ghost use Rattle.model.specs.Equalities.{dep_eq, text_eq, until_eq};
 ghost use Rattle.model.specs.History.{view_of};
-ghost use Rattle.model.specs.Dependencies as spec;
 ghost use Rattle.model.specs.Verdicts as verdicts;
 
 use base_types::{Dep, Net, OnUntil, PromptDef, PromptRef, Resource, Text, Ws};
@@ -28,13 +27,6 @@ pub fn prompt(net: &Net, number: u16) -> Option<&PromptDef>
         return None;
     }
     net.prompts.get(usize::from(number - 1))
-}
-
-/// Whether a prompt of this text is only shown.
-pub fn is_only_shown(text: &Text) -> bool
-    ensures { result ≡ spec.is_only_shown text.now }
-{
-    text.as_str().as_bytes().first() == Some(&b':')
 }
 
 /// Whether what the dependency names is neither in the catalogue nor in the network.

@@ -16,21 +16,16 @@ ghost use Rattle.conman_orders.specs.Equals as spec;
 ghost use Rattle.conman_orders.specs.Equals.{first_equal};
 ghost use Rattle.conman_orders.specs.Said.{added_reasons, own_text};
 
-use crate::dependencies::{asks_too_much, is_only_shown, is_same, names_foreign, names_nothing};
+use crate::dependencies::{asks_too_much, is_same, names_foreign, names_nothing};
 use crate::objects::{
     has_begun, is_cancelled, is_closed, is_complete, is_due, is_good, is_open, strange,
 };
-use base_types::{Dep, JobNo, Net, Obj, PromptRef, StreamNo, Text, Why, Ws};
+use base_types::{
+    Dep, GREATEST_LIMIT, GREATEST_PRIORITY, JobNo, MOST_DEPENDENCIES, Net, Obj, PromptRef,
+    StreamNo, Text, Why, Ws,
+};
+use network_tree::is_only_shown;
 use owner_fold::Owners;
-
-/// The most dependencies of an object, the waived ones too.
-const MOST_DEPENDENCIES: u16 = 64;
-
-/// The greatest priority, which is GO.
-pub const GREATEST_PRIORITY: u8 = 101;
-
-/// The greatest limit, and the greatest total of a resource.
-pub const GREATEST_LIMIT: u16 = 1024;
 
 /// Whether this dependency of the object equals the other, and is not waived.
 fn is_equal_at(o: &Owners, object: &Obj, dep: &Dep, i: u16) -> bool

@@ -6,14 +6,8 @@ ghost use Rattle.model.specs.Catalogue.{members};
 ghost use Rattle.model.specs.NewPlan as plans;
 ghost use Rattle.model.specs.Verdicts as verdicts;
 
-use base_types::{StreamDraft, StreamNo};
+use base_types::{MOST_JOBS, MOST_STREAMS, StreamDraft, StreamNo};
 use owner_fold::Owners;
-
-/// The most streams of a plan.
-const MOST_STREAMS: usize = 4096;
-
-/// The most jobs of a plan.
-const MOST_JOBS: usize = 16_384;
 
 /// Whether a number of the submitted stream would pass the greatest one.
 #[tactic(auto, unfolding(model::specs::NewPlan::are_numbers_spent))]
@@ -28,7 +22,7 @@ fn are_numbers_spent(o: &Owners, draft: &StreamDraft) -> bool
 fn are_streams_too_many(o: &Owners, draft: &StreamDraft) -> bool
     ensures { result ≡ plans.are_streams_too_many (members (view_of o.now)) (draft.now ∷ []) }
 {
-    o.members().len() >= MOST_STREAMS
+    o.members().len() >= MOST_STREAMS as usize
 }
 
 /// Whether a stream is a member, as it was asked last.
@@ -63,10 +57,10 @@ fn are_jobs_too_many(o: &Owners, draft: &StreamDraft) -> bool
     ensures { result ≡ plans.are_jobs_too_many (view_of o.now) (members (view_of o.now)) (draft.now ∷ []) }
 {
     let jobs = draft.jobs.len();
-    if jobs > MOST_JOBS {
+    if jobs > MOST_JOBS as usize {
         return true;
     }
-    let mut left = MOST_JOBS - jobs;
+    let mut left = MOST_JOBS as usize - jobs;
     let mut asked = Asked {
         stream: 0,
         is_member: o.is_member(StreamNo(0)),

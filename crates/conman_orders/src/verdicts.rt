@@ -7,14 +7,13 @@ ghost use Rattle.model.specs.History.{View, view_of};
 ghost use Rattle.model.specs.Verdicts.{reasons, verdict};
 ghost use Rattle.conman_orders.specs.Said.{verdict_for};
 
-use crate::dependencies::{is_foreign, is_only_shown, prompt, resource};
+use crate::dependencies::{is_foreign, prompt, resource};
 use crate::object_verdicts::{
-    GREATEST_LIMIT, GREATEST_PRIORITY, add_dep, alt_pri, cancel, confirm, del_dep, kill, release,
-    reply_own, rerun, stream_limit,
+    add_dep, alt_pri, cancel, confirm, del_dep, kill, release, reply_own, rerun, stream_limit,
 };
 use crate::rooms::has_no_room;
-use base_types::{Cmd, Net, StreamDraft, Why, Ws};
-use network_tree::Network;
+use base_types::{Cmd, GREATEST_LIMIT, GREATEST_PRIORITY, Net, StreamDraft, Why, Ws};
+use network_tree::{Network, is_only_shown};
 use owner_fold::Owners;
 
 /// What comes of a command.

@@ -15,7 +15,7 @@ use crate::own::{own_reply, total_set};
 use crate::sights::{Sight, is_answered, is_brought};
 use base_types::{Dep, JobDoc, Obj, Resource, StreamDoc, Text, Ws};
 use dependencies::unwaived_deps;
-use network_tree::Network;
+use network_tree::{Network, is_only_shown};
 use owner_fold::Owners;
 
 /// The units of a resource that a dependency asks for.
@@ -161,16 +161,6 @@ pub(crate) fn has_units(net: &Network, sight: &Sight<'_>, w: Ws, r: u16, n: u16)
     match net.net().resources.get(usize::from(r - 1)) {
         None => false,
         Some(resource) => resource.ws == w && has_units_of(sight, w, r, n, resource),
-    }
-}
-
-/// Whether a prompt of this text asks for no reply.
-fn is_only_shown(text: &Text) -> bool
-    ensures { result ≡ spec.is_only_shown text.now }
-{
-    match text.as_str().as_bytes() {
-        [first, ..] => *first == b':',
-        [] => false,
     }
 }
 

@@ -10,12 +10,12 @@ ghost use Rattle.definition_faults.specs.Unknown as unknown;
 use crate::kinds::{Fault, Kind, noted};
 use crate::ranges::{dependency_count, is_out_of_range};
 use crate::stations::{is_unknown_ws, ws_or};
-use base_types::Text;
+use base_types::{MOST_DEPENDENCIES, Text};
 use composer_parser::{Clause, Lined, Need, Pred, PromptItem};
 use definition_names::Names;
 
 /// The most dependencies of an object.
-const MOST: usize = 64;
+const MOST: usize = MOST_DEPENDENCIES as usize;
 
 /// The first fault of the clauses of an object in the stream at a place: of its header, or `inside` of an entry. The
 /// object is on this workstation.

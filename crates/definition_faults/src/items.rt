@@ -6,15 +6,9 @@ ghost use Rattle.definition_faults.specs.Chains.{all_ends};
 ghost use Rattle.definition_faults.specs.Items as spec;
 
 use crate::kinds::{Fault, Kind, noted, stands_at};
-use base_types::PromptDef;
+use base_types::{GREATEST_LIMIT, MOST_NUMBERED, MOST_WORKSTATIONS, PromptDef};
 use composer_parser::{CalendarDef, CpuDef, DomainDef, JobDef, ResourceDef};
 use definition_names::Names;
-
-/// The place of the first workstation that is too many.
-const MOST_CPUS: usize = 256;
-
-/// The place of the first resource and of the first prompt that is too many.
-const MOST_NAMED: usize = 65_535;
 
 /// The first fault of the workstations.
 #[tactic(auto, unfolding(crate::specs::Items::cpu_faults))]
@@ -38,7 +32,7 @@ fn of_cpu<'a>(names: &Names<'a>, i: usize, cpu: &'a CpuDef) -> Option<Kind>
     if names.domain(&cpu.domain).is_none() {
         return Some(Kind::UnknownName);
     }
-    if i == MOST_CPUS || is_bad_port(cpu.port) {
+    if i == MOST_WORKSTATIONS || is_bad_port(cpu.port) {
         return Some(Kind::OutOfRange);
     }
     None
@@ -167,7 +161,7 @@ fn of_prompt<'a>(names: &Names<'a>, i: usize, prompt: &'a PromptDef) -> Option<K
     if !stands_at(names.prompt(&prompt.name), i) {
         return Some(Kind::Duplicate);
     }
-    if i == MOST_NAMED {
+    if i == MOST_NUMBERED {
         return Some(Kind::OutOfRange);
     }
     None
@@ -195,7 +189,7 @@ fn of_resource<'a>(names: &Names<'a>, i: usize, resource: &'a ResourceDef) -> Op
     if names.cpu(&resource.ws).is_none() {
         return Some(Kind::UnknownName);
     }
-    if i == MOST_NAMED || resource.total > 1024 {
+    if i == MOST_NUMBERED || resource.total > GREATEST_LIMIT {
         return Some(Kind::OutOfRange);
     }
     None

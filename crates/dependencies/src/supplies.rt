@@ -8,7 +8,7 @@ ghost use Rattle.model.specs.Facts as facts;
 ghost use Rattle.model.specs.Dependencies as spec;
 
 use base_types::{Obj, Resource, Text, Ws};
-use network_tree::Network;
+use network_tree::{Network, is_only_shown};
 use owner_fold::Owners;
 
 /// Whether n more units of a resource of w are within its total.
@@ -34,16 +34,6 @@ pub(crate) fn has_units(net: &Network, o: &Owners, w: Ws, r: u16, n: u16) -> boo
     match net.net().resources.get(usize::from(r - 1)) {
         None => false,
         Some(resource) => resource.ws == w && has_units_of(o, w, r, n, resource),
-    }
-}
-
-/// Whether a prompt of this text asks for no reply.
-fn is_only_shown(text: &Text) -> bool
-    ensures { result ≡ spec.is_only_shown text.now }
-{
-    match text.as_str().as_bytes() {
-        [first, ..] => *first == b':',
-        [] => false,
     }
 }
 

@@ -6,10 +6,7 @@ ghost use Rattle.entry_sizes.specs.Left.{Takes};
 
 use crate::documents::{stream_doc, stream_docs, stream_draft};
 use crate::parts::{bytes, dep, feed, numbers, seen};
-use base_types::{Body, Cmd, Entry, Seen, StreamDocs, StreamNos};
-
-/// The most bytes of an entry.
-pub const MOST_BYTES: u32 = 4_194_304;
+use base_types::{Body, Cmd, Entry, LONGEST_ENTRY, Seen, StreamDocs, StreamNos};
 
 fn cmd(left: u32, c: &Cmd) -> Option<u32>
     ensures { Takes left (spec.cmd_size c.now) result }
@@ -89,7 +86,7 @@ fn body(left: u32, b: &Body) -> Option<u32>
 fn rest_of(e: &Entry) -> Option<u32>
     ensures { Takes 4194304 (spec.entry_size e.now) result }
 {
-    let rest = feed(bytes(MOST_BYTES, 1)?, &e.feed)?;
+    let rest = feed(bytes(LONGEST_ENTRY, 1)?, &e.feed)?;
     let rest = bytes(rest, 4)?;
     body(bytes(rest, 1)?, &e.body)
 }
@@ -102,6 +99,6 @@ pub fn entry_size(e: &Entry) -> Option<u32>
 {
     match rest_of(e) {
         None => None,
-        Some(rest) => Some(MOST_BYTES - rest),
+        Some(rest) => Some(LONGEST_ENTRY - rest),
     }
 }

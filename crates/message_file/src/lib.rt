@@ -16,6 +16,3 @@ mod records;
 pub use attaches::AttachFault;
 pub use files::{MessageFile, NotAttached};
 pub use laws::files_are_attached_again;
-
-/// How many bytes a file may have.
-const LONGEST_FILE: u64 = 2_147_483_648;

@@ -8,8 +8,10 @@
 mod faults;
 mod hops;
 mod networks;
+mod prompts;
 mod ranges;
 mod rows;
 
 pub use faults::NetFault;
 pub use networks::Network;
+pub use prompts::is_only_shown;

@@ -5,21 +5,15 @@ ghost use Rattle.network_tree.specs.Repeats.{has_repeat};
 ghost use Rattle.network_tree.specs.Faults as spec;
 ghost use Rattle.network_tree.specs.Faults.{are_one_prompt, are_one_resource, is_bad_resource};
 
-use base_types::{Net, NoMemory, PromptDef, Resource, Text};
+use base_types::{GREATEST_LIMIT, MOST_NUMBERED, Net, NoMemory, PromptDef, Resource, Text};
 use indexmap::IndexSet;
 use std::alloc::Global;
-
-/// The most resources of a net, and the most prompts.
-const MOST: usize = 65_535;
-
-/// The greatest total of a resource.
-const GREATEST_TOTAL: u16 = 1024;
 
 /// Whether a resource is of a workstation outside a net of `count` ones, or its total is too great.
 fn is_bad(resource: &Resource, count: usize) -> bool
     ensures { result ≡ (nat_le count resource.now.ws || nat_lt 1024 resource.now.total) }
 {
-    count <= usize::from(resource.ws.0) || resource.total > GREATEST_TOTAL
+    count <= usize::from(resource.ws.0) || resource.total > GREATEST_LIMIT
 }
 
 fn has_bad_resource(net: &Net) -> bool
@@ -81,7 +75,7 @@ fn repeats_prompt(alloc: Global, prompts: &[PromptDef]) -> Result<bool, NoMemory
 pub fn is_out_of_range(alloc: Global, net: &Net) -> Result<bool, NoMemory>
     ensures { IfOk result (λ b. b ≡ spec.is_out_of_range net.now) }
 {
-    if net.resources.len() > MOST || net.prompts.len() > MOST {
+    if net.resources.len() > MOST_NUMBERED || net.prompts.len() > MOST_NUMBERED {
         return Ok(true);
     }
     if has_bad_resource(net) {

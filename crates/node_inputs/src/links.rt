@@ -12,16 +12,13 @@ ghost use Rattle.node_inputs.specs.Tellings.{told_by};
 
 use crate::steps::take_quietly;
 use agent_core::Agent;
-use base_types::{Input, Local, Ws};
+use base_types::{Input, Local, MOST_WORKSTATIONS, Ws};
 use node_keeping::NodeEnd;
 use outside::{Keeper, Link};
 use std::alloc::Global;
 
-/// How many workstations a network has at most.
-pub(crate) const MOST: usize = 256;
-
 /// Something that is so, or not, of each workstation.
-pub(crate) type Flags = [bool; MOST];
+pub(crate) type Flags = [bool; MOST_WORKSTATIONS];
 
 /// What the flags tell of a workstation.
 pub(crate) fn is_flagged(flags: &Flags, x: u16) -> bool
@@ -36,7 +33,7 @@ pub(crate) fn neighbours(agent: &Agent) -> Flags
     ensures few { node_count agent.now.net ≤ 256 }
 {
     let count = agent.defined().count();
-    let mut flags = [false; MOST];
+    let mut flags = [false; MOST_WORKSTATIONS];
     for x in 0..count {
         flags[usize::from(x)] = agent.net().neighbours(agent.me(), Ws(x));
     }

@@ -11,9 +11,11 @@ ghost use Rattle.node_inputs.specs.Inputs.{Carry, CarryOut, SendIt, StartIt, car
 ghost use Rattle.node_inputs.specs.Stepping.{AreKeepable, AreWithin, IsWithin, TellLost};
 ghost use Rattle.node_inputs.specs.Tellings.{told_by};
 
-use crate::links::{Flags, MOST, is_flagged};
+use crate::links::{Flags, is_flagged};
 use agent_core::Agent;
-use base_types::{Bytes, Copied, Entry, Feed, JobNo, NoMemory, Out, Packet, Work, Ws};
+use base_types::{
+    Bytes, Copied, Entry, Feed, JobNo, MOST_WORKSTATIONS, NoMemory, Out, Packet, Work, Ws,
+};
 use entry_codec::write_entry;
 use mail_frames::{Frame, write_frame};
 use node_keeping::NodeEnd;
@@ -35,7 +37,7 @@ impl Carried {
         ensures started { result.started ≡ None }
     {
         Carried {
-            lost: [false; MOST],
+            lost: [false; MOST_WORKSTATIONS],
             started: None,
         }
     }

@@ -14,6 +14,7 @@ ghost use Rattle.node_inputs.specs.Tellings.{told_by};
 use crate::replies::{refuse, refuse_for, say, step_refusal};
 use agent_core::Agent;
 use base_types::{Cmd, Feed, Input, Local, NoMemory, StreamDrafts, Text, Ws};
+use calendars::LAST_DAY;
 use conman_orders::{ResolveFault, resolve};
 use conman_syntax::Line;
 use node_inputs::take_or_tell;
@@ -23,9 +24,6 @@ use outside::{Keeper, Link, Spawner};
 use plan_builder::{PlanFault, day_docs};
 use std::alloc::Global;
 use workload_defs::Workload;
-
-/// 12/31/9999, the last day that a plan may have.
-const LAST_DAY: u32 = 2_932_896;
 
 /// `kept A>W PLACE`.
 fn kept_text(alloc: Global, agent: &Agent, to: Ws) -> Result<Text, NoMemory>

@@ -10,13 +10,10 @@ ghost use Rattle.node_restart.specs.declared.faults.ReadFault.TheVariants.{Disk 
 
 use crate::faults::ReadFault;
 use crate::reads::read_body;
-use base_types::{Entries, Entry, Items, NoMemory};
+use base_types::{Entries, Entry, Items, LONGEST_ENTRY, NoMemory};
 use entry_codec::{EntryFault, read_entry};
 use outside::Keeper;
 use std::alloc::Global;
-
-/// The longest body, in bytes.
-const LONGEST_BODY: usize = 4_194_304;
 
 /// The entry that the bytes are. None where they are none.
 fn entry_of(alloc: Global, bytes: &[u8]) -> Result<Option<Entry>, NoMemory>
@@ -24,7 +21,7 @@ fn entry_of(alloc: Global, bytes: &[u8]) -> Result<Option<Entry>, NoMemory>
     ensures fit { IfOk result IsFitOf }
     ensures short { IfOk result IsShortOf }
 {
-    if bytes.len() > LONGEST_BODY {
+    if bytes.len() > LONGEST_ENTRY as usize {
         return Ok(None);
     }
     match read_entry(alloc, bytes) {

@@ -4,12 +4,9 @@ ghost use Rattle.std.specs.Result.{IsErrOf};
 ghost use Rattle.outside.specs.Records.{piece_of, longest_body};
 ghost use Rattle.outside.specs.declared.framed.FrameFault.TheVariants.{TooLong, NoMemory as NoRoom};
 
-use base_types::{Bytes, Growing, NoMemory};
+use base_types::{Bytes, Growing, LONGEST_ENTRY, NoMemory};
 use std::alloc::Global;
 use std::marker::Model;
-
-/// The longest body, in bytes.
-const LONGEST: usize = 4_194_304;
 
 /// Why a body was not framed.
 #[derive(Clone, Copy, Debug, PartialEq, Eq)]
@@ -51,7 +48,7 @@ impl Framed {
         ensures body { IfOk result (λ f. f ≡ body.now) }
         ensures long { IsErrOf result TooLong ↔ (longest_body < length body.now) }
     {
-        if body.len() > LONGEST {
+        if body.len() > LONGEST_ENTRY as usize {
             return Err(FrameFault::TooLong);
         }
         let mut list = Growing::new(alloc);

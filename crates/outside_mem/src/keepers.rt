@@ -10,13 +10,10 @@ ghost use Rattle.outside_mem.specs.Keepers.{append_fails, read_fails, after_appe
 
 use crate::calls::Calls;
 use crate::rooms::Rows;
-use base_types::{Bytes, Items, NoMemory};
+use base_types::{Bytes, Items, LONGEST_FILE, NoMemory};
 use outside::{Framed, KeepFault, Keeper};
 use std::alloc::Global;
 use std::marker::Model;
-
-/// How long a file of bodies may be, in bytes.
-const LONGEST_FILE: u64 = 2_147_483_648;
 
 /// Bodies in memory. The calls whose numbers are listed, from 1, fail, as does an `append` that passes the room; from
 /// then on it is spent. It tells the bodies, and not what a stop leaves of them.
@@ -139,7 +136,7 @@ impl Keeper for MemKeeper {
         }
         let piece = body.piece();
         let bytes = &piece[4..piece.len() - 1];
-        if self.size + piece.len() as u64 > LONGEST_FILE {
+        if self.size + piece.len() as u64 > u64::from(LONGEST_FILE) {
             self.calls.succeed();
             return Err(KeepFault::Full);
         }

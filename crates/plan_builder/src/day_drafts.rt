@@ -9,9 +9,9 @@ ghost use Rattle.plan_builder.specs.Times as times;
 
 use crate::drafts::stream_draft;
 use crate::faults::PlanFault;
-use crate::limits::{MOST_JOBS, MOST_STREAMS, first_timeless, has_too_many_jobs, running};
+use crate::limits::{first_timeless, has_too_many_jobs, running};
 use crate::times::{PlanDay, plan_day};
-use base_types::{Items, NoMemory, StreamDrafts};
+use base_types::{Items, MOST_JOBS, MOST_STREAMS, NoMemory, StreamDrafts};
 use definition_names::Names;
 use std::alloc::Global;
 use workload_defs::Workload;

@@ -5,17 +5,11 @@ ghost use Rattle.plan_builder.specs.Limits as spec;
 ghost use Rattle.plan_builder.specs.Times as times;
 
 use crate::times::{PlanDay, is_timeless};
-use base_types::NoMemory;
+use base_types::{MOST_JOBS, NoMemory};
 use composer_parser::{Clause, Defs, EntryDef, Lined};
 use run_cycles::runs_on;
 use std::alloc::Global;
 use workload_defs::Workload;
-
-/// The most streams of a plan.
-pub(crate) const MOST_STREAMS: u32 = 4096;
-
-/// The most jobs of a plan.
-pub(crate) const MOST_JOBS: u32 = 16_384;
 
 /// The places of the streams that run on a day, in order of definition.
 #[tactic(auto, unfolding(crate::specs::Limits::running))]

@@ -5,13 +5,10 @@ ghost use Rattle.plan_listing.specs.Streams as spec;
 use crate::conditions::cond_text;
 use crate::dependencies::write_dependencies;
 use crate::quotes::write_quoted;
-use base_types::{JobDraft, Net, NoMemory, Recovery, Text, Work};
+use base_types::{DEFAULT_PRIORITY, JobDraft, Net, NoMemory, Recovery, Text, Work};
 use report_text::name;
 use std::alloc::Global;
 use std::io::{self, Write};
-
-/// The priority that is not printed.
-pub(crate) const DEFAULT_PRIORITY: u8 = 10;
 
 /// Writes the lines of a job.
 pub(crate) fn put_job(

@@ -6,12 +6,9 @@ ghost use Rattle.record_rows.specs.Rows.{plan_row};
 use crate::quotes::text;
 use crate::rows::{JobRow, PartRow, Ranged, Row, StreamRow};
 use crate::words::{number_up_to, priority};
-use base_types::{NoMemory, Recovery};
+use base_types::{DEFAULT_PRIORITY, NoMemory, Recovery};
 use std::alloc::Global;
 use syntax::{name, words};
-
-/// The priority of a stream or a job whose line gives none.
-const PRIORITY: u8 = 10;
 
 /// `[prio N]`, and what is left of the words. None where the number is none.
 fn given_priority<'a>(words: &'a [&'a str]) -> Option<(Ranged<u8>, &'a [&'a str])>
@@ -21,14 +18,14 @@ fn given_priority<'a>(words: &'a [&'a str]) -> Option<(Ranged<u8>, &'a [&'a str]
     match words {
         [key, n, rest @ ..] => {
             if *key != "prio" {
-                return Some((Ranged::Within(PRIORITY), words));
+                return Some((Ranged::Within(DEFAULT_PRIORITY), words));
             }
             match priority(n) {
                 Some(n) => Some((n, rest)),
                 None => None,
             }
         }
-        _ => Some((Ranged::Within(PRIORITY), words)),
+        _ => Some((Ranged::Within(DEFAULT_PRIORITY), words)),
     }
 }
 

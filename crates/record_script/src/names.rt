@@ -8,9 +8,6 @@ use indexmap::IndexSet;
 use std::alloc::Global;
 use std::marker::Model;
 
-/// The most names of a kind.
-pub(crate) const MOST: usize = 65535;
-
 /// Names, each once, in the order in which they were added.
 pub(crate) struct Names<'a> {
     set: IndexSet<&'a Text>,

@@ -3,16 +3,13 @@ ghost use Rattle.std.specs.Prelude.{◌++◌, ◌≡◌, ◌≢◌, ℕ, IfOk, L
 ghost use Rattle.service_words.specs.Ends as spec;
 ghost use Rattle.service_words.specs.Ends.{IsSpoken, IsTold};
 
-use base_types::{Bytes, Items, LimitName, NoMemory, Text};
+use base_types::{Bytes, Items, LONGEST_FILE, LimitName, NoMemory, Text};
 use conman_client::AskEnd;
 use exit_statuses::{Status, limit_text, say};
 use node_service::{NodeEnd, RestartFault, ServiceEnd};
 use outside::Sink;
 use std::alloc::Global;
 use std::io::{self, Write};
-
-/// The greatest number of bytes of a message file.
-const FILE_LIMIT: u32 = 2_147_483_648;
 
 /// The greatest number of places of a feed.
 const PLACES_LIMIT: u32 = 4_294_967_295;
@@ -93,7 +90,7 @@ fn most_of(name: LimitName) -> u32
     ensures { result ≡ spec.most_of name }
 {
     match name {
-        LimitName::File => FILE_LIMIT,
+        LimitName::File => LONGEST_FILE,
         _ => PLACES_LIMIT,
     }
 }

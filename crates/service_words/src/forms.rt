@@ -2,11 +2,8 @@
 ghost use Rattle.std.specs.Prelude.{◌≡◌};
 ghost use Rattle.service_words.specs.Forms as spec;
 
-use base_types::Text;
+use base_types::{LONGEST_TEXT, Text};
 use syntax::number_u32;
-
-/// How many bytes a COMMAND may have.
-const COMMAND_LIMIT: usize = 4096;
 
 /// What is asked of a workstation.
 #[derive(Clone, Copy)]
@@ -53,7 +50,7 @@ fn node(turns: Option<u32>) -> Option<Service>
 fn ask(length: usize) -> Option<Service>
     ensures { result ≡ spec.ask_of length }
 {
-    if length > COMMAND_LIMIT {
+    if length > LONGEST_TEXT {
         return None;
     }
     Some(Service::Ask)

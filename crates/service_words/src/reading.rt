@@ -7,15 +7,13 @@ ghost use Rattle.service_words.specs.Services.{ReadsDefs};
 ghost use Rattle.service_words.specs.Unread.{IsUnread};
 ghost use Rattle.service_words.specs.declared.reading.Unread.TheVariants.{SourceFailed as Failed_};
 
+use base_types::LONGEST_INPUT;
 use definition_texts::{NotRead, Refusal, read_definitions};
 use fit_drafts::drafts_are_fit;
 use outside::Source;
 use std::alloc::Global;
 use whole_io::{ReadError, read_whole};
 use workload_defs::Workload;
-
-/// How many bytes an input may have.
-pub(crate) const INPUT_LIMIT: u32 = 16_777_216;
 
 /// Why no definitions were read.
 #[derive(Clone, Copy)]
@@ -37,7 +35,7 @@ pub(crate) fn read_workload<I: Source>(alloc: Global, input: &mut I) -> Result<W
     ensures no_fault { (result ≡ Err Failed_ → ⊥) → I.faults input.new ≡ I.faults input.old }
 {
     drafts_are_fit();
-    match read_whole(alloc, input, INPUT_LIMIT) {
+    match read_whole(alloc, input, LONGEST_INPUT) {
         Ok(bytes) => match read_definitions(alloc, &bytes) {
             Ok(workload) => Ok(workload),
             Err(NotRead::Refused(refusal)) => Err(Unread::Refused(refusal)),

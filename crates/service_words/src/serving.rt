@@ -16,8 +16,8 @@ ghost use Rattle.service_words.specs.declared.forms.Service.TheVariants as asks;
 
 use crate::ends::{tell, tell_answer, tell_end};
 use crate::forms::Service;
-use crate::reading::{INPUT_LIMIT, Unread, read_workload};
-use base_types::{LimitName, Text, Ws};
+use crate::reading::{Unread, read_workload};
+use base_types::{LONGEST_INPUT, LimitName, Text, Ws};
 use conman_client::ask;
 use exit_statuses::{Status, limit_text, refusal_text, say};
 use file_watch::Prober;
@@ -89,7 +89,7 @@ fn tell_unread<O: Sink>(alloc: Global, out: &mut O, why: Unread) -> u8
         Unread::TooLong => tell(
             out,
             Status::LimitPassed,
-            limit_text(alloc, LimitName::Input, INPUT_LIMIT),
+            limit_text(alloc, LimitName::Input, LONGEST_INPUT),
         ),
         Unread::SourceFailed => Status::SourceFailed.number(),
         Unread::NoMemory => Status::NoMemory.number(),

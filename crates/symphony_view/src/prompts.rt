@@ -6,6 +6,7 @@ ghost use Rattle.model.specs.Facts.{global_reply};
 ghost use Rattle.symphony_view.specs.Words as spec;
 
 use base_types::PromptDef;
+use network_tree::is_only_shown;
 use owner_fold::Owners;
 
 /// What is known of a global prompt.
@@ -22,7 +23,7 @@ pub(crate) enum PromptState {
 pub(crate) fn prompt_state(o: &Owners, number: u16, prompt: &PromptDef) -> PromptState
     ensures { result ≡ spec.prompt_state prompt.now.text (global_reply number (view_of o.now (Events 0))) }
 {
-    if prompt.text.as_str().as_bytes().first() == Some(&b':') {
+    if is_only_shown(&prompt.text) {
         return PromptState::Shown;
     }
     match o.global_reply(number) {

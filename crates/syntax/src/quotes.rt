@@ -4,11 +4,8 @@ ghost use Rattle.std.specs.String.{string_bytes};
 ghost use Rattle.syntax.specs.Quotes as spec;
 ghost use Rattle.syntax.specs.Quotes.{after_byte, quoted_of};
 
-use base_types::{NoMemory, Text};
+use base_types::{LONGEST_TEXT, NoMemory, Text};
 use std::alloc::Global;
-
-/// The longest text that may stand in quotes, in bytes of its value.
-const LONGEST: usize = 4096;
 
 /// The text that stands in quotes. `\"` and `\\` stand for a quote and a backslash, and another backslash for itself.
 /// None where the whole is not one text in quotes, which may be empty, or where its value has more than 4,096 bytes.
@@ -22,7 +19,7 @@ pub fn quoted(alloc: Global, rest: &str) -> Result<Option<Text>, NoMemory>
     let Some(value) = unquoted(alloc, inside)? else {
         return Ok(None);
     };
-    if value.len() > LONGEST {
+    if value.len() > LONGEST_TEXT {
         return Ok(None);
     }
     Ok(Some(Text::from_string(value)))

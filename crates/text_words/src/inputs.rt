@@ -16,13 +16,10 @@ use crate::lines::limit;
 use crate::records::reply_to_record;
 use crate::replies::{Reply, Silence};
 use crate::words::Wanted;
-use base_types::{LimitName, NoMemory};
+use base_types::{LONGEST_INPUT, LimitName, NoMemory};
 use outside::Source;
 use std::alloc::Global;
 use whole_io::{ReadError, read_whole};
-
-/// How many bytes an input may have.
-const INPUT_LIMIT: u32 = 16_777_216;
 
 /// What the bytes of an input call for.
 fn reply_to_bytes(alloc: Global, bytes: &[u8], wanted: Wanted) -> Result<Reply, NoMemory>
@@ -51,9 +48,9 @@ pub(crate) fn reply_to_input<I: Source>(
     ensures no_fault { (result ≡ Err Failed_ → ⊥) → I.faults input.new ≡ I.faults input.old }
     ensures later { I.faults input.old ≤ I.faults input.new }
 {
-    match read_whole(alloc, input, INPUT_LIMIT) {
+    match read_whole(alloc, input, LONGEST_INPUT) {
         Ok(bytes) => Ok(reply_to_bytes(alloc, &bytes, wanted)?),
-        Err(ReadError::TooLong) => Ok(limit(alloc, LimitName::Input, INPUT_LIMIT)?),
+        Err(ReadError::TooLong) => Ok(limit(alloc, LimitName::Input, LONGEST_INPUT)?),
         Err(ReadError::Fault) => Err(Silence::SourceFailed),
         Err(ReadError::NoMemory) => Err(Silence::NoMemory),
     }

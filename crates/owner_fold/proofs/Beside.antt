@@ -106,6 +106,6 @@ sets_of_none sets = record {
   begun = λ i x s t. nobody i x s;
   opened = λ i x s t. nobody i x s;
   by_stream = λ i x s t. nobody i x s;
-  timed_streams = λ i x s t. nobody i x s;
-  timed_jobs = λ i x s t. nobody i x s;
+  timed = record { streams = λ i x s t. nobody i x s; jobs = λ i x s t. nobody i x s };
+  filed = record { streams = λ i x s t. nobody i x s; jobs = λ i x s t. nobody i x s };
 }

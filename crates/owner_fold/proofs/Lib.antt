@@ -10,4 +10,4 @@ mod Changing
 mod Coded
 mod Beside
 pub mod Additions
-mod Timing
+mod Giving

@@ -11,3 +11,4 @@ pub mod Stages
 pub mod Kept
 pub mod Given
 pub mod Times
+pub mod Files

@@ -14,7 +14,10 @@ ghost use Rattle.owner_fold.specs.Holders.{is_open_here, is_under_way, open_jobs
 ghost use Rattle.owner_fold.specs.Sets as spec;
 ghost use Rattle.owner_fold.specs.Sets.{is_waiting_here, streams_waiting};
 ghost use Rattle.owner_fold.specs.Spots.{doc_at, job_at, stream_job};
-ghost use Rattle.owner_fold.specs.Times.{is_timed_job_here, is_timed_stream_here, timed_jobs, timed_streams};
+ghost use Rattle.owner_fold.specs.Files.{filed_jobs, filed_streams};
+ghost use Rattle.owner_fold.specs.Given.{has_time, is_given_job_here, is_given_stream_here};
+ghost use Rattle.owner_fold.specs.Times.{timed_jobs, timed_streams};
+ghost use Rattle.model.specs.StepFaults.{is_outside};
 
 use crate::changes::change_of;
 use crate::plans::{Plan, is_planning};
@@ -270,17 +273,32 @@ impl Owners {
 
     /// The codes of the own members of w that may have a time.
     pub(crate) fn timed_stream_codes(&self, w: Ws) -> &[u64]
-        ensures { filter (is_timed_stream_here (view_of self.now) w)
+        ensures { filter (is_given_stream_here has_time (view_of self.now) w)
             (filter_map (spec.stream_coded self.now w) result.now) ≡ timed_streams (view_of self.now) w }
     {
-        self.sets.timed_streams.of(u32::from(w.0))
+        self.sets.timed.streams.of(u32::from(w.0))
     }
 
     /// The codes of the own members' jobs of w that may have a time.
     pub(crate) fn timed_job_codes(&self, w: Ws) -> &[u64]
-        ensures { filter (is_timed_job_here (view_of self.now) w)
+        ensures { filter (is_given_job_here has_time (view_of self.now) w)
             (filter_map (spec.job_coded self.now w) result.now) ≡ timed_jobs (view_of self.now) w }
     {
-        self.sets.timed_jobs.of(u32::from(w.0))
+        self.sets.timed.jobs.of(u32::from(w.0))
+    }
+    /// The codes of the own members of w that may have a dependency on a file.
+    pub(crate) fn filed_stream_codes(&self, w: Ws) -> &[u64]
+        ensures { filter (is_given_stream_here is_outside (view_of self.now) w)
+            (filter_map (spec.stream_coded self.now w) result.now) ≡ filed_streams (view_of self.now) w }
+    {
+        self.sets.filed.streams.of(u32::from(w.0))
+    }
+
+    /// The codes of the own members' jobs of w that may have one.
+    pub(crate) fn filed_job_codes(&self, w: Ws) -> &[u64]
+        ensures { filter (is_given_job_here is_outside (view_of self.now) w)
+            (filter_map (spec.job_coded self.now w) result.now) ≡ filed_jobs (view_of self.now) w }
+    {
+        self.sets.filed.jobs.of(u32::from(w.0))
     }
 }

@@ -11,3 +11,5 @@ mod Coded
 mod Beside
 pub mod Additions
 mod Giving
+mod Growing
+mod Pairing

@@ -12,3 +12,4 @@ pub mod Kept
 pub mod Given
 pub mod Times
 pub mod Files
+pub mod Pairs

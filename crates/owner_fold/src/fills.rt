@@ -28,7 +28,11 @@ fn entry_with<'a>(entries: &'a [Entry], e: &'a Entry, place: usize) -> Option<&'
 }
 
 /// The document that stands there then.
-fn stream_with<'a>(entries: &'a [Entry], e: &'a Entry, spot: &StreamSpot) -> Option<&'a StreamDoc>
+pub(crate) fn stream_with<'a>(
+    entries: &'a [Entry],
+    e: &'a Entry,
+    spot: &StreamSpot,
+) -> Option<&'a StreamDoc>
     ensures { option_copied result ≡ doc_at (entries.now ++ e.now ∷ []) spot.now }
 {
     match entry_with(entries, e, spot.entry) {
@@ -38,7 +42,7 @@ fn stream_with<'a>(entries: &'a [Entry], e: &'a Entry, spot: &StreamSpot) -> Opt
 }
 
 /// The job that stands there then, with its stream.
-fn job_with<'a>(
+pub(crate) fn job_with<'a>(
     entries: &'a [Entry],
     e: &'a Entry,
     spot: &JobSpot,

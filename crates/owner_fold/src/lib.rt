@@ -7,7 +7,8 @@
 //! What each workstation tells in its own list is that of `owner_rows`, which `kept` hands out. Beside it `Owners` keeps
 //! where the documents of the catalogue stand, and the members of the plan, each by its number, and the greatest numbers;
 //! and for each workstation which streams wait for their release, which are under way, which jobs have an
-//! open launch, and which objects of members have a time, or a dependency on a file.
+//! open launch, and which objects of members have a time, or a dependency on a file; and which pairs of workstations have
+//! to do with one another.
 #![tactic(auto)]
 
 mod catalogue;
@@ -21,6 +22,7 @@ mod given;
 mod given_objects;
 mod holdings;
 mod numbers;
+mod pairs;
 mod plans;
 mod sets;
 mod spots;

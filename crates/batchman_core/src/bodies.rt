@@ -13,6 +13,7 @@ ghost use Rattle.batchman_core.specs.Told.{IsDueLaunch, IsOwn, choice_of};
 
 use crate::answers::answer;
 use crate::choices::{Choice, turn_choice};
+use crate::faults::TurnFault;
 use crate::witnesses::{seen_by_end, seen_by_object};
 use base_types::{Body, Dep, Feed, JobNo, Live, Moment, NoMemory, Obj, StreamNo, Ws};
 use dependencies::Readiness;
@@ -21,7 +22,7 @@ use owner_fold::Owners;
 use std::alloc::Global;
 
 /// What `me` keeps in a turn with the reading `t`, in seconds since 1970: the body of the first rule that applies.
-/// None where no rule does. `live` has the launches with a live process. `NoMemory` leaves nothing behind.
+/// None where no rule does. `live` has the launches with a live process. An error leaves nothing behind.
 #[tactic(auto, unfolding(model::specs::Turn::turn_body))]
 pub fn turn_body<R: Readiness>(
     alloc: Global,
@@ -31,7 +32,7 @@ pub fn turn_body<R: Readiness>(
     me: Ws,
     live: &Live,
     t: Moment,
-) -> Result<Option<Body>, NoMemory>
+) -> Result<Option<Body>, TurnFault>
     requires inside { me < node_count net.now }
     requires stands { R.stands_for r.now o.now me net.now.resources net.now.prompts }
     ensures { IfOk result (λ b. b ≡ spec.turn_body net.now (view_of o.now) me live.now t) }

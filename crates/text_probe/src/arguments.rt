@@ -1,0 +1,38 @@
+//! The parts of arguments.
+use base_types::{Bytes, Items, NoMemory, Ws};
+use std::alloc::Global;
+use syntax::number_u32;
+
+/// The bytes of digits in base 16. None where they are no whole bytes.
+pub fn digits(alloc: Global, text: &str) -> Option<Bytes> {
+    match hex::decode(alloc, text) {
+        Ok(bytes) => Some(Items::of_vec(bytes)),
+        Err(_) => None,
+    }
+}
+
+/// Those of the words of a text that are numbers.
+pub fn numbers(alloc: Global, text: &str) -> Result<Items<u32>, NoMemory> {
+    let mut found = Items::new(alloc);
+    for word in text.split(' ') {
+        if let Some(number) = number_u32(word) {
+            found.push(number)?;
+        }
+    }
+    Ok(found)
+}
+
+/// What stands before the first ` / ` and behind it. Where there is none, that is all and nothing.
+pub fn halves(text: &str) -> (&str, &str) {
+    text.split_once(" / ").unwrap_or((text, ""))
+}
+
+/// The lowest 16 bits of a number.
+pub fn low(number: u32) -> u16 {
+    (number & 0xffff) as u16
+}
+
+/// The workstation of a number.
+pub fn station(number: u32) -> Ws {
+    Ws(low(number))
+}

@@ -33,13 +33,13 @@ fn put_tokens(out: &mut String, alloc: Global, text: &str) -> Result<(), NoMemor
 }
 
 /// Definitions that were read. Dropping them is a call for whoever owns them.
-struct Read {
+struct Parsed {
     defs: Defs,
 }
 
-impl Drop for Read {
+impl Drop for Parsed {
     fn drop(self) {
-        let Read { defs: _defs } = self;
+        let Parsed { defs: _defs } = self;
     }
 }
 
@@ -50,10 +50,10 @@ enum NotRead {
     Syntax(SyntaxFault),
 }
 
-fn read(alloc: Global, text: &str) -> Result<Read, NotRead> {
+fn read(alloc: Global, text: &str) -> Result<Parsed, NotRead> {
     match tokens(alloc, text) {
         Ok(found) => match parse(alloc, text, &found) {
-            Ok(defs) => Ok(Read { defs }),
+            Ok(defs) => Ok(Parsed { defs }),
             Err(fault) => Err(NotRead::Syntax(fault)),
         },
         Err(fault) => Err(NotRead::Tokens(fault)),
@@ -318,7 +318,7 @@ fn put_asked(out: &mut String, alloc: Global, word: &str, defs: &Defs) -> Result
 
 fn put_read(out: &mut String, alloc: Global, word: &str, text: &str) -> Result<(), NoMemory> {
     match read(alloc, text) {
-        Ok(read) => put_asked(out, alloc, word, &read.defs),
+        Ok(parsed) => put_asked(out, alloc, word, &parsed.defs),
         Err(fault) => Ok(put_fault(out, fault)?),
     }
 }

@@ -1,4 +1,4 @@
-//! What single bodies and commands say.
+//! What a single body tells of a job, a stream or an issuer, and whether two objects are the same.
 ghost use Rattle.std.specs.Prelude.{◌≡◌};
 ghost use Rattle.model.specs.Equalities.{obj_eq};
 ghost use Rattle.model.specs.Facts.{answers_to, is_end_of, is_launch_of, is_release_of, is_start_of};

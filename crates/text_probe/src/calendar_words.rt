@@ -27,12 +27,7 @@ fn put_mark(out: &mut String, is_marked: bool) -> Result<(), AllocError> {
 }
 
 /// Marks the days of a set among so many from a first one on.
-pub fn put_set(
-    out: &mut String,
-    set: &DaySet,
-    first: u32,
-    count: u32,
-) -> Result<(), AllocError> {
+pub fn put_set(out: &mut String, set: &DaySet, first: u32, count: u32) -> Result<(), AllocError> {
     for i in 0..count {
         put_mark(out, set.has(first.wrapping_add(i)))?;
     }

@@ -2,8 +2,8 @@
 use base_types::{NoMemory, PromptDef, Text, Token, Work};
 use composer_lexer::{LexFault, tokens};
 use composer_parser::{
-    CalendarDef, Clause, CpuDef, Defs, DomainDef, EntryDef, JobDef, Lined, Need, OnDef, OnItem, Pred,
-    PredPart, PromptItem, ResourceDef, ScheduleDef, Shift, SyntaxFault, parse,
+    CalendarDef, Clause, CpuDef, Defs, DomainDef, EntryDef, JobDef, Lined, Need, OnDef, OnItem,
+    Pred, PredPart, PromptItem, ResourceDef, ScheduleDef, Shift, SyntaxFault, parse,
 };
 use composer_print::print_defs;
 use std::alloc::{AllocError, Global};
@@ -75,8 +75,16 @@ fn put_option(out: &mut String, name: &Option<Text>) -> Result<(), AllocError> {
 }
 
 fn put_cpu(out: &mut String, line: u32, cpu: &CpuDef) -> Result<(), AllocError> {
-    write!(out, "{line} cpu {} {} {} {:?}", cpu.name, cpu.os, cpu.host, cpu.port)?;
-    write!(out, " {} {} {:?} {:?};", cpu.domain, cpu.manager, cpu.autolink, cpu.full)
+    write!(
+        out,
+        "{line} cpu {} {} {} {:?}",
+        cpu.name, cpu.os, cpu.host, cpu.port
+    )?;
+    write!(
+        out,
+        " {} {} {:?} {:?};",
+        cpu.domain, cpu.manager, cpu.autolink, cpu.full
+    )
 }
 
 fn put_domain(out: &mut String, line: u32, domain: &DomainDef) -> Result<(), AllocError> {
@@ -92,7 +100,11 @@ fn put_calendar(out: &mut String, line: u32, calendar: &CalendarDef) -> Result<(
 }
 
 fn put_resource(out: &mut String, line: u32, resource: &ResourceDef) -> Result<(), AllocError> {
-    write!(out, "{line} resource {} {} {}", resource.ws, resource.name, resource.total)?;
+    write!(
+        out,
+        "{line} resource {} {} {}",
+        resource.ws, resource.name, resource.total
+    )?;
     put_option(out, &resource.text)?;
     out.push_str(";")
 }
@@ -140,7 +152,12 @@ fn shift_word(shift: &Option<Shift>) -> &'static str {
 }
 
 fn put_on(out: &mut String, line: u32, on: &OnDef) -> Result<(), AllocError> {
-    write!(out, "{line} except {} cycle {}", on.except, on.cycle.is_some())?;
+    write!(
+        out,
+        "{line} except {} cycle {}",
+        on.except,
+        on.cycle.is_some()
+    )?;
     for item in on.items.as_slice() {
         put_on_item(out, item)?;
     }

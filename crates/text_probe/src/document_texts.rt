@@ -35,7 +35,11 @@ fn put_dep(out: &mut String, dep: &Dep) -> Result<(), AllocError> {
 fn put_draft_dep(out: &mut String, dep: &DraftDep) -> Result<(), AllocError> {
     match dep {
         DraftDep::Follows(ws, stream, None) => write!(out, ", follows {} {stream}", ws.0),
-        DraftDep::Follows(ws, stream, Some(job)) => write!(out, ", follows {} {stream} {job}", ws.0),
+        DraftDep::Follows(ws, stream, Some(job)) => write!(
+            out,
+            ", follows {} {stream} {job}",
+            ws.0
+        ),
         DraftDep::Plain(dep) => put_dep(out, dep),
     }
 }
@@ -63,7 +67,11 @@ fn put_job(out: &mut String, job: &JobDoc) -> Result<(), AllocError> {
     put_name(out, &job.ws, &job.name, job.priority)?;
     put_work(out, &job.work)?;
     let cond = job.cond.as_slice();
-    write!(out, " logon <{}> succ {cond:?} {:?}", job.logon, job.recovery)?;
+    write!(
+        out,
+        " logon <{}> succ {cond:?} {:?}",
+        job.logon, job.recovery
+    )?;
     put_deps(out, job.deps.as_slice())
 }
 
@@ -72,7 +80,11 @@ fn put_job_draft(out: &mut String, job: &JobDraft) -> Result<(), AllocError> {
     put_name(out, &job.ws, &job.name, job.priority)?;
     put_work(out, &job.work)?;
     let cond = job.cond.as_slice();
-    write!(out, " logon <{}> succ {cond:?} {:?}", job.logon, job.recovery)?;
+    write!(
+        out,
+        " logon <{}> succ {cond:?} {:?}",
+        job.logon, job.recovery
+    )?;
     put_draft_deps(out, job.deps.as_slice())
 }
 

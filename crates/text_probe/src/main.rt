@@ -50,7 +50,9 @@ fn tell_more(out: &mut String, alloc: Global, word: &str, text: &str) -> Result<
     if frame_words::tell(out, alloc, word, text)? || calendar_words::tell(out, alloc, word, text)? {
         return Ok(true);
     }
-    if definition_words::tell(out, alloc, word, text)? || reply_words::tell(out, alloc, word, text)? {
+    if definition_words::tell(out, alloc, word, text)?
+        || reply_words::tell(out, alloc, word, text)?
+    {
         return Ok(true);
     }
     if workload_words::tell(out, alloc, word, text)? {

@@ -83,7 +83,13 @@ fn answer(alloc: Global, word: &str, text: &str) -> Result<Text, NoMemory> {
 /// Whether a word asks for an answer of a node.
 fn asks_node(word: &str) -> bool {
     match word {
-        "shown" | "all_shown" | "kept" | "link_asked" | "unlink_asked" | "planned" | "refused"
+        "shown"
+        | "all_shown"
+        | "kept"
+        | "link_asked"
+        | "unlink_asked"
+        | "planned"
+        | "refused"
         | "shutdown" => true,
         _ => false,
     }

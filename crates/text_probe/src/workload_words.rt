@@ -26,7 +26,12 @@ fn put_names(out: &mut String, w: &Workload) -> Result<(), AllocError> {
     }
     for prompt in w.net().prompts.as_slice() {
         let name = &prompt.name;
-        write!(out, "{name} {:?} {:?};", w.station(name), w.calendar_days(name))?;
+        write!(
+            out,
+            "{name} {:?} {:?};",
+            w.station(name),
+            w.calendar_days(name)
+        )?;
     }
     Ok(())
 }

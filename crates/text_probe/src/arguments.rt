@@ -1,5 +1,5 @@
 //! The parts of arguments.
-use base_types::{Bytes, Items, NoMemory, Ws};
+use base_types::{Bytes, Feed, Items, NoMemory, Ws};
 use std::alloc::Global;
 use syntax::number_u32;
 
@@ -35,4 +35,13 @@ pub fn low(number: u32) -> u16 {
 /// The workstation of a number.
 pub fn station(number: u32) -> Ws {
     Ws(low(number))
+}
+
+/// The events of a workstation where the kind is 0, or else the orders from one to another.
+pub fn feed(kind: u32, from: u32, to: u32) -> Feed {
+    if kind == 0 {
+        Feed::Events(station(to))
+    } else {
+        Feed::Orders(station(from), station(to))
+    }
 }

@@ -1,6 +1,5 @@
 //! Frames written, and streams fed in pieces.
-use crate::arguments::{digits, numbers};
-use crate::report_words::feed;
+use crate::arguments::{digits, feed, numbers};
 use base_types::{Bytes, Items, NoMemory, Text};
 use mail_frames::{Decoder, Fed, Frame, write_frame};
 use std::alloc::{AllocError, Global};

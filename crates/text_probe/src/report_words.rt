@@ -1,7 +1,7 @@
 //! The parts of reports beside their entries, summaries, and the words of states. Workstation n is called Wn.
-use crate::arguments::{halves, numbers, station};
+use crate::arguments::{feed, halves, numbers, station};
 use base_types::{
-    Bytes, Carry, Feed, FeedCount, Items, JobNo, Net, NoMemory, Node, NodePart, PairCount,
+    Bytes, Carry, FeedCount, Items, JobNo, Net, NoMemory, Node, NodePart, PairCount,
     ReportParts, Start, Text,
 };
 use report_text::{job_word, print_report, print_summary, stream_word};
@@ -87,15 +87,6 @@ fn put_packets(out: &mut String, alloc: Global, numbers: &[u32]) -> Result<(), N
         }
     }
     put_report(out, alloc, &parts)
-}
-
-/// The events of a workstation, or the orders from one to another.
-pub fn feed(kind: u32, from: u32, to: u32) -> Feed {
-    if kind == 0 {
-        Feed::Events(station(to))
-    } else {
-        Feed::Orders(station(from), station(to))
-    }
 }
 
 fn node_part(alloc: Global, ws: u32, counts: &[u32]) -> Result<NodePart, NoMemory> {

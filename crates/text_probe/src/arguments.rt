@@ -1,6 +1,7 @@
-//! The parts of arguments.
+//! The parts of arguments, and bytes as texts.
 use base_types::{Bytes, Feed, Items, NoMemory, Ws};
 use std::alloc::Global;
+use std::str;
 use syntax::number_u32;
 
 /// The bytes of digits in base 16. None where they are no whole bytes.
@@ -11,20 +12,33 @@ pub fn digits(alloc: Global, text: &str) -> Option<Bytes> {
     }
 }
 
+/// The text that bytes are, and the empty text where they are none.
+pub fn text_in(bytes: &[u8]) -> &str {
+    str::from_utf8(bytes).unwrap_or("")
+}
+
+fn add(found: &mut Items<u32>, word: &str) -> Result<(), NoMemory> {
+    match number_u32(word) {
+        Some(number) => found.push(number),
+        None => Ok(()),
+    }
+}
+
 /// Those of the words of a text that are numbers.
 pub fn numbers(alloc: Global, text: &str) -> Result<Items<u32>, NoMemory> {
     let mut found = Items::new(alloc);
     for word in text.split(' ') {
-        if let Some(number) = number_u32(word) {
-            found.push(number)?;
-        }
+        add(&mut found, word)?;
     }
     Ok(found)
 }
 
 /// What stands before the first ` / ` and behind it. Where there is none, that is all and nothing.
 pub fn halves(text: &str) -> (&str, &str) {
-    text.split_once(" / ").unwrap_or((text, ""))
+    match text.split_once(" / ") {
+        Some(parts) => parts,
+        None => (text, ""),
+    }
 }
 
 /// The lowest 16 bits of a number.

@@ -1,12 +1,10 @@
-//! Dates, sets of days, free days, the nth day of a kind, and the moments of times. A day that is marked is an `X`.
+//! Dates, sets of days, free days, the nth day of a kind, the moments of times and offsets. A day that is marked is an `X`.
 use crate::arguments::{halves, low, numbers};
+use crate::puts::{debug, show, unknown};
 use base_types::NoMemory;
-use calendars::{
-    DayKind, DaySet, FreeDays, LAST_DAY, day_of, is_free, is_workday, nth_day, read_date,
-};
+use calendars::{DayKind, DaySet, FreeDays, LAST_DAY, day_of, is_free, is_workday, nth_day};
 use plan_times::moment;
 use std::alloc::{AllocError, Global};
-use std::fmt::Write;
 use syntax::{first_word, number_i32, number_u32};
 
 fn least_byte(number: u32) -> u8 {
@@ -14,12 +12,14 @@ fn least_byte(number: u32) -> u8 {
 }
 
 /// `day_of YEAR MONTH DAY`
-fn put_day_of(out: &mut String, numbers: &[u32]) -> Result<(), AllocError> {
-    let [year, month, day] = numbers else {
-        return Ok(());
-    };
-    let found = day_of(low(*year), least_byte(*month), least_byte(*day));
-    write!(out, "{found:?}")
+pub fn put_day_of(out: &mut String, numbers: &[u32]) -> Result<(), NoMemory> {
+    match numbers {
+        [year, month, day] => {
+            let found = day_of(low(*year), least_byte(*month), least_byte(*day));
+            Ok(debug(out, "", &found)?)
+        }
+        _ => unknown(out),
+    }
 }
 
 fn put_mark(out: &mut String, is_marked: bool) -> Result<(), AllocError> {
@@ -54,39 +54,51 @@ pub fn put_free(
     Ok(())
 }
 
-/// `days DAYS / FIRST COUNT`: the days of a set among others.
-fn put_days(out: &mut String, alloc: Global, text: &str) -> Result<(), NoMemory> {
-    let (days, asked) = halves(text);
-    let set = DaySet::of(alloc, numbers(alloc, days)?.as_slice())?;
-    if let [first, count] = numbers(alloc, asked)?.as_slice() {
-        put_set(out, &set, *first, *count)?;
+fn put_set_of(out: &mut String, set: &DaySet, asked: &[u32]) -> Result<(), NoMemory> {
+    match asked {
+        [first, count] => Ok(put_set(out, set, *first, *count)?),
+        _ => unknown(out),
     }
-    Ok(())
 }
 
-/// `SA SU DATES`: whether Saturdays are free and Sundays are, each 1 or 0, and the dates that are free.
+fn put_free_of(out: &mut String, free: &FreeDays, asked: &[u32]) -> Result<(), NoMemory> {
+    match asked {
+        [first, count] => Ok(put_free(out, free, *first, *count)?),
+        _ => unknown(out),
+    }
+}
+
+fn set_of(alloc: Global, text: &str) -> Result<DaySet, NoMemory> {
+    let days = numbers(alloc, text)?;
+    DaySet::of(alloc, days.as_slice())
+}
+
+/// `days FIRST COUNT / DAYS`: the days of a set among others.
+pub fn put_days(out: &mut String, alloc: Global, text: &str) -> Result<(), NoMemory> {
+    let (asked, days) = halves(text);
+    let set = set_of(alloc, days)?;
+    let asked = numbers(alloc, asked)?;
+    put_set_of(out, &set, asked.as_slice())
+}
+
+/// Whether Saturdays are free and Sundays are, each 1 or 0, and the dates that are free.
 fn free_days(alloc: Global, text: &str) -> Result<FreeDays, NoMemory> {
-    let all = numbers(alloc, text)?;
-    let (marks, days) = match all.as_slice() {
-        [sa, su, days @ ..] => ((*sa == 1, *su == 1), days),
-        _ => ((false, false), all.as_slice()),
-    };
-    let dates = DaySet::of(alloc, days)?;
+    let (sa, rest) = first_word(text);
+    let (su, dates) = first_word(rest);
+    let dates = set_of(alloc, dates)?;
     Ok(FreeDays {
         dates,
-        sa: marks.0,
-        su: marks.1,
+        sa: sa == "1",
+        su: su == "1",
     })
 }
 
-/// `free_days SA SU DATES / FIRST COUNT`: the free days among others.
-fn put_free_days(out: &mut String, alloc: Global, text: &str) -> Result<(), NoMemory> {
-    let (front, asked) = halves(text);
-    let free = free_days(alloc, front)?;
-    if let [first, count] = numbers(alloc, asked)?.as_slice() {
-        put_free(out, &free, *first, *count)?;
-    }
-    Ok(())
+/// `free_days FIRST COUNT / SA SU DATES`: the free days among others.
+pub fn put_free_days(out: &mut String, alloc: Global, text: &str) -> Result<(), NoMemory> {
+    let (asked, rest) = halves(text);
+    let free = free_days(alloc, rest)?;
+    let asked = numbers(alloc, asked)?;
+    put_free_of(out, &free, asked.as_slice())
 }
 
 fn kind_of(word: &str) -> DayKind {
@@ -97,53 +109,40 @@ fn kind_of(word: &str) -> DayKind {
     }
 }
 
-/// `nth_day KIND DAY N / SA SU DATES`
-fn put_nth_day(out: &mut String, alloc: Global, text: &str) -> Result<(), NoMemory> {
-    let (front, rest) = halves(text);
-    let free = free_days(alloc, rest)?;
-    let (kind, front) = first_word(front);
-    let (day, n) = first_word(front);
+fn put_nth(out: &mut String, free: &FreeDays, text: &str) -> Result<(), AllocError> {
+    let (kind, rest) = first_word(text);
+    let (day, n) = first_word(rest);
     let day = number_u32(day).unwrap_or(0);
     let n = number_i32(n).unwrap_or(0);
-    let found = nth_day(&free, day, n, kind_of(kind));
-    write!(out, "{found:?}")?;
-    Ok(())
+    debug(out, "", &nth_day(free, day, n, kind_of(kind)))
 }
 
-fn put_moment(out: &mut String, numbers: &[u32], east: i16) -> Result<(), AllocError> {
-    match numbers {
-        [day, minute, plus, start] if *day <= LAST_DAY => {
-            match moment(*day, low(*minute), low(*plus), low(*start), east) {
-                Ok(found) => write!(out, "{}", found.0),
-                Err(fault) => write!(out, "{fault:?}"),
-            }
-        }
-        _ => Ok(()),
+/// `nth_day KIND DAY N / SA SU DATES`
+pub fn put_nth_day(out: &mut String, alloc: Global, text: &str) -> Result<(), NoMemory> {
+    let (front, rest) = halves(text);
+    let free = free_days(alloc, rest)?;
+    Ok(put_nth(out, &free, front)?)
+}
+
+fn put_moment_at(out: &mut String, numbers: &[u32], east: i16) -> Result<(), NoMemory> {
+    let [day, minute, plus, start] = numbers else {
+        return unknown(out);
+    };
+    if *day > LAST_DAY {
+        return unknown(out);
+    }
+    match moment(*day, low(*minute), low(*plus), low(*start), east) {
+        Ok(found) => Ok(show(out, "", &found.0)?),
+        Err(fault) => Ok(debug(out, "", &fault)?),
     }
 }
 
 /// `moment EAST DAY MINUTE PLUS START`
-fn tell_moment(out: &mut String, alloc: Global, text: &str) -> Result<bool, NoMemory> {
+pub fn put_moment(out: &mut String, alloc: Global, text: &str) -> Result<(), NoMemory> {
     let (east, rest) = first_word(text);
+    let numbers = numbers(alloc, rest)?;
     match i16::try_from(number_i32(east).unwrap_or(0)) {
-        Ok(east) => {
-            put_moment(out, numbers(alloc, rest)?.as_slice(), east)?;
-            Ok(true)
-        }
-        Err(_) => Ok(false),
+        Ok(east) => put_moment_at(out, numbers.as_slice(), east),
+        Err(_) => unknown(out),
     }
-}
-
-pub fn tell(out: &mut String, alloc: Global, word: &str, text: &str) -> Result<bool, NoMemory> {
-    match word {
-        "day_of" => put_day_of(out, numbers(alloc, text)?.as_slice())?,
-        "read_date" => write!(out, "{:?}", read_date(text))?,
-        "last_day" => write!(out, "{LAST_DAY}")?,
-        "days" => put_days(out, alloc, text)?,
-        "free_days" => put_free_days(out, alloc, text)?,
-        "nth_day" => put_nth_day(out, alloc, text)?,
-        "moment" => return tell_moment(out, alloc, text),
-        _ => return Ok(false),
-    }
-    Ok(true)
 }

@@ -1,40 +1,50 @@
 //! The lines of an operator, each in one spelling: the long form, with the workstation and the number of a stream where it
 //! has them. A text that was quoted is shown as it is meant, and the day of a plan as its number.
+use crate::puts::{debug, quote, show, two};
 use base_types::{NoMemory, OnUntil, Text};
 use conman_syntax::{DepRef, JobRef, Line, ObjRef, StreamRef, parse_command};
 use std::alloc::{AllocError, Global};
-use std::fmt::Write;
 
-fn put_stream(out: &mut String, r: &StreamRef) -> Result<(), AllocError> {
-    if let Some(ws) = &r.ws {
-        write!(out, "{ws}#")?;
-    }
-    match r.no {
-        None => write!(out, "{}", r.name),
-        Some(no) => write!(out, "{}[{no}]", r.name),
+fn put_ws(out: &mut String, before: &str, ws: &Option<Text>) -> Result<(), AllocError> {
+    match ws {
+        Some(ws) => two(out, before, ws, "", &"#"),
+        None => out.push_str(before),
     }
 }
 
-fn put_job(out: &mut String, r: &JobRef) -> Result<(), AllocError> {
-    put_stream(out, &r.stream)?;
-    write!(out, ".{}", r.name)
+fn put_number(out: &mut String, no: &Option<u32>) -> Result<(), AllocError> {
+    match no {
+        Some(no) => two(out, "[", no, "", &"]"),
+        None => Ok(()),
+    }
+}
+
+fn put_stream(out: &mut String, before: &str, r: &StreamRef) -> Result<(), AllocError> {
+    put_ws(out, before, &r.ws)?;
+    show(out, "", &r.name)?;
+    put_number(out, &r.no)
+}
+
+fn put_job(out: &mut String, before: &str, r: &JobRef) -> Result<(), AllocError> {
+    put_stream(out, before, &r.stream)?;
+    show(out, ".", &r.name)
 }
 
 /// The name alone.
-fn put_name(out: &mut String, o: &ObjRef) -> Result<(), AllocError> {
+fn put_name(out: &mut String, before: &str, o: &ObjRef) -> Result<(), AllocError> {
     match o {
-        ObjRef::Job(r) => put_job(out, r),
-        ObjRef::Stream(r) => put_stream(out, r),
+        ObjRef::Job(r) => put_job(out, before, r),
+        ObjRef::Stream(r) => put_stream(out, before, r),
     }
 }
 
 /// The name behind `job` or `sched`.
-fn put_object(out: &mut String, o: &ObjRef) -> Result<(), AllocError> {
+fn put_object(out: &mut String, before: &str, o: &ObjRef) -> Result<(), AllocError> {
+    out.push_str(before)?;
     match o {
-        ObjRef::Job(_) => out.push_str("job ")?,
-        ObjRef::Stream(_) => out.push_str("sched ")?,
+        ObjRef::Job(r) => put_job(out, "job ", r),
+        ObjRef::Stream(r) => put_stream(out, "sched ", r),
     }
-    put_name(out, o)
 }
 
 fn passed(then: OnUntil) -> &'static str {
@@ -45,61 +55,51 @@ fn passed(then: OnUntil) -> &'static str {
     }
 }
 
-fn put_follows_job(out: &mut String, r: &JobRef) -> Result<(), AllocError> {
-    out.push_str("follows=")?;
-    put_job(out, r)
-}
-
-fn put_follows_stream(out: &mut String, r: &StreamRef) -> Result<(), AllocError> {
-    out.push_str("follows=")?;
-    put_stream(out, r)
+fn put_needs(out: &mut String, units: u16, ws: &Text, name: &Text) -> Result<(), AllocError> {
+    show(out, ";needs=", &units)?;
+    two(out, " ", ws, "#", name)
 }
 
 fn put_dep(out: &mut String, dep: &DepRef) -> Result<(), AllocError> {
     match dep {
-        DepRef::FollowsJob(r) => put_follows_job(out, r),
-        DepRef::FollowsStream(r) => put_follows_stream(out, r),
-        DepRef::Needs(units, ws, name) => write!(out, "needs={units} {ws}#{name}"),
-        DepRef::PromptName(name) => write!(out, "prompt={name}"),
-        DepRef::PromptText(text) => write!(out, "prompt=<{text}>"),
-        DepRef::At(time) => write!(out, "at={time}"),
-        DepRef::Until(time, then) => write!(out, "until={time};onuntil={}", passed(*then)),
+        DepRef::FollowsJob(r) => put_job(out, ";follows=", r),
+        DepRef::FollowsStream(r) => put_stream(out, ";follows=", r),
+        DepRef::Needs(units, ws, name) => put_needs(out, *units, ws, name),
+        DepRef::PromptName(name) => show(out, ";prompt=", name),
+        DepRef::PromptText(text) => quote(out, ";prompt=", text),
+        DepRef::At(time) => show(out, ";at=", time),
+        DepRef::Until(time, then) => two(out, ";until=", time, ";onuntil=", &passed(*then)),
     }
 }
 
 fn put_with_dep(
     out: &mut String,
-    command: &str,
+    before: &str,
     o: &ObjRef,
     dep: &DepRef,
 ) -> Result<(), AllocError> {
-    out.push_str(command)?;
-    put_object(out, o)?;
-    out.push_str(";")?;
+    put_object(out, before, o)?;
     put_dep(out, dep)
 }
 
-fn put_on_object(out: &mut String, command: &str, o: &ObjRef) -> Result<(), AllocError> {
-    out.push_str(command)?;
-    put_object(out, o)
-}
-
 fn put_alt_pri(out: &mut String, o: &ObjRef, priority: u8) -> Result<(), AllocError> {
-    out.push_str("altpri ")?;
-    put_name(out, o)?;
-    write!(out, ";{priority}")
+    put_name(out, "altpri ", o)?;
+    show(out, ";", &priority)
 }
 
-fn put_on_job(out: &mut String, command: &str, r: &JobRef, rest: &str) -> Result<(), AllocError> {
-    out.push_str(command)?;
-    put_job(out, r)?;
-    out.push_str(rest)
+fn put_confirm(out: &mut String, r: &JobRef) -> Result<(), AllocError> {
+    put_job(out, "confirm ", r)?;
+    out.push_str(";succ")
 }
 
 fn put_stream_limit(out: &mut String, r: &StreamRef, limit: u16) -> Result<(), AllocError> {
-    out.push_str("limit sched ")?;
-    put_stream(out, r)?;
-    write!(out, ";{limit}")
+    put_stream(out, "limit sched ", r)?;
+    show(out, ";", &limit)
+}
+
+fn put_resource(out: &mut String, ws: &Text, name: &Text, units: u16) -> Result<(), AllocError> {
+    two(out, "resource ", ws, "#", name)?;
+    show(out, ";", &units)
 }
 
 fn answer(yes: bool) -> &'static str {
@@ -107,9 +107,22 @@ fn answer(yes: bool) -> &'static str {
 }
 
 fn put_reply_own(out: &mut String, o: &ObjRef, i: u16, yes: bool) -> Result<(), AllocError> {
-    out.push_str("reply ")?;
-    put_object(out, o)?;
-    write!(out, ";{i};{}", answer(yes))
+    put_object(out, "reply ", o)?;
+    two(out, ";", &i, ";", &answer(yes))
+}
+
+fn put_alias(out: &mut String, alias: &Option<Text>) -> Result<(), AllocError> {
+    match alias {
+        Some(alias) => show(out, ";alias=", alias),
+        None => Ok(()),
+    }
+}
+
+fn put_priority(out: &mut String, priority: &Option<u8>) -> Result<(), AllocError> {
+    match priority {
+        Some(priority) => show(out, ";priority=", priority),
+        None => Ok(()),
+    }
 }
 
 fn put_submit(
@@ -117,65 +130,73 @@ fn put_submit(
     ws: &Text,
     text: &Text,
     alias: &Option<Text>,
-    priority: Option<u8>,
+    priority: &Option<u8>,
 ) -> Result<(), AllocError> {
-    write!(out, "submit docommand {ws}#<{text}>")?;
-    if let Some(alias) = alias {
-        write!(out, ";alias={alias}")?;
-    }
-    match priority {
-        None => Ok(()),
-        Some(priority) => write!(out, ";priority={priority}"),
-    }
+    show(out, "submit docommand ", ws)?;
+    quote(out, "#", text)?;
+    put_alias(out, alias)?;
+    put_priority(out, priority)
 }
 
 fn put_show(out: &mut String, command: &str, pattern: &Option<Text>) -> Result<(), AllocError> {
     match pattern {
+        Some(pattern) => two(out, command, &" ", "", pattern),
         None => out.push_str(command),
-        Some(pattern) => write!(out, "{command} {pattern}"),
+    }
+}
+
+/// The lines that name an object of a plan.
+fn put_of_plan(out: &mut String, line: &Line) -> Result<(), AllocError> {
+    match line {
+        Line::AddDep(o, dep) => put_with_dep(out, "adddep ", o, dep),
+        Line::DelDep(o, dep) => put_with_dep(out, "deldep ", o, dep),
+        Line::Release(o) => put_object(out, "release ", o),
+        Line::AltPri(o, priority) => put_alt_pri(out, o, *priority),
+        Line::Cancel(o) => put_object(out, "cancel ", o),
+        Line::Confirm(r) => put_confirm(out, r),
+        Line::Kill(r) => put_job(out, "kill ", r),
+        Line::Rerun(r) => put_job(out, "rerun ", r),
+        Line::StreamLimit(r, limit) => put_stream_limit(out, r, *limit),
+        Line::ReplyOwn(o, i, yes) => put_reply_own(out, o, *i, *yes),
+        _ => Ok(()),
+    }
+}
+
+/// The lines that show something.
+fn put_showing(out: &mut String, line: &Line) -> Result<(), AllocError> {
+    match line {
+        Line::ShowJobs(pattern) => put_show(out, "showjobs", pattern),
+        Line::ShowSchedules(pattern) => put_show(out, "showschedules", pattern),
+        Line::ShowCpus(pattern) => put_show(out, "showcpus", pattern),
+        Line::ShowPrompts(pattern) => put_show(out, "showprompts", pattern),
+        Line::ShowResources(pattern) => put_show(out, "showresources", pattern),
+        _ => put_of_plan(out, line),
     }
 }
 
 /// Appends the line.
 pub fn put_line(out: &mut String, line: &Line) -> Result<(), AllocError> {
     match line {
-        Line::AddDep(o, dep) => put_with_dep(out, "adddep ", o, dep),
-        Line::DelDep(o, dep) => put_with_dep(out, "deldep ", o, dep),
-        Line::Release(o) => put_on_object(out, "release ", o),
-        Line::AltPri(o, priority) => put_alt_pri(out, o, *priority),
-        Line::Cancel(o) => put_on_object(out, "cancel ", o),
-        Line::Confirm(r) => put_on_job(out, "confirm ", r, ";succ"),
-        Line::Kill(r) => put_on_job(out, "kill ", r, ""),
-        Line::Rerun(r) => put_on_job(out, "rerun ", r, ""),
-        Line::Fence(ws, priority) => write!(out, "fence {ws};{priority}"),
-        Line::CpuLimit(ws, limit) => write!(out, "limit cpu {ws};{limit}"),
-        Line::StreamLimit(r, limit) => put_stream_limit(out, r, *limit),
-        Line::Resource(ws, name, units) => write!(out, "resource {ws}#{name};{units}"),
-        Line::ReplyGlobal(name, yes) => write!(out, "reply {name};{}", answer(*yes)),
-        Line::ReplyOwn(o, i, yes) => put_reply_own(out, o, *i, *yes),
-        Line::Start(ws) => write!(out, "start {ws}"),
-        Line::Stop(ws) => write!(out, "stop {ws}"),
-        Line::Submit(ws, text, alias, priority) => put_submit(out, ws, text, alias, *priority),
-        Line::SwitchMgr(domain, ws) => write!(out, "switchmgr {domain};{ws}"),
-        Line::ShowJobs(pattern) => put_show(out, "showjobs", pattern),
-        Line::ShowSchedules(pattern) => put_show(out, "showschedules", pattern),
-        Line::ShowCpus(pattern) => put_show(out, "showcpus", pattern),
-        Line::ShowPrompts(pattern) => put_show(out, "showprompts", pattern),
-        Line::ShowResources(pattern) => put_show(out, "showresources", pattern),
-        Line::Link(ws) => write!(out, "link {ws}"),
-        Line::Unlink(ws) => write!(out, "unlink {ws}"),
+        Line::Fence(ws, priority) => two(out, "fence ", ws, ";", priority),
+        Line::CpuLimit(ws, limit) => two(out, "limit cpu ", ws, ";", limit),
+        Line::Resource(ws, name, units) => put_resource(out, ws, name, *units),
+        Line::ReplyGlobal(name, yes) => two(out, "reply ", name, ";", &answer(*yes)),
+        Line::Start(ws) => show(out, "start ", ws),
+        Line::Stop(ws) => show(out, "stop ", ws),
+        Line::Submit(ws, text, alias, priority) => put_submit(out, ws, text, alias, priority),
+        Line::SwitchMgr(domain, ws) => two(out, "switchmgr ", domain, ";", ws),
+        Line::Link(ws) => show(out, "link ", ws),
+        Line::Unlink(ws) => show(out, "unlink ", ws),
         Line::Shutdown => out.push_str("shutdown"),
-        Line::JNextPlan(day) => write!(out, "jnextplan {day}"),
+        Line::JNextPlan(day) => show(out, "jnextplan ", day),
+        _ => put_showing(out, line),
     }
 }
 
-pub fn tell(out: &mut String, alloc: Global, word: &str, text: &str) -> Result<bool, NoMemory> {
-    if word != "parse_command" {
-        return Ok(false);
-    }
+/// `parse_command LINE`
+pub fn put_command(out: &mut String, alloc: Global, text: &str) -> Result<(), NoMemory> {
     match parse_command(alloc, text) {
-        Ok(line) => put_line(out, &line)?,
-        Err(fault) => write!(out, "{fault:?}")?,
+        Ok(line) => Ok(put_line(out, &line)?),
+        Err(fault) => Ok(debug(out, "", &fault)?),
     }
-    Ok(true)
 }

@@ -1,8 +1,8 @@
 //! Conditions read, printed and asked.
+use crate::puts::{debug, show, two};
 use base_types::{Cond, CondOp, Items, NoMemory, Rel};
 use rc_conditions::{CondFault, holds, print_cond, read_cond};
-use std::alloc::Global;
-use std::fmt::Write;
+use std::alloc::{AllocError, Global};
 use syntax::{first_word, number_i32};
 
 fn read(alloc: Global, text: &str) -> Result<Cond, CondFault> {
@@ -14,24 +14,27 @@ fn read(alloc: Global, text: &str) -> Result<Cond, CondFault> {
 
 fn put_cond(out: &mut String, alloc: Global, cond: &Cond) -> Result<(), NoMemory> {
     let text = print_cond(alloc, cond)?;
-    out.push_str(text.as_str())?;
-    Ok(())
+    Ok(show(out, "", &text)?)
 }
 
 /// `read_cond TEXT`: the canonical text.
-fn put_canonical(out: &mut String, alloc: Global, text: &str) -> Result<(), NoMemory> {
+pub fn put_canonical(out: &mut String, alloc: Global, text: &str) -> Result<(), NoMemory> {
     match read(alloc, text) {
         Ok(cond) => put_cond(out, alloc, &cond),
-        Err(fault) => Ok(write!(out, "{fault:?}")?),
+        Err(fault) => Ok(debug(out, "", &fault)?),
     }
 }
 
+fn put_met(out: &mut String, cond: &Cond, rc: i32) -> Result<(), AllocError> {
+    show(out, "", &holds(cond, rc))
+}
+
 /// `holds RC TEXT`
-fn put_holds(out: &mut String, alloc: Global, text: &str) -> Result<(), NoMemory> {
+pub fn put_holds(out: &mut String, alloc: Global, text: &str) -> Result<(), NoMemory> {
     let (rc, rest) = first_word(text);
     match read(alloc, rest) {
-        Ok(cond) => Ok(write!(out, "{}", holds(&cond, number_i32(rc).unwrap_or(0)))?),
-        Err(fault) => Ok(write!(out, "{fault:?}")?),
+        Ok(cond) => Ok(put_met(out, &cond, number_i32(rc).unwrap_or(0))?),
+        Err(fault) => Ok(debug(out, "", &fault)?),
     }
 }
 
@@ -45,31 +48,30 @@ fn operation(word: &str) -> CondOp {
     }
 }
 
+fn add_operation(cond: &mut Cond, word: &str) -> Result<(), NoMemory> {
+    if word.is_empty() {
+        return Ok(());
+    }
+    cond.push(operation(word))
+}
+
 fn operations(alloc: Global, text: &str) -> Result<Cond, NoMemory> {
     let mut cond = Items::new(alloc);
     for word in text.split(' ') {
-        if !word.is_empty() {
-            cond.push(operation(word))?;
-        }
+        add_operation(&mut cond, word)?;
     }
     Ok(cond)
 }
 
-/// `postfix RC OPERATIONS`: how many operations there are, whether they hold, and their canonical text.
-fn put_postfix(out: &mut String, alloc: Global, text: &str) -> Result<(), NoMemory> {
-    let (rc, rest) = first_word(text);
-    let cond = operations(alloc, rest)?;
-    let met = holds(&cond, number_i32(rc).unwrap_or(0));
-    write!(out, "{} {met} ", cond.len())?;
-    put_cond(out, alloc, &cond)
+fn put_operations(out: &mut String, alloc: Global, cond: &Cond, rc: i32) -> Result<(), NoMemory> {
+    two(out, "", &cond.len(), " ", &holds(cond, rc))?;
+    out.push_str(" ")?;
+    put_cond(out, alloc, cond)
 }
 
-pub fn tell(out: &mut String, alloc: Global, word: &str, text: &str) -> Result<bool, NoMemory> {
-    match word {
-        "read_cond" => put_canonical(out, alloc, text)?,
-        "holds" => put_holds(out, alloc, text)?,
-        "postfix" => put_postfix(out, alloc, text)?,
-        _ => return Ok(false),
-    }
-    Ok(true)
+/// `postfix RC OPERATIONS`: how many operations there are, whether they hold, and their canonical text.
+pub fn put_postfix(out: &mut String, alloc: Global, text: &str) -> Result<(), NoMemory> {
+    let (rc, rest) = first_word(text);
+    let cond = operations(alloc, rest)?;
+    put_operations(out, alloc, &cond, number_i32(rc).unwrap_or(0))
 }

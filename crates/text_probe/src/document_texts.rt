@@ -1,45 +1,54 @@
 //! The documents and drafts of entries, each in one line. Workstations, streams and jobs are told by their numbers.
+use crate::puts::{debug, quote, show, two};
 use base_types::{
-    Body, Cmd, Dep, DraftDep, JobDoc, JobDraft, PromptRef, StreamDoc, StreamDraft, Text, Work, Ws,
+    Body, Cmd, CondOp, Dep, DraftDep, JobDoc, JobDraft, PromptRef, Recovery, StreamDoc,
+    StreamDraft, Text, Work, Ws,
 };
 use std::alloc::AllocError;
-use std::fmt::Write;
 
 fn put_work(out: &mut String, work: &Work) -> Result<(), AllocError> {
     match work {
-        Work::Command(text) => write!(out, " do <{text}>"),
-        Work::Script(text) => write!(out, " script <{text}>"),
+        Work::Command(text) => quote(out, " do ", text),
+        Work::Script(text) => quote(out, " script ", text),
     }
 }
 
 fn put_prompt(out: &mut String, prompt: &PromptRef) -> Result<(), AllocError> {
     match prompt {
-        PromptRef::Global(n) => write!(out, ", prompt {n}"),
-        PromptRef::Own(text) => write!(out, ", prompt <{text}>"),
+        PromptRef::Global(n) => show(out, ", prompt ", n),
+        PromptRef::Own(text) => quote(out, ", prompt ", text),
     }
 }
 
 fn put_dep(out: &mut String, dep: &Dep) -> Result<(), AllocError> {
     match dep {
-        Dep::FollowsJob(job) => write!(out, ", follows job {}", job.0),
-        Dep::FollowsStream(stream) => write!(out, ", follows stream {}", stream.0),
-        Dep::Needs(resource, units) => write!(out, ", needs {resource} {units}"),
+        Dep::FollowsJob(job) => show(out, ", follows job ", &job.0),
+        Dep::FollowsStream(stream) => show(out, ", follows stream ", &stream.0),
+        Dep::Needs(resource, units) => two(out, ", needs ", resource, " ", units),
         Dep::Prompt(prompt) => put_prompt(out, prompt),
-        Dep::At(time) => write!(out, ", at {}", time.0),
-        Dep::Until(time, then) => write!(out, ", until {} {then:?}", time.0),
-        Dep::Outside(path) => write!(out, ", outside <{path}>"),
-        Dep::Deadline(time) => write!(out, ", deadline {}", time.0),
+        Dep::At(time) => show(out, ", at ", &time.0),
+        Dep::Until(time, then) => {
+            show(out, ", until ", &time.0)?;
+            debug(out, " ", then)
+        }
+        Dep::Outside(path) => quote(out, ", outside ", path),
+        Dep::Deadline(time) => show(out, ", deadline ", &time.0),
+    }
+}
+
+fn put_followed(out: &mut String, job: &Option<Text>) -> Result<(), AllocError> {
+    match job {
+        Some(job) => show(out, " ", job),
+        None => Ok(()),
     }
 }
 
 fn put_draft_dep(out: &mut String, dep: &DraftDep) -> Result<(), AllocError> {
     match dep {
-        DraftDep::Follows(ws, stream, None) => write!(out, ", follows {} {stream}", ws.0),
-        DraftDep::Follows(ws, stream, Some(job)) => write!(
-            out,
-            ", follows {} {stream} {job}",
-            ws.0
-        ),
+        DraftDep::Follows(ws, stream, job) => {
+            two(out, ", follows ", &ws.0, " ", stream)?;
+            put_followed(out, job)
+        }
         DraftDep::Plain(dep) => put_dep(out, dep),
     }
 }
@@ -59,55 +68,73 @@ fn put_draft_deps(out: &mut String, deps: &[DraftDep]) -> Result<(), AllocError>
 }
 
 fn put_name(out: &mut String, ws: &Ws, name: &Text, priority: u8) -> Result<(), AllocError> {
-    write!(out, "{} <{name}> prio {priority}", ws.0)
+    show(out, "at ", &ws.0)?;
+    quote(out, " ", name)?;
+    show(out, " prio ", &priority)
+}
+
+fn put_end(
+    out: &mut String,
+    logon: &Text,
+    cond: &[CondOp],
+    then: Recovery,
+) -> Result<(), AllocError> {
+    quote(out, " logon ", logon)?;
+    debug(out, " succ ", &cond)?;
+    debug(out, " ", &then)
 }
 
 fn put_job(out: &mut String, job: &JobDoc) -> Result<(), AllocError> {
-    write!(out, "; job {} at ", job.no.0)?;
+    show(out, "; job ", &job.no.0)?;
+    out.push_str(" ")?;
     put_name(out, &job.ws, &job.name, job.priority)?;
     put_work(out, &job.work)?;
-    let cond = job.cond.as_slice();
-    write!(
-        out,
-        " logon <{}> succ {cond:?} {:?}",
-        job.logon, job.recovery
-    )?;
+    put_end(out, &job.logon, job.cond.as_slice(), job.recovery)?;
     put_deps(out, job.deps.as_slice())
 }
 
 fn put_job_draft(out: &mut String, job: &JobDraft) -> Result<(), AllocError> {
-    out.push_str("; job at ")?;
+    out.push_str("; job ")?;
     put_name(out, &job.ws, &job.name, job.priority)?;
     put_work(out, &job.work)?;
-    let cond = job.cond.as_slice();
-    write!(
-        out,
-        " logon <{}> succ {cond:?} {:?}",
-        job.logon, job.recovery
-    )?;
+    put_end(out, &job.logon, job.cond.as_slice(), job.recovery)?;
     put_draft_deps(out, job.deps.as_slice())
 }
 
-fn put_stream(out: &mut String, stream: &StreamDoc) -> Result<(), AllocError> {
-    write!(out, "; stream {} at ", stream.no.0)?;
-    put_name(out, &stream.ws, &stream.name, stream.priority)?;
-    write!(out, " limit {:?} carry {}", stream.limit, stream.carry)?;
-    put_deps(out, stream.deps.as_slice())?;
-    for job in stream.jobs.as_slice() {
+fn put_bounds(out: &mut String, limit: Option<u16>, carry: bool) -> Result<(), AllocError> {
+    debug(out, " limit ", &limit)?;
+    show(out, " carry ", &carry)
+}
+
+fn put_jobs(out: &mut String, jobs: &[JobDoc]) -> Result<(), AllocError> {
+    for job in jobs {
         put_job(out, job)?;
     }
     Ok(())
 }
 
-fn put_stream_draft(out: &mut String, stream: &StreamDraft) -> Result<(), AllocError> {
-    out.push_str("; stream at ")?;
+fn put_stream(out: &mut String, stream: &StreamDoc) -> Result<(), AllocError> {
+    show(out, "; stream ", &stream.no.0)?;
+    out.push_str(" ")?;
     put_name(out, &stream.ws, &stream.name, stream.priority)?;
-    write!(out, " limit {:?} carry {}", stream.limit, stream.carry)?;
-    put_draft_deps(out, stream.deps.as_slice())?;
-    for job in stream.jobs.as_slice() {
+    put_bounds(out, stream.limit, stream.carry)?;
+    put_deps(out, stream.deps.as_slice())?;
+    put_jobs(out, stream.jobs.as_slice())
+}
+
+fn put_job_drafts(out: &mut String, jobs: &[JobDraft]) -> Result<(), AllocError> {
+    for job in jobs {
         put_job_draft(out, job)?;
     }
     Ok(())
+}
+
+fn put_stream_draft(out: &mut String, stream: &StreamDraft) -> Result<(), AllocError> {
+    out.push_str("; stream ")?;
+    put_name(out, &stream.ws, &stream.name, stream.priority)?;
+    put_bounds(out, stream.limit, stream.carry)?;
+    put_draft_deps(out, stream.deps.as_slice())?;
+    put_job_drafts(out, stream.jobs.as_slice())
 }
 
 fn put_streams(out: &mut String, streams: &[StreamDoc]) -> Result<(), AllocError> {

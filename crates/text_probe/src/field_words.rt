@@ -1,21 +1,29 @@
 //! Fields put and taken.
 use crate::arguments::digits;
-use base_types::{Bytes, Items, NoMemory, Text};
+use crate::puts::{debug, quote, show, unknown};
+use base_types::{Bytes, Items, NoMemory};
 use byte_fields::{
-    FieldFault, put_i32, put_text, put_u8, put_u16, put_u32, put_u64, take_i32, take_text, take_u8,
-    take_u16, take_u32, take_u64,
+    put_i32, put_text, put_u8, put_u16, put_u32, put_u64, take_i32, take_text, take_u8, take_u16,
+    take_u32, take_u64,
 };
 use std::alloc::{AllocError, Global};
-use std::fmt::Write;
 use syntax::{first_word, number_i32, number_u32, number_u64};
 
 fn put_taken_text(
     out: &mut String,
-    taken: Result<(Text, usize), FieldFault>,
+    alloc: Global,
+    from: &[u8],
+    at: usize,
 ) -> Result<(), AllocError> {
-    match taken {
-        Ok((text, next)) => write!(out, "<{text}> {next}"),
-        Err(fault) => write!(out, "{fault:?}"),
+    if at > from.len() {
+        return Ok(());
+    }
+    match take_text(alloc, from, at) {
+        Ok((text, next)) => {
+            quote(out, "", &text)?;
+            show(out, " ", &next)
+        }
+        Err(fault) => debug(out, "", &fault),
     }
 }
 
@@ -24,34 +32,30 @@ fn put_taken(
     out: &mut String,
     alloc: Global,
     kind: &str,
-    bytes: &Bytes,
+    from: &[u8],
     at: usize,
 ) -> Result<(), AllocError> {
-    let from = bytes.as_slice();
     if at > from.len() {
         return Ok(());
     }
     match kind {
-        "u8" => write!(out, "{:?}", take_u8(from, at)),
-        "u16" => write!(out, "{:?}", take_u16(from, at)),
-        "u32" => write!(out, "{:?}", take_u32(from, at)),
-        "u64" => write!(out, "{:?}", take_u64(from, at)),
-        "i32" => write!(out, "{:?}", take_i32(from, at)),
-        _ => put_taken_text(out, take_text(alloc, from, at)),
+        "u8" => debug(out, "", &take_u8(from, at)),
+        "u16" => debug(out, "", &take_u16(from, at)),
+        "u32" => debug(out, "", &take_u32(from, at)),
+        "u64" => debug(out, "", &take_u64(from, at)),
+        "i32" => debug(out, "", &take_i32(from, at)),
+        _ => put_taken_text(out, alloc, from, at),
     }
 }
 
 /// `take KIND AT DIGITS`
-fn tell_take(out: &mut String, alloc: Global, text: &str) -> Result<bool, NoMemory> {
+pub fn put_take(out: &mut String, alloc: Global, text: &str) -> Result<(), NoMemory> {
     let (kind, rest) = first_word(text);
     let (at, rest) = first_word(rest);
-    let at = number_u32(at).unwrap_or(0);
+    let at = number_u32(at).unwrap_or(0) as usize;
     match digits(alloc, rest) {
-        Some(bytes) => {
-            put_taken(out, alloc, kind, &bytes, at as usize)?;
-            Ok(true)
-        }
-        None => Ok(false),
+        Some(bytes) => Ok(put_taken(out, alloc, kind, bytes.as_slice(), at)?),
+        None => unknown(out),
     }
 }
 
@@ -75,23 +79,16 @@ fn add(bytes: &mut Bytes, kind: &str, value: &str) -> Result<(), NoMemory> {
     }
 }
 
+/// Writes bytes as digits in base 16.
+pub fn put_digits(out: &mut String, alloc: Global, bytes: &[u8]) -> Result<(), NoMemory> {
+    let text = hex::encode(alloc, bytes)?;
+    Ok(out.push_str(text.as_str())?)
+}
+
 /// `put KIND VALUE`: the digits of the field.
-fn put(out: &mut String, alloc: Global, text: &str) -> Result<(), NoMemory> {
+pub fn put_put(out: &mut String, alloc: Global, text: &str) -> Result<(), NoMemory> {
     let (kind, value) = first_word(text);
     let mut bytes = Items::new(alloc);
     add(&mut bytes, kind, value)?;
-    let text = hex::encode(alloc, bytes.as_slice())?;
-    out.push_str(text.as_str())?;
-    Ok(())
-}
-
-pub fn tell(out: &mut String, alloc: Global, word: &str, text: &str) -> Result<bool, NoMemory> {
-    match word {
-        "take" => tell_take(out, alloc, text),
-        "put" => {
-            put(out, alloc, text)?;
-            Ok(true)
-        }
-        _ => Ok(false),
-    }
+    put_digits(out, alloc, bytes.as_slice())
 }

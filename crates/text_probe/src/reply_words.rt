@@ -1,7 +1,8 @@
 //! What a running node answers. Workstation n is called Wn.
-use crate::arguments::{halves, numbers, station};
+use crate::arguments::{halves, station};
+use crate::puts::{show, unknown};
 use crate::report_words::net;
-use base_types::{NoMemory, Text};
+use base_types::{Net, NoMemory, Text};
 use node_replies::{
     Refusal, Shows, kept, link_asked, planned, refused, shown, shutdown, unlink_asked,
 };
@@ -36,21 +37,26 @@ fn kind_of(word: &str) -> Shows {
     }
 }
 
-/// `shown KIND PATTERN / LISTING`
-fn shown_of(alloc: Global, text: &str) -> Result<Text, NoMemory> {
-    let (front, listing) = halves(text);
+fn shown_of(alloc: Global, front: &str, listing: &str) -> Result<Text, NoMemory> {
     let (kind, pattern) = first_word(front);
     let pattern = Text::of(alloc, pattern)?;
     shown(alloc, kind_of(kind), Some(&pattern), listing)
 }
 
-/// `all_shown KIND / LISTING`
-fn all_shown(alloc: Global, text: &str) -> Result<Text, NoMemory> {
-    let (kind, listing) = halves(text);
-    shown(alloc, kind_of(kind), None, listing)
+/// `shown KIND PATTERN / LISTING`
+pub fn put_shown(out: &mut String, alloc: Global, text: &str) -> Result<(), NoMemory> {
+    let (front, listing) = halves(text);
+    let text = shown_of(alloc, front, listing)?;
+    Ok(show(out, "", &text)?)
 }
 
-/// `refused N`, with the place of the reason, from 0.
+/// `all_shown KIND / LISTING`
+pub fn put_all_shown(out: &mut String, alloc: Global, text: &str) -> Result<(), NoMemory> {
+    let (kind, listing) = halves(text);
+    let text = shown(alloc, kind_of(kind), None, listing)?;
+    Ok(show(out, "", &text)?)
+}
+
 fn refused_for(alloc: Global, number: u32) -> Result<Text, NoMemory> {
     match REFUSALS.get(number as usize) {
         Some(refusal) => refused(alloc, *refusal),
@@ -59,47 +65,36 @@ fn refused_for(alloc: Global, number: u32) -> Result<Text, NoMemory> {
 }
 
 /// The answers to words with numbers; the empty text stands for none.
+fn reply(alloc: Global, net: &Net, word: &str, numbers: &[u32]) -> Result<Text, NoMemory> {
+    match numbers {
+        [from, to, place] => kept(alloc, net, station(*from), station(*to), *place),
+        [number] => match word {
+            "link_asked" => link_asked(alloc, net, station(*number)),
+            "unlink_asked" => unlink_asked(alloc, net, station(*number)),
+            "planned" => planned(alloc, *number),
+            _ => refused_for(alloc, *number),
+        },
+        _ => shutdown(alloc),
+    }
+}
+
 fn reply_of(alloc: Global, word: &str, numbers: &[u32]) -> Result<Text, NoMemory> {
     let net = net(alloc, 2)?;
-    match (word, numbers) {
-        ("kept", [from, to, place]) => kept(alloc, &net, station(*from), station(*to), *place),
-        ("link_asked", [ws]) => link_asked(alloc, &net, station(*ws)),
-        ("unlink_asked", [ws]) => unlink_asked(alloc, &net, station(*ws)),
-        ("planned", [run]) => planned(alloc, *run),
-        ("refused", [number]) => refused_for(alloc, *number),
-        ("shutdown", []) => shutdown(alloc),
-        _ => Ok(Text::new(alloc)),
-    }
+    reply(alloc, &net, word, numbers)
 }
 
-fn answer(alloc: Global, word: &str, text: &str) -> Result<Text, NoMemory> {
+fn put_reply(out: &mut String, alloc: Global, word: &str, numbers: &[u32]) -> Result<(), NoMemory> {
+    let text = reply_of(alloc, word, numbers)?;
+    Ok(show(out, "", &text)?)
+}
+
+/// `kept FROM TO PLACE`, `link_asked WS`, `unlink_asked WS`, `planned RUN`, `shutdown`, and `refused N` with the place of
+/// the reason, from 0.
+pub fn tell(out: &mut String, alloc: Global, word: &str, numbers: &[u32]) -> Result<(), NoMemory> {
     match word {
-        "shown" => shown_of(alloc, text),
-        "all_shown" => all_shown(alloc, text),
-        _ => reply_of(alloc, word, numbers(alloc, text)?.as_slice()),
+        "kept" | "link_asked" | "unlink_asked" | "planned" | "shutdown" | "refused" => {
+            put_reply(out, alloc, word, numbers)
+        }
+        _ => unknown(out),
     }
-}
-
-/// Whether a word asks for an answer of a node.
-fn asks_node(word: &str) -> bool {
-    match word {
-        "shown"
-        | "all_shown"
-        | "kept"
-        | "link_asked"
-        | "unlink_asked"
-        | "planned"
-        | "refused"
-        | "shutdown" => true,
-        _ => false,
-    }
-}
-
-pub fn tell(out: &mut String, alloc: Global, word: &str, text: &str) -> Result<bool, NoMemory> {
-    if !asks_node(word) {
-        return Ok(false);
-    }
-    let text = answer(alloc, word, text)?;
-    out.push_str(text.as_str())?;
-    Ok(true)
 }

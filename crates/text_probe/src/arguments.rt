@@ -1,36 +1,51 @@
 //! The parts of arguments, and bytes as texts.
-use base_types::{Bytes, Feed, Items, NoMemory, Ws};
-use std::alloc::Global;
+use crate::outs::Out;
+use base_types::{Bytes, Feed, Items, Ws};
 use std::str;
 use syntax::number_u32;
 
 /// The bytes of digits in base 16. None where they are no whole bytes.
-pub fn digits(alloc: Global, text: &str) -> Option<Bytes> {
-    match hex::decode(alloc, text) {
+pub fn digits(out: &Out, text: &str) -> Option<Bytes> {
+    match hex::decode(out.alloc, text) {
         Ok(bytes) => Some(Items::of_vec(bytes)),
         Err(_) => None,
     }
 }
 
-/// The text that bytes are, and the empty text where they are none.
-pub fn text_in(bytes: &[u8]) -> &str {
-    str::from_utf8(bytes).unwrap_or("")
+/// Writes bytes as digits in base 16.
+pub fn put_digits(out: &mut Out, bytes: &[u8]) {
+    match hex::encode(out.alloc, bytes) {
+        Ok(text) => out.word(text.as_str()),
+        Err(_) => out.unknown(),
+    }
 }
 
-fn add(found: &mut Items<u32>, word: &str) -> Result<(), NoMemory> {
-    match number_u32(word) {
-        Some(number) => found.push(number),
-        None => Ok(()),
+/// Writes bytes as the text that they are.
+pub fn put_bytes(out: &mut Out, bytes: &Bytes) {
+    out.word(str::from_utf8(bytes.as_slice()).unwrap_or(""));
+}
+
+/// Writes bytes that were made.
+pub fn put_made(out: &mut Out, made: Option<Bytes>) {
+    if let Some(bytes) = made {
+        put_bytes(out, &bytes);
+    }
+}
+
+fn add(out: &mut Out, found: &mut Items<u32>, word: &str) {
+    if let Some(number) = number_u32(word) {
+        let done = found.push(number);
+        out.done(done);
     }
 }
 
 /// Those of the words of a text that are numbers.
-pub fn numbers(alloc: Global, text: &str) -> Result<Items<u32>, NoMemory> {
-    let mut found = Items::new(alloc);
+pub fn numbers(out: &mut Out, text: &str) -> Items<u32> {
+    let mut found = Items::new(out.alloc);
     for word in text.split(' ') {
-        add(&mut found, word)?;
+        add(out, &mut found, word);
     }
-    Ok(found)
+    found
 }
 
 /// What stands before the first ` / ` and behind it. Where there is none, that is all and nothing.

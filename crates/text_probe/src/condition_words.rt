@@ -1,8 +1,8 @@
 //! Conditions read, printed and asked.
-use crate::puts::{debug, show, two};
-use base_types::{Cond, CondOp, Items, NoMemory, Rel};
+use crate::outs::Out;
+use base_types::{Cond, CondOp, Items, NoMemory, Rel, Text};
 use rc_conditions::{CondFault, holds, print_cond, read_cond};
-use std::alloc::{AllocError, Global};
+use std::alloc::Global;
 use syntax::{first_word, number_i32};
 
 fn read(alloc: Global, text: &str) -> Result<Cond, CondFault> {
@@ -12,29 +12,31 @@ fn read(alloc: Global, text: &str) -> Result<Cond, CondFault> {
     read_cond(alloc, text)
 }
 
-fn put_cond(out: &mut String, alloc: Global, cond: &Cond) -> Result<(), NoMemory> {
-    let text = print_cond(alloc, cond)?;
-    Ok(show(out, "", &text)?)
-}
-
-/// `read_cond TEXT`: the canonical text.
-pub fn put_canonical(out: &mut String, alloc: Global, text: &str) -> Result<(), NoMemory> {
-    match read(alloc, text) {
-        Ok(cond) => put_cond(out, alloc, &cond),
-        Err(fault) => Ok(debug(out, "", &fault)?),
+fn put_text(out: &mut Out, text: Result<Text, NoMemory>) {
+    if let Some(text) = out.kept(text) {
+        out.word(text.as_str());
     }
 }
 
-fn put_met(out: &mut String, cond: &Cond, rc: i32) -> Result<(), AllocError> {
-    show(out, "", &holds(cond, rc))
+fn put_cond(out: &mut Out, cond: &Cond) {
+    let text = print_cond(out.alloc, cond);
+    put_text(out, text)
+}
+
+/// `read_cond TEXT`: the canonical text.
+pub fn put_canonical(out: &mut Out, text: &str) {
+    match read(out.alloc, text) {
+        Ok(cond) => put_cond(out, &cond),
+        Err(fault) => out.debug("", &fault),
+    }
 }
 
 /// `holds RC TEXT`
-pub fn put_holds(out: &mut String, alloc: Global, text: &str) -> Result<(), NoMemory> {
+pub fn put_holds(out: &mut Out, text: &str) {
     let (rc, rest) = first_word(text);
-    match read(alloc, rest) {
-        Ok(cond) => Ok(put_met(out, &cond, number_i32(rc).unwrap_or(0))?),
-        Err(fault) => Ok(debug(out, "", &fault)?),
+    match read(out.alloc, rest) {
+        Ok(cond) => out.show("", &holds(&cond, number_i32(rc).unwrap_or(0))),
+        Err(fault) => out.debug("", &fault),
     }
 }
 
@@ -48,30 +50,27 @@ fn operation(word: &str) -> CondOp {
     }
 }
 
-fn add_operation(cond: &mut Cond, word: &str) -> Result<(), NoMemory> {
-    if word.is_empty() {
-        return Ok(());
+fn add(out: &mut Out, cond: &mut Cond, word: &str) {
+    if !word.is_empty() {
+        let done = cond.push(operation(word));
+        out.done(done);
     }
-    cond.push(operation(word))
 }
 
-fn operations(alloc: Global, text: &str) -> Result<Cond, NoMemory> {
-    let mut cond = Items::new(alloc);
+fn operations(out: &mut Out, text: &str) -> Cond {
+    let mut cond = Items::new(out.alloc);
     for word in text.split(' ') {
-        add_operation(&mut cond, word)?;
+        add(out, &mut cond, word);
     }
-    Ok(cond)
-}
-
-fn put_operations(out: &mut String, alloc: Global, cond: &Cond, rc: i32) -> Result<(), NoMemory> {
-    two(out, "", &cond.len(), " ", &holds(cond, rc))?;
-    out.push_str(" ")?;
-    put_cond(out, alloc, cond)
+    cond
 }
 
 /// `postfix RC OPERATIONS`: how many operations there are, whether they hold, and their canonical text.
-pub fn put_postfix(out: &mut String, alloc: Global, text: &str) -> Result<(), NoMemory> {
+pub fn put_postfix(out: &mut Out, text: &str) {
     let (rc, rest) = first_word(text);
-    let cond = operations(alloc, rest)?;
-    put_operations(out, alloc, &cond, number_i32(rc).unwrap_or(0))
+    let cond = operations(out, rest);
+    let met = holds(&cond, number_i32(rc).unwrap_or(0));
+    out.two("", &cond.len(), " ", &met);
+    out.word(" ");
+    put_cond(out, &cond)
 }

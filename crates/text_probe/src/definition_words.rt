@@ -1,33 +1,31 @@
 //! Composer text: its tokens, what its definitions say, and their canonical text.
-use crate::arguments::text_in;
+use crate::arguments::put_made;
 use crate::defined_texts::put_defs;
-use crate::puts::{debug, show};
-use base_types::{NoMemory, Token};
+use crate::outs::Out;
+use base_types::Token;
 use composer_lexer::{LexFault, tokens};
 use composer_parser::{Defs, SyntaxFault, parse};
 use composer_print::print_defs;
-use std::alloc::{AllocError, Global};
+use std::alloc::Global;
 
-fn put_token(out: &mut String, token: &Token) -> Result<(), AllocError> {
-    debug(out, "", &token.kind)?;
-    show(out, " ", &token.line)?;
-    show(out, " ", &token.start)?;
-    show(out, " ", &token.end)?;
-    out.push_str(";")
+fn put_token(out: &mut Out, token: &Token) {
+    out.debug("", &token.kind);
+    out.show(" ", &token.line);
+    out.two(" ", &token.start, " ", &token.end);
+    out.word(";")
 }
 
-fn put_all(out: &mut String, found: &[Token]) -> Result<(), AllocError> {
+fn put_all(out: &mut Out, found: &[Token]) {
     for token in found {
-        put_token(out, token)?;
+        put_token(out, token);
     }
-    Ok(())
 }
 
 /// `tokens TEXT`: each by its kind, its line, and where it begins and ends.
-pub fn put_tokens(out: &mut String, alloc: Global, text: &str) -> Result<(), NoMemory> {
-    match tokens(alloc, text) {
-        Ok(found) => Ok(put_all(out, found.as_slice())?),
-        Err(fault) => Ok(show(out, "", &fault)?),
+pub fn put_tokens(out: &mut Out, text: &str) {
+    match tokens(out.alloc, text) {
+        Ok(found) => put_all(out, found.as_slice()),
+        Err(fault) => out.show("", &fault),
     }
 }
 
@@ -59,44 +57,39 @@ fn read(alloc: Global, text: &str) -> Result<Parsed, NotRead> {
     }
 }
 
-fn put_fault(out: &mut String, fault: NotRead) -> Result<(), AllocError> {
+fn put_fault(out: &mut Out, fault: NotRead) {
     match fault {
-        NotRead::Tokens(fault) => debug(out, "", &fault),
-        NotRead::Syntax(fault) => debug(out, "", &fault),
+        NotRead::Tokens(fault) => out.debug("", &fault),
+        NotRead::Syntax(fault) => out.debug("", &fault),
     }
 }
 
-fn put_counts(out: &mut String, defs: &Defs) -> Result<(), AllocError> {
-    let counts = [
-        defs.cpus.len(),
-        defs.domains.len(),
-        defs.calendars.len(),
-        defs.prompts.len(),
-        defs.resources.len(),
-        defs.jobs.len(),
-        defs.schedules.len(),
-    ];
-    debug(out, "", &counts.as_slice())
+fn put_counts(out: &mut Out, defs: &Defs) {
+    out.two("", &defs.cpus.len(), " ", &defs.domains.len());
+    out.two(" ", &defs.calendars.len(), " ", &defs.prompts.len());
+    out.two(" ", &defs.resources.len(), " ", &defs.jobs.len());
+    out.show(" ", &defs.schedules.len())
 }
 
-fn put_canonical(out: &mut String, alloc: Global, defs: &Defs) -> Result<(), NoMemory> {
-    let bytes = print_defs(alloc, defs)?;
-    Ok(out.push_str(text_in(bytes.as_slice()))?)
+fn put_canonical(out: &mut Out, defs: &Defs) {
+    let made = print_defs(out.alloc, defs);
+    let made = out.kept(made);
+    put_made(out, made)
 }
 
-fn put_asked(out: &mut String, alloc: Global, word: &str, defs: &Defs) -> Result<(), NoMemory> {
+fn put_asked(out: &mut Out, word: &str, defs: &Defs) {
     match word {
-        "parse" => Ok(put_defs(out, defs)?),
-        "counts" => Ok(put_counts(out, defs)?),
-        _ => put_canonical(out, alloc, defs),
+        "parse" => put_defs(out, defs),
+        "counts" => put_counts(out, defs),
+        _ => put_canonical(out, defs),
     }
 }
 
 /// `parse TEXT`: each definition behind its line. `counts TEXT`: how many workstations, domains, calendars, prompts,
 /// resources, jobs and streams there are. `print_defs TEXT`: the canonical text.
-pub fn put_read(out: &mut String, alloc: Global, word: &str, text: &str) -> Result<(), NoMemory> {
-    match read(alloc, text) {
-        Ok(parsed) => put_asked(out, alloc, word, &parsed.defs),
-        Err(fault) => Ok(put_fault(out, fault)?),
+pub fn put_read(out: &mut Out, word: &str, text: &str) {
+    match read(out.alloc, text) {
+        Ok(parsed) => put_asked(out, word, &parsed.defs),
+        Err(fault) => put_fault(out, fault),
     }
 }

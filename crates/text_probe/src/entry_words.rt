@@ -1,13 +1,14 @@
 //! Entries read from digits, and shown as the report shows them.
 ghost use Rattle.model.specs.Fit.{IsFit};
 
-use crate::arguments::{digits, text_in};
+use crate::arguments::digits;
 use crate::document_texts::put_documents;
-use crate::puts::{debug, unknown};
+use crate::outs::Out;
 use crate::report_words::{no_parts, printed, put_report};
-use base_types::{Entry, NoMemory, ReportParts};
+use base_types::{Bytes, Entry, NoMemory, ReportParts};
 use entry_codec::{EntryFault, read_entry, write_entry};
-use std::alloc::{AllocError, Global};
+use std::alloc::Global;
+use std::str;
 
 /// Whether these bytes are the entry's spelling.
 fn is_spelling(alloc: Global, entry: &Entry, bytes: &[u8]) -> bool
@@ -41,75 +42,66 @@ fn read(alloc: Global, bytes: &[u8]) -> Result<Entry, EntryFault> {
 }
 
 /// What is behind the first line of a report, up to the line of its starts.
-fn put_line(out: &mut String, report: &str) -> Result<(), AllocError> {
-    let line = report.strip_prefix("events 1\n").unwrap_or(report);
-    out.push_str(line.strip_suffix("\nstarts 0\n").unwrap_or(line))
+fn put_line(out: &mut Out, bytes: &Bytes) {
+    let text = str::from_utf8(bytes.as_slice()).unwrap_or("");
+    let line = text.strip_prefix("events 1\n").unwrap_or(text);
+    out.word(line.strip_suffix("\nstarts 0\n").unwrap_or(line))
 }
 
-fn put_bodies(out: &mut String, entries: &[Entry]) -> Result<(), AllocError> {
-    for entry in entries {
-        put_documents(out, &entry.body)?;
+fn put_parts(out: &mut Out, parts: &ReportParts) {
+    if let Some(bytes) = printed(out, parts) {
+        put_line(out, &bytes);
     }
-    Ok(())
+    for entry in parts.events.as_slice() {
+        put_documents(out, &entry.body);
+    }
 }
 
-fn put_parts(out: &mut String, alloc: Global, parts: &ReportParts) -> Result<(), NoMemory> {
-    let bytes = printed(alloc, parts)?;
-    put_line(out, text_in(bytes.as_slice()))?;
-    Ok(put_bodies(out, parts.events.as_slice())?)
+fn add_entry(out: &mut Out, parts: &mut ReportParts, entry: Entry) {
+    let done = parts.events.push(entry);
+    out.done(done);
 }
 
-fn parts_of(alloc: Global, entry: Entry) -> Result<ReportParts, NoMemory> {
-    let mut parts = no_parts(alloc);
-    parts.events.push(entry)?;
-    Ok(parts)
+fn put_entry(out: &mut Out, entry: Entry) {
+    let mut parts = no_parts(out.alloc);
+    add_entry(out, &mut parts, entry);
+    put_parts(out, &parts)
 }
 
-fn put_entry(out: &mut String, alloc: Global, entry: Entry) -> Result<(), NoMemory> {
-    let parts = parts_of(alloc, entry)?;
-    put_parts(out, alloc, &parts)
-}
-
-fn put_read(out: &mut String, alloc: Global, bytes: &[u8]) -> Result<(), NoMemory> {
-    match read(alloc, bytes) {
-        Ok(entry) => put_entry(out, alloc, entry),
-        Err(fault) => Ok(debug(out, "", &fault)?),
+fn put_read(out: &mut Out, bytes: &[u8]) {
+    match read(out.alloc, bytes) {
+        Ok(entry) => put_entry(out, entry),
+        Err(fault) => out.debug("", &fault),
     }
 }
 
 /// `read_entry DIGITS`: its line in a report, and its documents.
-pub fn put_entry_of(out: &mut String, alloc: Global, text: &str) -> Result<(), NoMemory> {
-    match digits(alloc, text) {
-        Some(bytes) => put_read(out, alloc, bytes.as_slice()),
-        None => unknown(out),
+pub fn put_entry_of(out: &mut Out, text: &str) {
+    match digits(out, text) {
+        Some(bytes) => put_read(out, bytes.as_slice()),
+        None => out.unknown(),
     }
 }
 
-fn add_read(alloc: Global, parts: &mut ReportParts, bytes: &[u8]) -> Result<(), NoMemory> {
-    match read(alloc, bytes) {
-        Ok(entry) => parts.events.push(entry),
-        Err(_) => Ok(()),
+fn add_read(out: &mut Out, parts: &mut ReportParts, bytes: &[u8]) {
+    match read(out.alloc, bytes) {
+        Ok(entry) => add_entry(out, parts, entry),
+        Err(fault) => out.debug("", &fault),
     }
 }
 
-/// Adds the entry of digits. Digits that are none add nothing.
-fn add(alloc: Global, parts: &mut ReportParts, text: &str) -> Result<(), NoMemory> {
-    match digits(alloc, text) {
-        Some(bytes) => add_read(alloc, parts, bytes.as_slice()),
-        None => Ok(()),
+fn add(out: &mut Out, parts: &mut ReportParts, text: &str) {
+    match digits(out, text) {
+        Some(bytes) => add_read(out, parts, bytes.as_slice()),
+        None => out.unknown(),
     }
-}
-
-fn add_all(alloc: Global, parts: &mut ReportParts, text: &str) -> Result<(), NoMemory> {
-    for word in text.split(' ') {
-        add(alloc, parts, word)?;
-    }
-    Ok(())
 }
 
 /// `events DIGITS DIGITS ..`: a report of these entries.
-pub fn put_events(out: &mut String, alloc: Global, text: &str) -> Result<(), NoMemory> {
-    let mut parts = no_parts(alloc);
-    add_all(alloc, &mut parts, text)?;
-    put_report(out, alloc, &parts)
+pub fn put_events(out: &mut Out, text: &str) {
+    let mut parts = no_parts(out.alloc);
+    for word in text.split(' ') {
+        add(out, &mut parts, word);
+    }
+    put_report(out, &parts)
 }

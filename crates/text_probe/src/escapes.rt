@@ -1,6 +1,6 @@
 //! Bytes on a line, with escapes.
-use base_types::NoMemory;
-use std::alloc::{AllocError, Global};
+use crate::outs::Out;
+use base_types::{Bytes, Items};
 
 /// Where a reader of escapes stands: behind a whole byte, a backslash, the `x` of an escape, or its first digit.
 #[derive(Clone, Copy)]
@@ -21,56 +21,39 @@ fn digit(byte: u8) -> u8 {
     }
 }
 
-fn put(bytes: &mut Vec<u8>, byte: u8) -> Result<Place, NoMemory> {
-    bytes.push(byte)?;
-    Ok(Place::Plain)
+fn put(out: &mut Out, bytes: &mut Bytes, byte: u8) -> Place {
+    let done = bytes.push(byte);
+    out.done(done);
+    Place::Plain
 }
 
-/// Behind a backslash, any other byte stands for itself.
-fn put_escape(bytes: &mut Vec<u8>, byte: u8) -> Result<Place, NoMemory> {
+/// The byte of an escape. Any other byte stands for itself.
+fn escaped(byte: u8) -> u8 {
     match byte {
-        b'x' => Ok(Place::High),
-        b'n' => put(bytes, b'\n'),
-        b'r' => put(bytes, b'\r'),
-        b't' => put(bytes, b'\t'),
-        _ => put(bytes, byte),
+        b'n' => b'\n',
+        b'r' => b'\r',
+        b't' => b'\t',
+        _ => byte,
     }
 }
 
-fn take(bytes: &mut Vec<u8>, place: Place, byte: u8) -> Result<Place, NoMemory> {
+fn take(out: &mut Out, bytes: &mut Bytes, place: Place, byte: u8) -> Place {
     match place {
-        Place::Plain if byte == b'\\' => Ok(Place::Backslash),
-        Place::Plain => put(bytes, byte),
-        Place::Backslash => put_escape(bytes, byte),
-        Place::High => Ok(Place::Low(digit(byte))),
-        Place::Low(high) => put(bytes, high << 4 | digit(byte)),
+        Place::Plain if byte == b'\\' => Place::Backslash,
+        Place::Plain => put(out, bytes, byte),
+        Place::Backslash if byte == b'x' => Place::High,
+        Place::Backslash => put(out, bytes, escaped(byte)),
+        Place::High => Place::Low(digit(byte)),
+        Place::Low(high) => put(out, bytes, high << 4 | digit(byte)),
     }
 }
 
 /// The bytes that a text with escapes stands for.
-pub fn unescaped(alloc: Global, text: &str) -> Result<Vec<u8>, NoMemory> {
-    let mut bytes = Vec::new(alloc);
+pub fn unescaped(out: &mut Out, text: &str) -> Bytes {
+    let mut bytes = Items::new(out.alloc);
     let mut place = Place::Plain;
     for byte in text.as_bytes() {
-        place = take(&mut bytes, place, *byte)?;
+        place = take(out, &mut bytes, place, *byte);
     }
-    Ok(bytes)
-}
-
-fn put_char(line: &mut String, c: char) -> Result<(), AllocError> {
-    match c {
-        '\n' => line.push_str("\\n"),
-        '\r' => line.push_str("\\r"),
-        '\\' => line.push_str("\\\\"),
-        _ => line.push(c),
-    }
-}
-
-/// The text on one line.
-pub fn escaped(alloc: Global, text: &str) -> Result<String, NoMemory> {
-    let mut line = String::new(alloc);
-    for c in text.chars() {
-        put_char(&mut line, c)?;
-    }
-    Ok(line)
+    bytes
 }

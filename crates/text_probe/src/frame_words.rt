@@ -1,137 +1,114 @@
 //! Frames written, and streams fed in pieces.
-use crate::arguments::{digits, feed};
-use crate::field_words::put_digits;
-use crate::puts::{debug, quote, show, unknown};
+use crate::arguments::{digits, feed, put_digits};
+use crate::outs::Out;
 use base_types::{Bytes, Items, NoMemory, Text};
-use mail_frames::{Decoder, Frame, write_frame};
+use mail_frames::{Decoder, Fed, Frame, write_frame};
 use std::alloc::Global;
 
-fn put_mail_frame(out: &mut String, alloc: Global, entry: &[u8]) -> Result<(), NoMemory> {
-    out.push_str("mail<")?;
-    put_digits(out, alloc, entry)?;
-    Ok(out.push_str(">")?)
+fn put_mail_frame(out: &mut Out, entry: &[u8]) {
+    out.word("mail<");
+    put_digits(out, entry);
+    out.word(">")
 }
 
-fn put_ack_frame(out: &mut String, frame: &Frame) -> Result<(), NoMemory> {
+fn put_frame(out: &mut Out, frame: &Frame) {
     match frame {
+        Frame::Mail(entry) => put_mail_frame(out, entry.as_slice()),
         Frame::Ack(feed, count) => {
-            debug(out, "ack<", feed)?;
-            show(out, " ", count)?;
-            Ok(out.push_str(">")?)
+            out.debug("ack<", feed);
+            out.two(" ", count, "", &">")
         }
-        _ => Ok(()),
+        Frame::Command(text) => out.quote("command", text),
+        Frame::Reply(text) => out.quote("reply", text),
     }
 }
 
-fn put_frame(out: &mut String, alloc: Global, frame: &Frame) -> Result<(), NoMemory> {
-    match frame {
-        Frame::Mail(entry) => put_mail_frame(out, alloc, entry.as_slice()),
-        Frame::Ack(_, _) => put_ack_frame(out, frame),
-        Frame::Command(text) => Ok(quote(out, "command", text)?),
-        Frame::Reply(text) => Ok(quote(out, "reply", text)?),
+fn put_fed(out: &mut Out, fed: &Fed) {
+    for frame in fed.frames.as_slice() {
+        put_frame(out, frame);
+    }
+    if let Some(place) = fed.bad {
+        out.quote("bad", &place);
+    }
+    out.word(".")
+}
+
+fn put_piece(out: &mut Out, decoder: &mut Decoder, piece: &[u8]) {
+    match decoder.feed(piece) {
+        Ok(fed) => put_fed(out, &fed),
+        Err(NoMemory) => out.unknown(),
     }
 }
 
-fn put_frames(out: &mut String, alloc: Global, frames: &[Frame]) -> Result<(), NoMemory> {
-    for frame in frames {
-        put_frame(out, alloc, frame)?;
-    }
-    Ok(())
-}
-
-/// Writes the place of a fault, and a full stop.
-fn put_bad(out: &mut String, bad: Option<u64>) -> Result<(), NoMemory> {
-    match bad {
-        Some(place) => {
-            quote(out, "bad", &place)?;
-            Ok(out.push_str(".")?)
-        }
-        None => Ok(out.push_str(".")?),
+fn put_word(out: &mut Out, decoder: &mut Decoder, word: &str) {
+    match digits(out, word) {
+        Some(piece) => put_piece(out, decoder, piece.as_slice()),
+        None => out.unknown(),
     }
 }
 
-fn put_piece(
-    out: &mut String,
-    alloc: Global,
-    decoder: &mut Decoder,
-    piece: &[u8],
-) -> Result<(), NoMemory> {
-    let fed = decoder.feed(piece)?;
-    put_frames(out, alloc, fed.frames.as_slice())?;
-    put_bad(out, fed.bad)
-}
-
-fn put_word(
-    out: &mut String,
-    alloc: Global,
-    decoder: &mut Decoder,
-    word: &str,
-) -> Result<(), NoMemory> {
-    match digits(alloc, word) {
-        Some(piece) => put_piece(out, alloc, decoder, piece.as_slice()),
-        None => unknown(out),
-    }
-}
-
-/// `feed DIGITS DIGITS ..`: what each piece of a stream brings.
-pub fn put_feed(out: &mut String, alloc: Global, text: &str) -> Result<(), NoMemory> {
-    let mut decoder = Decoder::new(alloc);
+/// `feed DIGITS DIGITS ..`: what each piece of a stream brings, and a full stop.
+pub fn put_feed(out: &mut Out, text: &str) {
+    let mut decoder = Decoder::new(out.alloc);
     for word in text.split(' ') {
-        put_word(out, alloc, &mut decoder, word)?;
+        put_word(out, &mut decoder, word);
     }
-    Ok(())
 }
 
-fn put_mail_of(out: &mut String, alloc: Global, entry: Bytes) -> Result<(), NoMemory> {
-    if entry.len() > 4096 {
-        return unknown(out);
+fn put_written(out: &mut Out, bytes: Result<Bytes, NoMemory>) {
+    match bytes {
+        Ok(bytes) => put_digits(out, bytes.as_slice()),
+        Err(NoMemory) => out.unknown(),
     }
-    let bytes = write_frame(alloc, &Frame::Mail(entry))?;
-    put_digits(out, alloc, bytes.as_slice())
+}
+
+fn mail(alloc: Global, entry: Bytes) -> Result<Bytes, NoMemory> {
+    if entry.len() > 4096 {
+        return Err(NoMemory);
+    }
+    write_frame(alloc, &Frame::Mail(entry))
 }
 
 /// `mail DIGITS`: the digits of the frame.
-pub fn put_mail(out: &mut String, alloc: Global, text: &str) -> Result<(), NoMemory> {
-    match digits(alloc, text) {
-        Some(entry) => put_mail_of(out, alloc, entry),
-        None => unknown(out),
-    }
+pub fn put_mail(out: &mut Out, text: &str) {
+    let entry = digits(out, text).unwrap_or(Items::new(out.alloc));
+    let bytes = mail(out.alloc, entry);
+    put_written(out, bytes)
 }
 
 fn command(alloc: Global, text: &str) -> Result<Bytes, NoMemory> {
     if text.len() > 4096 {
-        return Ok(Items::new(alloc));
+        return Err(NoMemory);
     }
     let text = Text::of(alloc, text)?;
     write_frame(alloc, &Frame::Command(text))
 }
 
 /// `command TEXT`: the digits of the frame.
-pub fn put_command(out: &mut String, alloc: Global, text: &str) -> Result<(), NoMemory> {
-    let bytes = command(alloc, text)?;
-    put_digits(out, alloc, bytes.as_slice())
+pub fn put_command(out: &mut Out, text: &str) {
+    let bytes = command(out.alloc, text);
+    put_written(out, bytes)
 }
 
 fn reply(alloc: Global, text: &str) -> Result<Bytes, NoMemory> {
     if text.len() > 4096 {
-        return Ok(Items::new(alloc));
+        return Err(NoMemory);
     }
     let text = Text::of(alloc, text)?;
     write_frame(alloc, &Frame::Reply(text))
 }
 
 /// `reply TEXT`: the digits of the frame.
-pub fn put_reply(out: &mut String, alloc: Global, text: &str) -> Result<(), NoMemory> {
-    let bytes = reply(alloc, text)?;
-    put_digits(out, alloc, bytes.as_slice())
+pub fn put_reply(out: &mut Out, text: &str) {
+    let bytes = reply(out.alloc, text);
+    put_written(out, bytes)
 }
 
 /// `ack KIND FROM TO COUNT`: the digits of the frame.
-pub fn put_ack(out: &mut String, alloc: Global, numbers: &[u32]) -> Result<(), NoMemory> {
-    let [kind, from, to, count] = numbers else {
-        return unknown(out);
-    };
-    let frame = Frame::Ack(feed(*kind, *from, *to), *count);
-    let bytes = write_frame(alloc, &frame)?;
-    put_digits(out, alloc, bytes.as_slice())
+pub fn put_ack(out: &mut Out, numbers: &[u32]) {
+    if let [kind, from, to, count] = numbers {
+        let frame = Frame::Ack(feed(*kind, *from, *to), *count);
+        let bytes = write_frame(out.alloc, &frame);
+        put_written(out, bytes)
+    }
 }

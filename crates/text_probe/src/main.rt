@@ -18,7 +18,7 @@ mod entry_words;
 mod escapes;
 mod field_words;
 mod frame_words;
-mod puts;
+mod outs;
 mod record_words;
 mod reply_words;
 mod report_words;
@@ -27,10 +27,9 @@ mod text_words;
 mod workload_words;
 
 use arguments::numbers;
-use base_types::NoMemory;
 use calendars::{LAST_DAY, read_date};
-use escapes::{escaped, unescaped};
-use puts::{debug, show};
+use escapes::unescaped;
+use outs::Out;
 use std::alloc::Global;
 use std::io::{self, BufRead, BufReader};
 use std::str;
@@ -38,108 +37,117 @@ use syntax::{first_word, number_i32, number_u32, number_u64};
 use time_zones::east_of;
 
 /// Answers what is asked of numbers, or else that the question is not understood.
-fn tell_of_numbers(
-    out: &mut String,
-    alloc: Global,
-    word: &str,
-    numbers: &[u32],
-) -> Result<(), NoMemory> {
+fn tell_of_numbers(out: &mut Out, word: &str, numbers: &[u32]) {
     match word {
-        "starts" => report_words::put_starts(out, alloc, numbers),
-        "packets" => report_words::put_packets(out, alloc, numbers),
-        "node" => report_words::put_node(out, alloc, numbers),
-        "sample" => report_words::put_sample(out, alloc, numbers),
-        "ack" => frame_words::put_ack(out, alloc, numbers),
+        "starts" => report_words::put_starts(out, numbers),
+        "packets" => report_words::put_packets(out, numbers),
+        "node" => report_words::put_node(out, numbers),
+        "sample" => report_words::put_sample(out, numbers),
+        "ack" => frame_words::put_ack(out, numbers),
         "day_of" => calendar_words::put_day_of(out, numbers),
-        "last_day" => Ok(show(out, "", &LAST_DAY)?),
-        _ => reply_words::tell(out, alloc, word, numbers),
+        "last_day" => out.show("", &LAST_DAY),
+        _ => reply_words::tell(out, word, numbers),
     }
 }
 
-fn tell_more(out: &mut String, alloc: Global, word: &str, text: &str) -> Result<(), NoMemory> {
-    let numbers = numbers(alloc, text)?;
-    tell_of_numbers(out, alloc, word, numbers.as_slice())
+fn tell_more(out: &mut Out, word: &str, text: &str) {
+    let numbers = numbers(out, text);
+    tell_of_numbers(out, word, numbers.as_slice())
 }
 
-fn tell_of_plans(out: &mut String, alloc: Global, word: &str, text: &str) -> Result<(), NoMemory> {
+fn tell_of_records(out: &mut Out, word: &str, text: &str) {
     match word {
-        "days" => calendar_words::put_days(out, alloc, text),
-        "free_days" => calendar_words::put_free_days(out, alloc, text),
-        "nth_day" => calendar_words::put_nth_day(out, alloc, text),
-        "moment" => calendar_words::put_moment(out, alloc, text),
-        "shown" => reply_words::put_shown(out, alloc, text),
-        "all_shown" => reply_words::put_all_shown(out, alloc, text),
-        "read_rows" => record_words::put_rows(out, alloc, text),
-        "are_in_range" => record_words::put_ranges(out, alloc, text),
-        "record_fault" => record_words::put_record_fault(out, alloc, text),
-        "read_script" => record_words::put_read(out, alloc, text),
-        "dates" | "runs_on" | "workload" => workload_words::put_of_definitions(out, alloc, text),
-        _ => tell_more(out, alloc, word, text),
+        "read_rows" => record_words::put_rows(out, text),
+        "are_in_range" => record_words::put_ranges(out, text),
+        "record_fault" => record_words::put_record_fault(out, text),
+        "read_script" => record_words::put_read(out, text),
+        "dates" | "runs_on" | "workload" => workload_words::put_of_definitions(out, text),
+        _ => tell_more(out, word, text),
     }
 }
 
-fn tell_of_bytes(out: &mut String, alloc: Global, word: &str, text: &str) -> Result<(), NoMemory> {
+fn tell_of_plans(out: &mut Out, word: &str, text: &str) {
     match word {
-        "take" => field_words::put_take(out, alloc, text),
-        "put" => field_words::put_put(out, alloc, text),
-        "read_entry" => entry_words::put_entry_of(out, alloc, text),
-        "events" => entry_words::put_events(out, alloc, text),
-        "feed" => frame_words::put_feed(out, alloc, text),
-        "mail" => frame_words::put_mail(out, alloc, text),
-        "command" => frame_words::put_command(out, alloc, text),
-        "reply" => frame_words::put_reply(out, alloc, text),
-        "summary" => report_words::put_summary(out, alloc, text),
+        "read_date" => out.debug("", &read_date(text)),
+        "east_of" => out.debug("", &east_of(text)),
+        "days" => calendar_words::put_days(out, text),
+        "free_days" => calendar_words::put_free_days(out, text),
+        "nth_day" => calendar_words::put_nth_day(out, text),
+        "moment" => calendar_words::put_moment(out, text),
+        "shown" => reply_words::put_shown(out, text),
+        "all_shown" => reply_words::put_all_shown(out, text),
+        _ => tell_of_records(out, word, text),
+    }
+}
+
+fn tell_of_reports(out: &mut Out, word: &str, text: &str) {
+    match word {
+        "read_entry" => entry_words::put_entry_of(out, text),
+        "events" => entry_words::put_events(out, text),
+        "summary" => report_words::put_summary(out, text),
         "stream_word" => report_words::put_stream_word(out, text),
         "job_word" => report_words::put_job_word(out, text),
-        _ => tell_of_plans(out, alloc, word, text),
+        _ => tell_of_plans(out, word, text),
     }
 }
 
-fn tell_of_words(out: &mut String, alloc: Global, word: &str, text: &str) -> Result<(), NoMemory> {
+fn tell_of_bytes(out: &mut Out, word: &str, text: &str) {
     match word {
-        "number_u32" => Ok(debug(out, "", &number_u32(text))?),
-        "number_u64" => Ok(debug(out, "", &number_u64(text))?),
-        "number_i32" => Ok(debug(out, "", &number_i32(text))?),
-        "read_date" => Ok(debug(out, "", &read_date(text))?),
-        "east_of" => Ok(debug(out, "", &east_of(text))?),
-        "first_word" => Ok(text_words::put_first_word(out, text)?),
-        "rule_has" => Ok(text_words::put_rule(out, text)?),
-        "is_in_range" => Ok(text_words::put_range(out, text)?),
-        _ => tell_of_bytes(out, alloc, word, text),
+        "take" => field_words::put_take(out, text),
+        "put" => field_words::put_put(out, text),
+        "feed" => frame_words::put_feed(out, text),
+        "mail" => frame_words::put_mail(out, text),
+        "command" => frame_words::put_command(out, text),
+        "reply" => frame_words::put_reply(out, text),
+        _ => tell_of_reports(out, word, text),
+    }
+}
+
+fn tell_of_languages(out: &mut Out, word: &str, text: &str) {
+    match word {
+        "read_cond" => condition_words::put_canonical(out, text),
+        "holds" => condition_words::put_holds(out, text),
+        "postfix" => condition_words::put_postfix(out, text),
+        "parse_command" => command_words::put_command(out, text),
+        "tokens" => definition_words::put_tokens(out, text),
+        "parse" | "counts" | "print_defs" => definition_words::put_read(out, word, text),
+        "rule_has" => text_words::put_rule(out, text),
+        "is_in_range" => text_words::put_range(out, text),
+        _ => tell_of_bytes(out, word, text),
     }
 }
 
 /// Writes what a word's function gives.
-fn tell(out: &mut String, alloc: Global, word: &str, text: &str) -> Result<(), NoMemory> {
+fn tell(out: &mut Out, word: &str, text: &str) {
     match word {
-        "lines" => text_words::put_lines(out, alloc, text),
-        "words" => text_words::put_words(out, alloc, text),
-        "name" => text_words::put_name(out, alloc, text),
-        "quoted" => text_words::put_quoted(out, alloc, text),
-        "read_cond" => condition_words::put_canonical(out, alloc, text),
-        "holds" => condition_words::put_holds(out, alloc, text),
-        "postfix" => condition_words::put_postfix(out, alloc, text),
-        "parse_command" => command_words::put_command(out, alloc, text),
-        "tokens" => definition_words::put_tokens(out, alloc, text),
-        "parse" | "counts" | "print_defs" => definition_words::put_read(out, alloc, word, text),
-        _ => tell_of_words(out, alloc, word, text),
+        "number_u32" => out.debug("", &number_u32(text)),
+        "number_u64" => out.debug("", &number_u64(text)),
+        "number_i32" => out.debug("", &number_i32(text)),
+        "lines" => text_words::put_lines(out, text),
+        "words" => text_words::put_words(out, text),
+        "first_word" => text_words::put_first_word(out, text),
+        "name" => text_words::put_name(out, text),
+        "quoted" => text_words::put_quoted(out, text),
+        _ => tell_of_languages(out, word, text),
     }
 }
 
-fn answer_text(alloc: Global, word: &str, text: &str) -> Result<String, NoMemory> {
-    let mut out = String::new(alloc);
-    tell(&mut out, alloc, word, text)?;
-    escaped(alloc, out.as_str())
+fn tell_of(out: &mut Out, word: &str, argument: &[u8]) {
+    match str::from_utf8(argument) {
+        Ok(text) => tell(out, word, text),
+        Err(_) => out.unknown(),
+    }
 }
 
 /// The line that answers a line.
-fn answer(alloc: Global, line: &str) -> Result<String, NoMemory> {
+fn answer(alloc: Global, line: &str) -> Out {
     let (word, rest) = first_word(line);
-    let bytes = unescaped(alloc, rest)?;
-    match str::from_utf8(bytes.as_slice()) {
-        Ok(text) => answer_text(alloc, word, text),
-        Err(_) => answer_text(alloc, "", ""),
-    }
+    let mut told = Out::new(alloc);
+    let argument = unescaped(&mut told, rest);
+    tell_of(&mut told, word, argument.as_slice());
+    let mut out = Out::new(alloc);
+    out.escaped(told.text());
+    out
 }
 
 fn main(rt: HostRuntime) -> io::Result<()> {
@@ -147,10 +155,8 @@ fn main(rt: HostRuntime) -> io::Result<()> {
     let input = BufReader::new(alloc, rt.reader())?;
     for line in input.lines(alloc) {
         let line = line?;
-        match answer(alloc, line.as_str()) {
-            Ok(text) => rt.println(text.as_str())?,
-            Err(NoMemory) => rt.println("no memory")?,
-        }
+        let answer = answer(alloc, line.as_str());
+        rt.println(answer.text())?;
     }
     Ok(())
 }

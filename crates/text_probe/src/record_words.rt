@@ -1,7 +1,7 @@
 //! Records: their rows, their faults, and what they are read to.
-use crate::arguments::text_in;
+use crate::arguments::put_made;
 use crate::command_words::put_line;
-use crate::puts::{debug, show, two, unknown};
+use crate::outs::Out;
 use crate::row_texts::put_row;
 use base_types::{JobNo, Net, NoMemory, Obj, StreamDrafts, Ws};
 use conman_syntax::Line;
@@ -9,20 +9,21 @@ use plan_listing::listing_of;
 use record_faults::{ScriptKind, place_rows, record_fault};
 use record_rows::{Row, is_in_range, read_rows};
 use record_script::{OneStep, Script, ScriptStep, StepForm, read_script};
-use std::alloc::{AllocError, Global};
+use std::alloc::Global;
 
-fn put_each(out: &mut String, rows: &[Row]) -> Result<(), AllocError> {
+fn put_each(out: &mut Out, rows: &[Row]) {
     for row in rows {
-        put_row(out, row)?;
-        out.push_str("|")?;
+        put_row(out, row);
+        out.word("|");
     }
-    Ok(())
 }
 
 /// `read_rows TEXT`
-pub fn put_rows(out: &mut String, alloc: Global, text: &str) -> Result<(), NoMemory> {
-    let rows = read_rows(alloc, text)?;
-    Ok(put_each(out, rows.as_slice())?)
+pub fn put_rows(out: &mut Out, text: &str) {
+    match read_rows(out.alloc, text) {
+        Ok(rows) => put_each(out, rows.as_slice()),
+        Err(NoMemory) => out.unknown(),
+    }
 }
 
 fn are_in_range(rows: &[Row]) -> bool {
@@ -30,9 +31,11 @@ fn are_in_range(rows: &[Row]) -> bool {
 }
 
 /// `are_in_range TEXT`: whether each row is.
-pub fn put_ranges(out: &mut String, alloc: Global, text: &str) -> Result<(), NoMemory> {
-    let rows = read_rows(alloc, text)?;
-    Ok(show(out, "", &are_in_range(rows.as_slice()))?)
+pub fn put_ranges(out: &mut Out, text: &str) {
+    match read_rows(out.alloc, text) {
+        Ok(rows) => out.show("", &are_in_range(rows.as_slice())),
+        Err(NoMemory) => out.unknown(),
+    }
 }
 
 fn fault_of(alloc: Global, text: &str) -> Result<Option<(usize, ScriptKind)>, NoMemory> {
@@ -42,106 +45,103 @@ fn fault_of(alloc: Global, text: &str) -> Result<Option<(usize, ScriptKind)>, No
 }
 
 /// `record_fault TEXT`
-pub fn put_record_fault(out: &mut String, alloc: Global, text: &str) -> Result<(), NoMemory> {
-    let fault = fault_of(alloc, text)?;
-    Ok(debug(out, "", &fault)?)
-}
-
-fn put_object(out: &mut String, object: &Obj) -> Result<(), AllocError> {
-    match object {
-        Obj::Job(job) => show(out, " job ", &job.0),
-        Obj::Stream(stream) => show(out, " stream ", &stream.0),
+pub fn put_record_fault(out: &mut Out, text: &str) {
+    match fault_of(out.alloc, text) {
+        Ok(fault) => out.debug("", &fault),
+        Err(NoMemory) => out.unknown(),
     }
 }
 
-fn put_typed(out: &mut String, ws: &Ws, line: &Line) -> Result<(), AllocError> {
-    two(out, "type ", &ws.0, "", &" ")?;
+fn put_object(out: &mut Out, object: &Obj) {
+    match object {
+        Obj::Job(job) => out.show(" job ", &job.0),
+        Obj::Stream(stream) => out.show(" stream ", &stream.0),
+    }
+}
+
+fn put_typed(out: &mut Out, ws: &Ws, line: &Line) {
+    out.two("type ", &ws.0, "", &" ");
     put_line(out, line)
 }
 
-fn put_fulfil(out: &mut String, ws: &Ws, object: &Obj, i: u16) -> Result<(), AllocError> {
-    show(out, "fulfil ", &ws.0)?;
-    put_object(out, object)?;
-    show(out, " ", &i)
+fn put_fulfil(out: &mut Out, ws: &Ws, object: &Obj, i: u16) {
+    out.show("fulfil ", &ws.0);
+    put_object(out, object);
+    out.show(" ", &i)
 }
 
-fn put_deliver(out: &mut String, from: &Ws, to: &Ws, n: u32) -> Result<(), AllocError> {
-    two(out, "deliver ", &from.0, " ", &to.0)?;
-    show(out, " ", &n)
+fn put_deliver(out: &mut Out, from: &Ws, to: &Ws, n: u32) {
+    out.two("deliver ", &from.0, " ", &to.0);
+    out.show(" ", &n)
 }
 
-fn put_ended(out: &mut String, ws: &Ws, job: &JobNo, rc: i32) -> Result<(), AllocError> {
-    two(out, "ended ", &ws.0, " ", &job.0)?;
-    show(out, " ", &rc)
+fn put_ended(out: &mut Out, ws: &Ws, job: &JobNo, rc: i32) {
+    out.two("ended ", &ws.0, " ", &job.0);
+    out.show(" ", &rc)
 }
 
-fn put_one(out: &mut String, step: &OneStep) -> Result<(), AllocError> {
+fn put_one(out: &mut Out, step: &OneStep) {
     match step {
-        OneStep::Next => out.push_str("next"),
-        OneStep::NextDay(day) => show(out, "next ", day),
-        OneStep::Turn(ws, time) => two(out, "turn ", &ws.0, " ", &time.0),
-        OneStep::Link(a, b) => two(out, "link ", &a.0, " ", &b.0),
-        OneStep::Unlink(a, b) => two(out, "unlink ", &a.0, " ", &b.0),
+        OneStep::Next => out.word("next"),
+        OneStep::NextDay(day) => out.show("next ", day),
+        OneStep::Turn(ws, time) => out.two("turn ", &ws.0, " ", &time.0),
+        OneStep::Link(a, b) => out.two("link ", &a.0, " ", &b.0),
+        OneStep::Unlink(a, b) => out.two("unlink ", &a.0, " ", &b.0),
         OneStep::Deliver(from, to, n) => put_deliver(out, from, to, *n),
-        OneStep::Started(ws, job) => two(out, "started ", &ws.0, " ", &job.0),
-        OneStep::Failed(ws, job) => two(out, "failed ", &ws.0, " ", &job.0),
+        OneStep::Started(ws, job) => out.two("started ", &ws.0, " ", &job.0),
+        OneStep::Failed(ws, job) => out.two("failed ", &ws.0, " ", &job.0),
         OneStep::Ended(ws, job, rc) => put_ended(out, ws, job, *rc),
         OneStep::Typed(ws, line) => put_typed(out, ws, line),
         OneStep::Fulfil(ws, object, i) => put_fulfil(out, ws, object, *i),
     }
 }
 
-fn put_cut(out: &mut String, ws: &Ws, kept: bool, cut: &OneStep) -> Result<(), AllocError> {
-    two(out, "crash ", &ws.0, " kept ", &kept)?;
-    out.push_str(" ")?;
+fn put_cut(out: &mut Out, ws: &Ws, kept: bool, cut: &OneStep) {
+    out.two("crash ", &ws.0, " kept ", &kept);
+    out.word(" ");
     put_one(out, cut)
 }
 
-fn put_form(out: &mut String, form: &StepForm) -> Result<(), AllocError> {
+fn put_form(out: &mut Out, form: &StepForm) {
     match form {
         StepForm::One(one) => put_one(out, one),
-        StepForm::Flow(a, b) => two(out, "flow ", &a.0, " ", &b.0),
-        StepForm::Reap(ws, rc) => two(out, "reap ", &ws.0, " ", rc),
-        StepForm::Crash(ws) => show(out, "crash ", &ws.0),
+        StepForm::Flow(a, b) => out.two("flow ", &a.0, " ", &b.0),
+        StepForm::Reap(ws, rc) => out.two("reap ", &ws.0, " ", rc),
+        StepForm::Crash(ws) => out.show("crash ", &ws.0),
         StepForm::CrashIn(ws, kept, cut) => put_cut(out, ws, *kept, cut),
-        StepForm::Recover(ws) => show(out, "recover ", &ws.0),
+        StepForm::Recover(ws) => out.show("recover ", &ws.0),
     }
 }
 
-fn put_steps(out: &mut String, steps: &[ScriptStep]) -> Result<(), AllocError> {
+fn put_steps(out: &mut Out, steps: &[ScriptStep]) {
     for step in steps {
-        two(out, "", &step.line, "", &" ")?;
-        put_form(out, &step.form)?;
-        out.push_str("|")?;
+        out.two("", &step.line, "", &" ");
+        put_form(out, &step.form);
+        out.word("|");
     }
-    Ok(())
 }
 
-fn put_plan(
-    out: &mut String,
-    alloc: Global,
-    net: &Net,
-    plan: &StreamDrafts,
-) -> Result<(), NoMemory> {
-    let bytes = listing_of(alloc, net, plan)?;
-    Ok(out.push_str(text_in(bytes.as_slice()))?)
+fn put_plan(out: &mut Out, net: &Net, plan: &StreamDrafts) {
+    let made = listing_of(out.alloc, net, plan);
+    let made = out.kept(made);
+    put_made(out, made)
 }
 
 /// The network with each plan, and the steps with their lines.
-fn put_script(out: &mut String, alloc: Global, script: &Script) -> Result<(), NoMemory> {
+fn put_script(out: &mut Out, script: &Script) {
     for plan in script.plans.as_slice() {
-        put_plan(out, alloc, &script.net, plan)?;
+        put_plan(out, &script.net, plan);
     }
-    Ok(put_steps(out, script.steps.as_slice())?)
+    put_steps(out, script.steps.as_slice())
 }
 
 /// `read_script TEXT`
-pub fn put_read(out: &mut String, alloc: Global, text: &str) -> Result<(), NoMemory> {
+pub fn put_read(out: &mut Out, text: &str) {
     if text.len() > 4096 {
-        return unknown(out);
+        return out.unknown();
     }
-    match read_script(alloc, text) {
-        Ok(script) => put_script(out, alloc, &script),
-        Err(fault) => Ok(debug(out, "", &fault)?),
+    match read_script(out.alloc, text) {
+        Ok(script) => put_script(out, &script),
+        Err(fault) => out.debug("", &fault),
     }
 }

@@ -1,6 +1,6 @@
 //! What a running node answers. Workstation n is called Wn.
 use crate::arguments::{halves, station};
-use crate::puts::{show, unknown};
+use crate::outs::Out;
 use crate::report_words::net;
 use base_types::{Net, NoMemory, Text};
 use node_replies::{
@@ -37,6 +37,13 @@ fn kind_of(word: &str) -> Shows {
     }
 }
 
+fn put_text(out: &mut Out, text: Result<Text, NoMemory>) {
+    match text {
+        Ok(text) => out.word(text.as_str()),
+        Err(NoMemory) => out.unknown(),
+    }
+}
+
 fn shown_of(alloc: Global, front: &str, listing: &str) -> Result<Text, NoMemory> {
     let (kind, pattern) = first_word(front);
     let pattern = Text::of(alloc, pattern)?;
@@ -44,27 +51,26 @@ fn shown_of(alloc: Global, front: &str, listing: &str) -> Result<Text, NoMemory>
 }
 
 /// `shown KIND PATTERN / LISTING`
-pub fn put_shown(out: &mut String, alloc: Global, text: &str) -> Result<(), NoMemory> {
+pub fn put_shown(out: &mut Out, text: &str) {
     let (front, listing) = halves(text);
-    let text = shown_of(alloc, front, listing)?;
-    Ok(show(out, "", &text)?)
+    let text = shown_of(out.alloc, front, listing);
+    put_text(out, text)
 }
 
 /// `all_shown KIND / LISTING`
-pub fn put_all_shown(out: &mut String, alloc: Global, text: &str) -> Result<(), NoMemory> {
+pub fn put_all_shown(out: &mut Out, text: &str) {
     let (kind, listing) = halves(text);
-    let text = shown(alloc, kind_of(kind), None, listing)?;
-    Ok(show(out, "", &text)?)
+    let text = shown(out.alloc, kind_of(kind), None, listing);
+    put_text(out, text)
 }
 
 fn refused_for(alloc: Global, number: u32) -> Result<Text, NoMemory> {
     match REFUSALS.get(number as usize) {
         Some(refusal) => refused(alloc, *refusal),
-        None => Ok(Text::new(alloc)),
+        None => Err(NoMemory),
     }
 }
 
-/// The answers to words with numbers; the empty text stands for none.
 fn reply(alloc: Global, net: &Net, word: &str, numbers: &[u32]) -> Result<Text, NoMemory> {
     match numbers {
         [from, to, place] => kept(alloc, net, station(*from), station(*to), *place),
@@ -78,23 +84,19 @@ fn reply(alloc: Global, net: &Net, word: &str, numbers: &[u32]) -> Result<Text, 
     }
 }
 
-fn reply_of(alloc: Global, word: &str, numbers: &[u32]) -> Result<Text, NoMemory> {
-    let net = net(alloc, 2)?;
-    reply(alloc, &net, word, numbers)
-}
-
-fn put_reply(out: &mut String, alloc: Global, word: &str, numbers: &[u32]) -> Result<(), NoMemory> {
-    let text = reply_of(alloc, word, numbers)?;
-    Ok(show(out, "", &text)?)
+fn put_reply(out: &mut Out, word: &str, numbers: &[u32]) {
+    let net = net(out, 2);
+    let text = reply(out.alloc, &net, word, numbers);
+    put_text(out, text)
 }
 
 /// `kept FROM TO PLACE`, `link_asked WS`, `unlink_asked WS`, `planned RUN`, `shutdown`, and `refused N` with the place of
 /// the reason, from 0.
-pub fn tell(out: &mut String, alloc: Global, word: &str, numbers: &[u32]) -> Result<(), NoMemory> {
+pub fn tell(out: &mut Out, word: &str, numbers: &[u32]) {
     match word {
         "kept" | "link_asked" | "unlink_asked" | "planned" | "shutdown" | "refused" => {
-            put_reply(out, alloc, word, numbers)
+            put_reply(out, word, numbers)
         }
-        _ => unknown(out),
+        _ => out.unknown(),
     }
 }

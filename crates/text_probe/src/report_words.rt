@@ -1,38 +1,50 @@
 //! The parts of reports beside their entries, summaries, the words of states, and samples. Workstation n is called Wn.
-use crate::arguments::{feed, halves, numbers, station, text_in};
-use crate::puts::{quote, two, unknown};
+use crate::arguments::{feed, halves, numbers, put_made, station};
+use crate::outs::Out;
 use base_types::{
     Bytes, Carry, Counts, FeedCount, FeedCounts, Items, JobNo, Net, NoMemory, Node, NodePart,
-    PairCount, ReportParts, Start, Text,
+    Nodes, PairCount, ReportParts, Start, Text,
 };
 use report_text::{job_word, print_report, print_summary, stream_word};
 use sample_record::sample;
-use std::alloc::Global;
+use std::alloc::{AllocError, Global};
 use std::fmt::Write;
 use syntax::number_u32;
 
-fn node(alloc: Global, number: u32) -> Result<Node, NoMemory> {
-    let name = format!(in alloc; "W{number}")?;
-    Ok(Node {
-        name: Text::from_string(name),
+fn name(alloc: Global, number: u32) -> Result<String, AllocError> {
+    format!(in alloc; "W{number}")
+}
+
+fn node(alloc: Global, number: u32) -> Node {
+    let name = match name(alloc, number) {
+        Ok(name) => Text::from_string(name),
+        Err(_) => Text::new(alloc),
+    };
+    Node {
+        name,
         hop: None,
         manager: false,
         full: false,
-    })
+    }
+}
+
+fn nodes(out: &mut Out, count: u32) -> Nodes {
+    let mut nodes = Items::new(out.alloc);
+    for number in 0..count {
+        let done = nodes.push(node(out.alloc, number));
+        out.done(done);
+    }
+    nodes
 }
 
 /// A network of so many workstations.
-pub fn net(alloc: Global, count: u32) -> Result<Net, NoMemory> {
-    let mut nodes = Items::new(alloc);
-    for number in 0..count {
-        nodes.push(node(alloc, number)?)?;
-    }
-    Ok(Net {
-        nodes,
-        resources: Items::new(alloc),
-        prompts: Items::new(alloc),
+pub fn net(out: &mut Out, count: u32) -> Net {
+    Net {
+        nodes: nodes(out, count),
+        resources: Items::new(out.alloc),
+        prompts: Items::new(out.alloc),
         carry: Carry::Yes,
-    })
+    }
 }
 
 /// The parts of a report in which nothing is told.
@@ -46,126 +58,119 @@ pub fn no_parts(alloc: Global) -> ReportParts {
 }
 
 /// The report of these parts in a network of 300 workstations.
-pub fn printed(alloc: Global, parts: &ReportParts) -> Result<Bytes, NoMemory> {
-    let net = net(alloc, 300)?;
-    print_report(alloc, &net, parts)
+pub fn printed(out: &mut Out, parts: &ReportParts) -> Option<Bytes> {
+    let net = net(out, 300);
+    let made = print_report(out.alloc, &net, parts);
+    out.kept(made)
 }
 
-pub fn put_report(out: &mut String, alloc: Global, parts: &ReportParts) -> Result<(), NoMemory> {
-    let bytes = printed(alloc, parts)?;
-    Ok(out.push_str(text_in(bytes.as_slice()))?)
+pub fn put_report(out: &mut Out, parts: &ReportParts) {
+    let made = printed(out, parts);
+    put_made(out, made)
 }
 
-fn add_start(parts: &mut ReportParts, row: &[u32]) -> Result<(), NoMemory> {
-    match row {
-        [ws, job, number] => parts.starts.push(Start {
+fn add_start(out: &mut Out, parts: &mut ReportParts, row: &[u32]) {
+    if let [ws, job, number] = row {
+        let done = parts.starts.push(Start {
             ws: station(*ws),
             job: JobNo(*job),
             number: *number,
-        }),
-        _ => Ok(()),
+        });
+        out.done(done);
     }
 }
 
 /// `starts W J N W J N ..`: a report of launches.
-pub fn put_starts(out: &mut String, alloc: Global, numbers: &[u32]) -> Result<(), NoMemory> {
-    let mut parts = no_parts(alloc);
+pub fn put_starts(out: &mut Out, numbers: &[u32]) {
+    let mut parts = no_parts(out.alloc);
     for row in numbers.chunks(3) {
-        add_start(&mut parts, row)?;
+        add_start(out, &mut parts, row);
     }
-    put_report(out, alloc, &parts)
+    put_report(out, &parts)
 }
 
-fn add_packets(parts: &mut ReportParts, row: &[u32]) -> Result<(), NoMemory> {
-    match row {
-        [from, to, count] => parts.packets.push(PairCount {
+fn add_packets(out: &mut Out, parts: &mut ReportParts, row: &[u32]) {
+    if let [from, to, count] = row {
+        let done = parts.packets.push(PairCount {
             from: station(*from),
             to: station(*to),
             count: *count,
-        }),
-        _ => Ok(()),
+        });
+        out.done(done);
     }
 }
 
 /// `packets A B N A B N ..`: a report of packets.
-pub fn put_packets(out: &mut String, alloc: Global, numbers: &[u32]) -> Result<(), NoMemory> {
-    let mut parts = no_parts(alloc);
+pub fn put_packets(out: &mut Out, numbers: &[u32]) {
+    let mut parts = no_parts(out.alloc);
     for row in numbers.chunks(3) {
-        add_packets(&mut parts, row)?;
+        add_packets(out, &mut parts, row);
     }
-    put_report(out, alloc, &parts)
+    put_report(out, &parts)
 }
 
-fn add_held(holds: &mut FeedCounts, row: &[u32]) -> Result<(), NoMemory> {
-    match row {
-        [kind, from, to, count] => holds.push(FeedCount {
+fn add_held(out: &mut Out, holds: &mut FeedCounts, row: &[u32]) {
+    if let [kind, from, to, count] = row {
+        let done = holds.push(FeedCount {
             feed: feed(*kind, *from, *to),
             count: *count,
-        }),
-        _ => Ok(()),
+        });
+        out.done(done);
     }
 }
 
-fn held(alloc: Global, counts: &[u32]) -> Result<FeedCounts, NoMemory> {
-    let mut holds = Items::new(alloc);
+fn held(out: &mut Out, counts: &[u32]) -> FeedCounts {
+    let mut holds = Items::new(out.alloc);
     for row in counts.chunks(4) {
-        add_held(&mut holds, row)?;
+        add_held(out, &mut holds, row);
     }
-    Ok(holds)
+    holds
 }
 
-fn no_plan(alloc: Global) -> Result<Bytes, NoMemory> {
-    Ok(Items::of_vec(b"no plan\n".to_vec(alloc)?))
+/// The part of a workstation without a plan.
+fn node_part(out: &mut Out, ws: u32, counts: &[u32]) -> NodePart {
+    NodePart {
+        ws: station(ws),
+        holds: held(out, counts),
+        listing: Items::new(out.alloc),
+    }
 }
 
-fn add_node(
-    alloc: Global,
-    parts: &mut ReportParts,
-    ws: u32,
-    counts: &[u32],
-) -> Result<(), NoMemory> {
-    let listing = no_plan(alloc)?;
-    let holds = held(alloc, counts)?;
-    let ws = station(ws);
-    parts.nodes.push(NodePart { ws, holds, listing })
-}
-
-/// `node W KIND FROM TO COUNT ..`: a report of a workstation without a plan that holds these counts of feeds.
-pub fn put_node(out: &mut String, alloc: Global, numbers: &[u32]) -> Result<(), NoMemory> {
-    let [ws, counts @ ..] = numbers else {
-        return unknown(out);
-    };
-    let mut parts = no_parts(alloc);
-    add_node(alloc, &mut parts, *ws, counts)?;
-    put_report(out, alloc, &parts)
+/// `node W KIND FROM TO COUNT ..`: a report of a workstation that holds these counts of feeds, with an empty listing.
+pub fn put_node(out: &mut Out, numbers: &[u32]) {
+    if let [ws, counts @ ..] = numbers {
+        let mut parts = no_parts(out.alloc);
+        let part = node_part(out, *ws, counts);
+        let done = parts.nodes.push(part);
+        out.done(done);
+        put_report(out, &parts)
+    }
 }
 
 fn summary(
     alloc: Global,
+    net: &Net,
     streams: &Counts,
     jobs: &Counts,
     totals: &[u32],
 ) -> Result<Bytes, NoMemory> {
-    let net = net(alloc, 1)?;
     match totals {
-        [events, starts] => print_summary(alloc, &net, streams, jobs, *events, *starts),
+        [events, starts] => print_summary(alloc, net, streams, jobs, *events, *starts),
         _ => Ok(Items::new(alloc)),
     }
 }
 
-fn summary_of(alloc: Global, streams: &Counts, text: &str) -> Result<Bytes, NoMemory> {
-    let (totals, jobs) = halves(text);
-    let totals = numbers(alloc, totals)?;
-    let jobs = numbers(alloc, jobs)?;
-    summary(alloc, streams, &jobs, totals.as_slice())
-}
-
-/// `summary STREAMS / EVENTS STARTS / JOBS`
-pub fn put_summary(out: &mut String, alloc: Global, text: &str) -> Result<(), NoMemory> {
-    let (streams, rest) = halves(text);
-    let streams = numbers(alloc, streams)?;
-    let bytes = summary_of(alloc, &streams, rest)?;
-    Ok(out.push_str(text_in(bytes.as_slice()))?)
+/// `summary EVENTS STARTS / STREAMS / JOBS`
+pub fn put_summary(out: &mut Out, text: &str) {
+    let (totals, rest) = halves(text);
+    let (streams, jobs) = halves(rest);
+    let totals = numbers(out, totals);
+    let streams = numbers(out, streams);
+    let jobs = numbers(out, jobs);
+    let net = net(out, 1);
+    let made = summary(out.alloc, &net, &streams, &jobs, totals.as_slice());
+    let made = out.kept(made);
+    put_made(out, made)
 }
 
 fn state(text: &str) -> u8 {
@@ -173,13 +178,13 @@ fn state(text: &str) -> u8 {
 }
 
 /// `stream_word NUMBER`
-pub fn put_stream_word(out: &mut String, text: &str) -> Result<(), NoMemory> {
-    Ok(quote(out, "", &stream_word(state(text)))?)
+pub fn put_stream_word(out: &mut Out, text: &str) {
+    out.quote("", &stream_word(state(text)))
 }
 
 /// `job_word NUMBER`
-pub fn put_job_word(out: &mut String, text: &str) -> Result<(), NoMemory> {
-    Ok(quote(out, "", &job_word(state(text)))?)
+pub fn put_job_word(out: &mut Out, text: &str) {
+    out.quote("", &job_word(state(text)))
 }
 
 /// A hash by the rule of Fowler, Noll and Vo: each byte is put in by exclusive or, and then a prime is multiplied.
@@ -191,13 +196,17 @@ fn hash(bytes: &[u8]) -> u64 {
     hash
 }
 
+fn put_hash(out: &mut Out, bytes: &[u8]) {
+    out.two("", &bytes.len(), " ", &hash(bytes))
+}
+
 /// `sample JOBS SEED`: how many bytes the sample has, and their hash.
-pub fn put_sample(out: &mut String, alloc: Global, numbers: &[u32]) -> Result<(), NoMemory> {
+pub fn put_sample(out: &mut Out, numbers: &[u32]) {
     match numbers {
-        [jobs, seed] if *jobs <= 2000 => {
-            let record = sample(alloc, *jobs, *seed)?;
-            Ok(two(out, "", &record.len(), " ", &hash(record.as_slice()))?)
-        }
-        _ => unknown(out),
+        [jobs, seed] if *jobs <= 2000 => match sample(out.alloc, *jobs, *seed) {
+            Ok(record) => put_hash(out, record.as_slice()),
+            Err(NoMemory) => out.unknown(),
+        },
+        _ => out.unknown(),
     }
 }

@@ -1,4 +1,4 @@
-use Rattle.std.proofs.Common.{◌≡◌, ◌∙◌, ◌∷◌, List, Option, ap, subst, sym}
+use Rattle.std.proofs.Common.{◌≡◌, ◌∙◌, List, Option, ap, subst, sym}
 use Rattle.std.specs.Prelude.{flat_map, map}
 use Rattle.model.specs.Types.{Job}
 use Rattle.model.specs.History.{view_of}
@@ -15,10 +15,10 @@ use Rattle.file_watch.proofs.probes.soonest_of_jobs.Goals as goal
 pub loop-parent-init : goal.loop-parent-init
 loop-parent-init c =
     let V = view_of c.args.o.now in
-    let all : filed_jobs_left c.into_iter-_parent-iterator.result ≡ filed_jobs V c.args.w =
-    ap filed_jobs_left c.into_iter-_parent-iterator.ensures.into_iter_gives ∙ c.filed_jobs-_parent-items.ensures
+    let all : filed_jobs_left c.into_iter-parent-iterator.result ≡ filed_jobs V c.args.w =
+    ap filed_jobs_left c.into_iter-parent-iterator.ensures.into_iter_gives ∙ c.filed_jobs-parent-items.ensures
     in
-    ap (soonest c.args.last.now) (all_jobs V c.args.w (filed_jobs_left c.into_iter-_parent-iterator.result) all)
+    ap (soonest c.args.last.now) (all_jobs V c.args.w (filed_jobs_left c.into_iter-parent-iterator.result) all)
 
 pub loop-parent-preserved : goal.loop-parent-preserved
 loop-parent-preserved c =

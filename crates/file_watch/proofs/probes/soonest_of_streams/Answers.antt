@@ -1,4 +1,4 @@
-use Rattle.std.proofs.Common.{◌≡◌, ◌∙◌, ◌∷◌, List, Option, ap, subst, sym}
+use Rattle.std.proofs.Common.{◌≡◌, ◌∙◌, List, Option, ap, subst, sym}
 use Rattle.std.specs.Prelude.{flat_map, map}
 use Rattle.model.specs.Types.{Stream, StreamDoc}
 use Rattle.model.specs.History.{view_of}

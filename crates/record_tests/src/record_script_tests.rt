@@ -1,3 +1,0 @@
-//! Whole records, and what is read of each.
-mod refusals;
-mod values;

@@ -3,7 +3,7 @@
 # A case is a folder cases/NAME. `args` has the words, one a line; `stdin` is the input and `stdout` what must be
 # written, each empty where it is missing; `status` is the exit status, 0 where it is missing. In place of `stdin` and
 # `stdout` may stand a bash script, `make-stdin` or `make-stdout`, that writes it. It runs in the case's folder, and TWS
-# names the program there.
+# names the program there. `program` has the name of a crate whose program is run in place of this one.
 # For each case that fails it says what differs first. The last line is `cases: N passed, M failed`, and the status is 1
 # where one failed or none was found.
 # Usage: trials/cases.sh [PROGRAM] [NAME..]. PROGRAM is named from the top folder on; with names, only these cases run.
@@ -23,7 +23,8 @@ case "$TWS" in
   *) TWS=$PWD/$TWS ;;
 esac
 export TWS
-cases=$PWD/cases
+top=$PWD
+cases=$top/cases
 room=$(mktemp -d) || exit 1
 trap 'rm -rf "$room"' EXIT
 mkdir "$room/run"
@@ -68,8 +69,16 @@ difference() {
 
 # fails CASE: puts into `fault` what is wrong with the case, nothing where it passes
 fails() {
-  local words=() word input status wanted=0
+  local words=() word input status wanted=0 program=$TWS name
   fault=
+  if [ -f "$1/program" ]; then
+    read -r name < "$1/program"
+    program=$top/crates/$name/out/$name
+    if [ ! -x "$program" ]; then
+      fault="there is no program $name"
+      return
+    fi
+  fi
   while IFS= read -r word || [ -n "$word" ]; do
     words+=("$word")
   done < "$1/args"
@@ -81,7 +90,7 @@ fails() {
     return
   fi
   input=$part
-  (cd "$room/run" && timeout 60 "$TWS" ${words[@]+"${words[@]}"}) < "$input" > "$room/got"
+  (cd "$room/run" && timeout 60 "$program" ${words[@]+"${words[@]}"}) < "$input" > "$room/got"
   status=$?
   if ! part "$1" stdout; then
     fault="make-stdout fails"

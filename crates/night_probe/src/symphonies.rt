@@ -1,5 +1,5 @@
 //! The bytes of Symphony.
-ghost use Rattle.std.specs.Prelude.{IfOk, IfSome, OnOk};
+ghost use Rattle.std.specs.Prelude.{IfOk, OnOk};
 ghost use Rattle.model.specs.Fit.{AreFitEntries, IsFit};
 
 use crate::asked::Asked;

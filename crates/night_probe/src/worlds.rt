@@ -56,7 +56,8 @@ fn sent_and_reached(world: &World, a: Ws, b: Ws) -> (u32, u32) {
 fn flow(world: &mut World, out: &mut String, a: Ws, b: Ws) -> Result<bool, NoMemory> {
     let (sent, reached) = sent_and_reached(world, a, b);
     for k in reached..sent {
-        take(world, out, &WorldStep::Deliver(a, b, k + 1))?;
+        let step = WorldStep::Deliver(a, b, k + 1);
+        take(world, out, &step)?;
     }
     Ok(true)
 }
@@ -88,7 +89,8 @@ fn reap(world: &mut World, out: &mut String, w: Ws) -> Result<bool, NoMemory> {
     let mut beyond = 0;
     for _ in 0..live_count(world, w) {
         if let Some(number) = next_live(world, w, beyond) {
-            take(world, out, &WorldStep::Take(w, Local::Ended(JobNo(number), 0)))?;
+            let step = WorldStep::Take(w, Local::Ended(JobNo(number), 0));
+            take(world, out, &step)?;
             beyond = number;
         }
     }
@@ -178,12 +180,7 @@ fn put_counts(world: &World, out: &mut String) -> Result<bool, NoMemory> {
 }
 
 /// Does with a world what is asked, and tells whether something is.
-fn go(
-    alloc: Global,
-    world: &mut World,
-    out: &mut String,
-    asked: &Asked,
-) -> Result<bool, NoMemory> {
+fn go(alloc: Global, world: &mut World, out: &mut String, asked: &Asked) -> Result<bool, NoMemory> {
     if asked.is("flow", 2) {
         return flow(world, out, asked.ws(0), asked.ws(1));
     }

@@ -1,6 +1,5 @@
 //! Questions as words and numbers.
 use base_types::{JobNo, NoMemory, Obj, StreamNo, Ws};
-use std::alloc::Global;
 use syntax::{first_word, number_u64};
 
 /// A question: its word, the numbers behind it, and the text behind these.
@@ -22,18 +21,17 @@ fn number(word: &str) -> Option<u64> {
     number_u64(word)
 }
 
-/// The numbers at the front of a text, and what follows them.
-pub fn numbers(alloc: Global, text: &str) -> Result<(Vec<u64>, &str), NoMemory> {
-    let mut numbers = Vec::new(alloc);
+/// Adds the numbers at the front of a text, and gives what follows them.
+pub fn add_numbers<'a>(found: &mut Vec<u64>, text: &'a str) -> Result<&'a str, NoMemory> {
     let mut left = text;
     for word in text.split(' ') {
         let Some(n) = number(word) else {
-            return Ok((numbers, left));
+            return Ok(left);
         };
-        numbers.push(n)?;
+        found.push(n)?;
         left = first_word(left).1;
     }
-    Ok((numbers, left))
+    Ok(left)
 }
 
 impl Asked<'_> {

@@ -111,16 +111,20 @@ fn by_index_anew(night: &Night, w: Ws) -> Result<u32, NoMemory> {
     Ok(job_number(index.best(&night.net, &night.owners, w)))
 }
 
-/// Writes the number of the best job where all three find the same, else what each of them finds.
+fn put_found(out: &mut String, number: u32) -> Result<bool, NoMemory> {
+    write!(out, "{number}")?;
+    Ok(true)
+}
+
+/// Writes the number of the best job where all three find the same.
 fn put_best(night: &Night, out: &mut String, w: Ws) -> Result<bool, NoMemory> {
     let walk = by_walk(night, w);
     let index = by_index(night, w);
     let anew = by_index_anew(night, w)?;
     if walk == index && walk == anew {
-        write!(out, "{walk}")?;
-    } else {
-        write!(out, "walk {walk} index {index} anew {anew}")?;
+        return put_found(out, walk);
     }
+    out.push_str("they differ")?;
     Ok(true)
 }
 
@@ -132,8 +136,7 @@ fn put_often(night: &Night, out: &mut String, asked: &Asked) -> Result<bool, NoM
             found = found.saturating_add(1);
         }
     }
-    write!(out, "{found}")?;
-    Ok(true)
+    put_found(out, found)
 }
 
 /// Writes the best job that is asked for, and tells whether one is.

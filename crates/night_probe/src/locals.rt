@@ -1,5 +1,5 @@
 //! What a node is given.
-use crate::asked::{Asked, numbers};
+use crate::asked::{Asked, add_numbers};
 use crate::entries::{command, drafts, entry};
 use base_types::{Cmd, Dep, Feed, Input, JobNo, Local, Moment, NoMemory, Obj, Text, Ws};
 use std::alloc::Global;
@@ -112,7 +112,8 @@ pub fn input(alloc: Global, asked: &Asked) -> Result<Option<Input>, NoMemory> {
 /// What a node is given by a line of its own.
 pub fn input_of(alloc: Global, line: &str) -> Result<Option<Input>, NoMemory> {
     let (word, rest) = first_word(line);
-    let (numbers, text) = numbers(alloc, rest)?;
+    let mut numbers = Vec::new(alloc);
+    let text = add_numbers(&mut numbers, rest)?;
     let asked = Asked {
         word,
         numbers: numbers.as_slice(),
@@ -124,7 +125,8 @@ pub fn input_of(alloc: Global, line: &str) -> Result<Option<Input>, NoMemory> {
 /// What happens at a node by a line of its own.
 pub fn local_of(alloc: Global, line: &str) -> Result<Option<Local>, NoMemory> {
     let (word, rest) = first_word(line);
-    let (numbers, text) = numbers(alloc, rest)?;
+    let mut numbers = Vec::new(alloc);
+    let text = add_numbers(&mut numbers, rest)?;
     let asked = Asked {
         word,
         numbers: numbers.as_slice(),

@@ -1,5 +1,5 @@
 //! The lines of an input, one after the other.
-use crate::asked::{Asked, numbers};
+use crate::asked::{Asked, add_numbers};
 use crate::entries::entry;
 use crate::nets::{blank, read_line};
 use crate::nights::Night;
@@ -40,7 +40,8 @@ fn take(night: &mut Night, out: &mut String, word: &str) -> Result<(), NoMemory>
 
 /// Answers a question with a line or more.
 fn answer(night: &mut Night, out: &mut String, word: &str, rest: &str) -> Result<(), NoMemory> {
-    let (numbers, text) = numbers(night.alloc, rest)?;
+    let mut numbers = Vec::new(night.alloc);
+    let text = add_numbers(&mut numbers, rest)?;
     let asked = Asked {
         word,
         numbers: numbers.as_slice(),

@@ -5,31 +5,31 @@ use Rattle.model.specs.History.{view_of}
 use Rattle.model.specs.Catalogue.{StreamJob, is_member}
 use Rattle.owner_fold.specs.Times.{timed_jobs_left}
 use Rattle.owner_fold.specs.Spots.{stream_job}
-use Rattle.batchman_core.specs.Comings.{any_comes_of}
-use Rattle.batchman_core.proofs.Times.{comes_here, comes_later, objects_of}
-use Rattle.batchman_core.proofs.Timed.{jobs_come_at_first}
-use Rattle.batchman_core.proofs.clocks.time_of_jobs_comes.Goals as goal
+use Rattle.batchman_core.specs.Reached.{is_any_reached_of}
+use Rattle.batchman_core.proofs.Times.{reached_here, reached_later, objects_of}
+use Rattle.batchman_core.proofs.Timed.{jobs_at_first}
+use Rattle.batchman_core.proofs.clocks.is_time_of_jobs_reached.Goals as goal
 
 pub loop-parent-init : goal.loop-parent-init
 loop-parent-init c =
-    jobs_come_at_first (view_of c.args.o.now) c.args.w c.args.now c.args.t (timed_jobs_left c.into_iter-parent-iterator.result)
+    jobs_at_first (view_of c.args.o.now) c.args.w c.args.now c.args.t (timed_jobs_left c.into_iter-parent-iterator.result)
     (ap timed_jobs_left c.into_iter-parent-iterator.ensures.into_iter_gives ∙ c.timed_jobs-parent-items.ensures)
 
-pub returns-then-time_of_job_comes : goal.returns-then-time_of_job_comes
-returns-then-time_of_job_comes c =
+pub returns-then-is_time_of_job_reached : goal.returns-then-is_time_of_job_reached
+returns-then-is_time_of_job_reached c =
     let V = view_of c.args.o.now in
     sym
     (c.loop-parent.invariant
     ∙ ap
     (λ (l : List StreamJob).
-    any_comes_of V c.args.now c.args.t
+    is_any_reached_of V c.args.now c.args.t
     (objects_of (λ (p : StreamJob). p.doc.ws == c.args.w) (λ (p : StreamJob). is_member V p.parent.no)
     (λ (p : StreamJob). Job p.doc.no) l))
     c.in-Some.ensures.steps
-    ∙ comes_here V c.args.now c.args.t (λ (p : StreamJob). p.doc.ws == c.args.w)
+    ∙ reached_here V c.args.now c.args.t (λ (p : StreamJob). p.doc.ws == c.args.w)
     (λ (p : StreamJob). is_member V p.parent.no) (λ (p : StreamJob). Job p.doc.no)
     (stream_job c.in-Some.parent.now c.in-Some.doc.now) (timed_jobs_left c.next.new.self)
-    (sym c.time_of_job_comes.ensures ∙ c.if-time_of_job_comes.true))
+    (sym c.is_time_of_job_reached.ensures ∙ c.if-is_time_of_job_reached.true))
 
 pub loop-parent-preserved : goal.loop-parent-preserved
 loop-parent-preserved c =
@@ -37,11 +37,11 @@ loop-parent-preserved c =
     c.loop-parent.invariant
     ∙ ap
     (λ (l : List StreamJob).
-    any_comes_of V c.args.now c.args.t
+    is_any_reached_of V c.args.now c.args.t
     (objects_of (λ (p : StreamJob). p.doc.ws == c.args.w) (λ (p : StreamJob). is_member V p.parent.no)
     (λ (p : StreamJob). Job p.doc.no) l))
     c.in-Some.ensures.steps
-    ∙ comes_later V c.args.now c.args.t (λ (p : StreamJob). p.doc.ws == c.args.w)
+    ∙ reached_later V c.args.now c.args.t (λ (p : StreamJob). p.doc.ws == c.args.w)
     (λ (p : StreamJob). is_member V p.parent.no) (λ (p : StreamJob). Job p.doc.no)
     (stream_job c.in-Some.parent.now c.in-Some.doc.now) (timed_jobs_left c.next.new.self)
-    (sym c.time_of_job_comes.ensures ∙ c.if-time_of_job_comes.false)
+    (sym c.is_time_of_job_reached.ensures ∙ c.if-is_time_of_job_reached.false)

@@ -4,30 +4,30 @@ use Rattle.model.specs.Types.{Stream, StreamDoc}
 use Rattle.model.specs.History.{view_of}
 use Rattle.model.specs.Catalogue.{is_member}
 use Rattle.owner_fold.specs.Times.{timed_streams_left}
-use Rattle.batchman_core.specs.Comings.{any_comes_of}
-use Rattle.batchman_core.proofs.Times.{comes_here, comes_later, objects_of}
-use Rattle.batchman_core.proofs.Timed.{streams_come_at_first}
-use Rattle.batchman_core.proofs.clocks.time_of_streams_comes.Goals as goal
+use Rattle.batchman_core.specs.Reached.{is_any_reached_of}
+use Rattle.batchman_core.proofs.Times.{reached_here, reached_later, objects_of}
+use Rattle.batchman_core.proofs.Timed.{streams_at_first}
+use Rattle.batchman_core.proofs.clocks.is_time_of_streams_reached.Goals as goal
 
 pub loop-doc-init : goal.loop-doc-init
 loop-doc-init c =
-    streams_come_at_first (view_of c.args.o.now) c.args.w c.args.now c.args.t (timed_streams_left c.into_iter-doc-iterator.result)
+    streams_at_first (view_of c.args.o.now) c.args.w c.args.now c.args.t (timed_streams_left c.into_iter-doc-iterator.result)
     (ap timed_streams_left c.into_iter-doc-iterator.ensures.into_iter_gives ∙ c.timed_streams-doc-items.ensures)
 
-pub returns-then-time_of_stream_comes : goal.returns-then-time_of_stream_comes
-returns-then-time_of_stream_comes c =
+pub returns-then-is_time_of_stream_reached : goal.returns-then-is_time_of_stream_reached
+returns-then-is_time_of_stream_reached c =
     let V = view_of c.args.o.now in
     sym
     (c.loop-doc.invariant
     ∙ ap
     (λ (l : List StreamDoc).
-    any_comes_of V c.args.now c.args.t
+    is_any_reached_of V c.args.now c.args.t
     (objects_of (λ (d : StreamDoc). d.ws == c.args.w) (λ (d : StreamDoc). is_member V d.no)
     (λ (d : StreamDoc). Stream d.no) l))
     c.in-Some.ensures.steps
-    ∙ comes_here V c.args.now c.args.t (λ (d : StreamDoc). d.ws == c.args.w)
+    ∙ reached_here V c.args.now c.args.t (λ (d : StreamDoc). d.ws == c.args.w)
     (λ (d : StreamDoc). is_member V d.no) (λ (d : StreamDoc). Stream d.no) (c.in-Some.doc.now) (timed_streams_left c.next.new.self)
-    (sym c.time_of_stream_comes.ensures ∙ c.if-time_of_stream_comes.true))
+    (sym c.is_time_of_stream_reached.ensures ∙ c.if-is_time_of_stream_reached.true))
 
 pub loop-doc-preserved : goal.loop-doc-preserved
 loop-doc-preserved c =
@@ -35,10 +35,10 @@ loop-doc-preserved c =
     c.loop-doc.invariant
     ∙ ap
     (λ (l : List StreamDoc).
-    any_comes_of V c.args.now c.args.t
+    is_any_reached_of V c.args.now c.args.t
     (objects_of (λ (d : StreamDoc). d.ws == c.args.w) (λ (d : StreamDoc). is_member V d.no)
     (λ (d : StreamDoc). Stream d.no) l))
     c.in-Some.ensures.steps
-    ∙ comes_later V c.args.now c.args.t (λ (d : StreamDoc). d.ws == c.args.w)
+    ∙ reached_later V c.args.now c.args.t (λ (d : StreamDoc). d.ws == c.args.w)
     (λ (d : StreamDoc). is_member V d.no) (λ (d : StreamDoc). Stream d.no) (c.in-Some.doc.now) (timed_streams_left c.next.new.self)
-    (sym c.time_of_stream_comes.ensures ∙ c.if-time_of_stream_comes.false)
+    (sym c.is_time_of_stream_reached.ensures ∙ c.if-is_time_of_stream_reached.false)

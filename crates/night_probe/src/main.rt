@@ -1,0 +1,53 @@
+//! Asks the core of the scheduler about nights that are given as entries, and writes what it answers. The cases of the
+//! repository run it; it serves nothing else.
+//!
+//! The input has lines. Those of a network come first, then `$QUESTIONS`, then the questions in their order. `$NIGHT`
+//! begins anew. A network has the lines `ws NAME HOP MANAGER FULL`, `res W NAME TOTAL`, `prompt NAME TEXT` and
+//! `carry WORD`, with workstations by their numbers. A question is a word, then numbers, then with some questions a
+//! text, or entries as digits in base 16. The line `entry DIGITS` is taken and not answered. `trials/entries.py` writes
+//! such an input from lines that are easier to read.
+#![tactic(auto)]
+
+mod asked;
+mod decisions;
+mod entries;
+mod facts;
+mod follows;
+mod groups;
+mod locals;
+mod mails;
+mod nets;
+mod nights;
+mod nodes;
+mod orders;
+mod probes;
+mod questions;
+mod symphonies;
+mod texts;
+mod told;
+mod views;
+mod walks;
+mod worlds;
+
+use base_types::NoMemory;
+use probes::Probe;
+use std::alloc::Global;
+use std::io;
+
+/// What is answered to a whole input.
+fn answers(alloc: Global, text: &str) -> Result<String, NoMemory> {
+    let mut out = String::new(alloc);
+    let mut probe = Probe::new(alloc);
+    for line in text.split('\n') {
+        probe.read(&mut out, line)?;
+    }
+    Ok(out)
+}
+
+fn main(rt: HostRuntime) -> io::Result<()> {
+    let text = io::read_to_string(rt.alloc(), rt.reader())?;
+    match answers(rt.alloc(), text.as_str()) {
+        Ok(out) => rt.print(out.as_str()),
+        Err(NoMemory) => rt.print("no memory\n"),
+    }
+}

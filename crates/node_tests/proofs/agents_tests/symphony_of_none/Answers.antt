@@ -1,9 +1,0 @@
-use Rattle.std.proofs.Common.{◌∙◌, List, subst, sym}
-use Rattle.std.proofs.lemmas.List.Elements.{All-nil}
-use Rattle.model.specs.Types.{Entry}
-use Rattle.model.specs.Fit.{AreFitEntries, IsFit}
-use Rattle.node_tests.proofs.agents_tests.symphony_of_none.Goals as goal
-
-pub symphony-requires : goal.symphony-requires
-symphony-requires c =
-    subst (λ (l : List Entry). AreFitEntries l) (sym (c.in_ok-agent.ensures.kept ∙ c.new-kept.ensures)) (All-nil IsFit)

@@ -10,12 +10,25 @@ fn put_send(night: &Night, out: &mut String, asked: &Asked) -> Result<bool, NoMe
         return Ok(false);
     }
     let place = u8::try_from(asked.number(2)).unwrap_or(u8::MAX);
-    match night.mail.to_send(&night.net, &night.owners, me, to, place) {
-        Some((Feed::Events(w), place)) => write!(out, "{} {place}", w.0)?,
-        Some((Feed::Orders(a, w), place)) => write!(out, "{} {} {place}", a.0, w.0)?,
+    match &night.mail.to_send(&night.net, &night.owners, me, to, place) {
+        Some(found) => put_place(out, &found.0, found.1)?,
         None => out.push_str("none")?,
     }
     Ok(true)
+}
+
+fn put_place(out: &mut String, feed: &Feed, place: u32) -> Result<(), NoMemory> {
+    match feed {
+        Feed::Events(w) => {
+            let maker = w.0;
+            write!(out, "{maker} {place}")?;
+        }
+        Feed::Orders(a, w) => {
+            let (issuer, workstation) = (a.0, w.0);
+            write!(out, "{issuer} {workstation} {place}")?;
+        }
+    }
+    Ok(())
 }
 
 fn put_sends(night: &Night, out: &mut String, asked: &Asked) -> Result<bool, NoMemory> {

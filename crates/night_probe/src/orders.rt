@@ -112,9 +112,20 @@ fn put_size(out: &mut String, entry: &Entry) -> Result<(), NoMemory> {
 }
 
 fn put_acknowledged(night: &Night, out: &mut String, entry: &Entry) -> Result<(), NoMemory> {
-    match acknowledgement(&night.owners, entry) {
-        Packet::Ack(Feed::Events(w), count) => write!(out, "{} {count}", w.0)?,
-        _ => out.push_str("none")?,
+    let packet = acknowledgement(&night.owners, entry);
+    match &packet {
+        Packet::Ack(feed, count) => put_acknowledged_feed(out, feed, *count),
+        Packet::Mail(_, _) => Ok(out.push_str("none")?),
+    }
+}
+
+fn put_acknowledged_feed(out: &mut String, feed: &Feed, count: u32) -> Result<(), NoMemory> {
+    match feed {
+        Feed::Events(w) => {
+            let maker = w.0;
+            write!(out, "{maker} {count}")?;
+        }
+        Feed::Orders(_, _) => out.push_str("none")?,
     }
     Ok(())
 }

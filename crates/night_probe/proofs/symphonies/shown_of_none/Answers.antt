@@ -4,6 +4,6 @@ use Rattle.model.specs.Types.{Entry}
 use Rattle.model.specs.Fit.{AreFitEntries, IsFit}
 use Rattle.night_probe.proofs.symphonies.shown_of_none.Goals as goal
 
-pub symphony-requires-in-Ok : goal.symphony-requires-in-Ok
-symphony-requires-in-Ok c =
+pub symphony-requires : goal.symphony-requires
+symphony-requires c =
     subst (λ (l : List Entry). AreFitEntries l) (sym (c.in-Ok.ensures.kept ∙ c.new-kept.ensures)) (All-nil IsFit)

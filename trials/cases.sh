@@ -3,7 +3,8 @@
 # A case is a folder cases/NAME. `args` has the words, one a line; `stdin` is the input and `stdout` what must be
 # written, each empty where it is missing; `status` is the exit status, 0 where it is missing. In place of `stdin` and
 # `stdout` may stand a bash script, `make-stdin` or `make-stdout`, that writes it. It runs in the case's folder, and TWS
-# names the program there.
+# names the program there. A file `program` names the program of another crate, which is run in its place; `args` may then
+# be missing, where it has no words.
 # For each case that fails it says what differs first. The last line is `cases: N passed, M failed`, and the status is 1
 # where one failed or none was found.
 # Usage: trials/cases.sh [PROGRAM] [NAME..]. PROGRAM is named from the top folder on; with names, only these cases run.
@@ -23,6 +24,7 @@ case "$TWS" in
   *) TWS=$PWD/$TWS ;;
 esac
 export TWS
+crates=$PWD/crates
 cases=$PWD/cases
 room=$(mktemp -d) || exit 1
 trap 'rm -rf "$room"' EXIT
@@ -68,11 +70,21 @@ difference() {
 
 # fails CASE: puts into `fault` what is wrong with the case, nothing where it passes
 fails() {
-  local words=() word input status wanted=0
+  local words=() word input status wanted=0 program=$TWS
   fault=
-  while IFS= read -r word || [ -n "$word" ]; do
-    words+=("$word")
-  done < "$1/args"
+  if [ -f "$1/args" ]; then
+    while IFS= read -r word || [ -n "$word" ]; do
+      words+=("$word")
+    done < "$1/args"
+  fi
+  if [ -f "$1/program" ]; then
+    read -r word < "$1/program"
+    program=$crates/$word/out/$word
+  fi
+  if [ ! -x "$program" ]; then
+    fault="there is no program $program"
+    return
+  fi
   if [ -f "$1/status" ]; then
     read -r wanted < "$1/status"
   fi
@@ -81,7 +93,7 @@ fails() {
     return
   fi
   input=$part
-  (cd "$room/run" && timeout 60 "$TWS" ${words[@]+"${words[@]}"}) < "$input" > "$room/got"
+  (cd "$room/run" && timeout 60 "$program" ${words[@]+"${words[@]}"}) < "$input" > "$room/got"
   status=$?
   if ! part "$1" stdout; then
     fault="make-stdout fails"
@@ -99,7 +111,7 @@ fi
 passed=0
 failed=0
 for name; do
-  if [ ! -f "$cases/$name/args" ]; then
+  if [ ! -f "$cases/$name/args" ] && [ ! -f "$cases/$name/program" ]; then
     fault="there is no such case"
   else
     fails "$cases/$name"

@@ -319,9 +319,9 @@ fn number(text: &str) -> Result<u32, Stop> {
     }
 }
 
-fn reading(text: &str) -> Result<u64, Stop> {
+fn reading(text: &str) -> Result<Moment, Stop> {
     match text.parse::<u64>() {
-        Ok(number) => Ok(number),
+        Ok(number) => Ok(Moment(number)),
         Err(_) => Err(Stop::Line),
     }
 }
@@ -333,17 +333,17 @@ fn workstation(text: &str) -> Result<Ws, Stop> {
     }
 }
 
-fn end(text: &str) -> Result<End, Stop> {
+fn end(text: &str) -> Result<Option<End>, Stop> {
     let (job, rest) = pair(text, ' ')?;
     let (launch, rc) = pair(rest, ' ')?;
     let Ok(rc) = rc.parse::<i32>() else {
         return Err(Stop::Line);
     };
-    Ok(End {
+    Ok(Some(End {
         job: JobNo(number(job)?),
         number: number(launch)?,
         rc,
-    })
+    }))
 }
 
 fn answer(text: &str) -> Result<Result<bool, Failed>, Stop> {

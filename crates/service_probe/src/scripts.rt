@@ -8,6 +8,7 @@
 //! | `word A` | one word more |
 //! | `input` | the input of the calls is the lines behind it up to `.` |
 //! | `text T`, `bytes HEX`, `noted` | it is this text with no line feed, these bytes, what was noted |
+//! | `fill N T` | it is this text N times |
 //! | `disk HEX` | the disk holds these bytes; from then on it holds what the last call left |
 //! | `aside`, `back` | what it holds is kept aside; is what was kept so |
 //! | `call` | calls `tws`, and writes its status |
@@ -190,7 +191,19 @@ fn set(stage: &mut Stage, alloc: Global, word: &str, rest: &str) -> Result<(), S
         "text" => stage.input = copied(alloc, rest.as_bytes())?,
         "bytes" => stage.input = bytes_of(alloc, rest)?,
         "noted" => stage.input = copied(alloc, stage.noted.as_str().as_bytes())?,
+        "fill" => fill(stage, alloc, rest)?,
         _ => return set_disk(stage, alloc, word, rest),
+    }
+    Ok(())
+}
+
+fn fill(stage: &mut Stage, alloc: Global, text: &str) -> Result<(), Stop> {
+    let (count, piece) = pair(text, ' ')?;
+    stage.input = Items::new(alloc);
+    for _ in 0..number(count)? {
+        for byte in piece.as_bytes() {
+            stage.input.push(*byte)?;
+        }
     }
     Ok(())
 }

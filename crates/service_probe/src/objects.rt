@@ -1,5 +1,5 @@
 //! The objects of a call in memory.
-use base_types::{Bytes, Items, Moment, NoMemory, Text};
+use base_types::{Bytes, Items, Moment, Text};
 use outside::{Arrival, Disk, End, Failed};
 use outside_mem::{CrashDisk, MemClock, MemDisk, MemLink, MemSink, MemSource, MemSpawner};
 use probe_mem::MemProber;
@@ -90,63 +90,51 @@ impl Drop for Objects {
 }
 
 /// A list, in whose place an empty one is left.
-pub fn taken<T>(alloc: Global, items: &mut Items<T>) -> Items<T> {
+fn taken<T>(alloc: Global, items: &mut Items<T>) -> Items<T> {
     mem::replace(items, Items::new(alloc))
 }
 
 /// A copy of bytes.
-pub fn copied(alloc: Global, bytes: &[u8]) -> Result<Bytes, NoMemory> {
-    Ok(Items::of_vec(bytes.to_vec(alloc)?))
+pub fn copied(alloc: Global, bytes: &[u8]) -> Option<Bytes> {
+    match bytes.to_vec(alloc) {
+        Ok(bytes) => Some(Items::of_vec(bytes)),
+        Err(_) => None,
+    }
 }
 
-fn new_sink(alloc: Global, comes: &mut Comes) -> Result<MemSink, NoMemory> {
-    MemSink::new(alloc, taken(alloc, &mut comes.sink), ROOM)
+fn new_sink(alloc: Global, comes: &mut Comes) -> Option<MemSink> {
+    MemSink::new(alloc, taken(alloc, &mut comes.sink), ROOM).ok()
 }
 
-fn new_link(alloc: Global, comes: &mut Comes) -> Result<MemLink, NoMemory> {
+fn new_link(alloc: Global, comes: &mut Comes) -> Option<MemLink> {
     let arrivals = taken(alloc, &mut comes.arrivals);
-    MemLink::new(alloc, arrivals, taken(alloc, &mut comes.link), ROOM)
+    MemLink::new(alloc, arrivals, taken(alloc, &mut comes.link), ROOM).ok()
 }
 
-fn new_jobs(alloc: Global, comes: &mut Comes) -> Result<MemSpawner, NoMemory> {
+fn new_jobs(alloc: Global, comes: &mut Comes) -> Option<MemSpawner> {
     let ends = taken(alloc, &mut comes.ends);
-    MemSpawner::new(alloc, ends, taken(alloc, &mut comes.jobs), ROOM)
+    MemSpawner::new(alloc, ends, taken(alloc, &mut comes.jobs), ROOM).ok()
 }
 
-fn new_files(alloc: Global, comes: &mut Comes) -> Result<MemProber, NoMemory> {
-    MemProber::new(alloc, taken(alloc, &mut comes.answers), ROOM)
+fn new_files(alloc: Global, comes: &mut Comes) -> Option<MemProber> {
+    MemProber::new(alloc, taken(alloc, &mut comes.answers), ROOM).ok()
 }
 
 impl Objects {
     /// The objects of a call with this input, to which this comes.
-    pub fn new(alloc: Global, input: Bytes, comes: &mut Comes) -> Result<Self, NoMemory> {
-        let source = MemSource::new(input, taken(alloc, &mut comes.source));
-        let clock = MemClock::new(taken(alloc, &mut comes.readings));
-        Ok(Objects {
-            source,
-            sink: new_sink(alloc, comes)?,
-            link: new_link(alloc, comes)?,
-            jobs: new_jobs(alloc, comes)?,
-            clock,
-            files: new_files(alloc, comes)?,
+    pub fn new(alloc: Global, input: Bytes, comes: &mut Comes) -> Option<Self> {
+        let link = new_link(alloc, comes)?;
+        let jobs = new_jobs(alloc, comes)?;
+        let files = new_files(alloc, comes)?;
+        let sink = new_sink(alloc, comes)?;
+        Some(Objects {
+            source: MemSource::new(input, taken(alloc, &mut comes.source)),
+            sink,
+            link,
+            jobs,
+            clock: MemClock::new(taken(alloc, &mut comes.readings)),
+            files,
         })
-    }
-}
-
-/// What a call leaves: its status, whether its disk can be synced once more, and the bytes of that.
-pub struct Left {
-    pub status: u8,
-    pub syncs: bool,
-    pub file: Bytes,
-}
-
-impl Drop for Left {
-    fn drop(self) {
-        let Left {
-            status: _status,
-            syncs: _syncs,
-            file: _file,
-        } = self;
     }
 }
 
@@ -170,38 +158,47 @@ fn answered<D: Disk>(alloc: Global, words: &[Text], objects: &mut Objects, disk:
     (status, disk)
 }
 
-/// Makes the call over a disk on which these calls fail.
+/// What a call over a disk gave.
+#[derive(Clone, Copy)]
+pub struct Ended {
+    pub status: u8,
+    /// Whether the disk can be synced once more.
+    pub syncs: bool,
+}
+
+/// Makes the call over a disk with these bytes, and leaves its bytes in their place.
 pub fn called(
     alloc: Global,
     words: &[Text],
     objects: &mut Objects,
-    file: Bytes,
+    file: &mut Bytes,
     fails: Items<u32>,
-) -> Result<Left, NoMemory> {
-    let disk = MemDisk::new(alloc, file, fails, DISK_ROOM)?;
+) -> Option<Ended> {
+    let bytes = taken(alloc, file);
+    let disk = MemDisk::new(alloc, bytes, fails, DISK_ROOM).ok()?;
     let (status, mut disk) = answered(alloc, words, objects, disk);
     let syncs = disk.sync().is_ok();
-    Ok(Left {
-        status,
-        syncs,
-        file: copied(alloc, disk.bytes())?,
-    })
+    *file = copied(alloc, disk.bytes())?;
+    Some(Ended { status, syncs })
 }
 
-/// Makes the call over a disk on which these calls fail, and a write that fails leaves half of its piece.
+/// The same, where a write that fails leaves half of its piece.
 pub fn called_over_torn(
     alloc: Global,
     words: &[Text],
     objects: &mut Objects,
-    file: Bytes,
+    file: &mut Bytes,
     fails: Items<u32>,
-) -> Result<Left, NoMemory> {
-    let disk = CrashDisk::new(alloc, file, fails, ROOM)?;
+) -> Option<Ended> {
+    let bytes = taken(alloc, file);
+    let disk = CrashDisk::new(alloc, bytes, fails, ROOM).ok()?;
     let (status, mut disk) = answered(alloc, words, objects, disk);
     let syncs = disk.sync().is_ok();
-    Ok(Left {
-        status,
-        syncs,
-        file: copied(alloc, disk.bytes())?,
-    })
+    *file = copied(alloc, disk.bytes())?;
+    Some(Ended { status, syncs })
+}
+
+/// The calls of the disk that fail.
+pub fn disk_fails(alloc: Global, comes: &mut Comes) -> Items<u32> {
+    taken(alloc, &mut comes.disk)
 }

@@ -35,91 +35,98 @@
 //! | `stops N`, `tears N` | the disk makes N calls, and then all fail; the next write leaves half of its piece besides |
 use crate::objects::{Comes, copied};
 use crate::parts::put_part;
-use crate::stages::{Stage, Stop};
-use base_types::{Bytes, Items, JobNo, Moment, NoMemory, Text, Ws};
+use crate::stages::Stage;
+use crate::texts::Told;
+use base_types::{Bytes, Items, JobNo, Moment, Text, Ws};
 use outside::{Arrival, End, Failed};
 use std::alloc::Global;
 
 /// How many calls fail once a disk stops.
 const REST: u32 = 40;
 
-fn put_line(out: &mut String, front: &str, line: &str) -> Result<(), Stop> {
-    out.push_str(front)?;
-    out.push_str(line)?;
-    Ok(out.push('\n')?)
-}
-
-/// Follows a script. The line that is not understood is told.
-pub fn follow(
-    stage: &mut Stage,
-    alloc: Global,
-    script: &str,
-    out: &mut String,
-) -> Result<(), Stop> {
+/// Follows a script. Where a line is not understood, it is told, and the answer is false.
+pub fn follow(stage: &mut Stage, alloc: Global, script: &str, out: &mut Told) -> bool {
     for section in script.split("\ndone") {
-        match section.split_once("\neach ") {
-            None => follow_lines(stage, alloc, section, out)?,
+        let followed = match section.split_once("\neach ") {
+            None => follow_lines(stage, alloc, section, out),
             Some((before, block)) => {
-                follow_lines(stage, alloc, before, out)?;
-                follow_rounds(stage, alloc, block, out)?;
+                follow_lines(stage, alloc, before, out) && follow_rounds(stage, alloc, block, out)
             }
+        };
+        if !followed {
+            return false;
         }
     }
-    Ok(())
+    true
 }
 
-fn follow_rounds(
-    stage: &mut Stage,
-    alloc: Global,
-    block: &str,
-    out: &mut String,
-) -> Result<(), Stop> {
-    let (bounds, lines) = pair(block, '\n')?;
-    let (first, last) = pair(bounds, ' ')?;
-    for round in number(first)?..=number(last)? {
+/// The first and the last round of a block, and its lines.
+fn rounds_of(block: &str) -> Option<(u32, u32, &str)> {
+    let (bounds, lines) = block.split_once('\n')?;
+    let (first, last) = bounds.split_once(' ')?;
+    Some((number(first)?, number(last)?, lines))
+}
+
+fn follow_rounds(stage: &mut Stage, alloc: Global, block: &str, out: &mut Told) -> bool {
+    let Some((first, last, lines)) = rounds_of(block) else {
+        return false;
+    };
+    for round in first..=last {
         stage.comes.round = round;
-        write!(out, "round {round}\n")?;
-        follow_lines(stage, alloc, lines, out)?;
+        out.put("round ");
+        out.put_number(u64::from(round));
+        out.put("\n");
+        if !follow_lines(stage, alloc, lines, out) {
+            return false;
+        }
     }
-    Ok(())
+    true
 }
 
-fn follow_lines(
-    stage: &mut Stage,
-    alloc: Global,
-    lines: &str,
-    out: &mut String,
-) -> Result<(), Stop> {
+fn follow_lines(stage: &mut Stage, alloc: Global, lines: &str, out: &mut Told) -> bool {
     for line in lines.split('\n') {
         let obeyed = if stage.reads_input {
             read_input(stage, line)
         } else {
             obey(stage, alloc, line, out)
         };
-        if let Err(Stop::Line) = obeyed {
-            put_line(out, "not understood: ", line)?;
+        if !obeyed {
+            out.put("not understood: ");
+            out.put(line);
+            out.put("\n");
+            return false;
         }
-        obeyed?;
     }
-    Ok(())
+    true
 }
 
-fn read_input(stage: &mut Stage, line: &str) -> Result<(), Stop> {
+fn read_input(stage: &mut Stage, line: &str) -> bool {
     if line == "." {
         stage.reads_input = false;
-        return Ok(());
+        return true;
     }
-    for byte in line.as_bytes() {
-        stage.input.push(*byte)?;
-    }
-    Ok(stage.input.push(b'\n')?)
+    extend(&mut stage.input, line.as_bytes()) && extend(&mut stage.input, b"\n")
 }
 
-fn obey(stage: &mut Stage, alloc: Global, line: &str, out: &mut String) -> Result<(), Stop> {
+fn extend(bytes: &mut Bytes, more: &[u8]) -> bool {
+    for byte in more {
+        if bytes.push(*byte).is_err() {
+            return false;
+        }
+    }
+    true
+}
+
+/// Obeys a line. Whether it is understood.
+fn obey(stage: &mut Stage, alloc: Global, line: &str, out: &mut Told) -> bool {
     let (word, rest) = line.split_once(' ').unwrap_or((line, ""));
     match word {
-        "" | "#" => Ok(()),
-        "==" => put_line(out, "", line),
+        "" | "#" => true,
+        "==" => {
+            out.put(line);
+            out.put("\n");
+            true
+        }
         "call" => call(stage, alloc, out),
         "tell" => put_part(out, stage, rest),
         "note" => note(stage, alloc, rest),
@@ -128,38 +135,33 @@ fn obey(stage: &mut Stage, alloc: Global, line: &str, out: &mut String) -> Resul
     }
 }
 
-fn call(stage: &mut Stage, alloc: Global, out: &mut String) -> Result<(), Stop> {
-    stage.call(alloc)?;
-    let status = stage.status;
-    Ok(write!(out, "status {status}\n")?)
-}
-
-/// A part of what the last call did, as text.
-fn part_of(stage: &mut Stage, alloc: Global, part: &str) -> Result<String, Stop> {
-    let mut text = String::new(alloc);
-    put_part(&mut text, stage, part)?;
-    Ok(text)
-}
-
-fn note(stage: &mut Stage, alloc: Global, part: &str) -> Result<(), Stop> {
-    stage.noted = part_of(stage, alloc, part)?;
-    Ok(())
-}
-
-fn judge(
-    out: &mut String,
-    stage: &mut Stage,
-    alloc: Global,
-    word: &str,
-    part: &str,
-) -> Result<(), Stop> {
-    let text = part_of(stage, alloc, part)?;
-    let verdict = if word == "among" {
-        are_among(stage.noted.as_str(), text.as_str())
-    } else {
-        is_same(stage.noted.as_str(), text.as_str())
+fn call(stage: &mut Stage, alloc: Global, out: &mut Told) -> bool {
+    let Some(status) = stage.call(alloc) else {
+        return false;
     };
-    Ok(out.push_str(verdict)?)
+    out.put("status ");
+    out.put_number(u64::from(status));
+    out.put("\n");
+    true
+}
+
+fn note(stage: &mut Stage, alloc: Global, part: &str) -> bool {
+    let mut text = Told::new(alloc);
+    let is_part = put_part(&mut text, stage, part);
+    stage.noted = text;
+    is_part
+}
+
+fn judge(out: &mut Told, stage: &mut Stage, alloc: Global, word: &str, part: &str) -> bool {
+    let mut text = Told::new(alloc);
+    let is_part = put_part(&mut text, stage, part);
+    let noted = stage.noted.as_str();
+    out.put(if word == "among" {
+        are_among(noted, text.as_str())
+    } else {
+        is_same(noted, text.as_str())
+    });
+    is_part
 }
 
 fn is_same(noted: &str, text: &str) -> &'static str {
@@ -179,69 +181,92 @@ fn are_among(noted: &str, text: &str) -> &'static str {
     "among them\n"
 }
 
-/// Obeys a line that sets what calls are made with.
-fn set(stage: &mut Stage, alloc: Global, word: &str, rest: &str) -> Result<(), Stop> {
+/// Obeys a line that sets words or input.
+fn set(stage: &mut Stage, alloc: Global, word: &str, rest: &str) -> bool {
     match word {
-        "words" => set_words(stage, alloc, rest)?,
-        "word" => stage.words.push(Text::of(alloc, rest)?)?,
+        "words" => set_words(stage, alloc, rest),
+        "word" => add(&mut stage.words, Text::of(alloc, rest).ok()),
         "input" => {
-            stage.input = Items::new(alloc);
             stage.reads_input = true;
+            set_bytes(&mut stage.input, Some(Items::new(alloc)))
         }
-        "text" => stage.input = copied(alloc, rest.as_bytes())?,
-        "bytes" => stage.input = bytes_of(alloc, rest)?,
-        "noted" => stage.input = copied(alloc, stage.noted.as_str().as_bytes())?,
-        "fill" => fill(stage, alloc, rest)?,
-        _ => return set_disk(stage, alloc, word, rest),
+        "text" => set_bytes(&mut stage.input, copied(alloc, rest.as_bytes())),
+        "bytes" => set_bytes(&mut stage.input, bytes_of(alloc, rest)),
+        "noted" => {
+            let noted = copied(alloc, stage.noted.as_str().as_bytes());
+            set_bytes(&mut stage.input, noted)
+        }
+        "fill" => set_bytes(&mut stage.input, filled(alloc, rest)),
+        _ => set_disk(stage, alloc, word, rest),
     }
-    Ok(())
 }
 
-fn fill(stage: &mut Stage, alloc: Global, text: &str) -> Result<(), Stop> {
-    let (count, piece) = pair(text, ' ')?;
-    stage.input = Items::new(alloc);
+fn set_bytes(bytes: &mut Bytes, with: Option<Bytes>) -> bool {
+    match with {
+        Some(with) => {
+            *bytes = with;
+            true
+        }
+        None => false,
+    }
+}
+
+fn filled(alloc: Global, text: &str) -> Option<Bytes> {
+    let (count, piece) = text.split_once(' ')?;
+    let mut bytes = Items::new(alloc);
     for _ in 0..number(count)? {
-        for byte in piece.as_bytes() {
-            stage.input.push(*byte)?;
+        if !extend(&mut bytes, piece.as_bytes()) {
+            return None;
         }
     }
-    Ok(())
+    Some(bytes)
 }
 
-fn set_words(stage: &mut Stage, alloc: Global, words: &str) -> Result<(), NoMemory> {
+fn set_words(stage: &mut Stage, alloc: Global, words: &str) -> bool {
     stage.words = Items::new(alloc);
     for word in words.splitn(3, ' ') {
-        stage.words.push(Text::of(alloc, word)?)?;
+        if !add(&mut stage.words, Text::of(alloc, word).ok()) {
+            return false;
+        }
     }
-    Ok(())
+    true
 }
 
-fn set_disk(stage: &mut Stage, alloc: Global, word: &str, rest: &str) -> Result<(), Stop> {
+/// Obeys a line that sets the disk, or tells that what the last call sent comes.
+fn set_disk(stage: &mut Stage, alloc: Global, word: &str, rest: &str) -> bool {
     match word {
         "disk" => {
-            stage.file = bytes_of(alloc, rest)?;
-            stage.starts = String::new(alloc);
+            stage.starts = Told::new(alloc);
+            set_bytes(&mut stage.file, bytes_of(alloc, rest))
         }
-        "aside" => stage.aside = copied(alloc, stage.file.as_slice())?,
-        "back" => stage.file = copied(alloc, stage.aside.as_slice())?,
-        "hears" => stage.hear_sent(alloc, Some(workstation(rest)?))?,
-        "clients" => stage.hear_sent(alloc, None)?,
-        "answers" => stage.hear_reply(alloc, workstation(rest)?)?,
-        _ => return come(&mut stage.comes, alloc, word, rest),
+        "aside" => set_bytes(&mut stage.aside, copied(alloc, stage.file.as_slice())),
+        "back" => set_bytes(&mut stage.file, copied(alloc, stage.aside.as_slice())),
+        "clients" => stage.hear_sent(alloc, &None),
+        "hears" => match workstation(rest) {
+            Some(from) => stage.hear_sent(alloc, &Some(from)),
+            None => false,
+        },
+        "answers" => match workstation(rest) {
+            Some(from) => stage.hear_reply(alloc, &Some(from)),
+            None => false,
+        },
+        _ => come(&mut stage.comes, alloc, word, rest),
     }
-    Ok(())
 }
 
-/// Adds what a line tells.
-fn add<T: Drop>(list: &mut Items<T>, item: Result<T, Stop>) -> Result<(), Stop> {
-    Ok(list.push(item?)?)
+/// Adds what a line tells, where it is understood.
+fn add<T: Drop>(list: &mut Items<T>, item: Option<T>) -> bool {
+    match item {
+        Some(item) => list.push(item).is_ok(),
+        None => false,
+    }
 }
 
 /// Obeys a line that tells what comes.
-fn come(comes: &mut Comes, alloc: Global, word: &str, rest: &str) -> Result<(), Stop> {
+fn come(comes: &mut Comes, alloc: Global, word: &str, rest: &str) -> bool {
     match word {
         "at" => add(&mut comes.readings, reading(rest)),
-        "runs" => add(&mut comes.ends, Ok(None)),
+        "runs" => add(&mut comes.ends, Some(None)),
         "ended" => add(&mut comes.ends, end(rest)),
         "file" => add(&mut comes.answers, answer(rest)),
         "fails" => fail(comes, rest),
@@ -254,49 +279,47 @@ fn come(comes: &mut Comes, alloc: Global, word: &str, rest: &str) -> Result<(), 
     }
 }
 
-fn arrival(alloc: Global, word: &str, rest: &str) -> Result<Arrival, Stop> {
+fn arrival(alloc: Global, word: &str, rest: &str) -> Option<Arrival> {
     match word {
-        "asks" => Ok(Arrival::Client(framed(alloc, 3, rest)?)),
-        "client" => Ok(Arrival::Client(bytes_of(alloc, rest)?)),
-        "idle" => Ok(Arrival::Client(Items::new(alloc))),
-        "no" => Ok(Arrival::NoMemory),
-        "up" => Ok(Arrival::Up(workstation(rest)?)),
-        "down" => Ok(Arrival::Down(workstation(rest)?)),
+        "asks" => Some(Arrival::Client(framed(alloc, 3, rest)?)),
+        "client" => Some(Arrival::Client(bytes_of(alloc, rest)?)),
+        "idle" => Some(Arrival::Client(Items::new(alloc))),
+        "no" => Some(Arrival::NoMemory),
+        "up" => Some(Arrival::Up(workstation(rest)?)),
+        "down" => Some(Arrival::Down(workstation(rest)?)),
         "from" => bytes_from(alloc, rest),
-        _ => Err(Stop::Line),
+        _ => None,
     }
 }
 
-fn bytes_from(alloc: Global, text: &str) -> Result<Arrival, Stop> {
-    let (from, hex) = pair(text, ' ')?;
+fn bytes_from(alloc: Global, text: &str) -> Option<Arrival> {
+    let (from, hex) = text.split_once(' ')?;
     let from = workstation(from)?;
-    Ok(Arrival::Bytes(from, bytes_of(alloc, hex)?))
+    Some(Arrival::Bytes(from, bytes_of(alloc, hex)?))
 }
 
 /// A frame of a kind.
-fn framed(alloc: Global, kind: u8, content: &str) -> Result<Bytes, NoMemory> {
+fn framed(alloc: Global, kind: u8, content: &str) -> Option<Bytes> {
     let length = (content.len() as u64).saturating_add(1);
     let [_, _, _, _, first, second, third, last] = length.to_be_bytes();
     let mut bytes = Items::new(alloc);
-    for byte in [first, second, third, last, kind] {
-        bytes.push(byte)?;
+    let front = [first, second, third, last, kind];
+    if extend(&mut bytes, &front) && extend(&mut bytes, content.as_bytes()) {
+        return Some(bytes);
     }
-    for byte in content.as_bytes() {
-        bytes.push(*byte)?;
-    }
-    Ok(bytes)
+    None
 }
 
-fn digit(byte: u8) -> Result<u8, Stop> {
+fn digit(byte: u8) -> Option<u8> {
     match byte {
-        b'0'..=b'9' => Ok(byte - b'0'),
-        b'a'..=b'f' => Ok(byte - b'a' + 10),
-        _ => Err(Stop::Line),
+        b'0'..=b'9' => Some(byte - b'0'),
+        b'a'..=b'f' => Some(byte - b'a' + 10),
+        _ => None,
     }
 }
 
 /// The bytes of digits in base 16. Blanks are passed over.
-fn bytes_of(alloc: Global, text: &str) -> Result<Bytes, Stop> {
+fn bytes_of(alloc: Global, text: &str) -> Option<Bytes> {
     let mut bytes = Items::new(alloc);
     let mut high = None;
     for byte in text.as_bytes() {
@@ -305,79 +328,72 @@ fn bytes_of(alloc: Global, text: &str) -> Result<Bytes, Stop> {
             high = match high {
                 None => Some(low),
                 Some(high) => {
-                    bytes.push(u8::wrapping_mul(high, 16).wrapping_add(low))?;
+                    if bytes
+                        .push(u8::wrapping_mul(high, 16).wrapping_add(low))
+                        .is_err()
+                    {
+                        return None;
+                    }
                     None
                 }
             };
         }
     }
     if high.is_some() {
-        return Err(Stop::Line);
+        return None;
     }
-    Ok(bytes)
+    Some(bytes)
 }
 
-/// The parts of a text before and behind a character.
-fn pair(text: &str, between: char) -> Result<(&str, &str), Stop> {
-    match text.split_once(between) {
-        Some((before, behind)) => Ok((before, behind)),
-        None => Err(Stop::Line),
-    }
+fn number(text: &str) -> Option<u32> {
+    text.parse::<u32>().ok()
 }
 
-fn number(text: &str) -> Result<u32, Stop> {
-    match text.parse::<u32>() {
-        Ok(number) => Ok(number),
-        Err(_) => Err(Stop::Line),
-    }
-}
-
-fn reading(text: &str) -> Result<Moment, Stop> {
+fn reading(text: &str) -> Option<Moment> {
     match text.parse::<u64>() {
-        Ok(number) => Ok(Moment(number)),
-        Err(_) => Err(Stop::Line),
+        Ok(number) => Some(Moment(number)),
+        Err(_) => None,
     }
 }
 
-fn workstation(text: &str) -> Result<Ws, Stop> {
+fn workstation(text: &str) -> Option<Ws> {
     match text.parse::<u16>() {
-        Ok(number) => Ok(Ws(number)),
-        Err(_) => Err(Stop::Line),
+        Ok(number) => Some(Ws(number)),
+        Err(_) => None,
     }
 }
 
-fn end(text: &str) -> Result<Option<End>, Stop> {
-    let (job, rest) = pair(text, ' ')?;
-    let (launch, rc) = pair(rest, ' ')?;
-    let Ok(rc) = rc.parse::<i32>() else {
-        return Err(Stop::Line);
-    };
-    Ok(Some(End {
+fn end(text: &str) -> Option<Option<End>> {
+    let (job, rest) = text.split_once(' ')?;
+    let (launch, rc) = rest.split_once(' ')?;
+    Some(Some(End {
         job: JobNo(number(job)?),
         number: number(launch)?,
-        rc,
+        rc: rc.parse::<i32>().ok()?,
     }))
 }
 
-fn answer(text: &str) -> Result<Result<bool, Failed>, Stop> {
+fn answer(text: &str) -> Option<Result<bool, Failed>> {
     match text {
-        "there" => Ok(Ok(true)),
-        "missing" => Ok(Ok(false)),
-        "unknown" => Ok(Err(Failed)),
-        _ => Err(Stop::Line),
+        "there" => Some(Ok(true)),
+        "missing" => Some(Ok(false)),
+        "unknown" => Some(Err(Failed)),
+        _ => None,
     }
 }
 
 /// The number of a call: `n` is that of the round.
-fn call_number(comes: &Comes, text: &str) -> Result<u32, Stop> {
+fn call_number(comes: &Comes, text: &str) -> Option<u32> {
     if text == "n" {
-        return Ok(comes.round);
+        return Some(comes.round);
     }
     number(text)
 }
 
-fn fail(comes: &mut Comes, text: &str) -> Result<(), Stop> {
-    let (object, call) = pair(text, ' ')?;
+fn fail(comes: &mut Comes, text: &str) -> bool {
+    let Some((object, call)) = text.split_once(' ') else {
+        return false;
+    };
     let call = call_number(comes, call);
     match object {
         "source" => add(&mut comes.source, call),
@@ -385,15 +401,19 @@ fn fail(comes: &mut Comes, text: &str) -> Result<(), Stop> {
         "disk" => add(&mut comes.disk, call),
         "link" => add(&mut comes.link, call),
         "jobs" => add(&mut comes.jobs, call),
-        _ => Err(Stop::Line),
+        _ => false,
     }
 }
 
 /// All calls of the disk fail behind so many.
-fn stop(comes: &mut Comes, text: &str) -> Result<(), Stop> {
-    let calls = call_number(comes, text)?;
+fn stop(comes: &mut Comes, text: &str) -> bool {
+    let Some(calls) = call_number(comes, text) else {
+        return false;
+    };
     for call in 1..REST {
-        comes.disk.push(calls.saturating_add(call))?;
+        if comes.disk.push(calls.saturating_add(call)).is_err() {
+            return false;
+        }
     }
-    Ok(())
+    true
 }

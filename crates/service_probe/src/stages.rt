@@ -1,29 +1,10 @@
 //! What a script has set up, and the last call that it made.
 use crate::entries::put_history_starts;
-use crate::objects::{Comes, Objects, called, called_over_torn, copied, taken};
-use base_types::{Bytes, Items, NoMemory, Text, Ws};
+use crate::objects::{Comes, Ended, Objects, called, called_over_torn, copied, disk_fails};
+use crate::texts::Told;
+use base_types::{Bytes, Items, Text, Ws};
 use outside::Arrival;
-use std::alloc::{AllocError, Global};
-
-/// Why a script is not followed to its end.
-#[derive(Clone, Copy)]
-pub enum Stop {
-    NoMemory,
-    /// A line is not understood.
-    Line,
-}
-
-impl From<NoMemory> for Stop {
-    fn from(_error: NoMemory) -> Stop {
-        Stop::NoMemory
-    }
-}
-
-impl From<AllocError> for Stop {
-    fn from(_error: AllocError) -> Stop {
-        Stop::NoMemory
-    }
-}
+use std::alloc::Global;
 
 pub struct Stage {
     /// The words and the input of each call.
@@ -37,11 +18,10 @@ pub struct Stage {
     pub file: Bytes,
     pub aside: Bytes,
     /// The launches that were started since the disk was set, as lines of a history.
-    pub starts: String,
-    pub noted: String,
-    /// What the last call left.
-    pub status: u8,
-    pub syncs: bool,
+    pub starts: Told,
+    pub noted: Told,
+    /// The last call.
+    pub ended: Ended,
     pub objects: Objects,
 }
 
@@ -56,80 +36,84 @@ impl Drop for Stage {
             aside: _aside,
             starts: _starts,
             noted: _noted,
-            status: _status,
-            syncs: _syncs,
+            ended: _ended,
             objects: _objects,
         } = self;
     }
 }
 
 impl Stage {
-    pub fn new(alloc: Global) -> Result<Self, NoMemory> {
+    pub fn new(alloc: Global) -> Option<Self> {
         let mut comes = Comes::new(alloc);
         let objects = Objects::new(alloc, Items::new(alloc), &mut comes)?;
-        Ok(Stage {
+        Some(Stage {
             words: Items::new(alloc),
             input: Items::new(alloc),
             reads_input: false,
             comes,
             file: Items::new(alloc),
             aside: Items::new(alloc),
-            starts: String::new(alloc),
-            noted: String::new(alloc),
-            status: 0,
-            syncs: true,
+            starts: Told::new(alloc),
+            noted: Told::new(alloc),
+            ended: Ended {
+                status: 0,
+                syncs: true,
+            },
             objects,
         })
     }
 
-    /// Calls `tws` over objects to which this comes, and over the disk.
-    pub fn call(&mut self, alloc: Global) -> Result<(), NoMemory> {
+    /// Calls `tws` over new objects, to which this comes, and over the disk. None where there is no memory for them.
+    pub fn call(&mut self, alloc: Global) -> Option<u8> {
         let input = copied(alloc, self.input.as_slice())?;
         self.objects = Objects::new(alloc, input, &mut self.comes)?;
-        let file = taken(alloc, &mut self.file);
-        let fails = taken(alloc, &mut self.comes.disk);
+        self.ended = self.call_over_disk(alloc)?;
+        put_history_starts(&mut self.starts, &self.objects.jobs);
+        Some(self.ended.status)
+    }
+
+    fn call_over_disk(&mut self, alloc: Global) -> Option<Ended> {
+        let fails = disk_fails(alloc, &mut self.comes);
         let words = self.words.as_slice();
-        let mut left = if self.comes.tears {
-            called_over_torn(alloc, words, &mut self.objects, file, fails)?
+        if self.comes.tears {
+            self.comes.tears = false;
+            called_over_torn(alloc, words, &mut self.objects, &mut self.file, fails)
         } else {
-            called(alloc, words, &mut self.objects, file, fails)?
-        };
-        self.comes.tears = false;
-        self.status = left.status;
-        self.syncs = left.syncs;
-        self.file = taken(alloc, &mut left.file);
-        put_history_starts(&mut self.starts, &self.objects.jobs)?;
-        Ok(())
+            called(alloc, words, &mut self.objects, &mut self.file, fails)
+        }
     }
 
     /// Each frame that the last call sent comes: from this workstation, or from a client.
-    pub fn hear_sent(&mut self, alloc: Global, from: Option<Ws>) -> Result<(), NoMemory> {
+    pub fn hear_sent(&mut self, alloc: Global, from: &Option<Ws>) -> bool {
         let sent = self.objects.link.sent();
         for i in 0..sent.len() {
             if let Some((_, bytes)) = sent.get(i) {
-                self.comes
-                    .arrivals
-                    .push(arrival_of(copied(alloc, bytes)?, from))?;
+                if !arrive(alloc, &mut self.comes, from, bytes) {
+                    return false;
+                }
             }
         }
-        Ok(())
+        true
     }
 
     /// The last reply of the last call comes from this workstation.
-    pub fn hear_reply(&mut self, alloc: Global, from: Ws) -> Result<(), NoMemory> {
+    pub fn hear_reply(&mut self, alloc: Global, from: &Option<Ws>) -> bool {
         let replied = self.objects.link.replied();
-        if let Some((_, bytes)) = replied.get(replied.len().saturating_sub(1)) {
-            self.comes
-                .arrivals
-                .push(arrival_of(copied(alloc, bytes)?, Some(from)))?;
+        match replied.get(replied.len().saturating_sub(1)) {
+            Some((_, bytes)) => arrive(alloc, &mut self.comes, from, bytes),
+            None => false,
         }
-        Ok(())
     }
 }
 
-fn arrival_of(bytes: Bytes, from: Option<Ws>) -> Arrival {
-    match from {
-        Some(from) => Arrival::Bytes(from, bytes),
+/// Adds bytes of a workstation or of a client to what comes.
+fn arrive(alloc: Global, comes: &mut Comes, from: &Option<Ws>, bytes: &[u8]) -> bool {
+    let Some(bytes) = copied(alloc, bytes) else {
+        return false;
+    };
+    let arrival = match from {
+        Some(from) => Arrival::Bytes(*from, bytes),
         None => Arrival::Client(bytes),
-    }
+    };
+    comes.arrivals.push(arrival).is_ok()
 }

@@ -3,9 +3,10 @@
 form of those in must-fail, which it does try.
 
 An edit is refused for the function that it changes, by the contracts and the definitions of its crate. So it stands on
-its own text, the file that it changes, the definitions, and all of the crate's other source but what its functions do,
-constants, imports, attributes and comments.
-crates/NAME/edits/seen has for each edit the sum of these with which it was last seen refused.
+its own text, on that function, and on what else the crate says outside of the bodies of its functions: contracts, types
+and definitions, which may grow but not change. Constants, imports, attributes and comments do not count.
+crates/NAME/edits/seen has in its first line short sums of what the crate said when its edits were last seen refused, and
+a line for each edit with the sum of its text and its function.
 
 Usage: trials/edits.py          says which edits were not tried on what they stand on, and ends with 1 where one was not.
                                 It proves nothing.
@@ -29,29 +30,44 @@ def text_of(path):
         return file.read()
 
 
-def without_bodies(text):
-    """The source without what its functions do, constants, imports, attributes and comments. A body stands between lines
-    that have the indent of its function."""
-    text = re.sub(r"^(use|(pub(\([a-z]+\))? )?const) [^;]*;\n", "", text, flags=re.M)
-    text = re.sub(r"^ *(//|#\[).*\n|^\n", "", text, flags=re.M)
-    kept, indent, inside = [], None, False
+def short_sum(text):
+    return hashlib.sha256(text.encode()).hexdigest()[:7]
+
+
+def parts_of(text):
+    """The functions of a source, each with its lines up to its body and with its body, and the other lines. A body stands
+    between lines that have the indent of its function. A line comes with the last line before it without an indent."""
+    functions, others = [], []
+    head, indent, signature, body = "", None, None, None
     for line in text.split("\n"):
-        head = HEAD.match(line)
-        if not inside and head:
-            indent = head.group(1)
-        if inside:
+        if body is not None:
             if line in (indent + "}", indent + "};"):
-                inside, indent = False, None
+                functions.append((signature, body))
+                signature = body = None
+            else:
+                body.append(line)
             continue
-        kept.append(line)
-        if indent is None:
+        found = HEAD.match(line)
+        if signature is None and found:
+            indent, signature = found.group(1), [head if found.group(1) else ""]
+        if signature is None:
+            if not line.startswith((" ", "}")):
+                head = line
+            others.append((head if line.startswith(" ") else "", line))
             continue
-        begins = line == indent + "{" or line.endswith(" {") and not re.match(r"\s*(ensures|requires|ghost)\b", line)
-        if begins:
-            inside = True
+        signature.append(line)
+        if line == indent + "{" or line.endswith(" {") and not re.match(r"\s*(ensures|requires|ghost)\b", line):
+            body = []
         elif line.endswith(";") or line.endswith("{}"):
-            indent = None
-    return "\n".join(kept)
+            functions.append((signature, []))
+            signature = None
+    return functions, others
+
+
+def bare(text):
+    """The source without imports, constants, attributes, comments and empty lines."""
+    text = re.sub(r"^ *(pub(\([a-z]+\))? )?(use|mod|const) [^;]*;\n|^ *ghost use [^;]*\};\n", "", text, flags=re.M)
+    return re.sub(r"^ *(//|#\[).*\n|^\n", "", text, flags=re.M)
 
 
 def files_below(folder, ending):
@@ -61,55 +77,81 @@ def files_below(folder, ending):
     return sorted(found)
 
 
-def sum_of(crate, edit):
-    """The sum of what an edit of a crate stands on."""
-    text = text_of(edit)
-    changed = set(re.findall(r"^file: (.*)$", text, re.M))
-    parts = [text]
+def said_by(crate):
+    """Short sums of what a crate says outside of the bodies of its functions."""
+    found = set()
     for path in files_below(f"{crate}/src", ".rt"):
-        name = os.path.relpath(path, crate)
-        source = text_of(path)
-        parts += [name, source if name in changed else without_bodies(source)]
+        functions, others = parts_of(bare(text_of(path)))
+        found |= {short_sum("\n".join(signature)) for signature, _ in functions}
+        found |= {short_sum("\n".join(pair)) for pair in others}
     for path in files_below(f"{crate}/specs", ".antt"):
-        parts += [os.path.relpath(path, crate), text_of(path)]
-    return hashlib.sha256("\0".join(parts).encode()).hexdigest()[:32]
+        text = re.sub(r"^(use|pub use|--).*\n", "", text_of(path), flags=re.M)
+        found |= {short_sum(block) for block in re.split(r"\n\s*\n", text) if block.strip()}
+    return found
+
+
+def changed_by(crate, edit):
+    """Per file the texts that an edit takes away."""
+    found, file = [], None
+    for line in text_of(edit).split("\n"):
+        if line.startswith("file: "):
+            file = f"{crate}/{line[6:]}"
+        elif line.startswith("old: "):
+            found.append((file, line[5:]))
+    return found
+
+
+def sum_of(crate, edit):
+    """The sum of an edit's text and of the functions that it changes, of the whole file where it changes anything else."""
+    parts = [text_of(edit)]
+    for file, old in changed_by(crate, edit):
+        source = text_of(file)
+        functions, _ = parts_of(bare(source))
+        bodies = ["\n".join([*signature, *body]) for signature, body in functions]
+        parts += [it for it in bodies if old in it] or [source]
+    return short_sum("\0".join(parts))
 
 
 def seen_of(crate):
+    """What the crate said, and the sums of its edits, when these were last seen refused."""
     path = f"{crate}/edits/seen"
     if not os.path.exists(path):
-        return {}
-    rows = [line.split(" ") for line in text_of(path).splitlines()]
-    return {row[0]: row[1] for row in rows if len(row) == 2}
+        return set(), {}
+    first, *rows = text_of(path).splitlines()
+    return set(first.split(" ")), dict(row.split(" ") for row in rows)
 
 
-def write_seen(crate, seen):
-    there = {os.path.basename(path) for path in files_below(f"{crate}/edits", ".edit")}
+def write_seen(crate, sums):
     with open(f"{crate}/edits/seen", "w", encoding="utf-8") as file:
-        file.writelines(f"{name} {seen[name]}\n" for name in sorted(there & seen.keys()))
+        file.write(" ".join(sorted(said_by(crate))) + "\n")
+        file.writelines(f"{name} {sums[name]}\n" for name in sorted(sums))
 
 
-def untried(crate):
-    """The edits of a crate that were not tried on what they stand on, with the sums of that."""
-    seen = seen_of(crate)
-    sums = {path: sum_of(crate, path) for path in files_below(f"{crate}/edits", ".edit")}
-    return {path: made for path, made in sums.items() if seen.get(os.path.basename(path)) != made}
+def tried_and_untried(crate):
+    """The sums of the edits of a crate by their names: of those that were tried on what they stand on, and the others."""
+    said, seen = seen_of(crate)
+    stands = said <= said_by(crate)
+    sums = {os.path.basename(path): sum_of(crate, path) for path in files_below(f"{crate}/edits", ".edit")}
+    tried = {name: made for name, made in sums.items() if stands and seen.get(name) == made}
+    return tried, {name: made for name, made in sums.items() if name not in tried}
 
 
 def look():
     status, edits, crates = 0, 0, 0
     for name in sorted(os.listdir(f"{TOP}/crates")):
         crate = f"{TOP}/crates/{name}"
-        if os.path.isdir(f"{crate}/edits"):
-            crates, edits = crates + 1, edits + len(files_below(f"{crate}/edits", ".edit"))
-            for path in untried(crate):
-                print(f"{name}: {os.path.basename(path)} was not tried on what it stands on", file=sys.stderr)
-                status = 1
+        if not os.path.isdir(f"{crate}/edits"):
+            continue
+        tried, untried = tried_and_untried(crate)
+        crates, edits = crates + 1, edits + len(tried) + len(untried)
+        for edit in sorted(untried):
+            print(f"{name}: {edit} was not tried on what it stands on", file=sys.stderr)
+            status = 1
     print(f"edits: {edits} of {crates} crates looked at")
     return status
 
 
-def room_for(name, paths):
+def room_for(name, edits):
     """A copy of the crates as they stand, with the libraries that were built of them and these edits of the crate."""
     room = tempfile.mkdtemp(prefix="edits-", dir=f"{TOP}/.git")
     for file in ("crates.txt", "HANDLES"):
@@ -121,14 +163,9 @@ def room_for(name, paths):
         if os.path.isfile(f"{TOP}/crates/{one}/out/rlib/stamp"):
             shutil.copytree(f"{TOP}/crates/{one}/out/rlib", f"{room}/crates/{one}/out/rlib", copy_function=os.link)
     os.makedirs(f"{room}/crates/{name}/must-fail")
-    for path in paths:
-        shutil.copy(path, f"{room}/crates/{name}/must-fail/")
+    for edit in edits:
+        shutil.copy(f"{TOP}/crates/{name}/edits/{edit}", f"{room}/crates/{name}/must-fail/")
     return room
-
-
-def is_refused(said, name, edit):
-    """Whether rt tells that the edit was refused."""
-    return f"must-fail {name}/{edit}: refused, as it must be" in said
 
 
 def try_edits(name):
@@ -136,11 +173,12 @@ def try_edits(name):
     if not files_below(f"{crate}/edits", ".edit"):
         print(f"the crate {name} has no edits", file=sys.stderr)
         return 1
-    paths = untried(crate)
-    if not paths:
+    tried, untried = tried_and_untried(crate)
+    if not untried:
+        write_seen(crate, tried)
         print(f"{name}: all edits were tried on what they stand on")
         return 0
-    room = room_for(name, paths)
+    room = room_for(name, untried)
     try:
         found = subprocess.run(
             ["rt", "must-fail", name], cwd=room, env={**os.environ, "RT_JOBS": "1"}, capture_output=True, text=True
@@ -149,13 +187,9 @@ def try_edits(name):
         shutil.rmtree(room, ignore_errors=True)
     said = found.stdout + found.stderr
     print(said, end="")
-    seen = seen_of(crate)
-    for path, made in paths.items():
-        edit = os.path.basename(path)
-        if found.returncode == 0 or is_refused(said, name, edit):
-            seen[edit] = made
-    write_seen(crate, seen)
-    return found.returncode
+    refused = {edit: made for edit, made in untried.items() if f"must-fail {name}/{edit}: refused, as it must be" in said}
+    write_seen(crate, {**tried, **refused})
+    return 0 if len(refused) == len(untried) else 1
 
 
 def main():

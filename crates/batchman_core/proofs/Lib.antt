@@ -8,3 +8,4 @@ pub mod Lost
 pub mod Members
 pub mod Owned
 pub mod Timed
+pub mod Reruns

@@ -1,17 +1,20 @@
--- Whose job is lost, and whose is the best.
-use Rattle.std.proofs.Common.{◌≡◌, ◌∙◌, ◌∷◌, [], ℕ, Bool, List, None, Option, Some, ap, cond, false, fold, map}
-use Rattle.std.proofs.Common.{refl, sym, true}
+-- Whose job is lost, and whose is the best, which is due.
+use Rattle.std.proofs.Common.{◌≡◌, ◌∙◌, ◌∷◌, [], ℕ, Bool, List, None, Option, Some, ap, cond, false, find, map}
+use Rattle.std.proofs.Common.{refl, subst, sym, true}
 use Rattle.std.proofs.lemmas.Bool.{eqb-true}
 use Rattle.std.specs.List.{AllByRecursion}
 use Rattle.std.specs.Option.{option_map_or}
-use Rattle.std.specs.Prelude.{◌==◌, IfSome, filter, nat_lt, not, option_map}
+use Rattle.std.specs.Prelude.{◌==◌, IfSome, filter, nat_lt, not}
 use Rattle.model.specs.Types.{Events, Job, LiveJob, Net}
-use Rattle.model.specs.Words.{least, lesser}
+use Rattle.model.specs.Words.{all_of, least, lesser}
 use Rattle.model.specs.History.{View}
-use Rattle.model.specs.Catalogue.{StreamJob, jobs, jobs_of, owner}
-use Rattle.model.specs.Facts.{open_launch}
-use Rattle.model.specs.Readiness.{best, better_of, is_better, is_ready}
+use Rattle.model.specs.Catalogue.{StreamJob, job, jobs, jobs_of, owner}
+use Rattle.model.specs.Facts.{is_due, open_launch}
+use Rattle.model.specs.Readiness.{best, is_ready, is_ready_in, ready_conditions}
 use Rattle.model.specs.Turn.{is_alive, lost_jobs}
+use Rattle.model_laws.proofs.Bests.{best_is}
+use Rattle.model_laws.proofs.Growth.{and_left, and_right, ready_owner}
+use Rattle.model_laws.proofs.Options.{find_passes}
 use Rattle.dependencies.specs.Planned.{IsPlannedJob}
 use Rattle.dependencies.proofs.Found.{jobs_planned}
 use Rattle.dependencies.proofs.Lists.{all_filter, there_if}
@@ -65,33 +68,36 @@ lost_owned V w live j e =
     (map (λ (p : StreamJob). p.doc.no) (jobs_of V w))
     (all_map (Owns V w) (λ (p : StreamJob). p.doc.no) (jobs_of V w) (owned_jobs V w)))) (sym e)
 
-fold_owned : (V : View) (w : ℕ) (so_far : Option StreamJob) (ps : List StreamJob)
-    → IfSome so_far (λ (p : StreamJob). Owns V w p.doc.no) → AllByRecursion (λ (p : StreamJob). Owns V w p.doc.no) ps
-    → IfSome (fold (better_of V) so_far ps) (λ (p : StreamJob). Owns V w p.doc.no)
-fold_owned V w so_far [] h k = h
-fold_owned V w so_far (p ∷ ps) h k = fold_owned V w (better_of V so_far p) ps (next so_far h) k.1
-  where
-    next : (o : Option StreamJob) → IfSome o (λ (q : StreamJob). Owns V w q.doc.no)
-        → IfSome (better_of V o p) (λ (q : StreamJob). Owns V w q.doc.no)
-    next None h = k.0
-    next (Some q) h = go (is_better V p q)
-      where
-        go : (b : Bool) → IfSome (cond b (Some p) (Some q)) (λ (r : StreamJob). Owns V w r.doc.no)
-        go true = k.0
-        go false = h
-
-number_owned : (V : View) (w : ℕ) (o : Option StreamJob) → IfSome o (λ (p : StreamJob). Owns V w p.doc.no)
-    → IfSome (option_map (λ (p : StreamJob). p.doc.no) o) (Owns V w)
-number_owned V w None h = tt
-number_owned V w (Some p) h = h
-
 -- the best job is w's
 pub best_owned : (net : Net) (V : View) (w j : ℕ) → Some j ≡ best net V w → owner V (Job j) ≡ Some w
-unfolding best
-best_owned net V w j e =
-    let ready : List StreamJob = filter (λ (p : StreamJob). is_ready net V w p.doc.no) (jobs_of V w) in
-    there_if (Owns V w) (best net V w) j
-    (number_owned V w (fold (better_of V) None ready)
-    (fold_owned V w None ready tt
-    (all_filter (λ (p : StreamJob). Owns V w p.doc.no) (λ (p : StreamJob). is_ready net V w p.doc.no) (jobs_of V w)
-    (owned_jobs V w)))) (sym e)
+best_owned net V w j e = ready_owner net V w j (best_is net V w j (sym e)).ready
+
+its_number : (V : View) (j : ℕ) (p : StreamJob) → job V j ≡ Some p → p.doc.no ≡ j
+unfolding job
+its_number V j p e =
+    let is_it : StreamJob → Bool = λ q. q.doc.no == j in
+    eqb-true p.doc.no j
+    (there_if (λ (q : StreamJob). is_it q ≡ true) (find is_it (jobs V)) p (find_passes is_it (jobs V)) e)
+
+all_true : (bs : List Bool) → all_of bs ≡ true → AllByRecursion (λ b. b ≡ true) bs
+all_true [] h = tt
+all_true (b ∷ bs) h = (and_left b (all_of bs) h, all_true bs (and_right b (all_of bs) h))
+
+-- a job that is ready is due
+ready_due : (net : Net) (V : View) (w j : ℕ) → is_ready net V w j ≡ true → is_due j (V (Events w)) ≡ true
+unfolding is_ready
+ready_due net V w j h = go (job V j) refl h
+  where
+    go : (o : Option StreamJob) → job V j ≡ o → option_map_or (is_ready_in net V w) o false ≡ true
+        → is_due j (V (Events w)) ≡ true
+    go None e k = cc
+    go (Some p) e k =
+        let all : AllByRecursion (λ b. b ≡ true) (ready_conditions net V w p) =
+        all_true (ready_conditions net V w p) k
+        in
+        let due : is_due p.doc.no (V (Events w)) ≡ true = all.1.1.1.1.1.1.0 in
+        subst (λ (i : ℕ). is_due i (V (Events w)) ≡ true) (its_number V j p e) due
+
+-- and so is the best
+pub best_due : (net : Net) (V : View) (w j : ℕ) → Some j ≡ best net V w → is_due j (V (Events w)) ≡ true
+best_due net V w j e = ready_due net V w j (best_is net V w j (sym e)).ready

@@ -1,9 +1,12 @@
--- How the choices that the code names stand for those of the model, and whose job a choice names.
-use Rattle.std.specs.Prelude.{◌≡◌, ℕ, Some}
-use Rattle.model.specs.Types.{Job}
+-- How the choices that the code names stand for those of the model, whose job a choice names, and which commands have
+-- their document.
+use Rattle.std.specs.Prelude.{◌≡◌, ℕ, None, Some, true}
+use Rattle.model.specs.Types.{Cmd, Events, Job, Submit}
 use Rattle.model.specs.History.{View}
 use Rattle.model.specs.Catalogue.{owner}
+use Rattle.model.specs.Facts.{is_due}
 use Rattle.model.specs.Choices as model
+use Rattle.carry_forward.specs.Faults.{submit_fault}
 use Rattle.batchman_core.specs.declared.choices.Choice.{Choice}
 use Rattle.batchman_core.specs.declared.choices.Choice.TheVariants.{Answer, Clock, End, Launch, Lost, Nothing, Release}
 use Rattle.batchman_core.specs.declared.choices.Choice.TheVariants.{Late, Until}
@@ -31,3 +34,20 @@ IsOwn V w (Release s) = Unit {0}
 IsOwn V w (End s) = Unit {0}
 IsOwn V w (Launch j) = owner V (Job j) ≡ Some w
 IsOwn V w Nothing = Unit {0}
+
+-- a job that is launched is due, by w's own events
+abbrev pub IsDueLaunch : View → ℕ → Choice → Type 0
+IsDueLaunch V w Clock = Unit {0}
+IsDueLaunch V w (Lost j) = Unit {0}
+IsDueLaunch V w (Answer a) = Unit {0}
+IsDueLaunch V w (Until o i) = Unit {0}
+IsDueLaunch V w (Late o i) = Unit {0}
+IsDueLaunch V w (Release s) = Unit {0}
+IsDueLaunch V w (End s) = Unit {0}
+IsDueLaunch V w (Launch j) = is_due j (V (Events w)) ≡ true
+IsDueLaunch V w Nothing = Unit {0}
+
+-- a stream that is submitted has a document: there are numbers for it, and room in the plan
+abbrev pub HasDocument : View → Cmd → Type 0
+HasDocument V (Submit draft) = submit_fault V draft ≡ None
+HasDocument V _ = Unit {0}

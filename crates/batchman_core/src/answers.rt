@@ -1,16 +1,17 @@
 //! The answer to an order.
-ghost use Rattle.std.specs.Prelude.{◌≡◌, ◌+◌, IfOk, option_map};
+ghost use Rattle.std.specs.Prelude.{◌≡◌, ◌+◌, IfOk, None, option_map};
 ghost use Rattle.model.specs.Types as types;
 ghost use Rattle.model.specs.Types.{Events};
 ghost use Rattle.model.specs.History.{view_of};
 ghost use Rattle.model.specs.Facts.{answered};
 ghost use Rattle.model.specs.NewPlan as plans;
 ghost use Rattle.model.specs.Turn as spec;
+ghost use Rattle.carry_forward.specs.Faults.{submit_fault};
+ghost use Rattle.batchman_core.specs.Told.{HasDocument};
 
-use crate::faults::TurnFault;
 use crate::issuers::next_order;
-use base_types::{Body, Cmd, Copied, StreamDraft, Ws};
-use carry_forward::numbered;
+use base_types::{Body, Cmd, Copied, NoMemory, StreamDraft, Ws};
+use carry_forward::{CarryFault, numbered};
 use conman_orders::{Verdict, judge};
 use network_tree::Network;
 use owner_fold::Owners;
@@ -23,7 +24,7 @@ pub(crate) fn answer(
     o: &Owners,
     me: Ws,
     a: Ws,
-) -> Result<Option<Body>, TurnFault>
+) -> Result<Option<Body>, NoMemory>
     ensures { let V = view_of o.now in
         IfOk result (λ b. b ≡ option_map (spec.answer net.now V me a) (spec.next_order V me a)) }
 {
@@ -42,7 +43,7 @@ fn answer_to(
     a: Ws,
     place: u32,
     cmd: &Cmd,
-) -> Result<Body, TurnFault>
+) -> Result<Body, NoMemory>
     requires { place ≡ 1 + answered a (view_of o.now (Events me)) }
     ensures { IfOk result (λ b. b ≡ spec.answer net.now (view_of o.now) me a cmd.now) }
 {
@@ -53,7 +54,8 @@ fn answer_to(
 }
 
 /// The entry that an order becomes where it is obeyed.
-fn obeyed(alloc: Global, o: &Owners, a: Ws, place: u32, cmd: &Cmd) -> Result<Body, TurnFault>
+fn obeyed(alloc: Global, o: &Owners, a: Ws, place: u32, cmd: &Cmd) -> Result<Body, NoMemory>
+    requires { HasDocument (view_of o.now) cmd.now }
     ensures { IfOk result (λ b. b ≡ spec.obeyed_as (view_of o.now) a place cmd.now) }
 {
     match cmd {
@@ -62,19 +64,22 @@ fn obeyed(alloc: Global, o: &Owners, a: Ws, place: u32, cmd: &Cmd) -> Result<Bod
     }
 }
 
-/// The stream that a submit adds. An order that is obeyed has numbers and room left, so memory alone is wanting where
-/// there is no document.
+/// The stream that a submit adds. There are numbers and room for it, so memory alone may be wanting.
 fn added(
     alloc: Global,
     o: &Owners,
     a: Ws,
     place: u32,
     draft: &StreamDraft,
-) -> Result<Body, TurnFault>
+) -> Result<Body, NoMemory>
+    requires { submit_fault (view_of o.now) draft.now ≡ None }
     ensures { IfOk result (λ b. b ≡ types.Added a place (plans.numbered (view_of o.now) draft.now)) }
 {
     match numbered(alloc, o, draft) {
         Ok(doc) => Ok(Body::Added(a, place, doc)),
-        Err(_) => Err(TurnFault::NoMemory),
+        Err(CarryFault::NoMemory) => Err(NoMemory),
+        Err(CarryFault::RunsSpent) => unreachable!(),
+        Err(CarryFault::NumbersSpent) => unreachable!(),
+        Err(CarryFault::PlanFull(_)) => unreachable!(),
     }
 }

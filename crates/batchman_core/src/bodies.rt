@@ -1,28 +1,28 @@
 //! What a turn keeps.
-ghost use Rattle.std.specs.Prelude.{◌≡◌, ◌+◌, ◌<◌, IfOk, Some, option_and_then, option_map};
+ghost use Rattle.std.specs.Prelude.{◌≡◌, ◌+◌, ◌<◌, IfOk, Some, option_and_then, option_map, true};
 ghost use Rattle.model.specs.Types as types;
 ghost use Rattle.model.specs.Types.{Events, Job, Stream};
 ghost use Rattle.model.specs.Network.{node_count};
 ghost use Rattle.model.specs.History.{view_of};
 ghost use Rattle.model.specs.Catalogue.{owner};
-ghost use Rattle.model.specs.Facts.{launches, open_launch};
+ghost use Rattle.model.specs.Facts.{is_due, launches, open_launch};
 ghost use Rattle.model.specs.Dependencies.{dep};
 ghost use Rattle.model.specs.OwnMembers.{UntilTime, until_in};
 ghost use Rattle.model.specs.Turn as spec;
-ghost use Rattle.batchman_core.specs.Told.{IsOwn, choice_of};
+ghost use Rattle.batchman_core.specs.Told.{IsDueLaunch, IsOwn, choice_of};
 
 use crate::answers::answer;
 use crate::choices::{Choice, turn_choice};
 use crate::faults::TurnFault;
 use crate::witnesses::{seen_by_end, seen_by_object};
-use base_types::{Body, Dep, JobNo, Live, Moment, Obj, StreamNo, Ws};
+use base_types::{Body, Dep, Feed, JobNo, Live, Moment, NoMemory, Obj, StreamNo, Ws};
 use dependencies::Readiness;
 use network_tree::Network;
 use owner_fold::Owners;
 use std::alloc::Global;
 
 /// What `me` keeps in a turn with the reading `t`, in seconds since 1970: the body of the first rule that applies.
-/// None where no rule does. `live` has the launches with a live process. `NoMemory` leaves nothing behind.
+/// None where no rule does. `live` has the launches with a live process. An error leaves nothing behind.
 #[tactic(auto, unfolding(model::specs::Turn::turn_body))]
 pub fn turn_body<R: Readiness>(
     alloc: Global,
@@ -51,8 +51,9 @@ fn body_of(
     me: Ws,
     t: Moment,
     choice: &Choice,
-) -> Result<Option<Body>, TurnFault>
-    requires { IsOwn (view_of o.now) me choice.now }
+) -> Result<Option<Body>, NoMemory>
+    requires owned { IsOwn (view_of o.now) me choice.now }
+    requires due { IsDueLaunch (view_of o.now) me choice.now }
     ensures { IfOk result (λ b. b ≡ spec.body_of net.now (view_of o.now) me t (choice_of choice.now)) }
 {
     match choice {
@@ -91,7 +92,7 @@ fn until_passed(o: &Owners, obj: &Obj, i: u16) -> Option<Body>
 }
 
 /// The release of a stream at w.
-fn released(alloc: Global, o: &Owners, w: Ws, s: StreamNo) -> Result<Body, TurnFault>
+fn released(alloc: Global, o: &Owners, w: Ws, s: StreamNo) -> Result<Body, NoMemory>
     ensures { let V = view_of o.now in
         IfOk result (λ b. b ≡ types.Released s (spec.seen_for V (spec.witnesses V w (Stream s)))) }
 {
@@ -100,7 +101,7 @@ fn released(alloc: Global, o: &Owners, w: Ws, s: StreamNo) -> Result<Body, TurnF
 }
 
 /// The end of a stream at w.
-fn ended(alloc: Global, o: &Owners, w: Ws, s: StreamNo) -> Result<Body, TurnFault>
+fn ended(alloc: Global, o: &Owners, w: Ws, s: StreamNo) -> Result<Body, NoMemory>
     ensures { let V = view_of o.now in
         IfOk result (λ b. b ≡ types.StreamEnded s (spec.seen_for V (spec.end_witnesses V w s))) }
 {
@@ -108,16 +109,27 @@ fn ended(alloc: Global, o: &Owners, w: Ws, s: StreamNo) -> Result<Body, TurnFaul
     Ok(Body::StreamEnded(s, seen))
 }
 
-/// The next launch of a job of w.
-fn launched(alloc: Global, o: &Owners, w: Ws, j: JobNo) -> Result<Body, TurnFault>
-    requires { owner (view_of o.now) (Job j) ≡ Some w }
+/// The number of the next launch of a job of w that is due. Such a job was rerun as often as it was launched, and both
+/// are events of w, which 32 bits can count. So there is one.
+#[tactic(auto, using(crate::proofs::Reruns::next_has_number))]
+fn next_number(o: &Owners, w: Ws, j: JobNo) -> u32
+    requires owned { owner (view_of o.now) (Job j) ≡ Some w }
+    requires due { is_due j (view_of o.now (Events w)) ≡ true }
+    ensures { result ≡ 1 + launches j (view_of o.now (Events w)) }
+{
+    let _events = o.count(Feed::Events(w));
+    1 + o.launches(j)
+}
+
+/// The next launch of a job of w that is due.
+fn launched(alloc: Global, o: &Owners, w: Ws, j: JobNo) -> Result<Body, NoMemory>
+    requires owned { owner (view_of o.now) (Job j) ≡ Some w }
+    requires due { is_due j (view_of o.now (Events w)) ≡ true }
     ensures { let V = view_of o.now in
         IfOk result (λ b. b
         ≡ types.Launched j (1 + launches j (V (Events w))) (spec.seen_for V (spec.witnesses V w (Job j)))) }
 {
-    let Some(number) = o.launches(j).checked_add(1) else {
-        return Err(TurnFault::NoMemory);
-    };
+    let number = next_number(o, w, j);
     let seen = seen_by_object(alloc, o, w, &Obj::Job(j))?;
     Ok(Body::Launched(j, number, seen))
 }

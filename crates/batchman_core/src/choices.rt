@@ -3,7 +3,7 @@ ghost use Rattle.std.specs.Prelude.{◌≡◌, ◌<◌};
 ghost use Rattle.model.specs.Network.{node_count};
 ghost use Rattle.model.specs.History.{view_of};
 ghost use Rattle.model.specs.Turn as spec;
-ghost use Rattle.batchman_core.specs.Told.{IsOwn, choice_of};
+ghost use Rattle.batchman_core.specs.Told.{IsDueLaunch, IsOwn, choice_of};
 
 use crate::clocks::is_clock_due;
 use crate::issuers::next_issuer;
@@ -52,6 +52,7 @@ pub fn turn_choice<R: Readiness>(
     requires stands { R.stands_for r.now o.now me net.now.resources net.now.prompts }
     ensures choice { choice_of result ≡ spec.turn_choice net.now (view_of o.now) me live.now t }
     ensures owned { IsOwn (view_of o.now) me result }
+    ensures due { IsDueLaunch (view_of o.now) me result }
 {
     if is_clock_due(o, me, t) {
         return Choice::Clock;

@@ -1,4 +1,4 @@
-//! Whether a time has come for which the clock is kept.
+//! Whether a time is reached for which the clock is kept.
 ghost use Rattle.std.specs.Prelude.{◌≡◌, ◌==◌, ◌&&◌, false, filter, map};
 ghost use Rattle.std.specs.Option.{option_map_or};
 ghost use Rattle.model.specs.Types.{Job, JobDoc as JobOf, Stream, StreamDoc as StreamOf};
@@ -7,7 +7,7 @@ ghost use Rattle.model.specs.Catalogue.{StreamJob, is_member};
 ghost use Rattle.model.specs.Dependencies.{unwaived_deps};
 ghost use Rattle.model.specs.OwnMembers.{own_jobs, own_streams};
 ghost use Rattle.model.specs.Turn as spec;
-ghost use Rattle.batchman_core.specs.Comings.{any_comes, any_comes_of, comes};
+ghost use Rattle.batchman_core.specs.Reached.{is_any_reached, is_any_reached_of, is_reached};
 
 use base_types::{Dep, JobDoc, Moment, Obj, StreamDoc, Ws};
 use dependencies::unwaived_deps;
@@ -20,45 +20,45 @@ pub fn is_clock_due(o: &Owners, me: Ws, t: Moment) -> bool
     ensures { result ≡ spec.is_clock_due (view_of o.now) me t }
 {
     let now = o.now(me);
-    time_of_streams_comes(o, me, now, t) || time_of_jobs_comes(o, me, now, t)
+    is_time_of_streams_reached(o, me, now, t) || is_time_of_jobs_reached(o, me, now, t)
 }
 
-/// Whether such a time of an own member does.
-fn time_of_streams_comes(o: &Owners, w: Ws, now: Moment, t: Moment) -> bool
+/// Whether such a time of an own member is reached.
+fn is_time_of_streams_reached(o: &Owners, w: Ws, now: Moment, t: Moment) -> bool
     ensures { let V = view_of o.now in
-        result ≡ any_comes_of V now t (map (λ (d : StreamOf). Stream d.no) (own_streams V w)) }
+        result ≡ is_any_reached_of V now t (map (λ (d : StreamOf). Stream d.no) (own_streams V w)) }
 {
     for doc in o.timed_streams(w) {
-        if time_of_stream_comes(o, w, doc, now, t) {
+        if is_time_of_stream_reached(o, w, doc, now, t) {
             return true;
         }
     }
     false
 }
 
-/// Whether such a time of an own member's job does.
-fn time_of_jobs_comes(o: &Owners, w: Ws, now: Moment, t: Moment) -> bool
+/// Whether such a time of an own member's job is reached.
+fn is_time_of_jobs_reached(o: &Owners, w: Ws, now: Moment, t: Moment) -> bool
     ensures { let V = view_of o.now in
-        result ≡ any_comes_of V now t (map (λ (p : StreamJob). Job p.doc.no) (own_jobs V w)) }
+        result ≡ is_any_reached_of V now t (map (λ (p : StreamJob). Job p.doc.no) (own_jobs V w)) }
 {
     for (parent, doc) in o.timed_jobs(w) {
-        if time_of_job_comes(o, w, parent, doc, now, t) {
+        if is_time_of_job_reached(o, w, parent, doc, now, t) {
             return true;
         }
     }
     false
 }
 
-/// Whether the stream is an own member of w of which such a time does.
-fn time_of_stream_comes(o: &Owners, w: Ws, doc: &StreamDoc, now: Moment, t: Moment) -> bool
+/// Whether the stream is an own member of w of which such a time is reached.
+fn is_time_of_stream_reached(o: &Owners, w: Ws, doc: &StreamDoc, now: Moment, t: Moment) -> bool
     ensures { let V = view_of o.now in let d = doc.now in
-        result ≡ ((d.ws == w) && (is_member V d.no && any_comes now t (unwaived_deps V (Stream d.no)))) }
+        result ≡ ((d.ws == w) && (is_member V d.no && is_any_reached now t (unwaived_deps V (Stream d.no)))) }
 {
-    doc.ws == w && o.is_member(doc.no) && time_comes(o, &Obj::Stream(doc.no), now, t)
+    doc.ws == w && o.is_member(doc.no) && is_time_of_object_reached(o, &Obj::Stream(doc.no), now, t)
 }
 
-/// Whether the job is an own member's of w of which such a time does.
-fn time_of_job_comes(
+/// Whether the job is an own member's of w of which such a time is reached.
+fn is_time_of_job_reached(
     o: &Owners,
     w: Ws,
     parent: &StreamDoc,
@@ -67,17 +67,17 @@ fn time_of_job_comes(
     t: Moment,
 ) -> bool
     ensures { let V = view_of o.now in let d = doc.now in
-        result ≡ ((d.ws == w) && (is_member V parent.now.no && any_comes now t (unwaived_deps V (Job d.no)))) }
+        result ≡ ((d.ws == w) && (is_member V parent.now.no && is_any_reached now t (unwaived_deps V (Job d.no)))) }
 {
-    doc.ws == w && o.is_member(parent.no) && time_comes(o, &Obj::Job(doc.no), now, t)
+    doc.ws == w && o.is_member(parent.no) && is_time_of_object_reached(o, &Obj::Job(doc.no), now, t)
 }
 
-/// Whether the time of a dependency of the object that is not waived does.
-fn time_comes(o: &Owners, obj: &Obj, now: Moment, t: Moment) -> bool
-    ensures { result ≡ any_comes now t (unwaived_deps (view_of o.now) obj.now) }
+/// Whether the time of a dependency of the object that is not waived is reached.
+fn is_time_of_object_reached(o: &Owners, obj: &Obj, now: Moment, t: Moment) -> bool
+    ensures { result ≡ is_any_reached now t (unwaived_deps (view_of o.now) obj.now) }
 {
     for (_number, dep) in unwaived_deps(o, obj) {
-        if comes(dep, now, t) {
+        if is_time_of_dependency_reached(dep, now, t) {
             return true;
         }
     }
@@ -85,8 +85,8 @@ fn time_comes(o: &Owners, obj: &Obj, now: Moment, t: Moment) -> bool
 }
 
 /// Whether the time of the dependency, if it has one, lies above `now` and at most at t.
-fn comes(dep: &Dep, now: Moment, t: Moment) -> bool
-    ensures { result ≡ option_map_or (comes now t) (spec.dep_time dep.now) false }
+fn is_time_of_dependency_reached(dep: &Dep, now: Moment, t: Moment) -> bool
+    ensures { result ≡ option_map_or (is_reached now t) (spec.dep_time dep.now) false }
 {
     match dep {
         Dep::At(u) => now.0 < u.0 && u.0 <= t.0,

@@ -4,7 +4,7 @@ use base_types::NoMemory;
 /// Why there is no body of a turn.
 #[derive(Clone, Copy, Debug, PartialEq, Eq)]
 pub enum TurnFault {
-    /// Memory ran out, or the job has been launched 4,294,967,295 times, so that the next number has no place.
+    /// Memory ran out.
     NoMemory,
 }
 

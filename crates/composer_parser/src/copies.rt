@@ -1,121 +1,15 @@
 //! Copies of definitions, which may run out of memory.
+ghost use Rattle.std.specs.Prelude.{◌≡◌, [], IfOk, OnOk};
+
 use crate::clauses::{Clause, Need, Pred, PredPart, PromptItem};
 use crate::definitions::{
     CalendarDef, CpuDef, Defs, DomainDef, JobDef, Lined, ResourceDef, WorkDef,
 };
 use crate::schedules::{CycleDef, EntryDef, FreeDef, OnDef, OnItem, ScheduleDef};
-use base_types::{Carry, Copied, NoMemory, PromptDef, Text};
+use base_types::{Copied, NoMemory};
 
-impl Copied for Lined<u16> {
-    fn copy(&self) -> Result<Lined<u16>, NoMemory> {
-        Ok(Lined {
-            line: self.line,
-            item: self.item,
-        })
-    }
-}
-
-impl Copied for Lined<Carry> {
-    fn copy(&self) -> Result<Lined<Carry>, NoMemory> {
-        Ok(Lined {
-            line: self.line,
-            item: self.item,
-        })
-    }
-}
-
-impl Copied for Lined<Text> {
-    fn copy(&self) -> Result<Lined<Text>, NoMemory> {
-        Ok(Lined {
-            line: self.line,
-            item: self.item.copy()?,
-        })
-    }
-}
-
-impl Copied for Lined<CpuDef> {
-    fn copy(&self) -> Result<Lined<CpuDef>, NoMemory> {
-        Ok(Lined {
-            line: self.line,
-            item: self.item.copy()?,
-        })
-    }
-}
-
-impl Copied for Lined<DomainDef> {
-    fn copy(&self) -> Result<Lined<DomainDef>, NoMemory> {
-        Ok(Lined {
-            line: self.line,
-            item: self.item.copy()?,
-        })
-    }
-}
-
-impl Copied for Lined<CalendarDef> {
-    fn copy(&self) -> Result<Lined<CalendarDef>, NoMemory> {
-        Ok(Lined {
-            line: self.line,
-            item: self.item.copy()?,
-        })
-    }
-}
-
-impl Copied for Lined<PromptDef> {
-    fn copy(&self) -> Result<Lined<PromptDef>, NoMemory> {
-        Ok(Lined {
-            line: self.line,
-            item: self.item.copy()?,
-        })
-    }
-}
-
-impl Copied for Lined<ResourceDef> {
-    fn copy(&self) -> Result<Lined<ResourceDef>, NoMemory> {
-        Ok(Lined {
-            line: self.line,
-            item: self.item.copy()?,
-        })
-    }
-}
-
-impl Copied for Lined<JobDef> {
-    fn copy(&self) -> Result<Lined<JobDef>, NoMemory> {
-        Ok(Lined {
-            line: self.line,
-            item: self.item.copy()?,
-        })
-    }
-}
-
-impl Copied for Lined<OnDef> {
-    fn copy(&self) -> Result<Lined<OnDef>, NoMemory> {
-        Ok(Lined {
-            line: self.line,
-            item: self.item.copy()?,
-        })
-    }
-}
-
-impl Copied for Lined<Clause> {
-    fn copy(&self) -> Result<Lined<Clause>, NoMemory> {
-        Ok(Lined {
-            line: self.line,
-            item: self.item.copy()?,
-        })
-    }
-}
-
-impl Copied for Lined<EntryDef> {
-    fn copy(&self) -> Result<Lined<EntryDef>, NoMemory> {
-        Ok(Lined {
-            line: self.line,
-            item: self.item.copy()?,
-        })
-    }
-}
-
-impl Copied for Lined<ScheduleDef> {
-    fn copy(&self) -> Result<Lined<ScheduleDef>, NoMemory> {
+impl<T: Copied> Copied for Lined<T> {
+    fn copy(&self) -> Result<Lined<T>, NoMemory> {
         Ok(Lined {
             line: self.line,
             item: self.item.copy()?,
@@ -244,24 +138,28 @@ impl Copied for Need {
 impl Copied for EntryDef {
     fn copy(&self) -> Result<EntryDef, NoMemory> {
         Ok(EntryDef {
-            ws: self.ws.copy()?,
-            name: self.name.copy()?,
-            work: self.work.copy()?,
             clauses: self.clauses.copy()?,
+            name: self.name.copy()?,
+            ws: self.ws.copy()?,
+            work: self.work.copy()?,
         })
     }
 }
 
 impl Copied for ScheduleDef {
     fn copy(&self) -> Result<ScheduleDef, NoMemory> {
-        Ok(ScheduleDef {
-            ws: self.ws.copy()?,
+        let mut copy = ScheduleDef {
             name: self.name.copy()?,
+            ws: self.ws.copy()?,
             free: self.free.copy()?,
-            ons: self.ons.copy()?,
-            clauses: self.clauses.copy()?,
-            entries: self.entries.copy()?,
-        })
+            ons: self.ons.empty(),
+            clauses: self.clauses.empty(),
+            entries: self.entries.empty(),
+        };
+        copy.ons = self.ons.copy()?;
+        copy.clauses = self.clauses.copy()?;
+        copy.entries = self.entries.copy()?;
+        Ok(copy)
     }
 }
 
@@ -317,20 +215,72 @@ impl Copied for Clause {
     }
 }
 
-impl Copied for Defs {
-    fn copy(&self) -> Result<Defs, NoMemory> {
+/// A line and a number, which take no memory.
+fn copy_of_start(start: &Option<Lined<u16>>) -> Option<Lined<u16>>
+    ensures { result ≡ start.now }
+{
+    match start {
+        Some(start) => Some(Lined {
+            line: start.line,
+            item: start.item,
+        }),
+        None => None,
+    }
+}
+
+impl Defs {
+    /// The options, and no statement.
+    fn copy_of_options(&self) -> Result<Defs, NoMemory>
+        ensures { IfOk result (λ d. d ≡ record {
+          last_line = self.now.last_line;
+          start = self.now.start;
+          zone = self.now.zone;
+          carry = self.now.carry;
+          cpus = [];
+          domains = [];
+          calendars = [];
+          prompts = [];
+          resources = [];
+          jobs = [];
+          schedules = [];
+        }) }
+    {
+        let zone = self.zone.copy()?;
+        let carry = self.carry.copy()?;
         Ok(Defs {
             last_line: self.last_line,
-            start: self.start.copy()?,
-            zone: self.zone.copy()?,
-            carry: self.carry.copy()?,
-            cpus: self.cpus.copy()?,
-            domains: self.domains.copy()?,
-            calendars: self.calendars.copy()?,
-            prompts: self.prompts.copy()?,
-            resources: self.resources.copy()?,
-            jobs: self.jobs.copy()?,
-            schedules: self.schedules.copy()?,
+            start: copy_of_start(&self.start),
+            zone,
+            carry,
+            cpus: self.cpus.empty(),
+            domains: self.domains.empty(),
+            calendars: self.calendars.empty(),
+            prompts: self.prompts.empty(),
+            resources: self.resources.empty(),
+            jobs: self.jobs.empty(),
+            schedules: self.schedules.empty(),
         })
+    }
+
+    /// Puts copies of the statements in the place of those that another has.
+    fn copy_statements(&self, copy: &mut Defs) -> Result<(), NoMemory>
+        ensures { OnOk result (copy.new ≡ record self.now { start = copy.old.start; zone = copy.old.zone; carry = copy.old.carry; last_line = copy.old.last_line }) }
+    {
+        copy.cpus = self.cpus.copy()?;
+        copy.domains = self.domains.copy()?;
+        copy.calendars = self.calendars.copy()?;
+        copy.prompts = self.prompts.copy()?;
+        copy.resources = self.resources.copy()?;
+        copy.jobs = self.jobs.copy()?;
+        copy.schedules = self.schedules.copy()?;
+        Ok(())
+    }
+}
+
+impl Copied for Defs {
+    fn copy(&self) -> Result<Defs, NoMemory> {
+        let mut copy = self.copy_of_options()?;
+        self.copy_statements(&mut copy)?;
+        Ok(copy)
     }
 }

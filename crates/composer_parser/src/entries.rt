@@ -1,13 +1,14 @@
 //! The jobs of a stream.
-ghost use Rattle.std.specs.Prelude.{◌≡◌, ℕ, List, codes};
+ghost use Rattle.std.specs.Prelude.{◌≡◌, ℕ, List, codes, IfOk};
 ghost use Rattle.composer_parser.specs.Reading.{read, begins_piece};
 ghost use Rattle.composer_parser.specs.Schedules as spec;
-ghost use Rattle.composer_parser.specs.Tokens.{all_spelled, Gives};
+ghost use Rattle.composer_parser.specs.Tokens.{all_spelled, on_line, Gives};
 ghost use Rattle.composer_parser.specs.Parts.{always};
 ghost use Rattle.composer_parser.specs.declared.definitions.Lined.{Lined as LinedOf};
 ghost use Rattle.composer_parser.specs.declared.schedules.EntryDef.{EntryDef as Entry};
 
 use crate::clause_forms::clauses;
+use crate::clauses::Clause;
 use crate::definitions::{Lined, WorkDef};
 use crate::parts::is_next;
 use crate::places::{is_scoped_next, scoped};
@@ -15,7 +16,7 @@ use crate::schedules::EntryDef;
 use crate::scopes::{own_of, ws_of};
 use crate::stops::Stop;
 use crate::works::work;
-use base_types::{Items, Token};
+use base_types::{Items, NoMemory, Token};
 use std::alloc::Global;
 
 /// The own work of an entry, if it has one.
@@ -34,6 +35,27 @@ fn own_work<'a>(
     Ok((None, rest))
 }
 
+/// The job of a stream that a word names, with its parts.
+fn entry_of(
+    alloc: Global,
+    line: u32,
+    word: &str,
+    work: Option<WorkDef>,
+    clauses: Items<Lined<Clause>>,
+) -> Result<Lined<EntryDef>, NoMemory>
+    ensures { IfOk result (λ e. e ≡ spec.entry_of (on_line line word.now) work clauses) }
+{
+    let name = own_of(alloc, word)?;
+    let ws = ws_of(alloc, word)?;
+    let item = EntryDef {
+        ws,
+        name,
+        work,
+        clauses,
+    };
+    Ok(Lined { line, item })
+}
+
 /// A job of a stream.
 #[tactic(auto, unfolding(crate::specs::Schedules::entry))]
 fn entry<'a>(
@@ -44,17 +66,9 @@ fn entry<'a>(
     ensures { Gives (λ x. x.0) (λ x. x.1.now) text.now result (read spec.entry (all_spelled text.now rest.now)) }
 {
     let (word, line, rest) = scoped(text, rest)?;
-    let ws = ws_of(alloc, word)?;
-    let name = own_of(alloc, word)?;
     let (work, rest) = own_work(alloc, text, rest)?;
     let (clauses, rest) = clauses(alloc, text, rest, false)?;
-    let item = EntryDef {
-        ws,
-        name,
-        work,
-        clauses,
-    };
-    Ok((Lined { line, item }, rest))
+    Ok((entry_of(alloc, line, word, work, clauses)?, rest))
 }
 
 /// Whether an entry begins here.

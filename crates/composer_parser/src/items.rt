@@ -10,12 +10,12 @@ ghost use Rattle.composer_parser.specs.Reading.{begins, turns};
 
 use crate::batches::room_for_one;
 use crate::moments::{date_value, is_date_next, is_offset_next, signed};
-use crate::parts::{is_mark_next, is_next, is_word_of, key, mark, name, quoted_value};
+use crate::parts::{is_mark_next, is_next, is_word_of, key, mark, name_word, quoted_value};
 use crate::places::is_name_next;
 use crate::rules::{is_foreign_rule, is_rule};
 use crate::schedules::{Offset, OffsetUnit, OnItem};
 use crate::stops::{Stop, Why};
-use base_types::{Items, Token, TokenKind};
+use base_types::{Items, Text, Token, TokenKind};
 use std::alloc::Global;
 
 /// The days of the week, from Monday on.
@@ -58,8 +58,9 @@ fn calendar_item<'a>(
 ) -> Result<(OnItem, &'a [Token]), Stop>
     ensures { Gives (λ x. x.0) (λ x. x.1.now) text.now result (read spec.calendar_item (all_spelled text.now rest.now)) }
 {
-    let (name, rest) = name(alloc, text, rest)?;
+    let (word, rest) = name_word(text, rest)?;
     let (offset, rest) = offset(text, rest)?;
+    let name = Text::of_upper(alloc, word)?;
     Ok((OnItem::Calendar(name, offset), rest))
 }
 

@@ -34,8 +34,8 @@ fn need<'a>(alloc: Global, text: &str, rest: &'a [Token]) -> Result<(Need, &'a [
 {
     let (units, rest) = units(text, rest)?;
     let (word, _, rest) = scoped(text, rest)?;
-    let ws = ws_of(alloc, word)?;
     let name = own_of(alloc, word)?;
+    let ws = ws_of(alloc, word)?;
     Ok((Need { units, ws, name }, rest))
 }
 

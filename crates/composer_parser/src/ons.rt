@@ -10,10 +10,10 @@ ghost use Rattle.composer_parser.specs.declared.schedules.OnDef.{OnDef as On};
 use crate::definitions::Lined;
 use crate::items::items;
 use crate::moments::date_value;
-use crate::parts::{description, is_mark_next, is_next, key, name};
+use crate::parts::{description, is_mark_next, is_next, key, name_word};
 use crate::schedules::{CycleDef, OnDef, Shift};
 use crate::stops::{Stop, Why};
-use base_types::{Items, Token};
+use base_types::{Items, Text, Token};
 use std::alloc::Global;
 
 #[tactic(auto, unfolding(crate::specs::Schedules::valid_from))]
@@ -53,10 +53,11 @@ fn cycle<'a>(
         return Ok((None, rest));
     }
     let (_, rest) = key(text, rest, "RUNCYCLE")?;
-    let (name, rest) = name(alloc, text, rest)?;
+    let (word, rest) = name_word(text, rest)?;
     let (first, rest) = valid_from(text, rest)?;
     let (last, rest) = valid_to(text, rest)?;
     let rest = description(text, rest)?;
+    let name = Text::of_upper(alloc, word)?;
     Ok((Some(CycleDef { name, first, last }), rest))
 }
 

@@ -96,13 +96,12 @@ pub(crate) fn mark<'a>(text: &str, rest: &'a [Token], mark: u8) -> Result<&'a [T
     }
 }
 
-/// A name, in upper case.
-pub(crate) fn name<'a>(
-    alloc: Global,
-    text: &str,
+/// A name as it is written, which stands for its upper case.
+pub(crate) fn name_word<'t, 'a>(
+    text: &'t str,
     rest: &'a [Token],
-) -> Result<(Text, &'a [Token]), Stop>
-    ensures { Gives (λ x. x.0) (λ x. x.1.now) text.now result (read spec.name (all_spelled text.now rest.now)) }
+) -> Result<(&'t str, &'a [Token]), Stop>
+    ensures { Gives (λ x. spec.upper x.0.now) (λ x. x.1.now) text.now result (read spec.name (all_spelled text.now rest.now)) }
 {
     let [token, behind @ ..] = rest else {
         return Err(Stop::Here(Why::NotExpected, 0));
@@ -114,7 +113,19 @@ pub(crate) fn name<'a>(
     if !is_free_name(word) {
         return Err(Stop::Here(Why::NotExpected, rest.len()));
     }
-    Ok((Text::of_upper(alloc, word)?, behind))
+    Ok((word, behind))
+}
+
+/// A name, in upper case.
+pub(crate) fn name<'a>(
+    alloc: Global,
+    text: &str,
+    rest: &'a [Token],
+) -> Result<(Text, &'a [Token]), Stop>
+    ensures { Gives (λ x. x.0) (λ x. x.1.now) text.now result (read spec.name (all_spelled text.now rest.now)) }
+{
+    let (word, rest) = name_word(text, rest)?;
+    Ok((Text::of_upper(alloc, word)?, rest))
 }
 
 /// A text in quotes, which is dropped.

@@ -1,22 +1,40 @@
-//! Streams, as a text has them.
+//! Streams, as a text has them. Their drops are written out, so that dropping one is a call for whoever owns it.
 use crate::clauses::Clause;
 use crate::definitions::{Lined, WorkDef};
 use base_types::{Items, Text};
 
 /// The free days of a stream.
-#[derive(Drop)]
 pub struct FreeDef {
     pub name: Text,
     pub minus_sa: bool,
     pub minus_su: bool,
 }
 
+impl Drop for FreeDef {
+    fn drop(self) {
+        let FreeDef {
+            name: _name,
+            minus_sa: _minus_sa,
+            minus_su: _minus_su,
+        } = self;
+    }
+}
+
 /// A run cycle, between its first day and its last.
-#[derive(Drop)]
 pub struct CycleDef {
     pub name: Text,
     pub first: Option<u32>,
     pub last: Option<u32>,
+}
+
+impl Drop for CycleDef {
+    fn drop(self) {
+        let CycleDef {
+            name: _name,
+            first: _first,
+            last: _last,
+        } = self;
+    }
 }
 
 /// Which days an offset counts.
@@ -36,7 +54,6 @@ pub struct Offset {
 }
 
 /// Days on which a stream runs.
-#[derive(Drop)]
 pub enum OnItem {
     /// 0 is MO and 6 is SU.
     Weekday(u8),
@@ -51,6 +68,22 @@ pub enum OnItem {
     Calendar(Text, Option<Offset>),
 }
 
+impl Drop for OnItem {
+    fn drop(self) {
+        match self {
+            OnItem::Weekday(_a) => {}
+            OnItem::EveryDay => {}
+            OnItem::Weekdays => {}
+            OnItem::Workdays => {}
+            OnItem::FreeDays => {}
+            OnItem::Request => {}
+            OnItem::Date(_a) => {}
+            OnItem::Rule(_a) => {}
+            OnItem::Calendar(_a, _b) => {}
+        }
+    }
+}
+
 /// What becomes of a free day.
 #[derive(Clone, Copy)]
 pub enum Shift {
@@ -63,7 +96,6 @@ pub enum Shift {
 }
 
 /// An ON, or an EXCEPT.
-#[derive(Drop)]
 pub struct OnDef {
     pub except: bool,
     pub cycle: Option<CycleDef>,
@@ -71,8 +103,18 @@ pub struct OnDef {
     pub shift: Option<Shift>,
 }
 
+impl Drop for OnDef {
+    fn drop(self) {
+        let OnDef {
+            except: _except,
+            cycle: _cycle,
+            items: _items,
+            shift: _shift,
+        } = self;
+    }
+}
+
 /// A job of a stream, which is one of `$JOBS` where it has no work of its own.
-#[derive(Drop)]
 pub struct EntryDef {
     pub ws: Option<Text>,
     pub name: Text,
@@ -80,8 +122,18 @@ pub struct EntryDef {
     pub clauses: Items<Lined<Clause>>,
 }
 
+impl Drop for EntryDef {
+    fn drop(self) {
+        let EntryDef {
+            ws: _ws,
+            name: _name,
+            work: _work,
+            clauses: _clauses,
+        } = self;
+    }
+}
+
 /// A stream.
-#[derive(Drop)]
 pub struct ScheduleDef {
     pub ws: Option<Text>,
     pub name: Text,
@@ -89,4 +141,17 @@ pub struct ScheduleDef {
     pub ons: Items<Lined<OnDef>>,
     pub clauses: Items<Lined<Clause>>,
     pub entries: Items<Lined<EntryDef>>,
+}
+
+impl Drop for ScheduleDef {
+    fn drop(self) {
+        let ScheduleDef {
+            ws: _ws,
+            name: _name,
+            free: _free,
+            ons: _ons,
+            clauses: _clauses,
+            entries: _entries,
+        } = self;
+    }
 }

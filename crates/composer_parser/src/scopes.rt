@@ -96,17 +96,18 @@ pub(crate) fn pred_of(alloc: Global, word: &str) -> Result<Pred, NoMemory>
     ensures { IfOk result (λ p. p ≡ spec.pred_of word.now) }
 {
     let Some((stream, part)) = at_dot(word) else {
-        let ws = ws_of(alloc, word)?;
-        let name = own_of(alloc, word)?;
-        return Ok(Pred {
-            ws,
-            name,
-            part: PredPart::Plain,
-        });
+        return in_stream(alloc, word, PredPart::Plain);
     };
-    let ws = ws_of(alloc, stream)?;
-    let name = own_of(alloc, stream)?;
     let part = part_of(alloc, part)?;
+    in_stream(alloc, stream, part)
+}
+
+/// A part of the stream that a word names.
+fn in_stream(alloc: Global, word: &str, part: PredPart) -> Result<Pred, NoMemory>
+    ensures { IfOk result (λ p. p ≡ record { ws = spec.ws_of word.now; name = spec.own_of word.now; part = part }) }
+{
+    let name = own_of(alloc, word)?;
+    let ws = ws_of(alloc, word)?;
     Ok(Pred { ws, name, part })
 }
 

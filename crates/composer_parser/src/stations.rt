@@ -1,14 +1,17 @@
 //! CPUNAME and DOMAIN.
-ghost use Rattle.std.specs.Prelude.{◌≡◌};
+ghost use Rattle.std.specs.Prelude.{◌≡◌, IfOk};
+ghost use Rattle.composer_parser.specs.Parts.{upper};
 ghost use Rattle.composer_parser.specs.Reading.{read};
 ghost use Rattle.composer_parser.specs.Stations as spec;
 ghost use Rattle.composer_parser.specs.Tokens.{all_spelled, Gives};
 
 use crate::definitions::{CpuDef, DomainDef, Lined};
-use crate::flags::flags;
-use crate::parts::{description, is_any_word, is_next, key, name, number, upper_word, value};
+use crate::flags::{CpuFlags, flags};
+use crate::parts::{
+    description, is_any_word, is_next, key, name, name_word, number, upper_word, value,
+};
 use crate::stops::{Stop, Why};
-use base_types::{Text, Token};
+use base_types::{NoMemory, Text, Token};
 use std::alloc::Global;
 
 #[tactic(auto, unfolding(crate::specs::Stations::cpu_type))]
@@ -77,12 +80,37 @@ fn cpu_place<'a>(alloc: Global, text: &str, rest: &'a [Token]) -> Result<(Place,
     ensures { Gives (λ x. x.0) (λ x. x.1.now) text.now result (read spec.place (all_spelled text.now rest.now)) }
 {
     let (_, rest) = key(text, rest, "DOMAIN")?;
-    let (domain, rest) = name(alloc, text, rest)?;
+    let (word, rest) = name_word(text, rest)?;
     let (_, rest) = key(text, rest, "FOR")?;
     let (_, rest) = key(text, rest, "MAESTRO")?;
     let (_, rest) = key(text, rest, "TYPE")?;
     let (manager, rest) = cpu_type(text, rest)?;
+    let domain = Text::of_upper(alloc, word)?;
     Ok((Place { domain, manager }, rest))
+}
+
+/// The workstation that a word names, of its parts.
+fn cpu_of(
+    alloc: Global,
+    line: u32,
+    word: &str,
+    machine: Machine,
+    place: Place,
+    flags: CpuFlags,
+) -> Result<Lined<CpuDef>, NoMemory>
+    ensures { IfOk result (λ c. c ≡ spec.cpu_of line (upper word.now) tt machine place flags line) }
+{
+    let item = CpuDef {
+        name: Text::of_upper(alloc, word)?,
+        os: machine.os,
+        host: machine.host,
+        port: machine.port,
+        domain: place.domain,
+        manager: place.manager,
+        autolink: flags.autolink,
+        full: flags.full,
+    };
+    Ok(Lined { line, item })
 }
 
 #[tactic(auto, unfolding(crate::specs::Stations::cpu))]
@@ -94,23 +122,13 @@ pub(crate) fn cpu<'a>(
     ensures { Gives (λ x. x.0) (λ x. x.1.now) text.now result (read spec.cpu (all_spelled text.now rest.now)) }
 {
     let (line, rest) = key(text, rest, "CPUNAME")?;
-    let (own, rest) = name(alloc, text, rest)?;
+    let (word, rest) = name_word(text, rest)?;
     let rest = description(text, rest)?;
     let (machine, rest) = cpu_machine(alloc, text, rest)?;
     let (place, rest) = cpu_place(alloc, text, rest)?;
     let (flags, rest) = flags(text, rest)?;
     let (_, rest) = key(text, rest, "END")?;
-    let item = CpuDef {
-        name: own,
-        os: machine.os,
-        host: machine.host,
-        port: machine.port,
-        domain: place.domain,
-        manager: place.manager,
-        autolink: flags.autolink,
-        full: flags.full,
-    };
-    Ok((Lined { line, item }, rest))
+    Ok((cpu_of(alloc, line, word, machine, place, flags)?, rest))
 }
 
 /// A star, or nothing.
@@ -143,6 +161,24 @@ fn parent<'a>(
     Ok((None, rest))
 }
 
+/// The domain of these names.
+fn domain_of(
+    alloc: Global,
+    line: u32,
+    word: &str,
+    manager: &str,
+    parent: Option<Text>,
+) -> Result<Lined<DomainDef>, NoMemory>
+    ensures { IfOk result (λ d. d ≡ spec.domain_of line (upper word.now) (upper manager.now) parent) }
+{
+    let item = DomainDef {
+        name: Text::of_upper(alloc, word)?,
+        manager: Text::of_upper(alloc, manager)?,
+        parent,
+    };
+    Ok(Lined { line, item })
+}
+
 #[tactic(auto, unfolding(crate::specs::Stations::domain))]
 pub(crate) fn domain<'a>(
     alloc: Global,
@@ -152,17 +188,12 @@ pub(crate) fn domain<'a>(
     ensures { Gives (λ x. x.0) (λ x. x.1.now) text.now result (read spec.domain (all_spelled text.now rest.now)) }
 {
     let (line, rest) = key(text, rest, "DOMAIN")?;
-    let (own, rest) = name(alloc, text, rest)?;
+    let (word, rest) = name_word(text, rest)?;
     let rest = description(text, rest)?;
     let rest = star(text, rest)?;
     let (_, rest) = key(text, rest, "MANAGER")?;
-    let (manager, rest) = name(alloc, text, rest)?;
+    let (manager, rest) = name_word(text, rest)?;
     let (parent, rest) = parent(alloc, text, rest)?;
     let (_, rest) = key(text, rest, "END")?;
-    let item = DomainDef {
-        name: own,
-        manager,
-        parent,
-    };
-    Ok((Lined { line, item }, rest))
+    Ok((domain_of(alloc, line, word, manager, parent)?, rest))
 }

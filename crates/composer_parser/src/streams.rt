@@ -1,19 +1,20 @@
 //! SCHEDULE.
-ghost use Rattle.std.specs.Prelude.{◌≡◌, ℕ, List, codes};
+ghost use Rattle.std.specs.Prelude.{◌≡◌, ℕ, List, codes, IfOk};
 ghost use Rattle.composer_parser.specs.Reading.{read, begins_piece};
 ghost use Rattle.composer_parser.specs.Schedules as spec;
-ghost use Rattle.composer_parser.specs.Tokens.{all_spelled, Gives};
+ghost use Rattle.composer_parser.specs.Tokens.{all_spelled, on_line, Gives};
 
 use crate::clause_forms::clauses;
+use crate::clauses::Clause;
 use crate::definitions::Lined;
 use crate::entries::entries;
 use crate::ons::ons;
-use crate::parts::{description, is_next, key, mark, name};
+use crate::parts::{description, is_next, key, mark, name_word};
 use crate::places::scoped;
-use crate::schedules::{FreeDef, ScheduleDef};
+use crate::schedules::{FreeDef, OnDef, ScheduleDef};
 use crate::scopes::{own_of, ws_of};
 use crate::stops::Stop;
-use base_types::{Items, Text, Token};
+use base_types::{Items, NoMemory, Text, Token};
 use std::alloc::Global;
 
 #[tactic(auto, unfolding(crate::specs::Schedules::minus_sa))]
@@ -51,11 +52,11 @@ fn free_days<'a>(
         return Ok((None, rest));
     }
     let (_, rest) = key(text, rest, "FREEDAYS")?;
-    let (name, rest) = name(alloc, text, rest)?;
+    let (word, rest) = name_word(text, rest)?;
     let (minus_sa, rest) = minus_sa(text, rest)?;
     let (minus_su, rest) = minus_su(text, rest)?;
     let free = FreeDef {
-        name,
+        name: Text::of_upper(alloc, word)?,
         minus_sa,
         minus_su,
     };
@@ -63,12 +64,63 @@ fn free_days<'a>(
 }
 
 /// How a stream begins.
-#[derive(Drop)]
 pub(crate) struct Title {
     line: u32,
     ws: Option<Text>,
     name: Text,
     free: Option<FreeDef>,
+}
+
+impl Drop for Title {
+    fn drop(self) {
+        let Title {
+            line: _line,
+            ws: _ws,
+            name: _name,
+            free: _free,
+        } = self;
+    }
+}
+
+impl Title {
+    fn of(alloc: Global, line: u32, word: &str, free: Option<FreeDef>) -> Result<Title, NoMemory>
+        ensures { IfOk result (λ t. t ≡ spec.title_of line (on_line line word.now) free) }
+    {
+        let name = own_of(alloc, word)?;
+        let ws = ws_of(alloc, word)?;
+        Ok(Title {
+            line,
+            ws,
+            name,
+            free,
+        })
+    }
+
+    /// The stream of this title, without its entries.
+    fn stream(
+        self,
+        alloc: Global,
+        ons: Items<Lined<OnDef>>,
+        clauses: Items<Lined<Clause>>,
+    ) -> Lined<ScheduleDef>
+        ensures { result ≡ spec.header_of self ons clauses }
+    {
+        let Title {
+            line,
+            ws,
+            name,
+            free,
+        } = self;
+        let item = ScheduleDef {
+            ws,
+            name,
+            free,
+            ons,
+            clauses,
+            entries: Items::new(alloc),
+        };
+        Lined { line, item }
+    }
 }
 
 /// A stream up to its free days.
@@ -82,17 +134,9 @@ fn stream_title<'a>(
 {
     let (line, rest) = key(text, rest, "SCHEDULE")?;
     let (word, _, rest) = scoped(text, rest)?;
-    let ws = ws_of(alloc, word)?;
-    let name = own_of(alloc, word)?;
     let rest = description(text, rest)?;
     let (free, rest) = free_days(alloc, text, rest)?;
-    let title = Title {
-        line,
-        ws,
-        name,
-        free,
-    };
-    Ok((title, rest))
+    Ok((Title::of(alloc, line, word, free)?, rest))
 }
 
 /// A stream up to its colon, without its entries.
@@ -108,21 +152,7 @@ fn header<'a>(
     let (ons, rest) = ons(alloc, text, rest)?;
     let (clauses, rest) = clauses(alloc, text, rest, true)?;
     let rest = mark(text, rest, b':')?;
-    let item = ScheduleDef {
-        ws: title.ws,
-        name: title.name,
-        free: title.free,
-        ons,
-        clauses,
-        entries: Items::new(alloc),
-    };
-    Ok((
-        Lined {
-            line: title.line,
-            item,
-        },
-        rest,
-    ))
+    Ok((title.stream(alloc, ons, clauses), rest))
 }
 
 /// A stream.

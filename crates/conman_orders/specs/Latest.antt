@@ -6,6 +6,6 @@ use Rattle.conman_orders.specs.Names.{last_that}
 
 -- The last number, from an index on, that is s or among others: s itself where none of the others stands from the next
 -- index on. Without a next index s does not stand there.
-abbrev pub told_behind : List ℕ → List ℕ → ℕ → ℕ → Option ℕ → Option ℕ
-told_behind others numbers from s None = last_that (has others) (drop from numbers)
-told_behind others numbers from s (Some next) = option_or (last_that (has others) (drop next numbers)) (Some s)
+abbrev pub last_by_index : List ℕ → List ℕ → ℕ → ℕ → Option ℕ → Option ℕ
+last_by_index others numbers from s None = last_that (has others) (drop from numbers)
+last_by_index others numbers from s (Some next) = option_or (last_that (has others) (drop next numbers)) (Some s)

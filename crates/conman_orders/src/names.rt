@@ -7,7 +7,7 @@ ghost use Rattle.model.specs.Network.{domain};
 ghost use Rattle.model.specs.History.{view_of};
 ghost use Rattle.conman_orders.specs.Names as spec;
 ghost use Rattle.conman_orders.specs.Names.{last_that};
-ghost use Rattle.conman_orders.specs.Latest.{told_behind};
+ghost use Rattle.conman_orders.specs.Latest.{last_by_index};
 
 use crate::dependencies::is_same_text;
 use base_types::{
@@ -135,8 +135,8 @@ fn is_at(numbers: &[StreamNo], i: usize, s: StreamNo) -> bool
 fn behind_last(numbers: &[StreamNo], from: usize, s: StreamNo) -> Option<usize>
     requires { from ≤ length numbers.now }
     ensures within { IfSome result (λ next. next ≤ length numbers.now) }
-    ensures told { (others : List ℕ) → last_that (has (s ∷ others)) (drop from numbers.now)
-        ≡ told_behind others numbers.now from s result }
+    ensures last { (others : List ℕ) → last_that (has (s ∷ others)) (drop from numbers.now)
+        ≡ last_by_index others numbers.now from s result }
 {
     for i in (from..numbers.len()).rev() {
         if is_at(numbers, i, s) {
@@ -157,7 +157,7 @@ struct Latest {
 fn looked_for(members: &[StreamNo], latest: &Latest, s: StreamNo) -> Latest
     requires { latest.now.next ≤ length members.now }
     ensures within { result.next ≤ length members.now }
-    ensures told { (others : List ℕ) →
+    ensures last { (others : List ℕ) →
         option_or (last_that (has (s ∷ others)) (drop latest.now.next members.now)) latest.now.found
         ≡ option_or (last_that (has others) (drop result.next members.now)) result.found }
 {

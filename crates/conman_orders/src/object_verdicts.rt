@@ -18,7 +18,7 @@ ghost use Rattle.conman_orders.specs.Said.{added_reasons, own_text};
 
 use crate::dependencies::{asks_too_much, is_same, names_foreign, names_nothing};
 use crate::objects::{
-    has_begun, is_cancelled, is_closed, is_complete, is_due, is_good, is_open, strange,
+    has_begun, is_cancelled, is_closed, is_complete, is_due, is_good, is_open, object_reason,
 };
 use base_types::{
     Dep, GREATEST_LIMIT, GREATEST_PRIORITY, JobNo, MOST_DEPENDENCIES, Net, Obj, PromptRef,
@@ -86,7 +86,7 @@ fn is_out_of_range(o: &Owners, object: &Obj, dep: &Dep) -> bool
 }
 
 /// Why a dependency is not added to an object, by what it names and by those that are there.
-fn unfit(net: &Net, o: &Owners, me: Ws, object: &Obj, dep: &Dep) -> Option<Why>
+fn added_reason(net: &Net, o: &Owners, me: Ws, object: &Obj, dep: &Dep) -> Option<Why>
     ensures { result ≡ first_of_these (added_reasons net.now (view_of o.now) me object.now dep.now) }
 {
     if names_nothing(net, o, dep) {
@@ -110,7 +110,7 @@ pub fn add_dep(net: &Net, o: &Owners, me: Ws, object: &Obj, dep: &Dep) -> Option
 {
     match release(o, me, object) {
         Some(why) => Some(why),
-        None => unfit(net, o, me, object, dep),
+        None => added_reason(net, o, me, object, dep),
     }
 }
 
@@ -119,7 +119,7 @@ pub fn add_dep(net: &Net, o: &Owners, me: Ws, object: &Obj, dep: &Dep) -> Option
 pub fn del_dep(o: &Owners, me: Ws, object: &Obj, i: u16) -> Option<Why>
     ensures { (net : Nets) → result ≡ first_of_these (reasons net (view_of o.now) me (DelDep object.now i)) }
 {
-    if let Some(why) = strange(o, me, object) {
+    if let Some(why) = object_reason(o, me, object) {
         return Some(why);
     }
     if let Some(why) = fixed(o, object) {
@@ -139,7 +139,7 @@ pub fn del_dep(o: &Owners, me: Ws, object: &Obj, i: u16) -> Option<Why>
 pub fn release(o: &Owners, me: Ws, object: &Obj) -> Option<Why>
     ensures { (net : Nets) → result ≡ first_of_these (reasons net (view_of o.now) me (Release object.now)) }
 {
-    if let Some(why) = strange(o, me, object) {
+    if let Some(why) = object_reason(o, me, object) {
         return Some(why);
     }
     fixed(o, object)
@@ -150,7 +150,7 @@ pub fn release(o: &Owners, me: Ws, object: &Obj) -> Option<Why>
 pub fn alt_pri(o: &Owners, me: Ws, object: &Obj, priority: u8) -> Option<Why>
     ensures { (net : Nets) → result ≡ first_of_these (reasons net (view_of o.now) me (AltPri object.now priority)) }
 {
-    if let Some(why) = strange(o, me, object) {
+    if let Some(why) = object_reason(o, me, object) {
         return Some(why);
     }
     if priority > GREATEST_PRIORITY {
@@ -164,7 +164,7 @@ pub fn alt_pri(o: &Owners, me: Ws, object: &Obj, priority: u8) -> Option<Why>
 pub fn cancel(o: &Owners, me: Ws, object: &Obj) -> Option<Why>
     ensures { (net : Nets) → result ≡ first_of_these (reasons net (view_of o.now) me (Cancel object.now)) }
 {
-    if let Some(why) = strange(o, me, object) {
+    if let Some(why) = object_reason(o, me, object) {
         return Some(why);
     }
     if is_cancelled(o, object) {
@@ -182,7 +182,7 @@ pub fn confirm(o: &Owners, me: Ws, j: JobNo) -> Option<Why>
     ensures { (net : Nets) → result ≡ first_of_these (reasons net (view_of o.now) me (Confirm j)) }
 {
     let job = Obj::Job(j);
-    if let Some(why) = strange(o, me, &job) {
+    if let Some(why) = object_reason(o, me, &job) {
         return Some(why);
     }
     if is_open(o, j) {
@@ -203,7 +203,7 @@ pub fn kill(o: &Owners, me: Ws, j: JobNo) -> Option<Why>
     ensures { (net : Nets) → result ≡ first_of_these (reasons net (view_of o.now) me (Kill j)) }
 {
     let job = Obj::Job(j);
-    if let Some(why) = strange(o, me, &job) {
+    if let Some(why) = object_reason(o, me, &job) {
         return Some(why);
     }
     if !is_open(o, j) {
@@ -218,7 +218,7 @@ pub fn rerun(o: &Owners, me: Ws, j: JobNo) -> Option<Why>
     ensures { (net : Nets) → result ≡ first_of_these (reasons net (view_of o.now) me (Rerun j)) }
 {
     let job = Obj::Job(j);
-    if let Some(why) = strange(o, me, &job) {
+    if let Some(why) = object_reason(o, me, &job) {
         return Some(why);
     }
     if is_open(o, j) {
@@ -239,7 +239,7 @@ pub fn stream_limit(o: &Owners, me: Ws, s: StreamNo, limit: u16) -> Option<Why>
     ensures { (net : Nets) → result ≡ first_of_these (reasons net (view_of o.now) me (StreamLimit s limit)) }
 {
     let stream = Obj::Stream(s);
-    if let Some(why) = strange(o, me, &stream) {
+    if let Some(why) = object_reason(o, me, &stream) {
         return Some(why);
     }
     if limit > GREATEST_LIMIT {
@@ -263,7 +263,7 @@ fn own_prompt<'a>(o: &'a Owners, object: &Obj, i: u16) -> Option<&'a Text>
 pub fn reply_own(o: &Owners, me: Ws, object: &Obj, i: u16, yes: bool) -> Option<Why>
     ensures { (net : Nets) → result ≡ first_of_these (reasons net (view_of o.now) me (ReplyOwn object.now i yes)) }
 {
-    if let Some(why) = strange(o, me, object) {
+    if let Some(why) = object_reason(o, me, object) {
         return Some(why);
     }
     let Some(text) = own_prompt(o, object, i) else {

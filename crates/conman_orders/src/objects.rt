@@ -42,7 +42,7 @@ fn is_own(o: &Owners, me: Ws, object: &Obj) -> bool
 }
 
 /// Why no command on the object is obeyed at this workstation.
-pub fn strange(o: &Owners, me: Ws, object: &Obj) -> Option<Why>
+pub fn object_reason(o: &Owners, me: Ws, object: &Obj) -> Option<Why>
     ensures reason { result ≡ first_of_these (object_reasons (view_of o.now) me object.now) }
     ensures own { result ≡ None → owner (view_of o.now) object.now ≡ Some me }
 {

@@ -189,7 +189,7 @@ fn of_resource<'a>(names: &Names<'a>, i: usize, resource: &'a ResourceDef) -> Op
     if names.cpu(&resource.ws).is_none() {
         return Some(Kind::UnknownName);
     }
-    if i == MOST_NUMBERED || resource.total > GREATEST_LIMIT {
+    if i == MOST_NUMBERED || resource.total > GREATEST_LIMIT as u32 {
         return Some(Kind::OutOfRange);
     }
     None

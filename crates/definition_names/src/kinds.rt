@@ -12,7 +12,6 @@ use composer_parser::Defs;
 use std::alloc::Global;
 
 /// The tables of names that stand alone.
-#[derive(Drop)]
 pub(crate) struct NameTables<'a> {
     pub(crate) cpus: NameIndex<'a>,
     pub(crate) domains: NameIndex<'a>,
@@ -20,11 +19,32 @@ pub(crate) struct NameTables<'a> {
     pub(crate) prompts: NameIndex<'a>,
 }
 
+/// Written out, so that dropping one is a call for whoever owns it.
+impl<'a> Drop for NameTables<'a> {
+    fn drop(self) {
+        let NameTables {
+            cpus: _cpus,
+            domains: _domains,
+            calendars: _calendars,
+            prompts: _prompts,
+        } = self;
+    }
+}
+
 /// The tables of names on workstations.
-#[derive(Drop)]
 pub(crate) struct PairTables<'a> {
     pub(crate) resources: PairIndex<'a>,
     pub(crate) jobs: PairIndex<'a>,
+}
+
+/// Written out, so that dropping one is a call for whoever owns it.
+impl<'a> Drop for PairTables<'a> {
+    fn drop(self) {
+        let PairTables {
+            resources: _resources,
+            jobs: _jobs,
+        } = self;
+    }
 }
 
 /// The tables of the names of workstations, domains, calendars and prompts.

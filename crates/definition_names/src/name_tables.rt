@@ -15,7 +15,6 @@ use std::alloc::Global;
 use std::marker::Model;
 
 /// Definitions with the tables of their names.
-#[derive(Drop)]
 pub struct Names<'a> {
     defs: &'a Defs,
     master: Option<&'a Text>,
@@ -23,6 +22,20 @@ pub struct Names<'a> {
     placed: PairTables<'a>,
     streams: StreamIndex<'a>,
     entries: EntryIndex<'a>,
+}
+
+/// Written out, so that dropping one is a call for whoever owns it.
+impl<'a> Drop for Names<'a> {
+    fn drop(self) {
+        let Names {
+            defs: _defs,
+            master: _master,
+            alone: _alone,
+            placed: _placed,
+            streams: _streams,
+            entries: _entries,
+        } = self;
+    }
 }
 
 impl<'a> Model for Names<'a> {

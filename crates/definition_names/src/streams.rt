@@ -14,10 +14,19 @@ use indexmap::IndexMap;
 use std::alloc::Global;
 
 /// Streams by workstation and name. Those without a workstation are together on a nameless one.
-#[derive(Drop)]
 pub(crate) struct StreamIndex<'a> {
     placed: PairIndex<'a>,
     nameless: NameIndex<'a>,
+}
+
+/// Written out, so that dropping one is a call for whoever owns it.
+impl<'a> Drop for StreamIndex<'a> {
+    fn drop(self) {
+        let StreamIndex {
+            placed: _placed,
+            nameless: _nameless,
+        } = self;
+    }
 }
 
 /// Entries by the number of their stream and their name.

@@ -17,7 +17,7 @@ use Rattle.model.specs.OwnMembers.{due_untils, has_begun, is_until_due, own_job_
 use Rattle.model.specs.OwnMembers.{until_at}
 use Rattle.owner_fold.specs.Given.{has_time, is_timed}
 use Rattle.owner_fold.specs.Times.{timed_jobs, timed_streams}
-use Rattle.owner_fold.proofs.Additions.{added_times, either_list}
+use Rattle.owner_fold.proofs.Additions.{added_such, either_list}
 use Rattle.dependencies.specs.Dues.{due_at}
 use Rattle.dependencies.specs.Planned.{ArePlannedJobs, ArePlannedStreams, IsPlannedJob, IsPlannedStream}
 use Rattle.dependencies.specs.declared.dues.Due.{Due}
@@ -79,7 +79,7 @@ timed_if V w o written f docs events timed h =
     (either_list has_time (document_deps V o) (flat_map (deps_added_by o) (commands (owner_events V o)))
     ∙ (λ j. list_any has_time (docs j)
     || (ap (λ (l : List Body). list_any has_time (flat_map (deps_added_by o) (commands l))) events
-    ∙ added_times o (commands (V (Events w)))) j))
+    ∙ added_such has_time o (commands (V (Events w)))) j))
     ∙ b
 
 pub stream_given : (V : View) (w : ℕ) (d : StreamDoc) → IsPlannedStream V d → (d.ws == w) ≡ true

@@ -12,8 +12,8 @@ use Rattle.entry_codec.specs.Fields.{u8_at, row_of, behind, choice_at, flag_at, 
 use Rattle.entry_codec.specs.Fields.{option_rows}
 use Rattle.entry_codec.proofs.Readers.{◌&◌, IsBytes, Stands, IsReader, within, starts, nothing, joined, split}
 use Rattle.entry_codec.proofs.Readers.{IsSteady, came, step, on, same_value}
-use Rattle.entry_codec.proofs.Steady.{RowsSteady, gives_steady, one_steady, two_steady, three_steady, four_steady}
-use Rattle.entry_codec.proofs.Steady.{choice_steady}
+use Rattle.entry_codec.proofs.Steady.{RowsSteady, gives_steady, one_steady, choice_steady}
+use Rattle.entry_codec.proofs.Pairs.{pair_reader}
 use Rattle.entry_codec.proofs.Numbers.{u8_reader}
 
 -- the spelling of a value begins with a number, and the rest of it stands there
@@ -58,21 +58,9 @@ pub row_2 : {X A B : Type 0} {P : X → Type 0} {spell : X → List ℕ} {Q : A 
     {R : B → Type 0} {t : B → List ℕ} {b : Reader B} → IsReader Q s a → IsReader R t b → (tag : ℕ) (make : A → B → X)
     → ((x : A) (y : B) → Q x → R y → P (make x y)) → ((x : A) (y : B) → spell (make x y) ≡ tag ∷ (s x ++ t y))
     → IsRow P spell (tag, two a b make)
-row_2 {X} {A} {B} {P} {spell} {Q} {s} {a} {R} {t} {b} ra rb tag make fits spelled =
-    record { found = go; steady = two_steady make ra.steady rb.steady }
-  where
-    go : (bytes : List ℕ) (p : ℕ) (y : X) (q : ℕ) → IsBytes bytes → p ≤ length bytes
-        → two a b make bytes p ≡ Ok (y, q) → Behind P spell tag y bytes p q
-    go bytes p y q is lt e =
-        let u = step ra is (starts bytes p lt) e in
-        let v = step rb is u.stands u.rest in
-        subst (λ (z : X × ℕ). Behind P spell tag z.0 bytes p z.1) (same_value v.rest)
-        (record {
-          tail = s u.value ++ t v.value;
-          fits = fits u.value v.value u.fits v.fits;
-          spelled = spelled u.value v.value;
-          stands = v.stands;
-        })
+row_2 {X} {A} {B} ra rb tag make fits spelled =
+    row_1 (pair_reader ra rb) tag (λ (x : A × B). make x.0 x.1) (λ x f. fits x.0 x.1 f.0 f.1)
+    (λ x. spelled x.0 x.1)
 
 pub row_3 : {X A B C : Type 0} {P : X → Type 0} {spell : X → List ℕ} {Q : A → Type 0} {s : A → List ℕ} {a : Reader A}
     {R : B → Type 0} {t : B → List ℕ} {b : Reader B} {S : C → Type 0} {u : C → List ℕ} {c : Reader C}
@@ -80,22 +68,9 @@ pub row_3 : {X A B C : Type 0} {P : X → Type 0} {spell : X → List ℕ} {Q : 
     → ((x : A) (y : B) (z : C) → Q x → R y → S z → P (make x y z))
     → ((x : A) (y : B) (z : C) → spell (make x y z) ≡ tag ∷ (s x ++ t y ++ u z))
     → IsRow P spell (tag, three a b c make)
-row_3 {X} {A} {B} {C} {P} {spell} {Q} {s} {a} {R} {t} {b} {S} {u} {c} ra rb rc tag make fits spelled =
-    record { found = go; steady = three_steady make ra.steady rb.steady rc.steady }
-  where
-    go : (bytes : List ℕ) (p : ℕ) (y : X) (q : ℕ) → IsBytes bytes → p ≤ length bytes
-        → three a b c make bytes p ≡ Ok (y, q) → Behind P spell tag y bytes p q
-    go bytes p y q is lt e =
-        let i = step ra is (starts bytes p lt) e in
-        let j = step rb is i.stands i.rest in
-        let k = step rc is j.stands j.rest in
-        subst (λ (z : X × ℕ). Behind P spell tag z.0 bytes p z.1) (same_value k.rest)
-        (record {
-          tail = s i.value ++ t j.value ++ u k.value;
-          fits = fits i.value j.value k.value i.fits j.fits k.fits;
-          spelled = spelled i.value j.value k.value;
-          stands = k.stands;
-        })
+row_3 {X} {A} {B} {C} ra rb rc tag make fits spelled =
+    row_1 (pair_reader (pair_reader ra rb) rc) tag (λ (x : (A × B) × C). make x.0.0 x.0.1 x.1)
+    (λ x f. fits x.0.0 x.0.1 x.1 f.0.0 f.0.1 f.1) (λ x. spelled x.0.0 x.0.1 x.1)
 
 pub row_4 : {X A B C D : Type 0} {P : X → Type 0} {spell : X → List ℕ} {Q : A → Type 0} {s : A → List ℕ}
     {a : Reader A} {R : B → Type 0} {t : B → List ℕ} {b : Reader B} {S : C → Type 0} {u : C → List ℕ} {c : Reader C}
@@ -104,24 +79,10 @@ pub row_4 : {X A B C D : Type 0} {P : X → Type 0} {spell : X → List ℕ} {Q 
     → ((w : A) (x : B) (y : C) (z : D) → Q w → R x → S y → T z → P (make w x y z))
     → ((w : A) (x : B) (y : C) (z : D) → spell (make w x y z) ≡ tag ∷ (s w ++ t x ++ u y ++ v z))
     → IsRow P spell (tag, four a b c d make)
-row_4 {X} {A} {B} {C} {D} {P} {spell} {Q} {s} {a} {R} {t} {b} {S} {u} {c} {T} {v} {d} ra rb rc rd tag make fits
-    spelled =
-    record { found = go; steady = four_steady make ra.steady rb.steady rc.steady rd.steady }
-  where
-    go : (bytes : List ℕ) (p : ℕ) (y : X) (q : ℕ) → IsBytes bytes → p ≤ length bytes
-        → four a b c d make bytes p ≡ Ok (y, q) → Behind P spell tag y bytes p q
-    go bytes p y q is lt e =
-        let i = step ra is (starts bytes p lt) e in
-        let j = step rb is i.stands i.rest in
-        let k = step rc is j.stands j.rest in
-        let l = step rd is k.stands k.rest in
-        subst (λ (z : X × ℕ). Behind P spell tag z.0 bytes p z.1) (same_value l.rest)
-        (record {
-          tail = s i.value ++ t j.value ++ u k.value ++ v l.value;
-          fits = fits i.value j.value k.value l.value i.fits j.fits k.fits l.fits;
-          spelled = spelled i.value j.value k.value l.value;
-          stands = l.stands;
-        })
+row_4 {X} {A} {B} {C} {D} ra rb rc rd tag make fits spelled =
+    row_1 (pair_reader (pair_reader (pair_reader ra rb) rc) rd) tag
+    (λ (x : ((A × B) × C) × D). make x.0.0.0 x.0.0.1 x.0.1 x.1)
+    (λ x f. fits x.0.0.0 x.0.0.1 x.0.1 x.1 f.0.0.0 f.0.0.1 f.0.1 f.1) (λ x. spelled x.0.0.0 x.0.0.1 x.0.1 x.1)
 
 -- the row that was read
 walk : {X : Type 0} (P : X → Type 0) (spell : X → List ℕ) (rows : List (ℕ × Reader X)) (n here : ℕ) (bytes : List ℕ)
@@ -198,21 +159,17 @@ pub again_2 : {X A B : Type 0} {Q : A → Type 0} {s : A → List ℕ} {a : Read
     {b : Reader B} → IsReader Q s a → IsReader R t b → (rows : List (ℕ × Reader X)) (tag : ℕ) (make : A → B → X)
     (x : A) (y : B) {bytes : List ℕ} {p q : ℕ} → row_of tag rows ≡ Some (two a b make) → tag < 256 → Q x → R y
     → Stands (tag ∷ (s x ++ t y)) bytes p q → choice_at rows bytes p ≡ Ok (make x y, q)
-again_2 {X} {A} {B} {Q} {s} {a} {R} {t} {b} ra rb rows tag make x y {bytes} {p} {q} has_row lt fits fits' stands =
-    chosen rows tag (two a b make) (s x ++ t y) bytes p q (Ok (make x y, q)) has_row lt stands
-    (λ l. let parts = split (s x) (t y) l in on ra _ x fits parts.0 (on rb _ y fits' parts.1 refl))
+again_2 {X} {A} {B} ra rb rows tag make x y has_row lt f g stands =
+    again_1 (pair_reader ra rb) rows tag (λ (l : A × B). make l.0 l.1) (x, y) has_row lt (f, g) stands
 
 pub again_3 : {X A B C : Type 0} {Q : A → Type 0} {s : A → List ℕ} {a : Reader A} {R : B → Type 0} {t : B → List ℕ}
     {b : Reader B} {S : C → Type 0} {u : C → List ℕ} {c : Reader C} → IsReader Q s a → IsReader R t b
     → IsReader S u c → (rows : List (ℕ × Reader X)) (tag : ℕ) (make : A → B → C → X) (x : A) (y : B) (z : C)
     {bytes : List ℕ} {p q : ℕ} → row_of tag rows ≡ Some (three a b c make) → tag < 256 → Q x → R y → S z
     → Stands (tag ∷ (s x ++ t y ++ u z)) bytes p q → choice_at rows bytes p ≡ Ok (make x y z, q)
-again_3 {X} {A} {B} {C} {Q} {s} {a} {R} {t} {b} {S} {u} {c} ra rb rc rows tag make x y z {bytes} {p} {q} has_row lt
-    fits fits' fits'' stands =
-    chosen rows tag (three a b c make) (s x ++ t y ++ u z) bytes p q (Ok (make x y z, q)) has_row lt stands
-    (λ l. let parts = split (s x ++ t y) (u z) l in
-    let front = split (s x) (t y) parts.0 in
-    on ra _ x fits front.0 (on rb _ y fits' front.1 (on rc _ z fits'' parts.1 refl)))
+again_3 {X} {A} {B} {C} ra rb rc rows tag make x y z has_row lt f g h stands =
+    again_1 (pair_reader (pair_reader ra rb) rc) rows tag (λ (l : (A × B) × C). make l.0.0 l.0.1 l.1) ((x, y), z)
+    has_row lt ((f, g), h) stands
 
 pub again_4 : {X A B C D : Type 0} {Q : A → Type 0} {s : A → List ℕ} {a : Reader A} {R : B → Type 0}
     {t : B → List ℕ} {b : Reader B} {S : C → Type 0} {u : C → List ℕ} {c : Reader C} {T : D → Type 0}
@@ -220,13 +177,9 @@ pub again_4 : {X A B C D : Type 0} {Q : A → Type 0} {s : A → List ℕ} {a : 
     → (rows : List (ℕ × Reader X)) (tag : ℕ) (make : A → B → C → D → X) (w : A) (x : B) (y : C) (z : D)
     {bytes : List ℕ} {p q : ℕ} → row_of tag rows ≡ Some (four a b c d make) → tag < 256 → Q w → R x → S y → T z
     → Stands (tag ∷ (s w ++ t x ++ u y ++ v z)) bytes p q → choice_at rows bytes p ≡ Ok (make w x y z, q)
-again_4 {X} {A} {B} {C} {D} {Q} {s} {a} {R} {t} {b} {S} {u} {c} {T} {v} {d} ra rb rc rd rows tag make w x y z {bytes}
-    {p} {q} has_row lt fits fits' fits'' fits''' stands =
-    chosen rows tag (four a b c d make) (s w ++ t x ++ u y ++ v z) bytes p q (Ok (make w x y z, q)) has_row lt stands
-    (λ l. let parts = split (s w ++ t x ++ u y) (v z) l in
-    let front = split (s w ++ t x) (u y) parts.0 in
-    let first = split (s w) (t x) front.0 in
-    on ra _ w fits first.0 (on rb _ x fits' first.1 (on rc _ y fits'' front.1 (on rd _ z fits''' parts.1 refl))))
+again_4 {X} {A} {B} {C} {D} ra rb rc rd rows tag make w x y z has_row lt f g h k stands =
+    again_1 (pair_reader (pair_reader (pair_reader ra rb) rc) rd) rows tag
+    (λ (l : ((A × B) × C) × D). make l.0.0.0 l.0.0.1 l.0.1 l.1) (((w, x), y), z) has_row lt (((f, g), h), k) stands
 
 -- flags and options
 abbrev pub Any : {X : Type 0} → X → Type 0

@@ -13,7 +13,7 @@ use Rattle.model.specs.Fit.{IsFitCond, IsFitDraftDep}
 use Rattle.model.specs.Ranges.{IsU8, IsU16, DraftDepInRange, OpInRange}
 use Rattle.model.specs.Versions.{is_draft_deadline}
 use Rattle.model.specs.Spelling.{dep_bytes, draft_dep_bytes, op_bytes, cond_bytes}
-use Rattle.entry_codec.specs.Read.{Reader, one, three}
+use Rattle.entry_codec.specs.Read.{Reader, pair, one, three}
 use Rattle.entry_codec.specs.Fields.{u8_at, u16_at, text_at, option_at, number_with}
 use Rattle.entry_codec.specs.Parts.{dep_at, draft_dep_at, cond_at}
 use Rattle.entry_codec.proofs.Readers.{IsBytes, Stands, IsReader, within, starts, joined, split, came, step, on}
@@ -25,7 +25,8 @@ use Rattle.entry_codec.proofs.Lists.{items_reader}
 use Rattle.entry_codec.proofs.Allowed.{Allows, allows_none}
 use Rattle.entry_codec.specs.declared.EntryFault.{EntryFault}
 use Rattle.entry_codec.proofs.Readers.{Fails, IsSteady}
-use Rattle.entry_codec.proofs.Steady.{text_steady, then_steady, one_steady, three_steady, then_goes_on, then_fails}
+use Rattle.entry_codec.proofs.Pairs.{pair_reader}
+use Rattle.entry_codec.proofs.Steady.{then_steady, one_steady, then_goes_on, then_fails}
 use Rattle.entry_codec.proofs.Parts.{DepFits, dep_reader, op_reader}
 
 -- the choice of a dependency is not 0
@@ -54,6 +55,15 @@ DraftDepFits second d = (IsFitDraftDep d × DraftDepInRange d) × Allows second 
 
 abbrev followed : Reader DraftDep
 followed = three u16_at text_at (option_at text_at) Follows
+
+-- who is followed
+abbrev FollowedFits : (ℕ × List ℕ) × Option (List ℕ) → Type 0
+FollowedFits x = (IsU16 x.0.0 × TextFits x.0.1) × IfSome x.1 TextFits
+
+followed_reader : IsReader FollowedFits
+    (λ (x : (ℕ × List ℕ) × Option (List ℕ)). u16_bytes x.0.0 ++ text_bytes x.0.1 ++ option_bytes text_bytes x.1)
+    (pair (pair u16_at text_at) (option_at text_at))
+followed_reader = pair_reader (pair_reader u16_reader text_reader) (option_reader text_reader)
 
 follows_fit : (second : Bool) (w : ℕ) (name : List ℕ) (job : Option (List ℕ)) → IsU16 w → TextFits name
     → IfSome job TextFits → DraftDepFits second (Follows w name job)
@@ -121,11 +131,8 @@ follows_again second bytes p w name job q fits s =
     let tail = u16_bytes w ++ text_bytes name ++ option_bytes text_bytes job in
     let head = split (0 ∷ []) tail s in
     let first : u8_at bytes p ≡ Ok (0, p + 1) = u8_reader.again bytes p 0 (p + 1) (omega arith) head.0 in
-    let parts = split (u16_bytes w ++ text_bytes name) (option_bytes text_bytes job) head.1 in
-    let names = split (u16_bytes w) (text_bytes name) parts.0 in
-    let read : followed bytes (p + 1) ≡ Ok (Follows w name job, q) = on u16_reader _ w fits.0.1.0 names.0
-    (on text_reader _ name (fits.0.0.0, fits.0.1.1) names.1
-    (on (option_reader text_reader) _ job (job_fits second w name job fits) parts.1 refl)) in
+    let read : followed bytes (p + 1) ≡ Ok (Follows w name job, q) = on followed_reader _ ((w, name), job)
+    ((fits.0.1.0, (fits.0.0.0, fits.0.1.1)), job_fits second w name job fits) head.1 refl in
     rw first read
 
 draft_dep_again : (second : Bool) (bytes : List ℕ) (p : ℕ) (d : DraftDep) (q : ℕ) → DraftDepFits second d
@@ -136,11 +143,10 @@ draft_dep_again second bytes p (Follows w name job) q fits s = follows_again sec
 
 -- a draft's dependency, by its first byte
 abbrev drafted : Bool → Bool → List ℕ → ℕ → ℕ → Result (DraftDep × ℕ) EntryFault
-drafted second named bytes p m =
-    cond named (three u16_at text_at (option_at text_at) Follows bytes m) (one (dep_at second) Plain bytes p)
+drafted second named bytes p m = cond named (followed bytes m) (one (dep_at second) Plain bytes p)
 
-named_steady : IsSteady (three u16_at text_at (option_at text_at) Follows)
-named_steady = three_steady Follows u16_reader.steady text_steady (option_reader text_reader).steady
+named_steady : IsSteady followed
+named_steady = one_steady (λ (x : (ℕ × List ℕ) × Option (List ℕ)). Follows x.0.0 x.0.1 x.1) followed_reader.steady
 
 plain_steady : (second : Bool) → IsSteady (one (dep_at second) Plain)
 plain_steady second = one_steady Plain (dep_reader second).steady

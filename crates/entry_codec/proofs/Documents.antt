@@ -1,27 +1,29 @@
 -- Documents and drafts that are read are those that stand there.
-use Rattle.std.proofs.Common.{◌≡◌, ℕ, ◌≤◌, Bool, List, [], ◌∷◌, length, Ok, sym, ap}
-use Rattle.std.proofs.Common.{subst}
+use Rattle.std.proofs.Common.{◌≡◌, ℕ, ◌≤◌, Bool, List, [], ◌∷◌, ◌++◌, length, Ok, refl, subst, append_assoc}
 use Rattle.std.proofs.lemmas.List.Elements.{recursion_from_All, All-from_recursion}
 use Rattle.std.specs.List.{All, AllByRecursion, list_any}
-use Rattle.model.specs.Types.{JobDoc, StreamDoc, JobDraft, StreamDraft}
+use Rattle.std.specs.Prelude.{IfSome}
+use Rattle.model.specs.Types.{Dep, DraftDep, JobDoc, StreamDoc, JobDraft, StreamDraft}
 use Rattle.model.specs.Fields.{u8_bytes, u16_bytes, u32_bytes, text_bytes, list_bytes, flag_bytes, option_bytes}
 use Rattle.model.specs.Fit.{AreFit, IsFitDep, IsFitDraftDep, IsFitJob, IsFitStream, IsFitJobDraft, IsFitDraft}
-use Rattle.model.specs.Ranges.{DepInRange, DraftDepInRange, OpInRange, JobInRange, StreamInRange}
+use Rattle.model.specs.Ranges.{IsU8, IsU16, IsU32, DepInRange, DraftDepInRange, OpInRange, JobInRange, StreamInRange}
 use Rattle.model.specs.Ranges.{JobDraftInRange, DraftInRange}
 use Rattle.model.specs.Spelling.{dep_bytes, draft_dep_bytes, work_bytes, cond_bytes, recovery_code, job_doc_bytes}
-use Rattle.model.specs.Versions.{is_deadline, is_draft_deadline, doc_has_deadline, draft_has_deadline}
 use Rattle.model.specs.Spelling.{stream_doc_bytes, job_draft_bytes, stream_draft_bytes}
-use Rattle.entry_codec.specs.Parts.{job_at, stream_at, job_draft_at, stream_draft_at}
-use Rattle.entry_codec.proofs.Readers.{IsBytes, Stands, IsReader, starts, step, on, same_value, in_order, peeled}
-use Rattle.entry_codec.proofs.Readers.{IsSteady, at_end}
+use Rattle.model.specs.Versions.{is_deadline, is_draft_deadline, doc_has_deadline, draft_has_deadline}
+use Rattle.entry_codec.specs.declared.reading.documents.Task.{Task}
+use Rattle.entry_codec.specs.Parts.{Named, Front, named_at, front_at, task_at, job_of, stream_of, job_draft_of}
+use Rattle.entry_codec.specs.Parts.{stream_draft_of, job_at, stream_at, job_draft_at, stream_draft_at}
+use Rattle.entry_codec.proofs.Readers.{IsBytes, Stands, IsReader, IsSteady, starts, split, step, on, same_value}
 use Rattle.entry_codec.proofs.Steady.{gives_steady, then_steady}
+use Rattle.entry_codec.proofs.Pairs.{pair_reader, made_reader}
 use Rattle.entry_codec.proofs.Numbers.{u8_reader, u16_reader, u32_reader}
-use Rattle.entry_codec.proofs.Texts.{text_reader}
-use Rattle.entry_codec.proofs.Choices.{flag_reader, option_reader}
+use Rattle.entry_codec.proofs.Texts.{TextFits, text_reader}
+use Rattle.entry_codec.proofs.Choices.{Any, flag_reader, option_reader}
 use Rattle.entry_codec.proofs.Lists.{AreListed, list_reader}
 use Rattle.entry_codec.proofs.Allowed.{Allows, allows_either, allows_both, allows_any, allows_each}
-use Rattle.entry_codec.proofs.Parts.{work_reader, recovery_reader, dep_reader}
-use Rattle.entry_codec.proofs.Conditions.{draft_dep_reader, cond_reader}
+use Rattle.entry_codec.proofs.Parts.{DepFits, WorkFits, work_reader, recovery_reader, dep_reader}
+use Rattle.entry_codec.proofs.Conditions.{DraftDepFits, CondFits, draft_dep_reader, cond_reader}
 
 -- each of three facts of all items, apart and together
 each_of_three : {X : Type 0} (P Q R : X → Type 0) (xs : List X) → AllByRecursion (λ x. (P x × Q x) × R x) xs
@@ -67,343 +69,355 @@ job_draft_has_one j = list_any is_draft_deadline j.deps
 abbrev pub JobFits : Bool → JobDoc → Type 0
 JobFits second d = (IsFitJob d × JobInRange d) × Allows second (job_has_one d)
 
-job_found : (second : Bool) (bytes : List ℕ) (p : ℕ) (d : JobDoc) (q : ℕ) → IsBytes bytes → p ≤ length bytes
-    → job_at second bytes p ≡ Ok (d, q) → JobFits second d × Stands (job_doc_bytes d) bytes p q
-unfolding job_at job_doc_bytes
-job_found second bytes p d q is lt e =
-    let no = step u32_reader is (starts bytes p lt) e in
-    let ws = step u16_reader is no.stands no.rest in
-    let name = step text_reader is ws.stands ws.rest in
-    let priority = step u8_reader is name.stands name.rest in
-    let work = step work_reader is priority.stands priority.rest in
-    let logon = step text_reader is work.stands work.rest in
-    let ops = step cond_reader is logon.stands logon.rest in
+-- what documents and drafts begin with
+abbrev NamedFits : Named → Type 0
+NamedFits n = (IsU16 n.0.0 × TextFits n.0.1) × IsU8 n.1
+
+abbrev named_bytes : Named → List ℕ
+named_bytes n = u16_bytes n.0.0 ++ text_bytes n.0.1 ++ u8_bytes n.1
+
+named_reader : IsReader NamedFits named_bytes named_at
+named_reader = pair_reader (pair_reader u16_reader text_reader) u8_reader
+
+-- and streams
+abbrev FrontFits : Front → Type 0
+FrontFits f = (NamedFits f.0.0 × IfSome f.0.1 IsU16) × Any f.1
+
+abbrev front_bytes : Front → List ℕ
+front_bytes f = named_bytes f.0.0 ++ option_bytes u16_bytes f.0.1 ++ flag_bytes f.1
+
+front_reader : IsReader FrontFits front_bytes front_at
+front_reader = pair_reader (pair_reader named_reader (option_reader u16_reader)) flag_reader
+
+-- what a job runs, for whom, and what its end means
+abbrev TaskFits : Task → Type 0
+TaskFits t = ((WorkFits t.work × TextFits t.logon) × CondFits t.cond) × Any t.recovery
+
+abbrev task_bytes : Task → List ℕ
+task_bytes t = work_bytes t.work ++ text_bytes t.logon ++ cond_bytes t.cond ++ u8_bytes (recovery_code t.recovery)
+
+task_found : (bytes : List ℕ) (p : ℕ) (t : Task) (q : ℕ) → IsBytes bytes → p ≤ length bytes
+    → task_at bytes p ≡ Ok (t, q) → TaskFits t × Stands (task_bytes t) bytes p q
+unfolding task_at
+task_found bytes p t q is lt e =
+    let run = step (pair_reader work_reader text_reader) is (starts bytes p lt) e in
+    let ops = step cond_reader is run.stands run.rest in
     let recovery = step recovery_reader is ops.stands ops.rest in
-    let deps = step (list_reader (dep_reader second)) is recovery.stands recovery.rest in
-    let both = apart second IsFitDep DepInRange is_deadline deps.value deps.fits in
-    subst (λ (z : JobDoc × ℕ). JobFits second z.0 × Stands (job_doc_bytes z.0) bytes p z.1) (same_value deps.rest) (
+    subst (λ (z : Task × ℕ). TaskFits z.0 × Stands (task_bytes z.0) bytes p z.1) (same_value recovery.rest)
+    (((run.fits, ops.fits), recovery.fits), recovery.stands)
+
+task_again : (bytes : List ℕ) (p : ℕ) (t : Task) (q : ℕ) → TaskFits t → Stands (task_bytes t) bytes p q
+    → task_at bytes p ≡ Ok (t, q)
+unfolding task_at
+task_again bytes p t q fits s =
+    let run_bytes = work_bytes t.work ++ text_bytes t.logon in
+    let last = split (run_bytes ++ cond_bytes t.cond) (u8_bytes (recovery_code t.recovery)) s in
+    let first = split run_bytes (cond_bytes t.cond) last.0 in
+    on (pair_reader work_reader text_reader) _ (t.work, t.logon) fits.0.0 first.0
+    (on cond_reader _ t.cond fits.0.1 first.1 (on recovery_reader _ t.recovery fits.1 last.1 refl))
+
+task_steady : IsSteady task_at
+unfolding task_at
+task_steady =
+    then_steady _ (pair_reader work_reader text_reader).steady (λ run.
+    then_steady _ cond_reader.steady (λ ops. then_steady _ recovery_reader.steady (λ recovery. gives_steady _)))
+
+task_reader : IsReader TaskFits task_bytes task_at
+task_reader = record { found = task_found; again = task_again; steady = task_steady }
+
+-- the parts of documents and drafts in the order of their fields
+in_a_job : (a b c d e f g h i : List ℕ) → a ++ b ++ c ++ d ++ e ++ f ++ g ++ h ++ i
+    ≡ a ++ (b ++ c ++ d) ++ (e ++ f ++ g ++ h) ++ i
+in_a_job a b c d e f g h i = simp append_assoc
+
+in_a_job_draft : (b c d e f g h i : List ℕ) → b ++ c ++ d ++ e ++ f ++ g ++ h ++ i
+    ≡ (b ++ c ++ d) ++ (e ++ f ++ g ++ h) ++ i
+in_a_job_draft b c d e f g h i = simp append_assoc
+
+in_a_stream : (a b c d e f g h : List ℕ) → a ++ b ++ c ++ d ++ e ++ f ++ g ++ h ≡ a ++ (b ++ c ++ d ++ e ++ f) ++ g ++ h
+in_a_stream a b c d e f g h = simp append_assoc
+
+-- jobs
+abbrev JobParts : Type 0
+JobParts = ((ℕ × Named) × Task) × List Dep
+
+abbrev job_parts : JobDoc → JobParts
+job_parts d = (
+  (
+    (d.no, ((d.ws, d.name), d.priority)),
+    record { work = d.work; logon = d.logon; cond = d.cond; recovery = d.recovery },
+  ),
+  d.deps,
+)
+
+abbrev job_made : JobParts → JobDoc
+job_made x = job_of x.0.0.0 x.0.0.1 x.0.1 x.1
+
+abbrev JobPartsFit : Bool → JobParts → Type 0
+JobPartsFit second x = ((IsU32 x.0.0.0 × NamedFits x.0.0.1) × TaskFits x.0.1) × AreListed (DepFits second) x.1
+
+job_fits : (second : Bool) (x : JobParts) → JobPartsFit second x → JobFits second (job_made x)
+job_fits second x f =
+    let named = f.0.0.1 in
+    let task = f.0.1 in
+    let both = apart second IsFitDep DepInRange is_deadline x.1 f.1 in (
       (
-        (
-          record {
-            name_ = name.fits.0;
-            work_ = work.fits.0;
-            logon_ = logon.fits.0;
-            cond_ = ops.fits.0;
-            deps_ = both.0.0;
-          },
-          record {
-            no_ = no.fits;
-            ws_ = ws.fits;
-            name_ = name.fits.1;
-            priority_ = priority.fits;
-            work_ = work.fits.1;
-            logon_ = logon.fits.1;
-            cond_ = All-from_recursion OpInRange ops.value ops.fits.1;
-            deps_ = both.0.1;
-          },
-        ),
-        both.1,
+        record {
+          name_ = named.0.1.0;
+          work_ = task.0.0.0.0;
+          logon_ = task.0.0.1.0;
+          cond_ = task.0.1.0;
+          deps_ = both.0.0;
+        },
+        record {
+          no_ = f.0.0.0;
+          ws_ = named.0.0;
+          name_ = named.0.1.1;
+          priority_ = named.1;
+          work_ = task.0.0.0.1;
+          logon_ = task.0.0.1.1;
+          cond_ = All-from_recursion OpInRange x.0.1.cond task.0.1.1;
+          deps_ = both.0.1;
+        },
       ),
-      deps.stands,
+      both.1,
     )
 
-job_again : (second : Bool) (bytes : List ℕ) (p : ℕ) (d : JobDoc) (q : ℕ) → JobFits second d
-    → Stands (job_doc_bytes d) bytes p q
-    → job_at second bytes p ≡ Ok (d, q)
-unfolding job_at job_doc_bytes
-job_again second bytes p d q fits s =
-    let no = peeled (in_order (u32_bytes d.no) (
-    u16_bytes d.ws
-    ∷ text_bytes d.name
-    ∷ u8_bytes d.priority
-    ∷ work_bytes d.work
-    ∷ text_bytes d.logon
-    ∷ cond_bytes d.cond
-    ∷ u8_bytes (recovery_code d.recovery)
-    ∷ list_bytes dep_bytes d.deps
-    ∷ []) s) in
-    let ws = peeled no.rest in
-    let name = peeled ws.rest in
-    let priority = peeled name.rest in
-    let work = peeled priority.rest in
-    let logon = peeled work.rest in
-    let ops = peeled logon.rest in
-    let recovery = peeled ops.rest in
-    let deps = peeled recovery.rest in
-    on u32_reader _ d.no fits.0.1.no_ no.first
-    (on u16_reader _ d.ws fits.0.1.ws_ ws.first
-    (on text_reader _ d.name (fits.0.0.name_, fits.0.1.name_) name.first
-    (on u8_reader _ d.priority fits.0.1.priority_ priority.first
-    (on work_reader _ d.work (fits.0.0.work_, fits.0.1.work_) work.first
-    (on text_reader _ d.logon (fits.0.0.logon_, fits.0.1.logon_) logon.first
-    (on cond_reader _ d.cond (fits.0.0.cond_, recursion_from_All OpInRange d.cond fits.0.1.cond_) ops.first
-    (on recovery_reader _ d.recovery tt recovery.first
-    (on (list_reader (dep_reader second)) _ d.deps (together second IsFitDep DepInRange is_deadline d.deps
-    fits.0.0.deps_ fits.0.1.deps_ fits.1) deps.first
-    (ap (λ (m : ℕ). Ok (d, m)) (sym (at_end deps.rest)))))))))))
+job_parts_fit : (second : Bool) (d : JobDoc) → JobFits second d → JobPartsFit second (job_parts d)
+job_parts_fit second d f = (
+  (
+    (f.0.1.no_, ((f.0.1.ws_, (f.0.0.name_, f.0.1.name_)), f.0.1.priority_)),
+    (
+      (
+        ((f.0.0.work_, f.0.1.work_), (f.0.0.logon_, f.0.1.logon_)),
+        (f.0.0.cond_, recursion_from_All OpInRange d.cond f.0.1.cond_),
+      ),
+      tt,
+    ),
+  ),
+  together second IsFitDep DepInRange is_deadline d.deps f.0.0.deps_ f.0.1.deps_ f.1,
+)
 
-job_steady : (second : Bool) → IsSteady (job_at second)
-unfolding job_at
-job_steady second =
-    then_steady _ u32_reader.steady (λ no. then_steady _ u16_reader.steady (λ ws.
-    then_steady _ text_reader.steady (λ name. then_steady _ u8_reader.steady (λ priority.
-    then_steady _ work_reader.steady (λ work. then_steady _ text_reader.steady (λ logon.
-    then_steady _ cond_reader.steady (λ ops. then_steady _ recovery_reader.steady (λ recovery.
-    then_steady _ (list_reader (dep_reader second)).steady (λ deps. gives_steady _)))))))))
+job_spelled : (x : JobParts) → job_doc_bytes (job_made x)
+    ≡ u32_bytes x.0.0.0 ++ named_bytes x.0.0.1 ++ task_bytes x.0.1 ++ list_bytes dep_bytes x.1
+unfolding job_doc_bytes
+job_spelled x =
+    in_a_job (u32_bytes x.0.0.0) (u16_bytes x.0.0.1.0.0) (text_bytes x.0.0.1.0.1) (u8_bytes x.0.0.1.1)
+    (work_bytes x.0.1.work) (text_bytes x.0.1.logon) (cond_bytes x.0.1.cond) (u8_bytes (recovery_code x.0.1.recovery))
+    (list_bytes dep_bytes x.1)
 
 pub job_reader : (second : Bool) → IsReader (JobFits second) job_doc_bytes (job_at second)
+unfolding job_at
 job_reader second =
-    record { found = job_found second; again = job_again second; steady = job_steady second }
+    made_reader
+    (pair_reader (pair_reader (pair_reader u32_reader named_reader) task_reader) (list_reader (dep_reader second)))
+    (JobFits second) job_doc_bytes job_made job_parts (λ d. refl) (job_fits second) (job_parts_fit second) job_spelled
 
--- a stream's document that is fit and in range
+-- streams
 abbrev pub StreamFits : Bool → StreamDoc → Type 0
 StreamFits second d = (IsFitStream d × StreamInRange d) × Allows second (doc_has_deadline d)
 
-stream_found : (second : Bool) (bytes : List ℕ) (p : ℕ) (d : StreamDoc) (q : ℕ) → IsBytes bytes → p ≤ length bytes
-    → stream_at second bytes p ≡ Ok (d, q) → StreamFits second d × Stands (stream_doc_bytes d) bytes p q
-unfolding stream_at stream_doc_bytes
-stream_found second bytes p d q is lt e =
-    let no = step u32_reader is (starts bytes p lt) e in
-    let ws = step u16_reader is no.stands no.rest in
-    let name = step text_reader is ws.stands ws.rest in
-    let priority = step u8_reader is name.stands name.rest in
-    let limit = step (option_reader u16_reader) is priority.stands priority.rest in
-    let carry = step flag_reader is limit.stands limit.rest in
-    let deps = step (list_reader (dep_reader second)) is carry.stands carry.rest in
-    let jobs = step (list_reader (job_reader second)) is deps.stands deps.rest in
-    let both = apart second IsFitDep DepInRange is_deadline deps.value deps.fits in
-    let all_jobs = apart second IsFitJob JobInRange job_has_one jobs.value jobs.fits in
-    subst (λ (z : StreamDoc × ℕ). StreamFits second z.0 × Stands (stream_doc_bytes z.0) bytes p z.1)
-    (same_value jobs.rest) (
+abbrev StreamParts : Type 0
+StreamParts = ((ℕ × Front) × List Dep) × List JobDoc
+
+abbrev stream_parts : StreamDoc → StreamParts
+stream_parts d = (((d.no, ((((d.ws, d.name), d.priority), d.limit), d.carry)), d.deps), d.jobs)
+
+abbrev stream_made : StreamParts → StreamDoc
+stream_made x = stream_of x.0.0.0 x.0.0.1 x.0.1 x.1
+
+abbrev StreamPartsFit : Bool → StreamParts → Type 0
+StreamPartsFit second x =
+    ((IsU32 x.0.0.0 × FrontFits x.0.0.1) × AreListed (DepFits second) x.0.1) × AreListed (JobFits second) x.1
+
+stream_fits : (second : Bool) (x : StreamParts) → StreamPartsFit second x → StreamFits second (stream_made x)
+stream_fits second x f =
+    let front = f.0.0.1 in
+    let named = front.0.0 in
+    let both = apart second IsFitDep DepInRange is_deadline x.0.1 f.0.1 in
+    let all_jobs = apart second IsFitJob JobInRange job_has_one x.1 f.1 in (
       (
-        (
-          record { name_ = name.fits.0; deps_ = both.0.0; jobs_ = all_jobs.0.0 },
-          record {
-            no_ = no.fits;
-            ws_ = ws.fits;
-            name_ = name.fits.1;
-            priority_ = priority.fits;
-            limit_ = limit.fits;
-            deps_ = both.0.1;
-            jobs_ = all_jobs.0.1;
-          },
-        ),
-        allows_either second _ _ both.1 all_jobs.1,
+        record { name_ = named.0.1.0; deps_ = both.0.0; jobs_ = all_jobs.0.0 },
+        record {
+          no_ = f.0.0.0;
+          ws_ = named.0.0;
+          name_ = named.0.1.1;
+          priority_ = named.1;
+          limit_ = front.0.1;
+          deps_ = both.0.1;
+          jobs_ = all_jobs.0.1;
+        },
       ),
-      jobs.stands,
+      allows_either second _ _ both.1 all_jobs.1,
     )
 
-stream_again : (second : Bool) (bytes : List ℕ) (p : ℕ) (d : StreamDoc) (q : ℕ) → StreamFits second d
-    → Stands (stream_doc_bytes d) bytes p q
-    → stream_at second bytes p ≡ Ok (d, q)
-unfolding stream_at stream_doc_bytes
-stream_again second bytes p d q fits s =
-    let allowed = allows_both second (list_any is_deadline d.deps) (list_any job_has_one d.jobs) fits.1 in
-    let no = peeled (in_order (u32_bytes d.no) (
-    u16_bytes d.ws
-    ∷ text_bytes d.name
-    ∷ u8_bytes d.priority
-    ∷ option_bytes u16_bytes d.limit
-    ∷ flag_bytes d.carry
-    ∷ list_bytes dep_bytes d.deps
-    ∷ list_bytes job_doc_bytes d.jobs
-    ∷ []) s) in
-    let ws = peeled no.rest in
-    let name = peeled ws.rest in
-    let priority = peeled name.rest in
-    let limit = peeled priority.rest in
-    let carry = peeled limit.rest in
-    let deps = peeled carry.rest in
-    let jobs = peeled deps.rest in
-    on u32_reader _ d.no fits.0.1.no_ no.first
-    (on u16_reader _ d.ws fits.0.1.ws_ ws.first
-    (on text_reader _ d.name (fits.0.0.name_, fits.0.1.name_) name.first
-    (on u8_reader _ d.priority fits.0.1.priority_ priority.first
-    (on (option_reader u16_reader) _ d.limit fits.0.1.limit_ limit.first
-    (on flag_reader _ d.carry tt carry.first
-    (on (list_reader (dep_reader second)) _ d.deps (together second IsFitDep DepInRange is_deadline d.deps
-    fits.0.0.deps_ fits.0.1.deps_ allowed.0) deps.first
-    (on (list_reader (job_reader second)) _ d.jobs (together second IsFitJob JobInRange job_has_one d.jobs
-    fits.0.0.jobs_ fits.0.1.jobs_ allowed.1) jobs.first
-    (ap (λ (m : ℕ). Ok (d, m)) (sym (at_end jobs.rest))))))))))
+stream_parts_fit : (second : Bool) (d : StreamDoc) → StreamFits second d → StreamPartsFit second (stream_parts d)
+stream_parts_fit second d f =
+    let allowed = allows_both second (list_any is_deadline d.deps) (list_any job_has_one d.jobs) f.1 in (
+      (
+        (
+          f.0.1.no_,
+          ((((f.0.1.ws_, (f.0.0.name_, f.0.1.name_)), f.0.1.priority_), f.0.1.limit_), tt),
+        ),
+        together second IsFitDep DepInRange is_deadline d.deps f.0.0.deps_ f.0.1.deps_ allowed.0,
+      ),
+      together second IsFitJob JobInRange job_has_one d.jobs f.0.0.jobs_ f.0.1.jobs_ allowed.1,
+    )
 
-stream_steady : (second : Bool) → IsSteady (stream_at second)
-unfolding stream_at
-stream_steady second =
-    then_steady _ u32_reader.steady (λ no. then_steady _ u16_reader.steady (λ ws.
-    then_steady _ text_reader.steady (λ name. then_steady _ u8_reader.steady (λ priority.
-    then_steady _ (option_reader u16_reader).steady (λ limit. then_steady _ flag_reader.steady (λ carry.
-    then_steady _ (list_reader (dep_reader second)).steady (λ deps.
-    then_steady _ (list_reader (job_reader second)).steady (λ jobs. gives_steady _))))))))
+stream_spelled : (x : StreamParts) → stream_doc_bytes (stream_made x)
+    ≡ u32_bytes x.0.0.0 ++ front_bytes x.0.0.1 ++ list_bytes dep_bytes x.0.1 ++ list_bytes job_doc_bytes x.1
+unfolding stream_doc_bytes
+stream_spelled x =
+    in_a_stream (u32_bytes x.0.0.0) (u16_bytes x.0.0.1.0.0.0.0) (text_bytes x.0.0.1.0.0.0.1)
+    (u8_bytes x.0.0.1.0.0.1) (option_bytes u16_bytes x.0.0.1.0.1) (flag_bytes x.0.0.1.1) (list_bytes dep_bytes x.0.1)
+    (list_bytes job_doc_bytes x.1)
 
 pub stream_reader : (second : Bool) → IsReader (StreamFits second) stream_doc_bytes (stream_at second)
+unfolding stream_at
 stream_reader second =
-    record { found = stream_found second; again = stream_again second; steady = stream_steady second }
+    made_reader
+    (pair_reader (pair_reader (pair_reader u32_reader front_reader) (list_reader (dep_reader second)))
+    (list_reader (job_reader second)))
+    (StreamFits second) stream_doc_bytes stream_made stream_parts (λ d. refl) (stream_fits second)
+    (stream_parts_fit second) stream_spelled
 
--- a job's draft that is fit and in range
+-- drafts of jobs
 abbrev pub JobDraftFits : Bool → JobDraft → Type 0
 JobDraftFits second d = (IsFitJobDraft d × JobDraftInRange d) × Allows second (job_draft_has_one d)
 
-job_draft_found : (second : Bool) (bytes : List ℕ) (p : ℕ) (d : JobDraft) (q : ℕ) → IsBytes bytes → p ≤ length bytes
-    → job_draft_at second bytes p ≡ Ok (d, q) → JobDraftFits second d × Stands (job_draft_bytes d) bytes p q
-unfolding job_draft_at job_draft_bytes
-job_draft_found second bytes p d q is lt e =
-    let ws = step u16_reader is (starts bytes p lt) e in
-    let name = step text_reader is ws.stands ws.rest in
-    let priority = step u8_reader is name.stands name.rest in
-    let work = step work_reader is priority.stands priority.rest in
-    let logon = step text_reader is work.stands work.rest in
-    let ops = step cond_reader is logon.stands logon.rest in
-    let recovery = step recovery_reader is ops.stands ops.rest in
-    let deps = step (list_reader (draft_dep_reader second)) is recovery.stands recovery.rest in
-    let both = apart second IsFitDraftDep DraftDepInRange is_draft_deadline deps.value deps.fits in
-    subst (λ (z : JobDraft × ℕ). JobDraftFits second z.0 × Stands (job_draft_bytes z.0) bytes p z.1)
-    (same_value deps.rest) (
+abbrev JobDraftParts : Type 0
+JobDraftParts = (Named × Task) × List DraftDep
+
+abbrev job_draft_parts : JobDraft → JobDraftParts
+job_draft_parts d = (
+  (
+    ((d.ws, d.name), d.priority),
+    record { work = d.work; logon = d.logon; cond = d.cond; recovery = d.recovery },
+  ),
+  d.deps,
+)
+
+abbrev job_draft_made : JobDraftParts → JobDraft
+job_draft_made x = job_draft_of x.0.0 x.0.1 x.1
+
+abbrev JobDraftPartsFit : Bool → JobDraftParts → Type 0
+JobDraftPartsFit second x = (NamedFits x.0.0 × TaskFits x.0.1) × AreListed (DraftDepFits second) x.1
+
+job_draft_fits : (second : Bool) (x : JobDraftParts) → JobDraftPartsFit second x
+    → JobDraftFits second (job_draft_made x)
+job_draft_fits second x f =
+    let named = f.0.0 in
+    let task = f.0.1 in
+    let both = apart second IsFitDraftDep DraftDepInRange is_draft_deadline x.1 f.1 in (
       (
-        (
-          record {
-            name_ = name.fits.0;
-            work_ = work.fits.0;
-            logon_ = logon.fits.0;
-            cond_ = ops.fits.0;
-            deps_ = both.0.0;
-          },
-          record {
-            ws_ = ws.fits;
-            name_ = name.fits.1;
-            priority_ = priority.fits;
-            work_ = work.fits.1;
-            logon_ = logon.fits.1;
-            cond_ = All-from_recursion OpInRange ops.value ops.fits.1;
-            deps_ = both.0.1;
-          },
-        ),
-        both.1,
+        record {
+          name_ = named.0.1.0;
+          work_ = task.0.0.0.0;
+          logon_ = task.0.0.1.0;
+          cond_ = task.0.1.0;
+          deps_ = both.0.0;
+        },
+        record {
+          ws_ = named.0.0;
+          name_ = named.0.1.1;
+          priority_ = named.1;
+          work_ = task.0.0.0.1;
+          logon_ = task.0.0.1.1;
+          cond_ = All-from_recursion OpInRange x.0.1.cond task.0.1.1;
+          deps_ = both.0.1;
+        },
       ),
-      deps.stands,
+      both.1,
     )
 
-job_draft_again : (second : Bool) (bytes : List ℕ) (p : ℕ) (d : JobDraft) (q : ℕ) → JobDraftFits second d
-    → Stands (job_draft_bytes d) bytes p q → job_draft_at second bytes p ≡ Ok (d, q)
-unfolding job_draft_at job_draft_bytes
-job_draft_again second bytes p d q fits s =
-    let ws = peeled (in_order (u16_bytes d.ws) (
-    text_bytes d.name
-    ∷ u8_bytes d.priority
-    ∷ work_bytes d.work
-    ∷ text_bytes d.logon
-    ∷ cond_bytes d.cond
-    ∷ u8_bytes (recovery_code d.recovery)
-    ∷ list_bytes draft_dep_bytes d.deps
-    ∷ []) s) in
-    let name = peeled ws.rest in
-    let priority = peeled name.rest in
-    let work = peeled priority.rest in
-    let logon = peeled work.rest in
-    let ops = peeled logon.rest in
-    let recovery = peeled ops.rest in
-    let deps = peeled recovery.rest in
-    on u16_reader _ d.ws fits.0.1.ws_ ws.first
-    (on text_reader _ d.name (fits.0.0.name_, fits.0.1.name_) name.first
-    (on u8_reader _ d.priority fits.0.1.priority_ priority.first
-    (on work_reader _ d.work (fits.0.0.work_, fits.0.1.work_) work.first
-    (on text_reader _ d.logon (fits.0.0.logon_, fits.0.1.logon_) logon.first
-    (on cond_reader _ d.cond (fits.0.0.cond_, recursion_from_All OpInRange d.cond fits.0.1.cond_) ops.first
-    (on recovery_reader _ d.recovery tt recovery.first
-    (on (list_reader (draft_dep_reader second)) _ d.deps
-    (together second IsFitDraftDep DraftDepInRange is_draft_deadline d.deps fits.0.0.deps_ fits.0.1.deps_ fits.1)
-    deps.first
-    (ap (λ (m : ℕ). Ok (d, m)) (sym (at_end deps.rest))))))))))
+job_draft_parts_fit : (second : Bool) (d : JobDraft) → JobDraftFits second d
+    → JobDraftPartsFit second (job_draft_parts d)
+job_draft_parts_fit second d f = (
+  (
+    ((f.0.1.ws_, (f.0.0.name_, f.0.1.name_)), f.0.1.priority_),
+    (
+      (
+        ((f.0.0.work_, f.0.1.work_), (f.0.0.logon_, f.0.1.logon_)),
+        (f.0.0.cond_, recursion_from_All OpInRange d.cond f.0.1.cond_),
+      ),
+      tt,
+    ),
+  ),
+  together second IsFitDraftDep DraftDepInRange is_draft_deadline d.deps f.0.0.deps_ f.0.1.deps_ f.1,
+)
 
-job_draft_steady : (second : Bool) → IsSteady (job_draft_at second)
-unfolding job_draft_at
-job_draft_steady second =
-    then_steady _ u16_reader.steady (λ ws. then_steady _ text_reader.steady (λ name.
-    then_steady _ u8_reader.steady (λ priority. then_steady _ work_reader.steady (λ work.
-    then_steady _ text_reader.steady (λ logon. then_steady _ cond_reader.steady (λ ops.
-    then_steady _ recovery_reader.steady (λ recovery.
-    then_steady _ (list_reader (draft_dep_reader second)).steady (λ deps. gives_steady _))))))))
+job_draft_spelled : (x : JobDraftParts) → job_draft_bytes (job_draft_made x)
+    ≡ named_bytes x.0.0 ++ task_bytes x.0.1 ++ list_bytes draft_dep_bytes x.1
+unfolding job_draft_bytes
+job_draft_spelled x =
+    in_a_job_draft (u16_bytes x.0.0.0.0) (text_bytes x.0.0.0.1) (u8_bytes x.0.0.1) (work_bytes x.0.1.work)
+    (text_bytes x.0.1.logon) (cond_bytes x.0.1.cond) (u8_bytes (recovery_code x.0.1.recovery))
+    (list_bytes draft_dep_bytes x.1)
 
 pub job_draft_reader : (second : Bool) → IsReader (JobDraftFits second) job_draft_bytes (job_draft_at second)
+unfolding job_draft_at
 job_draft_reader second =
-    record { found = job_draft_found second; again = job_draft_again second; steady = job_draft_steady second }
+    made_reader (pair_reader (pair_reader named_reader task_reader) (list_reader (draft_dep_reader second)))
+    (JobDraftFits second) job_draft_bytes job_draft_made job_draft_parts (λ d. refl) (job_draft_fits second)
+    (job_draft_parts_fit second) job_draft_spelled
 
--- a stream's draft that is fit and in range
+-- drafts of streams
 abbrev pub DraftFits : Bool → StreamDraft → Type 0
 DraftFits second d = (IsFitDraft d × DraftInRange d) × Allows second (draft_has_deadline d)
 
-draft_found : (second : Bool) (bytes : List ℕ) (p : ℕ) (d : StreamDraft) (q : ℕ) → IsBytes bytes → p ≤ length bytes
-    → stream_draft_at second bytes p ≡ Ok (d, q) → DraftFits second d × Stands (stream_draft_bytes d) bytes p q
-unfolding stream_draft_at stream_draft_bytes
-draft_found second bytes p d q is lt e =
-    let ws = step u16_reader is (starts bytes p lt) e in
-    let name = step text_reader is ws.stands ws.rest in
-    let priority = step u8_reader is name.stands name.rest in
-    let limit = step (option_reader u16_reader) is priority.stands priority.rest in
-    let carry = step flag_reader is limit.stands limit.rest in
-    let deps = step (list_reader (draft_dep_reader second)) is carry.stands carry.rest in
-    let jobs = step (list_reader (job_draft_reader second)) is deps.stands deps.rest in
-    let both = apart second IsFitDraftDep DraftDepInRange is_draft_deadline deps.value deps.fits in
-    let all_jobs = apart second IsFitJobDraft JobDraftInRange job_draft_has_one jobs.value jobs.fits in
-    subst (λ (z : StreamDraft × ℕ). DraftFits second z.0 × Stands (stream_draft_bytes z.0) bytes p z.1)
-    (same_value jobs.rest) (
+abbrev DraftParts : Type 0
+DraftParts = (Front × List DraftDep) × List JobDraft
+
+abbrev draft_parts : StreamDraft → DraftParts
+draft_parts d = ((((((d.ws, d.name), d.priority), d.limit), d.carry), d.deps), d.jobs)
+
+abbrev draft_made : DraftParts → StreamDraft
+draft_made x = stream_draft_of x.0.0 x.0.1 x.1
+
+abbrev DraftPartsFit : Bool → DraftParts → Type 0
+DraftPartsFit second x =
+    (FrontFits x.0.0 × AreListed (DraftDepFits second) x.0.1) × AreListed (JobDraftFits second) x.1
+
+draft_fits : (second : Bool) (x : DraftParts) → DraftPartsFit second x → DraftFits second (draft_made x)
+draft_fits second x f =
+    let front = f.0.0 in
+    let named = front.0.0 in
+    let both = apart second IsFitDraftDep DraftDepInRange is_draft_deadline x.0.1 f.0.1 in
+    let all_jobs = apart second IsFitJobDraft JobDraftInRange job_draft_has_one x.1 f.1 in (
       (
-        (
-          record { name_ = name.fits.0; deps_ = both.0.0; jobs_ = all_jobs.0.0 },
-          record {
-            ws_ = ws.fits;
-            name_ = name.fits.1;
-            priority_ = priority.fits;
-            limit_ = limit.fits;
-            deps_ = both.0.1;
-            jobs_ = all_jobs.0.1;
-          },
-        ),
-        allows_either second _ _ both.1 all_jobs.1,
+        record { name_ = named.0.1.0; deps_ = both.0.0; jobs_ = all_jobs.0.0 },
+        record {
+          ws_ = named.0.0;
+          name_ = named.0.1.1;
+          priority_ = named.1;
+          limit_ = front.0.1;
+          deps_ = both.0.1;
+          jobs_ = all_jobs.0.1;
+        },
       ),
-      jobs.stands,
+      allows_either second _ _ both.1 all_jobs.1,
     )
 
-draft_again : (second : Bool) (bytes : List ℕ) (p : ℕ) (d : StreamDraft) (q : ℕ) → DraftFits second d
-    → Stands (stream_draft_bytes d) bytes p q → stream_draft_at second bytes p ≡ Ok (d, q)
-unfolding stream_draft_at stream_draft_bytes
-draft_again second bytes p d q fits s =
-    let allowed = allows_both second (list_any is_draft_deadline d.deps) (list_any job_draft_has_one d.jobs) fits.1 in
-    let ws = peeled (in_order (u16_bytes d.ws) (
-    text_bytes d.name
-    ∷ u8_bytes d.priority
-    ∷ option_bytes u16_bytes d.limit
-    ∷ flag_bytes d.carry
-    ∷ list_bytes draft_dep_bytes d.deps
-    ∷ list_bytes job_draft_bytes d.jobs
-    ∷ []) s) in
-    let name = peeled ws.rest in
-    let priority = peeled name.rest in
-    let limit = peeled priority.rest in
-    let carry = peeled limit.rest in
-    let deps = peeled carry.rest in
-    let jobs = peeled deps.rest in
-    on u16_reader _ d.ws fits.0.1.ws_ ws.first
-    (on text_reader _ d.name (fits.0.0.name_, fits.0.1.name_) name.first
-    (on u8_reader _ d.priority fits.0.1.priority_ priority.first
-    (on (option_reader u16_reader) _ d.limit fits.0.1.limit_ limit.first
-    (on flag_reader _ d.carry tt carry.first
-    (on (list_reader (draft_dep_reader second)) _ d.deps
-    (together second IsFitDraftDep DraftDepInRange is_draft_deadline d.deps fits.0.0.deps_ fits.0.1.deps_ allowed.0)
-    deps.first
-    (on (list_reader (job_draft_reader second)) _ d.jobs
-    (together second IsFitJobDraft JobDraftInRange job_draft_has_one d.jobs fits.0.0.jobs_ fits.0.1.jobs_ allowed.1)
-    jobs.first
-    (ap (λ (m : ℕ). Ok (d, m)) (sym (at_end jobs.rest)))))))))
+draft_parts_fit : (second : Bool) (d : StreamDraft) → DraftFits second d → DraftPartsFit second (draft_parts d)
+draft_parts_fit second d f =
+    let allowed = allows_both second (list_any is_draft_deadline d.deps) (list_any job_draft_has_one d.jobs) f.1 in (
+      (
+        ((((f.0.1.ws_, (f.0.0.name_, f.0.1.name_)), f.0.1.priority_), f.0.1.limit_), tt),
+        together second IsFitDraftDep DraftDepInRange is_draft_deadline d.deps f.0.0.deps_ f.0.1.deps_ allowed.0,
+      ),
+      together second IsFitJobDraft JobDraftInRange job_draft_has_one d.jobs f.0.0.jobs_ f.0.1.jobs_ allowed.1,
+    )
 
-draft_steady : (second : Bool) → IsSteady (stream_draft_at second)
-unfolding stream_draft_at
-draft_steady second =
-    then_steady _ u16_reader.steady (λ ws. then_steady _ text_reader.steady (λ name.
-    then_steady _ u8_reader.steady (λ priority. then_steady _ (option_reader u16_reader).steady (λ limit.
-    then_steady _ flag_reader.steady (λ carry. then_steady _ (list_reader (draft_dep_reader second)).steady (λ deps.
-    then_steady _ (list_reader (job_draft_reader second)).steady (λ jobs. gives_steady _)))))))
+draft_spelled : (x : DraftParts) → stream_draft_bytes (draft_made x)
+    ≡ front_bytes x.0.0 ++ list_bytes draft_dep_bytes x.0.1 ++ list_bytes job_draft_bytes x.1
+unfolding stream_draft_bytes
+draft_spelled x = refl
 
 pub draft_reader : (second : Bool) → IsReader (DraftFits second) stream_draft_bytes (stream_draft_at second)
+unfolding stream_draft_at
 draft_reader second =
-    record { found = draft_found second; again = draft_again second; steady = draft_steady second }
+    made_reader
+    (pair_reader (pair_reader front_reader (list_reader (draft_dep_reader second)))
+    (list_reader (job_draft_reader second)))
+    (DraftFits second) stream_draft_bytes draft_made draft_parts (λ d. refl) (draft_fits second)
+    (draft_parts_fit second) draft_spelled

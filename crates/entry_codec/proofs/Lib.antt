@@ -1,6 +1,7 @@
 pub mod Puts
 pub mod Readers
 pub mod Steady
+pub mod Pairs
 pub mod Numbers
 pub mod Texts
 pub mod ShortTexts

@@ -14,7 +14,8 @@ use Rattle.entry_codec.specs.Fields.{count_at, counts_at, seen_at, number_with}
 use Rattle.entry_codec.proofs.Readers.{IsBytes, Stands, IsReader, within, starts, nothing, joined, split, step, on}
 use Rattle.entry_codec.proofs.Readers.{same_value}
 use Rattle.entry_codec.proofs.Numbers.{u16_reader, u32_reader, tested}
-use Rattle.entry_codec.proofs.Steady.{count_steady, counts_steady, seen_steady}
+use Rattle.entry_codec.proofs.Pairs.{pair_reader}
+use Rattle.entry_codec.proofs.Steady.{counts_steady, seen_steady}
 
 -- so many counts in range, which ascend from a workstation on without _ zeros
 pub record Ascend (least n : ℕ) (seen : Seen) : Type 0 where
@@ -33,24 +34,9 @@ count_reader = tested w32 IsU32 u32_bytes (nat_lt 0) u32_reader
 abbrev CountFits : ℕ → ℕ × ℕ → Type 0
 CountFits least c = (IsU16 c.0 × (nat_le least c.0 ≡ true)) × (IsU32 c.1 × (nat_lt 0 c.1 ≡ true))
 
-pair_found : (least : ℕ) (bytes : List ℕ) (p : ℕ) (c : ℕ × ℕ) (q : ℕ) → IsBytes bytes → p ≤ length bytes
-    → count_at least bytes p ≡ Ok (c, q) → CountFits least c × Stands (count_bytes c) bytes p q
+counted_reader : (least : ℕ) → IsReader (CountFits least) count_bytes (count_at least)
 unfolding count_at
-pair_found least bytes p c q is lt e =
-    let w = step (ws_reader least) is (starts bytes p lt) e in
-    let k = step count_reader is w.stands w.rest in
-    subst (λ (z : (ℕ × ℕ) × ℕ). CountFits least z.0 × Stands (count_bytes z.0) bytes p z.1) (same_value k.rest)
-    ((w.fits, k.fits), k.stands)
-
-pair_again : (least : ℕ) (bytes : List ℕ) (p : ℕ) (c : ℕ × ℕ) (q : ℕ) → CountFits least c
-    → Stands (count_bytes c) bytes p q → count_at least bytes p ≡ Ok (c, q)
-unfolding count_at
-pair_again least bytes p c q fits s =
-    let parts = split (u16_bytes c.0) (u32_bytes c.1) s in
-    on (ws_reader least) _ c.0 fits.0 parts.0 (on count_reader _ c.1 fits.1 parts.1 refl)
-
-pair_reader : (least : ℕ) → IsReader (CountFits least) count_bytes (count_at least)
-pair_reader least = record { found = pair_found least; again = pair_again least; steady = count_steady least }
+counted_reader least = pair_reader (ws_reader least) count_reader
 
 none_found : (least : ℕ) (bytes : List ℕ) (p : ℕ) (seen : Seen) (q : ℕ) → p ≤ length bytes
     → counts_at least 0 bytes p ≡ Ok (seen, q) → Ascend least 0 seen × Stands (flat_map count_bytes seen) bytes p q
@@ -71,7 +57,7 @@ more_found : (least n : ℕ)
     → Ascend least (suc n) seen × Stands (flat_map count_bytes seen) bytes p q
 unfolding counts_at
 more_found least n fewer bytes p seen q is lt e =
-    let first = step (pair_reader least) is (starts bytes p lt) e in
+    let first = step (counted_reader least) is (starts bytes p lt) e in
     let others = step (fewer (first.value.0 + 1)) is first.stands first.rest in
     subst (λ (z : Seen × ℕ). Ascend least (suc n) z.0 × Stands (flat_map count_bytes z.0) bytes p z.1)
     (same_value others.rest) (
@@ -96,7 +82,7 @@ more_again least n fewer bytes p (c ∷ seen) q fits s =
     let second : (nat_lt 0 c.1 ≡ true) × (ascends_from (c.0 + 1) seen ≡ true) =
     and_parts (nat_lt 0 c.1) (ascends_from (c.0 + 1) seen) first.1 in
     let len : length seen ≡ n = omega (arith, fits.counted) in
-    on (pair_reader least) _ c ((fits.in_range.0.0, first.0), (fits.in_range.0.1, second.0)) parts.0
+    on (counted_reader least) _ c ((fits.in_range.0.0, first.0), (fits.in_range.0.1, second.0)) parts.0
     (on (fewer (c.0 + 1)) _ seen (record { counted = len; in_range = fits.in_range.1; ascends = second.1 }) parts.1
     refl)
 

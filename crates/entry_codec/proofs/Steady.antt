@@ -12,7 +12,7 @@ use Rattle.std.specs.Str.{is_utf8}
 use Rattle.std.specs.Int.{Width, w8, w16, w32, byte_len, from_be_bytes}
 use Rattle.entry_codec.specs.declared.EntryFault.{EntryFault}
 use Rattle.entry_codec.specs.declared.EntryFault.TheVariants.{Short, BadField}
-use Rattle.entry_codec.specs.Read.{Reader, and_then, chain, gives, one, two, three, four}
+use Rattle.entry_codec.specs.Read.{Reader, and_then, chain, gives, pair, one}
 use Rattle.entry_codec.specs.Fields.{u8_at, number_at, number_with, text_at, row_of, behind, choice_at}
 use Rattle.entry_codec.specs.Fields.{items_at}
 use Rattle.entry_codec.specs.Fields.{list_at, count_at, counts_at, seen_at}
@@ -243,20 +243,10 @@ then_steady {X} {Y} {a} b sa sb =
 pub one_steady : {A X : Type 0} {a : Reader A} (make : A → X) → IsSteady a → IsSteady (one a make)
 one_steady {A} {X} make sa = then_steady (λ (x : A). gives (make x)) sa (λ x. gives_steady (make x))
 
-pub two_steady : {A B X : Type 0} {a : Reader A} {b : Reader B} (make : A → B → X) → IsSteady a → IsSteady b
-    → IsSteady (two a b make)
-two_steady {A} {B} {X} {a} {b} make sa sb =
-    then_steady (λ (x : A). one b (make x)) sa (λ x. one_steady (make x) sb)
-
-pub three_steady : {A B C X : Type 0} {a : Reader A} {b : Reader B} {c : Reader C} (make : A → B → C → X)
-    → IsSteady a → IsSteady b → IsSteady c → IsSteady (three a b c make)
-three_steady {A} {B} {C} {X} {a} {b} {c} make sa sb sc =
-    then_steady (λ (x : A). two b c (make x)) sa (λ x. two_steady (make x) sb sc)
-
-pub four_steady : {A B C D X : Type 0} {a : Reader A} {b : Reader B} {c : Reader C} {d : Reader D}
-    (make : A → B → C → D → X) → IsSteady a → IsSteady b → IsSteady c → IsSteady d → IsSteady (four a b c d make)
-four_steady {A} {B} {C} {D} {X} {a} {b} {c} {d} make sa sb sc sd =
-    then_steady (λ (x : A). three b c d (make x)) sa (λ x. three_steady (make x) sb sc sd)
+pub pair_steady : {A B : Type 0} {a : Reader A} {b : Reader B} → IsSteady a → IsSteady b → IsSteady (pair a b)
+unfolding pair
+pair_steady {A} {B} {a} {b} sa sb =
+    then_steady (λ (x : A). one b (λ (y : B). (x, y))) sa (λ x. one_steady (λ (y : B). (x, y)) sb)
 
 -- choices
 abbrev pub RowsSteady : {X : Type 0} → List (ℕ × Reader X) → Type 0
@@ -325,7 +315,7 @@ list_steady {X} {item} steady = then_steady (items_at item) (number_steady w32) 
 pub count_steady : (least : ℕ) → IsSteady (count_at least)
 unfolding count_at
 count_steady least =
-    two_steady (λ (w k : ℕ). (w, k)) (number_with_steady w16 (nat_le least)) (number_with_steady w32 (nat_lt 0))
+    pair_steady (number_with_steady w16 (nat_le least)) (number_with_steady w32 (nat_lt 0))
 
 pub counts_steady : (n least : ℕ) → IsSteady (counts_at least n)
 unfolding counts_at

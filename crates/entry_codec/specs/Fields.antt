@@ -6,7 +6,7 @@ use Rattle.std.specs.Int.{Width, w8, w16, w32, w64, byte_len, from_be_bytes, cas
 use Rattle.std.specs.Str.{is_utf8}
 use Rattle.model.specs.History.{Seen}
 use Rattle.entry_codec.specs.declared.EntryFault.TheVariants.{Short, BadField}
-use Rattle.entry_codec.specs.Read.{Reader, ◌>>=◌, and_then, gives, one, two}
+use Rattle.entry_codec.specs.Read.{Reader, ◌>>=◌, and_then, gives, pair, one}
 
 -- a number, the highest byte first
 unfoldable pub number_at : Width → Reader ℕ
@@ -94,7 +94,7 @@ list_at item = do
 
 -- a workstation that is at least so great, and its count, which is not 0
 unfoldable pub count_at : ℕ → Reader (ℕ × ℕ)
-count_at least = two (number_with w16 (nat_le least)) (number_with w32 (nat_lt 0)) (λ w k. (w, k))
+count_at least = pair (number_with w16 (nat_le least)) (number_with w32 (nat_lt 0))
 
 -- so many of them in ascending order, the first from a least workstation on
 unfoldable pub counts_at : ℕ → ℕ → Reader Seen

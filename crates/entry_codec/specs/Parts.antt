@@ -1,13 +1,14 @@
 -- Dependencies, documents and drafts as they are read, part by part.
 -- The number of a row is the choice that leads to it. Parts that may hold a DEADLINE are told whether the entry's
 -- version is the second.
-use Rattle.std.specs.Prelude.{◌==◌, ℕ, Bool, List, [], ◌∷◌, nat_le, if◌then◌else◌}
+use Rattle.std.specs.Prelude.{◌==◌, ℕ, Bool, List, [], ◌∷◌, Option, nat_le, if◌then◌else◌}
 use Rattle.std.specs.Int.{w8}
 use Rattle.model.specs.Types.{Feed, Events, Orders, Obj, Job, Stream, OnUntil, Suppr, Cont, Canc, Dep, FollowsJob}
 use Rattle.model.specs.Types.{FollowsStream, Needs, Prompt, At, Until, Outside, Global, Own, DraftDep, Follows}
 use Rattle.model.specs.Types.{Plain, Work, Command, Script, Recovery, Eq, Ne, Lt, Le, Gt, Ge, CondOp, Cmp, And}
 use Rattle.model.specs.Types.{Or, Not, JobDoc, StreamDoc, JobDraft, StreamDraft, Deadline}
-use Rattle.entry_codec.specs.Read.{Reader, ◌>>=◌, and_then, gives, one, two, three}
+use Rattle.entry_codec.specs.declared.reading.documents.Task.{Task}
+use Rattle.entry_codec.specs.Read.{Reader, ◌>>=◌, and_then, gives, pair, one, two, three, four}
 use Rattle.entry_codec.specs.Fields.{u8_at, u16_at, u32_at, u64_at, i32_at, number_with, text_at, choice_at, flag_at}
 use Rattle.entry_codec.specs.Fields.{option_at, items_at, list_at, since_second}
 
@@ -92,90 +93,93 @@ recovery_rows = (0, gives Recovery.Stop) ∷ (1, gives Recovery.Continue) ∷ (2
 unfoldable pub recovery_at : Reader Recovery
 recovery_at = choice_at recovery_rows
 
--- a job's document
-unfoldable pub job_at : Bool → Reader JobDoc
-job_at second = do
-  number ← u32_at
-  ws ← u16_at
-  name ← text_at
-  priority ← u8_at
-  work ← work_at
-  logon ← text_at
+-- what documents and drafts begin with: the workstation, the name and the priority
+abbrev pub Named : Type 0
+Named = (ℕ × List ℕ) × ℕ
+
+abbrev pub named_at : Reader Named
+named_at = pair (pair u16_at text_at) u8_at
+
+-- what streams begin with: that, the limit, and whether an unfinished stream is carried
+abbrev pub Front : Type 0
+Front = (Named × Option ℕ) × Bool
+
+abbrev pub front_at : Reader Front
+front_at = pair (pair named_at (option_at u16_at)) flag_at
+
+-- what a job runs, for whom, and what its end means
+unfoldable pub task_at : Reader Task
+task_at = do
+  run ← pair work_at text_at
   ops ← cond_at
   recovery ← recovery_at
-  deps ← list_at (dep_at second)
-  gives (record {
-    no = number;
-    ws = ws;
-    name = name;
-    priority = priority;
-    work = work;
-    logon = logon;
-    cond = ops;
-    recovery = recovery;
-    deps = deps;
-  })
+  gives (record { work = run.0; logon = run.1; cond = ops; recovery = recovery })
+
+-- a job's document
+abbrev pub job_of : ℕ → Named → Task → List Dep → JobDoc
+job_of number named task deps =
+    record {
+      no = number;
+      ws = named.0.0;
+      name = named.0.1;
+      priority = named.1;
+      work = task.work;
+      logon = task.logon;
+      cond = task.cond;
+      recovery = task.recovery;
+      deps = deps;
+    }
+
+unfoldable pub job_at : Bool → Reader JobDoc
+job_at second = four u32_at named_at task_at (list_at (dep_at second)) job_of
 
 -- a stream's document
+abbrev pub stream_of : ℕ → Front → List Dep → List JobDoc → StreamDoc
+stream_of number front deps jobs =
+    record {
+      no = number;
+      ws = front.0.0.0.0;
+      name = front.0.0.0.1;
+      priority = front.0.0.1;
+      limit = front.0.1;
+      carry = front.1;
+      deps = deps;
+      jobs = jobs;
+    }
+
 unfoldable pub stream_at : Bool → Reader StreamDoc
-stream_at second = do
-  number ← u32_at
-  ws ← u16_at
-  name ← text_at
-  priority ← u8_at
-  limit ← option_at u16_at
-  carry ← flag_at
-  deps ← list_at (dep_at second)
-  jobs ← list_at (job_at second)
-  gives (record {
-    no = number;
-    ws = ws;
-    name = name;
-    priority = priority;
-    limit = limit;
-    carry = carry;
-    deps = deps;
-    jobs = jobs;
-  })
+stream_at second = four u32_at front_at (list_at (dep_at second)) (list_at (job_at second)) stream_of
 
--- a job's draft
+-- a job's draft: a document without its number
+abbrev pub job_draft_of : Named → Task → List DraftDep → JobDraft
+job_draft_of named task deps =
+    record {
+      ws = named.0.0;
+      name = named.0.1;
+      priority = named.1;
+      work = task.work;
+      logon = task.logon;
+      cond = task.cond;
+      recovery = task.recovery;
+      deps = deps;
+    }
+
 unfoldable pub job_draft_at : Bool → Reader JobDraft
-job_draft_at second = do
-  ws ← u16_at
-  name ← text_at
-  priority ← u8_at
-  work ← work_at
-  logon ← text_at
-  ops ← cond_at
-  recovery ← recovery_at
-  deps ← list_at (draft_dep_at second)
-  gives (record {
-    ws = ws;
-    name = name;
-    priority = priority;
-    work = work;
-    logon = logon;
-    cond = ops;
-    recovery = recovery;
-    deps = deps;
-  })
+job_draft_at second = three named_at task_at (list_at (draft_dep_at second)) job_draft_of
 
--- a stream's draft
+-- a stream's draft likewise
+abbrev pub stream_draft_of : Front → List DraftDep → List JobDraft → StreamDraft
+stream_draft_of front deps jobs =
+    record {
+      ws = front.0.0.0.0;
+      name = front.0.0.0.1;
+      priority = front.0.0.1;
+      limit = front.0.1;
+      carry = front.1;
+      deps = deps;
+      jobs = jobs;
+    }
+
 unfoldable pub stream_draft_at : Bool → Reader StreamDraft
-stream_draft_at second = do
-  ws ← u16_at
-  name ← text_at
-  priority ← u8_at
-  limit ← option_at u16_at
-  carry ← flag_at
-  deps ← list_at (draft_dep_at second)
-  jobs ← list_at (job_draft_at second)
-  gives (record {
-    ws = ws;
-    name = name;
-    priority = priority;
-    limit = limit;
-    carry = carry;
-    deps = deps;
-    jobs = jobs;
-  })
+stream_draft_at second =
+    three front_at (list_at (draft_dep_at second)) (list_at (job_draft_at second)) stream_draft_of

@@ -24,6 +24,13 @@ infixl 10 ◌>>=◌
 abbrev pub ◌>>=◌ : {X Y : Type 0} → Reader X → (X → Reader Y) → Reader Y
 first >>= next = chain first next
 
+-- two parts that stand one behind the other
+unfoldable pub pair : {A B : Type 0} → Reader A → Reader B → Reader (A × B)
+pair a b = do
+  x ← a
+  y ← b
+  gives (x, y)
+
 -- a value of one part, of two, three or four that stand one behind the other
 abbrev pub one : {A X : Type 0} → Reader A → (A → X) → Reader X
 one a make = do
@@ -31,25 +38,14 @@ one a make = do
   gives (make x)
 
 abbrev pub two : {A B X : Type 0} → Reader A → Reader B → (A → B → X) → Reader X
-two a b make = do
-  x ← a
-  y ← b
-  gives (make x y)
+two {A} {B} a b make = one (pair a b) (λ (x : A × B). make x.0 x.1)
 
 abbrev pub three : {A B C X : Type 0} → Reader A → Reader B → Reader C → (A → B → C → X) → Reader X
-three a b c make = do
-  x ← a
-  y ← b
-  z ← c
-  gives (make x y z)
+three {A} {B} {C} a b c make = one (pair (pair a b) c) (λ (x : (A × B) × C). make x.0.0 x.0.1 x.1)
 
 abbrev pub four : {A B C D X : Type 0} → Reader A → Reader B → Reader C → Reader D → (A → B → C → D → X) → Reader X
-four a b c d make = do
-  w ← a
-  x ← b
-  y ← c
-  z ← d
-  gives (make w x y z)
+four {A} {B} {C} {D} a b c d make =
+    one (pair (pair (pair a b) c) d) (λ (x : ((A × B) × C) × D). make x.0.0.0 x.0.0.1 x.0.1 x.1)
 
 -- all of the bytes, with nothing left
 abbrev pub all_of : {X : Type 0} → Reader X → List ℕ → Result X EntryFault

@@ -13,7 +13,7 @@ pub rises_lower : (l m : ℕ) (cs : List ℕ) → l ≤ m → RisesFrom m cs →
 rises_lower l m [] h r = tt
 rises_lower l m (c ∷ cs) h r = (omega (arith, h, r.0), r.1)
 
-below_none : (l n : ℕ) (cs : List ℕ) → RisesFrom l cs → n < l → has cs n ≡ false
+pub below_none : (l n : ℕ) (cs : List ℕ) → RisesFrom l cs → n < l → has cs n ≡ false
 below_none l n [] r h = refl
 below_none l n (c ∷ cs) r h =
     elim (eqb_tells c n) [

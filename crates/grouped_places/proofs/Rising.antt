@@ -1,13 +1,14 @@
 -- Codes that ascend: where one stands, and the list with one more and with one less.
-use Rattle.std.proofs.Common.{[], ℕ, ◌&&◌, ◌*◌, ◌+◌, ◌-◌, ◌<◌, ◌^◌, ◌∙◌, ◌∷◌, ◌≡◌, ◌≤◌, Bool, List, ap, arith, cond}
+use Rattle.std.proofs.Common.{[], ℕ, ◌&&◌, ◌*◌, ◌+◌, ◌-◌, ◌<◌, ◌^◌, ◌||◌, ◌∙◌, ◌∷◌, ◌≡◌, ◌≤◌, Bool, List, ap, arith, cond}
 use Rattle.std.proofs.Common.{drop, eqb, false, filter, get_or, inl, inr, length, not, refl, suc, sym, take, true, zero}
 use Rattle.std.proofs.lemmas.Bool.Decides.{eqb_tells}
 use borrow.Author.Tests.{le-leb, le-ltb, leb-false, leb-true, lt-leb, lt-ltb, ltb-false, ltb-true}
 use Rattle.std.specs.List.{insert, remove}
 use Rattle.std.specs.List.Sorted.{IsNonDecreasingBy, IsPartitionPoint}
 use Rattle.std.specs.Prelude.{nat_le, nat_lt, slice_range}
-use Rattle.model.specs.Words.{insert_once}
+use Rattle.model.specs.Words.{has, insert_once}
 use Rattle.grouped_places.specs.Codes.{RisesFrom, is_in_group}
+use Rattle.grouped_places.proofs.Finding.{below_none}
 
 -- tests
 apart : (a b : ℕ) → (a ≡ b → ⊥) → eqb a b ≡ false
@@ -78,6 +79,29 @@ inserted_again (c ∷ cs) (suc i) x d h low same =
     let b : nat_lt x c ≡ false = le-ltb x c (omega (arith, k)) in
     rw (a, b)
     (ap (λ (l : List ℕ). c ∷ l) (inserted_again cs i x d (omega (arith, h)) (λ k l. low (suc k) (omega (arith, l))) same))
+
+-- whether one is there, by what stands before it and where it would stand
+or_true : (b : Bool) → (b || true) ≡ true
+or_true true = refl
+or_true false = refl
+
+pub there_at : (cs : List ℕ) (i x d : ℕ) → i < length cs → get_or cs i d ≡ x → has cs x ≡ true
+there_at [] i x d h same = absurd (omega (arith, h))
+there_at (c ∷ cs) zero x d h same = ap (λ (b : Bool). b || has cs x) (alike c x same)
+there_at (c ∷ cs) (suc i) x d h same =
+    ap (λ (b : Bool). eqb c x || b) (there_at cs i x d (omega (arith, h)) same) ∙ or_true (eqb c x)
+
+pub there_not : (l : ℕ) (cs : List ℕ) (i x d : ℕ) → RisesFrom l cs → i ≤ length cs
+    → ((k : ℕ) → k < i → get_or cs k d < x) → (i < length cs → x < get_or cs i d) → has cs x ≡ false
+there_not l [] i x d r h low high = refl
+there_not l (c ∷ cs) zero x d r h low high =
+    let k : x < c = high (omega arith) in below_none c x (c ∷ cs) (omega arith, r.1) k
+there_not l (c ∷ cs) (suc i) x d r h low high =
+    let k : c < x = low 0 (omega arith) in
+    let a : eqb c x ≡ false = apart c x (λ e. omega (arith, e, k)) in
+    ap (λ (b : Bool). b || has cs x) a
+    ∙ there_not (c + 1) cs i x d r.1 (omega (arith, h)) (λ k l. low (suc k) (omega (arith, l)))
+    (λ l. high (omega (arith, l)))
 
 inserted_here : (b : Bool) (l x c : ℕ) (cs : List ℕ) → nat_lt x c ≡ b → (x ≡ c → ⊥) → RisesFrom l (c ∷ cs) → l ≤ x
     → (c < x → RisesFrom (c + 1) (insert_once x cs)) → RisesFrom l (cond b (x ∷ c ∷ cs) (c ∷ insert_once x cs))

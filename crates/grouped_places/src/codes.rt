@@ -1,7 +1,7 @@
 //! The codes of places.
 ghost use Rattle.std.specs.Prelude.{◌≡◌, ◌≢◌, ◌-◌, ◌*◌, ◌^◌, ◌<◌, ◌≤◌, ◌==◌, [], false, filter, length, not, slice_index, true, OnErr, OnOk};
 ghost use Rattle.std.specs.List.Sorted.{IsPartitionPoint};
-ghost use Rattle.model.specs.Words.{insert_once};
+ghost use Rattle.model.specs.Words.{has, insert_once};
 ghost use Rattle.grouped_places.specs.Codes.{RisesFrom, code, is_in_group};
 
 use base_types::NoMemory;
@@ -70,6 +70,7 @@ impl Groups {
     /// How many codes are below this one.
     fn below(&self, code: u64) -> usize
         ensures within { result ≤ length self.now }
+        ensures rising { RisesFrom 0 self.now }
         ensures point { IsPartitionPoint (λ c. c < code) (λ c. code ≤ c) self.now result }
     {
         self.codes.as_slice().partition_point(|c| *c < code)
@@ -93,6 +94,14 @@ impl Groups {
         } else {
             false
         }
+    }
+
+    /// Whether a group has a place.
+    pub fn has(&self, group: u32, place: u32) -> bool
+        ensures { result ≡ has self.now (code group place) }
+    {
+        let code = code_of(group, place);
+        self.has_at(self.below(code), code)
     }
 
     /// The codes of a group. They ascend.

@@ -84,7 +84,7 @@ impl Streams {
         }
     }
 
-    /// Takes bytes of a workstation.
+    /// Takes bytes of a workstation. Where memory runs out none of them is taken, and they can be fed again.
     pub fn feed(&mut self, x: Ws, bytes: &[u8]) -> Result<Fed, NoMemory>
         ensures { IfOk result (λ fed. (heard : ℕ → Heard) → AreHeard self.old heard →
             Completes (heard x) bytes.now fed.frames fed.bad

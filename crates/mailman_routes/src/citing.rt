@@ -90,5 +90,8 @@ fn has_citing_job(o: &Owners, v: Ws, x: Ws) -> bool
 pub(crate) fn has_citing_object(o: &Owners, v: Ws, x: Ws) -> bool
     ensures { let V = view_of o.now in result ≡ list_any (λ p. has (spec.cites V p) x) (objects_of V v) }
 {
+    if !o.may_involve(v, x) {
+        return false;
+    }
     has_citing_stream(o, v, x) || has_citing_job(o, v, x)
 }

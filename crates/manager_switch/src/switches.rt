@@ -8,7 +8,7 @@ ghost use Rattle.network_tree.specs.Faults.{net_fault};
 ghost use Rattle.manager_switch.specs.declared.switches.SwitchFault.TheVariants.{NoMemory as NoRoom};
 
 use base_types::{Copied, Net, NoMemory, Node, Nodes, Ws};
-use network_tree::Network;
+use network_tree::{NetFault, Network};
 use std::alloc::Global;
 
 /// Why a workstation does not take over from its manager.
@@ -105,7 +105,8 @@ fn tested(alloc: Global, net: Net) -> Result<Network, NoMemory>
 {
     match Network::new(alloc, net) {
         Ok(network) => Ok(network),
-        Err(_) => Err(NoMemory),
+        Err(NetFault::NoMemory) => Err(NoMemory),
+        Err(_) => unreachable!(),
     }
 }
 

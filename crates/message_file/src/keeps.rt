@@ -8,10 +8,11 @@ ghost use Rattle.outside.specs.Records.{longest_file};
 ghost use Rattle.outside.specs.declared.keepers.KeepFault.TheVariants.{Disk as OfDisk, Full, NotThere};
 ghost use Rattle.message_file.specs.State.{kept_in, KeptLeft, OwnFiles};
 
+use crate::LONGEST_FILE;
 use crate::files::MessageFile;
 use crate::puts::put;
 use crate::reads::{Extent, ReadFault, fetch};
-use base_types::{Bytes, LONGEST_FILE};
+use base_types::Bytes;
 use outside::{Disk, Framed, KeepFault, Keeper};
 
 impl<D: Disk> Keeper for MessageFile<D> {
@@ -43,7 +44,7 @@ impl<D: Disk> Keeper for MessageFile<D> {
         }
         let piece = body.piece();
         let behind = self.gate + piece.len() as u64;
-        if behind >= u64::from(LONGEST_FILE) {
+        if behind >= LONGEST_FILE {
             return Err(KeepFault::Full);
         }
         if put(&mut self.disk, self.gate, piece).is_err() {

@@ -16,3 +16,6 @@ mod records;
 pub use attaches::AttachFault;
 pub use files::{MessageFile, NotAttached};
 pub use laws::files_are_attached_again;
+
+/// The most bytes of a file.
+const LONGEST_FILE: u64 = base_types::LONGEST_FILE as u64;

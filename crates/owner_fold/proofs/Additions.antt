@@ -1,11 +1,11 @@
--- Of the dependencies that commands added to an object, one has a time where one of these commands adds a time.
+-- Of the dependencies that commands added to an object, one passes a test where one of these commands adds such a one.
 use Rattle.std.proofs.Common.{[], ◌++◌, ◌∙◌, ◌∷◌, ◌≡◌, Bool, List, ap, cond, false, flat_map, refl, true}
 use Rattle.std.specs.List.{list_any}
 use Rattle.std.specs.Prelude.{◌&&◌, ◌||◌}
-use Rattle.model.specs.Types.{AddDep, Cmd, Obj}
+use Rattle.model.specs.Types.{AddDep, Cmd, Dep, Obj}
 use Rattle.model.specs.Equalities.{obj_eq}
 use Rattle.model.specs.Dependencies.{deps_added_by}
-use Rattle.owner_fold.specs.Given.{adds_time, has_time}
+use Rattle.owner_fold.specs.Given.{adds}
 
 -- two lists
 pub either_list : {X : Type 0} (f : X → Bool) (xs ys : List X) → list_any f (xs ++ ys) ≡ (list_any f xs || list_any f ys)
@@ -21,16 +21,17 @@ or_false true = refl
 or_false false = refl
 
 -- the dependencies that were added are those of the commands
-added_by_one : (o : Obj) (c : Cmd) → list_any has_time (deps_added_by o c) ≡ adds_time o c
-added_by_one o (AddDep p d) = go (obj_eq o p)
+added_by_one : (test : Dep → Bool) (o : Obj) (c : Cmd) → list_any test (deps_added_by o c) ≡ adds test o c
+added_by_one test o (AddDep p d) = go (obj_eq o p)
   where
-    go : (b : Bool) → list_any has_time (cond b (d ∷ []) []) ≡ (b && has_time d)
-    go true = or_false (has_time d)
+    go : (b : Bool) → list_any test (cond b (d ∷ []) []) ≡ (b && test d)
+    go true = or_false (test d)
     go false = refl
-added_by_one o c = refl
+added_by_one test o c = refl
 
-pub added_times : (o : Obj) (cs : List Cmd) → list_any has_time (flat_map (deps_added_by o) cs) ≡ list_any (adds_time o) cs
-added_times o [] = refl
-added_times o (c ∷ cs) =
-    either_list has_time (deps_added_by o c) (flat_map (deps_added_by o) cs)
-    ∙ (λ j. added_by_one o c j || added_times o cs j)
+pub added_such : (test : Dep → Bool) (o : Obj) (cs : List Cmd)
+    → list_any test (flat_map (deps_added_by o) cs) ≡ list_any (adds test o) cs
+added_such test o [] = refl
+added_such test o (c ∷ cs) =
+    either_list test (deps_added_by o c) (flat_map (deps_added_by o) cs)
+    ∙ (λ j. added_by_one test o c j || added_such test o cs j)

@@ -4,8 +4,10 @@ use Rattle.grouped_places.proofs.Finding.{nothing_there}
 use Rattle.model.specs.Types.{Entry, Events, StreamDoc}
 use Rattle.model.specs.History.{list_of, view_of}
 use Rattle.model.specs.Catalogue.{StreamJob, catalogue, docs_in, jobs, jobs_in, members}
+use Rattle.model.specs.Dependencies.{dep_cites}
 use Rattle.owner_fold.specs.Kept.{IsKeptBeside}
 use Rattle.owner_fold.specs.Numbers.{ArePlaces}
+use Rattle.owner_fold.specs.Pairs.{ArePairsAmong, ArePairsOf, HasAll, pairs_in}
 use Rattle.owner_fold.specs.Plans.{IsPlanOf, is_planning}
 use Rattle.owner_fold.specs.Sets.{AreSetsAmong, AreSetsOf, Begins, Prepared, change_in}
 use Rattle.owner_fold.specs.Spots.{AreJobSpots, AreStreamSpots, first_docs_among, first_jobs_among}
@@ -14,55 +16,63 @@ use Rattle.owner_fold.specs.declared.plans.Plan.{Plan}
 use Rattle.owner_fold.specs.declared.sets.Sets.{Sets}
 use Rattle.owner_fold.proofs.Changing.{sets_planned, sets_prepared, sets_with}
 use Rattle.owner_fold.proofs.Further.{docs_without, plan_without}
+use Rattle.owner_fold.proofs.Pairing.{pairs_changed, pairs_planned}
 
 -- with any such list
-pub beside_same : (kept new : List Entry) (plan : Plan) (sets : Sets) → new ≡ kept → IsKeptBeside kept plan sets
-    → IsKeptBeside new plan sets
-beside_same kept new plan sets e h = subst (λ (l : List Entry). IsKeptBeside l plan sets) (sym e) h
+pub beside_same : (kept new : List Entry) (plan : Plan) (sets : Sets) (pairs : List ℕ) → new ≡ kept
+    → IsKeptBeside kept plan sets pairs → IsKeptBeside new plan sets pairs
+beside_same kept new plan sets pairs e h = subst (λ (l : List Entry). IsKeptBeside l plan sets pairs) (sym e) h
 
--- sets that are prepared
-pub beside_prepared : (kept new : List Entry) (plan : Plan) (old mid : Sets) → new ≡ kept → Prepared old mid
-    → IsKeptBeside kept plan old → IsKeptBeside new plan mid
-beside_prepared kept new plan old mid e p h =
-    beside_same kept new plan mid e
+-- sets that are prepared, and more pairs
+pub beside_prepared : (kept new : List Entry) (plan : Plan) (old mid : Sets) (pairs more : List ℕ) → new ≡ kept
+    → Prepared old mid → HasAll more pairs → IsKeptBeside kept plan old pairs → IsKeptBeside new plan mid more
+beside_prepared kept new plan old mid pairs more e p keeps h =
+    beside_same kept new plan mid more e
     (record {
       plan = h.plan;
       sets =
           sets_prepared kept (members (view_of kept)) (catalogue (view_of kept)) (jobs (view_of kept)) old mid p h.sets;
+      pairs =
+          record { streams = λ c k. keeps c (h.pairs.streams c k); jobs = λ c k. keeps c (h.pairs.jobs c k) };
     })
 
 -- a plan or an added stream, for which plan and sets are made anew
-pub beside_planned : (kept new : List Entry) (e : Entry) (plan : Plan) (sets : Sets) → is_planning e ≡ true
+pub beside_planned : (kept new : List Entry) (e : Entry) (plan : Plan) (sets : Sets) (pairs : List ℕ)
+    → is_planning e ≡ true
     → IsPlanOf (kept ++ e ∷ []) plan
     → ((ms : List ℕ) (streams : List StreamDoc) (placed : List StreamJob) → ArePlaces ms plan.index.members
     → AreStreamSpots (kept ++ e ∷ []) plan.spots.streams streams
     → AreJobSpots (kept ++ e ∷ []) plan.spots.jobs placed → AreSetsAmong kept ms streams placed sets)
-    → new ≡ kept ++ e ∷ [] → IsKeptBeside new plan sets
+    → ArePairsAmong (dep_cites (view_of (kept ++ e ∷ []))) kept (catalogue (view_of (kept ++ e ∷ [])))
+    (jobs (view_of (kept ++ e ∷ []))) pairs
+    → new ≡ kept ++ e ∷ [] → IsKeptBeside new plan sets pairs
 unfolding catalogue jobs
-beside_planned kept new e plan sets h p anew grown =
+beside_planned kept new e plan sets pairs h p anew paired grown =
     let ms : List ℕ = members (view_of (kept ++ e ∷ [])) in
     let places : ArePlaces ms plan.index.members =
     subst (λ (l : List ℕ). ArePlaces l plan.index.members) p.members p.index.members in
-    beside_same (kept ++ e ∷ []) new plan sets grown
+    beside_same (kept ++ e ∷ []) new plan sets pairs grown
     (record {
       plan = p;
       sets =
           sets_planned kept e ms (catalogue (view_of (kept ++ e ∷ []))) (jobs (view_of (kept ++ e ∷ []))) sets h
           (anew ms (catalogue (view_of (kept ++ e ∷ []))) (jobs (view_of (kept ++ e ∷ []))) places p.spots.streams
           p.spots.jobs);
+      pairs = pairs_planned kept e pairs h paired;
     })
 
 -- another entry, for which the sets were prepared
-pub beside_changed : (kept new : List Entry) (e : Entry) (plan : Plan) (old mid last_ : Sets) (change_ : Change)
-    → IsKeptBeside kept plan old → is_planning e ≡ false → change_ ≡ change_in e.body e.feed → Prepared old mid
+pub beside_changed : (kept new : List Entry) (e : Entry) (plan : Plan) (old mid last_ : Sets)
+    (change_ : Change) (pairs more : List ℕ) → IsKeptBeside kept plan old pairs → is_planning e ≡ false → change_ ≡ change_in e.body e.feed → Prepared old mid
     → Begins plan.index change_ mid → new ≡ kept ++ e ∷ []
     → ((ms : List ℕ) (streams : List StreamDoc) (placed : List StreamJob)
     → ArePlaces (map (λ (d : StreamDoc). d.no) streams) plan.index.streams
     → ArePlaces (map (λ (p : StreamJob). p.doc.no) placed) plan.index.jobs
     → AreSetsAmong new ms streams placed mid → AreSetsAmong new ms streams placed last_)
-    → IsKeptBeside new plan last_
+    → HasAll more pairs → HasAll more (pairs_in (dep_cites (view_of (kept ++ e ∷ []))) e.body e.feed)
+    → IsKeptBeside new plan last_ more
 unfolding catalogue jobs
-beside_changed kept new e plan old mid last_ change_ h other one p begins grown settled =
+beside_changed kept new e plan old mid last_ change_ pairs more h other one p begins grown settled keeps brought =
     let ms : List ℕ = members (view_of kept) in
     let docs : List StreamDoc = flat_map docs_in (list_of kept (Events 0)) in
     let all : List StreamJob = flat_map jobs_in (first_docs_among docs) in
@@ -93,6 +103,8 @@ beside_changed kept new e plan old mid last_ change_ h other one p begins grown 
           (λ (ds : List StreamDoc).
           AreSetsAmong new ms (first_docs_among ds) (first_jobs_among (flat_map jobs_in (first_docs_among ds))) last_)
           (sym same) (settled ms (first_docs_among docs) (first_jobs_among all) streams placed then_));
+      pairs =
+          subst (λ (l : List Entry). ArePairsOf l more) (sym grown) (pairs_changed kept e pairs more other keeps brought h.pairs);
     }
 
 -- no entries
@@ -106,6 +118,6 @@ sets_of_none sets = record {
   begun = λ i x s t. nobody i x s;
   opened = λ i x s t. nobody i x s;
   by_stream = λ i x s t. nobody i x s;
-  timed_streams = λ i x s t. nobody i x s;
-  timed_jobs = λ i x s t. nobody i x s;
+  timed = record { streams = λ i x s t. nobody i x s; jobs = λ i x s t. nobody i x s };
+  filed = record { streams = λ i x s t. nobody i x s; jobs = λ i x s t. nobody i x s };
 }

@@ -18,21 +18,22 @@ use Rattle.model.specs.Catalogue.{StreamJob}
 use Rattle.model.specs.Facts.{LastLaunch, commands, end_of, first_end, is_cancel_of, is_cancelled, is_cancelling, is_end_of}
 use Rattle.model.specs.Facts.{is_ended, is_launch_of, is_open, is_release_of, is_released, last_launch, launch_here}
 use Rattle.model.specs.Facts.{open_launch}
-use Rattle.owner_rows.proofs.Feeds.{feed_cases, list_with, list_without}
+use Rattle.model.specs.StepFaults.{is_outside}
 use Rattle.owner_rows.proofs.Further.{any_command_with, any_with}
 use Rattle.owner_rows.proofs.JobTelling.{later_with}
-use Rattle.owner_fold.specs.Given.{is_timed, timed_job_by, timed_stream_by}
+use Rattle.owner_fold.specs.Given.{has_time}
 use Rattle.owner_fold.specs.Numbers.{ArePlaces}
 use Rattle.owner_fold.specs.Plans.{is_planning, is_planning_body}
 use Rattle.owner_fold.specs.Sets.{AreSetsAmong, Begins, Prepared, began_by, change_by, change_in, is_begun, is_waiting}
 use Rattle.owner_fold.specs.Sets.{job_station_of, job_stream_of, opened_by, station_of, waits_by}
 use Rattle.owner_fold.specs.declared.changes.Change.{Change}
-use Rattle.owner_fold.specs.declared.changes.Change.TheVariants.{JobChange, JobTime, StreamChange, StreamTime}
+use Rattle.owner_fold.specs.declared.changes.Change.TheVariants.{JobChange, StreamChange}
 use Rattle.owner_fold.specs.declared.numbers.Index.{Index}
 use Rattle.owner_fold.specs.declared.sets.Sets.{Sets}
 use Rattle.owner_fold.proofs.Covering.{covers_more, covers_still, first_place}
 use Rattle.owner_fold.proofs.Holders.{launch_is_told}
-use Rattle.owner_fold.proofs.Timing.{gives_time, job_time_change, plan_gives_none, stream_time_change, timed_before}
+use Rattle.owner_fold.proofs.Giving.{HasGivenPlaces, at_feed, file_change, given_kept, given_none, given_put, given_still}
+use Rattle.owner_fold.proofs.Giving.{time_change}
 
 either : (a b : Bool) → (a || b) ≡ true → (a ≡ true) ⊎ (b ≡ true)
 either true b h = inl refl
@@ -184,31 +185,16 @@ opened_before j events b h =
         ∙ first_none (end_of j l.number) l.later b
         (sym (some_then (is_none (first_end j l.number (l.later ++ b ∷ []))) l.number) ∙ k)))
 
--- the events of a workstation, one entry further
-at_feed : (kept : List Entry) (e : Entry) (w : ℕ) (P : List Body → Type 0)
-    → (list_of (kept ++ e ∷ []) (Events w) ≡ list_of kept (Events w) → P (list_of kept (Events w)))
-    → (Events w ≡ e.feed → P (list_of kept (Events w) ++ e.body ∷ [])) → P (list_of (kept ++ e ∷ []) (Events w))
-at_feed kept e w P same more =
-    elim (feed_cases (Events w) e.feed) [
-      | inl c ↦ subst P (sym (list_with kept e (Events w) c.0)) (more c.1)
-      | inr c ↦ (
-          let k : list_of (kept ++ e ∷ []) (Events w) ≡ list_of kept (Events w) = list_without kept e (Events w) c in
-          subst P (sym k) (same k))
-    ]
-
--- the sets, where who is released, launched or given a time has its place
+-- the sets, where who is released, launched or given a dependency has its place
 pub sets_still : (kept : List Entry) (e : Entry) (ms : List ℕ) (streams : List StreamDoc) (placed : List StreamJob)
     (sets : Sets)
     → ((i : ℕ) (d : StreamDoc) → slice_get streams i ≡ Some d → Events d.ws ≡ e.feed → is_release_of d.no e.body ≡ true
     → (i < 2 ^ 32) × (has sets.begun (code d.ws i) ≡ true))
     → ((i : ℕ) (p : StreamJob) → slice_get placed i ≡ Some p → Events p.doc.ws ≡ e.feed
     → is_launch_of p.doc.no e.body ≡ true → (i < 2 ^ 32) × (has sets.opened (code p.doc.ws i) ≡ true))
-    → ((i : ℕ) (d : StreamDoc) → slice_get streams i ≡ Some d → Events d.ws ≡ e.feed
-    → gives_time (Stream d.no) e.body ≡ true → (i < 2 ^ 32) × (has sets.timed_streams (code d.ws i) ≡ true))
-    → ((i : ℕ) (p : StreamJob) → slice_get placed i ≡ Some p → Events p.doc.ws ≡ e.feed
-    → gives_time (Job p.doc.no) e.body ≡ true → (i < 2 ^ 32) × (has sets.timed_jobs (code p.doc.ws i) ≡ true))
+    → HasGivenPlaces has_time e streams placed sets.timed → HasGivenPlaces is_outside e streams placed sets.filed
     → AreSetsAmong kept ms streams placed sets → AreSetsAmong (kept ++ e ∷ []) ms streams placed sets
-sets_still kept e ms streams placed sets released launched given_stream given_job h = record {
+sets_still kept e ms streams placed sets released launched timed filed h = record {
   waiting =
       covers_still station_of (waits_by kept) (waits_by (kept ++ e ∷ [])) streams sets.waiting
       (λ i d s t. inl (at_feed kept e d.ws (λ (l : List Body). is_waiting d.no l ≡ true → is_waiting d.no (list_of kept (Events d.ws)) ≡ true)
@@ -231,39 +217,8 @@ sets_still kept e ms streams placed sets released launched given_stream given_jo
       t)
       h.opened;
   by_stream = h.by_stream;
-  timed_streams =
-      covers_still station_of (timed_stream_by ms kept) (timed_stream_by ms (kept ++ e ∷ [])) streams sets.timed_streams
-      (λ i d s t. at_feed kept e d.ws
-      (λ (l : List Body). (has ms d.no && is_timed (Stream d.no) d.deps l) ≡ true
-      → ((has ms d.no && is_timed (Stream d.no) d.deps (list_of kept (Events d.ws))) ≡ true)
-      ⊎ ((i < 2 ^ 32) × (has sets.timed_streams (code d.ws i) ≡ true)))
-      (λ k u. inl u)
-      (λ k u.
-      let v : (has ms d.no ≡ true) × (is_timed (Stream d.no) d.deps (list_of kept (Events d.ws) ++ e.body ∷ []) ≡ true) =
-      both (has ms d.no) (is_timed (Stream d.no) d.deps (list_of kept (Events d.ws) ++ e.body ∷ [])) u in
-      elim (timed_before (Stream d.no) d.deps (list_of kept (Events d.ws)) e.body v.1) [
-        | inl x ↦ inl (λ j. v.0 j && x j)
-        | inr x ↦ inr (given_stream i d s k x)
-      ])
-      t)
-      h.timed_streams;
-  timed_jobs =
-      covers_still job_station_of (timed_job_by ms kept) (timed_job_by ms (kept ++ e ∷ [])) placed sets.timed_jobs
-      (λ i p s t. at_feed kept e p.doc.ws
-      (λ (l : List Body). (has ms p.parent.no && is_timed (Job p.doc.no) p.doc.deps l) ≡ true
-      → ((has ms p.parent.no && is_timed (Job p.doc.no) p.doc.deps (list_of kept (Events p.doc.ws))) ≡ true)
-      ⊎ ((i < 2 ^ 32) × (has sets.timed_jobs (code p.doc.ws i) ≡ true)))
-      (λ k u. inl u)
-      (λ k u.
-      let v : (has ms p.parent.no ≡ true)
-      × (is_timed (Job p.doc.no) p.doc.deps (list_of kept (Events p.doc.ws) ++ e.body ∷ []) ≡ true) =
-      both (has ms p.parent.no) (is_timed (Job p.doc.no) p.doc.deps (list_of kept (Events p.doc.ws) ++ e.body ∷ [])) u in
-      elim (timed_before (Job p.doc.no) p.doc.deps (list_of kept (Events p.doc.ws)) e.body v.1) [
-        | inl x ↦ inl (λ j. v.0 j && x j)
-        | inr x ↦ inr (given_job i p s k x)
-      ])
-      t)
-      h.timed_jobs;
+  timed = given_still has_time kept e ms streams placed sets.timed timed h.timed;
+  filed = given_still is_outside kept e ms streams placed sets.filed filed h.filed;
 }
 
 -- a release and a launch are such changes
@@ -302,16 +257,12 @@ sets_with kept e ms docs all sets index change_ one streams jobs begins h =
     subst (λ (c : Change). Begins index c sets)
     (one ∙ ap (change_in e.body) (sym f) ∙ launch_change p.doc.ws p.doc.no e.body r) begins in
     b refl (map (λ (p : StreamJob). p.doc.no) (firsts (λ (p : StreamJob). p.doc.no) [] all)) jobs i (first_place (λ (p : StreamJob). p.doc.no) [] all i p s).1)
-    (λ i d s f r.
-    let b : Begins index (StreamTime d.ws d.no) sets =
-    subst (λ (c : Change). Begins index c sets)
-    (one ∙ ap (change_in e.body) (sym f) ∙ stream_time_change d.ws d.no e.body r) begins in
-    b (map (λ (d : StreamDoc). d.no) (firsts (λ (d : StreamDoc). d.no) [] docs)) streams i (first_place (λ (d : StreamDoc). d.no) [] docs i d s).1)
-    (λ i p s f r.
-    let b : Begins index (JobTime p.doc.ws p.doc.no) sets =
-    subst (λ (c : Change). Begins index c sets)
-    (one ∙ ap (change_in e.body) (sym f) ∙ job_time_change p.doc.ws p.doc.no e.body r) begins in
-    b (map (λ (p : StreamJob). p.doc.no) (firsts (λ (p : StreamJob). p.doc.no) [] all)) jobs i (first_place (λ (p : StreamJob). p.doc.no) [] all i p s).1)
+    (given_put has_time e docs all sets.timed index streams jobs
+    (λ w o f r.
+    subst (λ (c : Change). Begins index c sets) (one ∙ ap (change_in e.body) (sym f) ∙ time_change w o e.body r) begins))
+    (given_put is_outside e docs all sets.filed index streams jobs
+    (λ w o f r.
+    subst (λ (c : Change). Begins index c sets) (one ∙ ap (change_in e.body) (sym f) ∙ file_change w o e.body r) begins))
     h
 
 no_release : (s : ℕ) (b : Body) → is_planning_body b ≡ true → is_release_of s b ≡ false
@@ -324,7 +275,7 @@ no_launch j (NewPlan run cut carried docs) h = refl
 no_launch j (Added a k doc) h = refl
 no_launch j b h = cc
 
--- a plan or an added stream releases and launches nothing, and gives no time to what is there
+-- a plan or an added stream releases and launches nothing, and gives no dependency to what is there
 pub sets_planned : (kept : List Entry) (e : Entry) (ms : List ℕ) (streams : List StreamDoc) (placed : List StreamJob)
     (sets : Sets) → is_planning e ≡ true → AreSetsAmong kept ms streams placed sets
     → AreSetsAmong (kept ++ e ∷ []) ms streams placed sets
@@ -333,8 +284,7 @@ sets_planned kept e ms streams placed sets h =
     sets_still kept e ms streams placed sets
     (λ i d s f r. absurd (let q : true ≡ false = sym r ∙ no_release d.no e.body k in cc))
     (λ i p s f r. absurd (let q : true ≡ false = sym r ∙ no_launch p.doc.no e.body k in cc))
-    (λ i d s f r. absurd (let q : true ≡ false = sym r ∙ plan_gives_none (Stream d.no) e.body k in cc))
-    (λ i p s f r. absurd (let q : true ≡ false = sym r ∙ plan_gives_none (Job p.doc.no) e.body k in cc))
+    (given_none has_time e streams placed sets.timed k) (given_none is_outside e streams placed sets.filed k)
 
 -- the sets of what is prepared
 pub sets_prepared : (kept : List Entry) (ms : List ℕ) (streams : List StreamDoc) (placed : List StreamJob)
@@ -348,9 +298,6 @@ sets_prepared kept ms streams placed old new p h = record {
   by_stream =
       covers_more job_stream_of (λ x. true) placed old.by_stream new.by_stream
       (λ c k. ap (λ (l : List ℕ). has l c) p.by_stream ∙ k) h.by_stream;
-  timed_streams =
-      covers_more station_of (timed_stream_by ms kept) streams old.timed_streams new.timed_streams p.timed_streams
-      h.timed_streams;
-  timed_jobs =
-      covers_more job_station_of (timed_job_by ms kept) placed old.timed_jobs new.timed_jobs p.timed_jobs h.timed_jobs;
+  timed = given_kept has_time kept ms streams placed old.timed new.timed p.timed h.timed;
+  filed = given_kept is_outside kept ms streams placed old.filed new.filed p.filed h.filed;
 }

@@ -4,21 +4,22 @@ use Rattle.std.proofs.Common.{filter_map, flat_map, inl, inr, option_and_then, r
 use Rattle.std.proofs.lemmas.Bool.Decides.{eqb_tells}
 use Rattle.grouped_places.specs.Codes.{RisesFrom, code, is_in_group}
 use Rattle.grouped_places.proofs.Finding.{group_finds}
-use Rattle.model.specs.Types.{Body, Entry, Events, Job, Stream, StreamDoc}
+use Rattle.model.specs.Types.{Body, Dep, Entry, Events, Job, Stream, StreamDoc}
 use Rattle.model.specs.Words.{has}
 use Rattle.model.specs.History.{list_of, view_of}
 use Rattle.model.specs.Catalogue.{StreamJob, catalogue, docs_in, is_member, jobs, jobs_in, jobs_of, jobs_of_stream, members}
 use Rattle.model.specs.Catalogue.{streams_of}
 use Rattle.model.specs.Facts.{is_open}
 use Rattle.model.specs.OwnMembers.{own_jobs, own_streams}
-use Rattle.owner_fold.specs.Given.{is_timed, timed_job_by, timed_stream_by}
+use Rattle.owner_fold.specs.Given.{given_job_by, given_jobs, given_stream_by, given_streams, is_given, is_given_job_here}
+use Rattle.owner_fold.specs.Given.{is_given_stream_here}
 use Rattle.owner_fold.specs.Holders.{is_open_here, is_under_way, open_jobs, streams_under_way}
-use Rattle.owner_fold.specs.Sets.{AreSetsOf, Covers, began_by, is_begun, is_waiting, is_waiting_here, job_coded}
+use Rattle.owner_fold.specs.Sets.{AreGivenAmong, AreSetsOf, Covers, began_by, is_begun, is_waiting, is_waiting_here, job_coded}
 use Rattle.owner_fold.specs.Sets.{job_station_of, job_stream_of, opened_by, station_of, stream_coded, streams_waiting}
 use Rattle.owner_fold.specs.Sets.{waits_by}
 use Rattle.owner_fold.specs.Plans.{IsPlanOf}
 use Rattle.owner_fold.specs.Spots.{doc_at, first_docs_among, first_jobs_among, job_at}
-use Rattle.owner_fold.specs.Times.{is_timed_job_here, is_timed_stream_here, timed_jobs, timed_streams}
+use Rattle.owner_fold.specs.declared.given_objects.GivenObjects.{GivenObjects}
 use Rattle.owner_fold.specs.declared.plans.Plan.{Plan}
 use Rattle.owner_fold.specs.declared.sets.Sets.{Sets}
 use Rattle.owner_fold.specs.declared.spots.JobSpot.{JobSpot}
@@ -117,37 +118,42 @@ module _ (kept : List Entry) (sets : Sets) (h : AreSetsOf kept sets) (w g : ℕ)
       (subst (Covers job_stream_of (λ (p : StreamJob). true) (jobs (view_of kept))) (sym e) h.by_stream) i p s
       (ap (λ (b : Bool). b && true) t))
 
-  pub timed_streams_found : all ≡ sets.timed_streams
-      → filter (is_timed_stream_here (view_of kept) w) (filter_map (stream_coded kept w) codes)
-      ≡ timed_streams (view_of kept) w
+  pub given_streams_found : (test : Dep → Bool) (given : GivenObjects)
+      → AreGivenAmong test kept (members (view_of kept)) (catalogue (view_of kept)) (jobs (view_of kept)) given
+      → all ≡ given.streams
+      → filter (is_given_stream_here test (view_of kept) w) (filter_map (stream_coded kept w) codes)
+      ≡ given_streams test (view_of kept) w
   unfolding is_member own_streams streams_of
-  timed_streams_found e =
+  given_streams_found test given are e =
       let V = view_of kept in
       let events : List Body = list_of kept (Events w) in
-      found (catalogue V) (is_timed_stream_here V w)
-      (in_group station_of (timed_stream_by (members V) kept)
-      (λ (v : ℕ) (d : StreamDoc). has (members V) d.no && is_timed (Stream d.no) d.deps (list_of kept (Events v)))
+      found (catalogue V) (is_given_stream_here test V w)
+      (in_group station_of (given_stream_by test (members V) kept)
+      (λ (v : ℕ) (d : StreamDoc). has (members V) d.no && is_given test (Stream d.no) d.deps (list_of kept (Events v)))
       (catalogue V) all w (λ d t. t)
-      (subst (Covers station_of (timed_stream_by (members V) kept) (catalogue V)) (sym e) h.timed_streams))
+      (subst (Covers station_of (given_stream_by test (members V) kept) (catalogue V)) (sym e) are.streams))
       ∙ sym
-      (filter_filter (λ (d : StreamDoc). is_timed (Stream d.no) d.deps events) (λ (d : StreamDoc). is_member V d.no)
+      (filter_filter (λ (d : StreamDoc). is_given test (Stream d.no) d.deps events) (λ (d : StreamDoc). is_member V d.no)
       (filter (λ (d : StreamDoc). eqb d.ws w) (catalogue V))
-      ∙ filter_filter (λ (d : StreamDoc). is_member V d.no && is_timed (Stream d.no) d.deps events)
+      ∙ filter_filter (λ (d : StreamDoc). is_member V d.no && is_given test (Stream d.no) d.deps events)
       (λ (d : StreamDoc). eqb d.ws w) (catalogue V))
 
-  pub timed_jobs_found : all ≡ sets.timed_jobs
-      → filter (is_timed_job_here (view_of kept) w) (filter_map (job_coded kept w) codes) ≡ timed_jobs (view_of kept) w
+  pub given_jobs_found : (test : Dep → Bool) (given : GivenObjects)
+      → AreGivenAmong test kept (members (view_of kept)) (catalogue (view_of kept)) (jobs (view_of kept)) given
+      → all ≡ given.jobs
+      → filter (is_given_job_here test (view_of kept) w) (filter_map (job_coded kept w) codes)
+      ≡ given_jobs test (view_of kept) w
   unfolding is_member own_jobs jobs_of
-  timed_jobs_found e =
+  given_jobs_found test given are e =
       let V = view_of kept in
       let events : List Body = list_of kept (Events w) in
-      found (jobs V) (is_timed_job_here V w)
-      (in_group job_station_of (timed_job_by (members V) kept)
-      (λ (v : ℕ) (p : StreamJob). has (members V) p.parent.no && is_timed (Job p.doc.no) p.doc.deps (list_of kept (Events v)))
+      found (jobs V) (is_given_job_here test V w)
+      (in_group job_station_of (given_job_by test (members V) kept)
+      (λ (v : ℕ) (p : StreamJob). has (members V) p.parent.no && is_given test (Job p.doc.no) p.doc.deps (list_of kept (Events v)))
       (jobs V) all w (λ p t. t)
-      (subst (Covers job_station_of (timed_job_by (members V) kept) (jobs V)) (sym e) h.timed_jobs))
+      (subst (Covers job_station_of (given_job_by test (members V) kept) (jobs V)) (sym e) are.jobs))
       ∙ sym
-      (filter_filter (λ (p : StreamJob). is_timed (Job p.doc.no) p.doc.deps events)
+      (filter_filter (λ (p : StreamJob). is_given test (Job p.doc.no) p.doc.deps events)
       (λ (p : StreamJob). is_member V p.parent.no) (filter (λ (p : StreamJob). eqb p.doc.ws w) (jobs V))
-      ∙ filter_filter (λ (p : StreamJob). is_member V p.parent.no && is_timed (Job p.doc.no) p.doc.deps events)
+      ∙ filter_filter (λ (p : StreamJob). is_member V p.parent.no && is_given test (Job p.doc.no) p.doc.deps events)
       (λ (p : StreamJob). eqb p.doc.ws w) (jobs V))

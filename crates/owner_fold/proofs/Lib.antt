@@ -10,4 +10,6 @@ mod Changing
 mod Coded
 mod Beside
 pub mod Additions
-mod Timing
+mod Giving
+mod Growing
+mod Pairing

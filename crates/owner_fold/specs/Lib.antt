@@ -11,3 +11,5 @@ pub mod Stages
 pub mod Kept
 pub mod Given
 pub mod Times
+pub mod Files
+pub mod Pairs

@@ -8,10 +8,12 @@ use Rattle.model.specs.Words.{has}
 use Rattle.model.specs.History.{View, list_of, view_of}
 use Rattle.model.specs.Catalogue.{StreamJob, catalogue, jobs, members, streams_of}
 use Rattle.model.specs.Facts.{is_cancelled, is_ended, is_open, is_released}
-use Rattle.owner_fold.specs.Given.{has_time, timed_job_by, timed_stream_by}
+use Rattle.model.specs.StepFaults.{is_outside}
+use Rattle.owner_fold.specs.Given.{given_job_by, given_stream_by, has_time}
 use Rattle.owner_fold.specs.Numbers.{ArePlaces, place_of}
 use Rattle.owner_fold.specs.declared.changes.Change.{Change}
-use Rattle.owner_fold.specs.declared.changes.Change.TheVariants.{JobChange, JobTime, NoChange, StreamChange, StreamTime}
+use Rattle.owner_fold.specs.declared.changes.Change.TheVariants.{FileGiven, JobChange, NoChange, StreamChange, TimeGiven}
+use Rattle.owner_fold.specs.declared.given_objects.GivenObjects.{GivenObjects}
 use Rattle.owner_fold.specs.declared.numbers.Index.{Index}
 use Rattle.owner_fold.specs.declared.sets.Sets.{Sets}
 
@@ -61,6 +63,12 @@ pub record Further {X : Type 0} (group : X → ℕ) (counts : X → Bool) (place
   pub keeps : (c : ℕ) → has old c ≡ true → has new c ≡ true
   pub counted : (x : X) → item ≡ Some x → counts x ≡ true → (place < 2 ^ 32) × (has new (code (group x) place) ≡ true)
 
+-- these sets have at least who was given a dependency of a kind
+pub record AreGivenAmong (test : Dep → Bool) (kept : List Entry) (ms : List ℕ) (docs : List StreamDoc)
+    (placed : List StreamJob) (given : GivenObjects) : Type 0 where
+  pub streams : Covers station_of (given_stream_by test ms kept) docs given.streams
+  pub jobs : Covers job_station_of (given_job_by test ms kept) placed given.jobs
+
 -- the sets have at least what counts by these entries of these streams and jobs, with these members
 pub record AreSetsAmong (kept : List Entry) (ms : List ℕ) (streams : List StreamDoc) (placed : List StreamJob)
     (sets : Sets) : Type 0 where
@@ -68,26 +76,21 @@ pub record AreSetsAmong (kept : List Entry) (ms : List ℕ) (streams : List Stre
   pub begun : Covers station_of (began_by kept) streams sets.begun
   pub opened : Covers job_station_of (opened_by kept) placed sets.opened
   pub by_stream : Covers job_stream_of (λ p. true) placed sets.by_stream
-  pub timed_streams : Covers station_of (timed_stream_by ms kept) streams sets.timed_streams
-  pub timed_jobs : Covers job_station_of (timed_job_by ms kept) placed sets.timed_jobs
+  pub timed : AreGivenAmong has_time kept ms streams placed sets.timed
+  pub filed : AreGivenAmong is_outside kept ms streams placed sets.filed
 
 abbrev pub AreSetsOf : List Entry → Sets → Type 0
 AreSetsOf kept sets =
     AreSetsAmong kept (members (view_of kept)) (catalogue (view_of kept)) (jobs (view_of kept)) sets
 
 -- the stream or job of whom an entry of w tells what may change the sets, and whether it is its release or launch; or
--- who is given a time
+-- who is given a dependency with a time or on a file
 abbrev pub change_of_object : ℕ → Obj → Change
 change_of_object w (Stream s) = StreamChange w s false
 change_of_object w (Job j) = NoChange
 
--- the object that is given a time
-abbrev pub time_of_object : ℕ → Obj → Change
-time_of_object w (Stream s) = StreamTime w s
-time_of_object w (Job j) = JobTime w j
-
 abbrev pub change_of_dep : ℕ → Obj → Dep → Change
-change_of_dep w o d = if has_time d then time_of_object w o else NoChange
+change_of_dep w o d = if has_time d then TimeGiven w o else (if is_outside d then FileGiven w o else NoChange)
 
 abbrev pub change_by : ℕ → Body → Change
 change_by w (Released s seen) = StreamChange w s true
@@ -105,28 +108,37 @@ abbrev pub change_in : Body → Feed → Change
 change_in b (Events w) = change_by w b
 change_in b (Orders a w) = NoChange
 
--- what is prepared for a change: no place is lost
+-- no place is lost
+pub record KeepsGiven (old new : GivenObjects) : Type 0 where
+  pub streams : (c : ℕ) → has old.streams c ≡ true → has new.streams c ≡ true
+  pub jobs : (c : ℕ) → has old.jobs c ≡ true → has new.jobs c ≡ true
+
+-- nor by what is prepared for a change
 pub record Prepared (old new : Sets) : Type 0 where
   pub waiting : new.waiting ≡ old.waiting
   pub begun : (c : ℕ) → has old.begun c ≡ true → has new.begun c ≡ true
   pub opened : (c : ℕ) → has old.opened c ≡ true → has new.opened c ≡ true
   pub by_stream : new.by_stream ≡ old.by_stream
-  pub timed_streams : (c : ℕ) → has old.timed_streams c ≡ true → has new.timed_streams c ≡ true
-  pub timed_jobs : (c : ℕ) → has old.timed_jobs c ≡ true → has new.timed_jobs c ≡ true
+  pub timed : KeepsGiven old.timed new.timed
+  pub filed : KeepsGiven old.filed new.filed
 
--- and who is released, launched or given a time has its place
+-- and who is released, launched or given such a dependency has its place
 abbrev pub HasPlace : ℕ → Option ℕ → List ℕ → Type 0
 HasPlace w place codes = (i : ℕ) → place ≡ Some i → (i < 2 ^ 32) × (has codes (code w i) ≡ true)
+
+abbrev pub HasGiven : Index → ℕ → Obj → GivenObjects → Type 0
+HasGiven index w (Stream s) given =
+    (numbers : List ℕ) → ArePlaces numbers index.streams → HasPlace w (place_of numbers s) given.streams
+HasGiven index w (Job j) given =
+    (numbers : List ℕ) → ArePlaces numbers index.jobs → HasPlace w (place_of numbers j) given.jobs
 
 abbrev pub Begins : Index → Change → Sets → Type 0
 Begins index (StreamChange w s begins) sets =
     begins ≡ true → (numbers : List ℕ) → ArePlaces numbers index.streams → HasPlace w (place_of numbers s) sets.begun
 Begins index (JobChange w j begins) sets =
     begins ≡ true → (numbers : List ℕ) → ArePlaces numbers index.jobs → HasPlace w (place_of numbers j) sets.opened
-Begins index (StreamTime w s) sets =
-    (numbers : List ℕ) → ArePlaces numbers index.streams → HasPlace w (place_of numbers s) sets.timed_streams
-Begins index (JobTime w j) sets =
-    (numbers : List ℕ) → ArePlaces numbers index.jobs → HasPlace w (place_of numbers j) sets.timed_jobs
+Begins index (TimeGiven w o) sets = HasGiven index w o sets.timed
+Begins index (FileGiven w o) sets = HasGiven index w o sets.filed
 Begins index NoChange sets = Unit {0}
 
 -- what stands at the place of a code of a group

@@ -2,17 +2,17 @@
 ghost use Rattle.std.specs.Prelude.{◌≡◌};
 ghost use Rattle.owner_fold.specs.Sets as spec;
 
-use crate::given::has_time;
+use crate::given::{has_time, is_outside};
 use base_types::{Body, Cmd, Dep, Entry, Feed, Obj, OnUntil};
 
 /// Of whom an entry tells what may change the sets: the workstation that tells it, the number, and whether it is the
-/// release of the stream or a launch of the job. Or who is given a dependency with a time.
+/// release of the stream or a launch of the job. Or who is given a dependency with a time, or one on a file.
 #[derive(Clone, Copy)]
 pub(crate) enum Change {
     StreamChange(u16, u32, bool),
     JobChange(u16, u32, bool),
-    StreamTime(u16, u32),
-    JobTime(u16, u32),
+    TimeGiven(u16, Obj),
+    FileGiven(u16, Obj),
     NoChange,
 }
 
@@ -26,22 +26,14 @@ fn change_of_object(w: u16, o: &Obj) -> Change
     }
 }
 
-/// An object that is given a time.
-fn time_of_object(w: u16, o: &Obj) -> Change
-    ensures { result ≡ spec.time_of_object w o.now }
-{
-    match o {
-        Obj::Stream(s) => Change::StreamTime(w, s.0),
-        Obj::Job(j) => Change::JobTime(w, j.0),
-    }
-}
-
 /// An object that is given a dependency.
 fn change_of_dep(w: u16, o: &Obj, dep: &Dep) -> Change
     ensures { result ≡ spec.change_of_dep w o.now dep.now }
 {
     if has_time(dep) {
-        time_of_object(w, o)
+        Change::TimeGiven(w, *o)
+    } else if is_outside(dep) {
+        Change::FileGiven(w, *o)
     } else {
         Change::NoChange
     }

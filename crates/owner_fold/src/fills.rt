@@ -3,13 +3,13 @@ ghost use Rattle.std.specs.Prelude.{◌≡◌, ◌++◌, [], ◌∷◌, List, �
 ghost use Rattle.std.specs.Option.{option_copied};
 ghost use Rattle.model.specs.Types.{StreamDoc as Doc};
 ghost use Rattle.model.specs.Catalogue.{StreamJob};
-ghost use Rattle.owner_fold.specs.Given.{timed_job_by, timed_stream_by};
+ghost use Rattle.owner_fold.specs.Given.{given_job_by, given_stream_by, is_of};
 ghost use Rattle.owner_fold.specs.Numbers.{ArePlaces};
 ghost use Rattle.owner_fold.specs.Sets as spec;
 ghost use Rattle.owner_fold.specs.Sets.{Covers, Further};
 ghost use Rattle.owner_fold.specs.Spots.{AreJobSpots, AreStreamSpots, doc_at, job_at, stream_job};
 
-use crate::given::is_timed;
+use crate::given::{Kind, is_given};
 use crate::numbers::Numbers;
 use crate::sets::{is_begun, is_waiting};
 use crate::spots::{JobSpot, Spots, StreamSpot, docs_of};
@@ -28,7 +28,11 @@ fn entry_with<'a>(entries: &'a [Entry], e: &'a Entry, place: usize) -> Option<&'
 }
 
 /// The document that stands there then.
-fn stream_with<'a>(entries: &'a [Entry], e: &'a Entry, spot: &StreamSpot) -> Option<&'a StreamDoc>
+pub(crate) fn stream_with<'a>(
+    entries: &'a [Entry],
+    e: &'a Entry,
+    spot: &StreamSpot,
+) -> Option<&'a StreamDoc>
     ensures { option_copied result ≡ doc_at (entries.now ++ e.now ∷ []) spot.now }
 {
     match entry_with(entries, e, spot.entry) {
@@ -38,7 +42,7 @@ fn stream_with<'a>(entries: &'a [Entry], e: &'a Entry, spot: &StreamSpot) -> Opt
 }
 
 /// The job that stands there then, with its stream.
-fn job_with<'a>(
+pub(crate) fn job_with<'a>(
     entries: &'a [Entry],
     e: &'a Entry,
     spot: &JobSpot,
@@ -146,25 +150,33 @@ fn put_by_stream(
     }
 }
 
-/// The stream is one of the members, and has a time.
-fn is_timed_member(kept: &Kept, members: &Numbers, doc: &StreamDoc) -> bool
-    ensures { (ms : List ℕ) → ArePlaces ms members.now → result ≡ timed_stream_by ms kept.now doc.now }
+/// The stream is one of the members, and was given a dependency of the kind.
+fn is_given_member(kind: Kind, kept: &Kept, members: &Numbers, doc: &StreamDoc) -> bool
+    ensures { (ms : List ℕ) → ArePlaces ms members.now
+        → result ≡ given_stream_by (is_of kind) ms kept.now doc.now }
 {
     let o = Obj::Stream(doc.no);
-    members.has(doc.no.0) && is_timed(kept, doc.ws, &o, doc.deps.as_slice())
+    members.has(doc.no.0) && is_given(kind, kept, doc.ws, &o, doc.deps.as_slice())
 }
 
-/// The job is one of a member, and has a time.
-fn is_timed_members_job(kept: &Kept, members: &Numbers, parent: &StreamDoc, doc: &JobDoc) -> bool
+/// The job is one of a member, and was given such a dependency.
+fn is_given_members_job(
+    kind: Kind,
+    kept: &Kept,
+    members: &Numbers,
+    parent: &StreamDoc,
+    doc: &JobDoc,
+) -> bool
     ensures { (ms : List ℕ) → ArePlaces ms members.now
-        → result ≡ timed_job_by ms kept.now (stream_job parent.now doc.now) }
+        → result ≡ given_job_by (is_of kind) ms kept.now (stream_job parent.now doc.now) }
 {
     let o = Obj::Job(doc.no);
-    members.has(parent.no.0) && is_timed(kept, doc.ws, &o, doc.deps.as_slice())
+    members.has(parent.no.0) && is_given(kind, kept, doc.ws, &o, doc.deps.as_slice())
 }
 
-/// Puts in the stream at this spot, where it is a member with a time.
-fn put_timed_stream(
+/// Puts in the stream at this spot, where it is a member that was given a dependency of the kind.
+fn put_given_stream(
+    kind: Kind,
     groups: &mut Groups,
     kept: &Kept,
     e: &Entry,
@@ -173,13 +185,13 @@ fn put_timed_stream(
     spot: &StreamSpot,
 ) -> Result<(), NoMemory>
     ensures { OnOk result ((ms : List ℕ) → ArePlaces ms members.now
-        → Further spec.station_of (timed_stream_by ms kept.now) place
+        → Further spec.station_of (given_stream_by (is_of kind) ms kept.now) place
         (doc_at (kept.now ++ e.now ∷ []) spot.now) groups.old groups.new) }
 {
     match stream_with(kept.entries(), e, spot) {
         None => Ok(()),
         Some(doc) => {
-            if is_timed_member(kept, members, doc) {
+            if is_given_member(kind, kept, members, doc) {
                 groups.add(u32::from(doc.ws.0), place)?;
                 Ok(())
             } else {
@@ -189,8 +201,9 @@ fn put_timed_stream(
     }
 }
 
-/// Puts in the job at this spot, where it is a member's with a time.
-fn put_timed_job(
+/// Puts in the job at this spot, where it is a member's that was given one.
+fn put_given_job(
+    kind: Kind,
     groups: &mut Groups,
     kept: &Kept,
     e: &Entry,
@@ -199,13 +212,13 @@ fn put_timed_job(
     spot: &JobSpot,
 ) -> Result<(), NoMemory>
     ensures { OnOk result ((ms : List ℕ) → ArePlaces ms members.now
-        → Further spec.job_station_of (timed_job_by ms kept.now) place
+        → Further spec.job_station_of (given_job_by (is_of kind) ms kept.now) place
         (job_at (kept.now ++ e.now ∷ []) spot.now) groups.old groups.new) }
 {
     match job_with(kept.entries(), e, spot) {
         None => Ok(()),
         Some((parent, doc)) => {
-            if is_timed_members_job(kept, members, parent, doc) {
+            if is_given_members_job(kind, kept, members, parent, doc) {
                 groups.add(u32::from(doc.ws.0), place)?;
                 Ok(())
             } else {
@@ -281,8 +294,9 @@ pub(crate) fn by_stream_of(
     Ok(groups)
 }
 
-/// The members with a time.
-pub(crate) fn timed_streams_of(
+/// The members that were given a dependency of the kind.
+pub(crate) fn given_streams_of(
+    kind: Kind,
     mut groups: Groups,
     kept: &Kept,
     e: &Entry,
@@ -291,16 +305,17 @@ pub(crate) fn timed_streams_of(
 ) -> Result<Groups, NoMemory>
     ensures { IfOk result (λ codes. (ms : List ℕ) (docs : List Doc) → ArePlaces ms members.now
         → AreStreamSpots (kept.now ++ e.now ∷ []) spots.now.streams docs
-        → Covers spec.station_of (timed_stream_by ms kept.now) docs codes) }
+        → Covers spec.station_of (given_stream_by (is_of kind) ms kept.now) docs codes) }
 {
     for (i, spot) in spots.streams.as_slice().iter().enumerate() {
-        put_timed_stream(&mut groups, kept, e, members, i, spot)?;
+        put_given_stream(kind, &mut groups, kept, e, members, i, spot)?;
     }
     Ok(groups)
 }
 
-/// The members' jobs with a time.
-pub(crate) fn timed_jobs_of(
+/// The members' jobs that were given one.
+pub(crate) fn given_jobs_of(
+    kind: Kind,
     mut groups: Groups,
     kept: &Kept,
     e: &Entry,
@@ -309,10 +324,10 @@ pub(crate) fn timed_jobs_of(
 ) -> Result<Groups, NoMemory>
     ensures { IfOk result (λ codes. (ms : List ℕ) (placed : List StreamJob) → ArePlaces ms members.now
         → AreJobSpots (kept.now ++ e.now ∷ []) spots.now.jobs placed
-        → Covers spec.job_station_of (timed_job_by ms kept.now) placed codes) }
+        → Covers spec.job_station_of (given_job_by (is_of kind) ms kept.now) placed codes) }
 {
     for (i, spot) in spots.jobs.as_slice().iter().enumerate() {
-        put_timed_job(&mut groups, kept, e, members, i, spot)?;
+        put_given_job(kind, &mut groups, kept, e, members, i, spot)?;
     }
     Ok(groups)
 }

@@ -1,29 +1,37 @@
 //! What a node holds: the entries that it took.
-ghost use Rattle.std.specs.Prelude.{◌≡◌, ◌+◌, ◌++◌, ◌==◌, [], ◌∷◌, ℕ, false, filter, filter_map, length, OnOk, OnErr};
+ghost use Rattle.std.specs.Prelude.{◌≡◌, ◌+◌, ◌++◌, ◌==◌, [], ◌∷◌, ℕ, false, true, filter, filter_map, length, OnOk, OnErr};
+ghost use Rattle.std.specs.List.{list_any};
 ghost use Rattle.std.specs.Prelude.{option_and_then, option_map};
 ghost use Rattle.std.specs.Option.{option_copied};
 ghost use Rattle.model.specs.Types.{Events, Orders};
-ghost use Rattle.model.specs.Words.{nth};
+ghost use Rattle.model.specs.Words.{has, nth};
 ghost use Rattle.model.specs.History.{list_of, view_of};
 ghost use Rattle.model.specs.Turn.{ordered_command};
 ghost use Rattle.model.specs.Catalogue.{StreamJob, catalogue, has_plan, is_member, job, jobs, jobs_of_stream, members};
 ghost use Rattle.model.specs.Catalogue.{stream};
+ghost use Rattle.model.specs.Dependencies.{cites};
+ghost use Rattle.model.specs.Forwarding.{objects_of, works_on};
 ghost use Rattle.model.specs.NewPlan.{last_job, last_stream};
 ghost use Rattle.owner_rows.specs.Standing.{has_issued};
 ghost use Rattle.owner_fold.specs.Holders.{is_open_here, is_under_way, open_jobs, streams_under_way};
+ghost use Rattle.owner_fold.specs.Plans.{is_planning};
 ghost use Rattle.owner_fold.specs.Sets as spec;
 ghost use Rattle.owner_fold.specs.Sets.{is_waiting_here, streams_waiting};
 ghost use Rattle.owner_fold.specs.Spots.{doc_at, job_at, stream_job};
-ghost use Rattle.owner_fold.specs.Times.{is_timed_job_here, is_timed_stream_here, timed_jobs, timed_streams};
+ghost use Rattle.owner_fold.specs.Files.{filed_jobs, filed_streams};
+ghost use Rattle.owner_fold.specs.Given.{has_time, is_given_job_here, is_given_stream_here};
+ghost use Rattle.owner_fold.specs.Times.{timed_jobs, timed_streams};
+ghost use Rattle.model.specs.StepFaults.{is_outside};
 
 use crate::changes::change_of;
+use crate::pairs::{pairs_of, put_brought};
 use crate::plans::{Plan, is_planning};
 use crate::sets::Sets;
 use crate::spots::{JobSpot, StreamSpot, job_spot_at, planned_job_at, stream_at, stream_spot_at};
 use base_types::{
     Body, Cmd, Copied, Entry, Feed, JobDoc, JobNo, NoMemory, StreamDoc, StreamNo, StreamNos, Ws,
 };
-use grouped_places::place_in;
+use grouped_places::{Groups, place_in};
 use owner_rows::Kept;
 use std::alloc::Global;
 use std::marker::Model;
@@ -33,6 +41,7 @@ pub struct Owners {
     kept: Kept,
     plan: Plan,
     sets: Sets,
+    pairs: Groups,
 }
 
 /// Written out, so that dropping one is a call for whoever owns it.
@@ -42,6 +51,7 @@ impl Drop for Owners {
             kept: _kept,
             plan: _plan,
             sets: _sets,
+            pairs: _pairs,
         } = self;
     }
 }
@@ -55,7 +65,7 @@ impl Model for Owners {
 
     ghost view = { λ o. o.kept };
 
-    ghost invariant = { λ o. IsKeptBeside o.kept o.plan o.sets };
+    ghost invariant = { λ o. IsKeptBeside o.kept o.plan o.sets o.pairs };
 }
 
 impl Owners {
@@ -67,6 +77,7 @@ impl Owners {
             kept: Kept::new(alloc),
             plan: Plan::new(alloc),
             sets: Sets::new(alloc),
+            pairs: Groups::new(alloc),
         }
     }
 
@@ -86,17 +97,41 @@ impl Owners {
         ensures err { OnErr result (self.new ≡ self.old) }
     {
         if is_planning(&e) {
-            let plan = self.plan.with(self.kept.entries(), &e)?;
-            let sets = self
-                .sets
-                .anew(&self.kept, &e, &plan.spots, &plan.index.members)?;
-            self.kept.take_own(e)?;
-            self.plan = plan;
-            self.sets = sets;
-            return Ok(());
+            self.take_planning(e)
+        } else {
+            self.take_other(e)
         }
+    }
+
+    /// A plan, or a stream that is added to it: what stands beside the entries is made anew first.
+    fn take_planning(&mut self, e: Entry) -> Result<(), NoMemory>
+        requires place { e.place ≡ length (list_of self.old e.feed) + 1 }
+        requires planning { is_planning e ≡ true }
+        ensures ok { OnOk result (self.new ≡ self.old ++ e ∷ []) }
+        ensures err { OnErr result (self.new ≡ self.old) }
+    {
+        let plan = self.plan.with(self.kept.entries(), &e)?;
+        let sets = self
+            .sets
+            .anew(&self.kept, &e, &plan.spots, &plan.index.members)?;
+        let pairs = pairs_of(self.pairs.empty(), &self.kept, &e, &plan)?;
+        self.kept.take_own(e)?;
+        self.plan = plan;
+        self.sets = sets;
+        self.pairs = pairs;
+        Ok(())
+    }
+
+    /// Any other entry: room for what it changes is made first.
+    fn take_other(&mut self, e: Entry) -> Result<(), NoMemory>
+        requires place { e.place ≡ length (list_of self.old e.feed) + 1 }
+        requires other { is_planning e ≡ false }
+        ensures ok { OnOk result (self.new ≡ self.old ++ e ∷ []) }
+        ensures err { OnErr result (self.new ≡ self.old) }
+    {
         let change = change_of(&e);
         self.sets.prepare(&self.plan.index, &change)?;
+        put_brought(&mut self.pairs, &self.kept, &e, &self.plan)?;
         self.kept.take_own(e)?;
         self.sets.settle(&self.kept, &self.plan.index, &change);
         Ok(())
@@ -195,6 +230,16 @@ impl Owners {
         self.plan.index.members.place(s.0).is_some()
     }
 
+    /// Whether v may have to do with x. Where it has not, no stream of v has a job on x, and no dependency of an object of
+    /// v cites x, a waived one neither.
+    pub fn may_involve(&self, v: Ws, x: Ws) -> bool
+        ensures works { result ≡ false → works_on (view_of self.now) v x ≡ false }
+        ensures cites { result ≡ false →
+            list_any (λ o. has (cites (view_of self.now) o) x) (objects_of (view_of self.now) v) ≡ false }
+    {
+        self.pairs.has(u32::from(v.0), u32::from(x.0))
+    }
+
     /// The greatest number of a stream in the catalogue, 0 where it is empty.
     pub fn last_stream(&self) -> StreamNo
         ensures { result ≡ last_stream (view_of self.now) }
@@ -270,17 +315,32 @@ impl Owners {
 
     /// The codes of the own members of w that may have a time.
     pub(crate) fn timed_stream_codes(&self, w: Ws) -> &[u64]
-        ensures { filter (is_timed_stream_here (view_of self.now) w)
+        ensures { filter (is_given_stream_here has_time (view_of self.now) w)
             (filter_map (spec.stream_coded self.now w) result.now) ≡ timed_streams (view_of self.now) w }
     {
-        self.sets.timed_streams.of(u32::from(w.0))
+        self.sets.timed.streams.of(u32::from(w.0))
     }
 
     /// The codes of the own members' jobs of w that may have a time.
     pub(crate) fn timed_job_codes(&self, w: Ws) -> &[u64]
-        ensures { filter (is_timed_job_here (view_of self.now) w)
+        ensures { filter (is_given_job_here has_time (view_of self.now) w)
             (filter_map (spec.job_coded self.now w) result.now) ≡ timed_jobs (view_of self.now) w }
     {
-        self.sets.timed_jobs.of(u32::from(w.0))
+        self.sets.timed.jobs.of(u32::from(w.0))
+    }
+    /// The codes of the own members of w that may have a dependency on a file.
+    pub(crate) fn filed_stream_codes(&self, w: Ws) -> &[u64]
+        ensures { filter (is_given_stream_here is_outside (view_of self.now) w)
+            (filter_map (spec.stream_coded self.now w) result.now) ≡ filed_streams (view_of self.now) w }
+    {
+        self.sets.filed.streams.of(u32::from(w.0))
+    }
+
+    /// The codes of the own members' jobs of w that may have one.
+    pub(crate) fn filed_job_codes(&self, w: Ws) -> &[u64]
+        ensures { filter (is_given_job_here is_outside (view_of self.now) w)
+            (filter_map (spec.job_coded self.now w) result.now) ≡ filed_jobs (view_of self.now) w }
+    {
+        self.sets.filed.jobs.of(u32::from(w.0))
     }
 }

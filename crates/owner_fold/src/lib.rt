@@ -7,7 +7,8 @@
 //! What each workstation tells in its own list is that of `owner_rows`, which `kept` hands out. Beside it `Owners` keeps
 //! where the documents of the catalogue stand, and the members of the plan, each by its number, and the greatest numbers;
 //! and for each workstation which streams wait for their release, which are under way, which jobs have an
-//! open launch, and which objects of members have a time.
+//! open launch, and which objects of members have a time, or a dependency on a file; and which pairs of workstations have
+//! to do with one another.
 #![tactic(auto)]
 
 mod catalogue;
@@ -15,10 +16,13 @@ mod changes;
 mod dependencies;
 mod events;
 mod facts;
+mod filed;
 mod fills;
 mod given;
+mod given_objects;
 mod holdings;
 mod numbers;
+mod pairs;
 mod plans;
 mod sets;
 mod spots;
@@ -27,6 +31,7 @@ mod timed;
 mod units;
 
 pub use catalogue::{PlannedJobs, StreamJobs, Streams};
+pub use filed::{FiledJobs, FiledStreams};
 pub use holdings::Owners;
 pub use owner_rows::Outcome;
 pub use stages::{BegunStreams, WaitingStreams};

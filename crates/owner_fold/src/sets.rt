@@ -10,9 +10,9 @@ ghost use Rattle.owner_fold.specs.Sets.{AreSetsAmong, AreSetsOf, Begins, Covers,
 ghost use Rattle.owner_fold.specs.Spots.{AreJobSpots, AreStreamSpots};
 
 use crate::changes::Change;
-use crate::fills::{
-    begun_of, by_stream_of, opened_of, timed_jobs_of, timed_streams_of, waiting_of,
-};
+use crate::fills::{begun_of, by_stream_of, opened_of, waiting_of};
+use crate::given::Kind;
+use crate::given_objects::GivenObjects;
 use crate::numbers::{Index, Numbers};
 use crate::spots::Spots;
 use base_types::{Entry, JobNo, NoMemory, Obj, StreamNo, Ws};
@@ -37,7 +37,7 @@ pub(crate) fn is_begun(kept: &Kept, w: Ws, s: StreamNo) -> bool
 }
 
 /// Puts in the place, if there is one.
-fn include(groups: &mut Groups, w: u16, place: Option<usize>) -> Result<(), NoMemory>
+pub(crate) fn include(groups: &mut Groups, w: u16, place: Option<usize>) -> Result<(), NoMemory>
     ensures keeps { (c : ℕ) → has groups.old c ≡ true → has groups.new c ≡ true }
     ensures there { OnOk result (HasPlace w place groups.new) }
 {
@@ -97,10 +97,10 @@ pub(crate) struct Sets {
     pub(crate) opened: Groups,
     /// The jobs, by their streams.
     pub(crate) by_stream: Groups,
-    /// The members with a time, by their workstations.
-    pub(crate) timed_streams: Groups,
-    /// The members' jobs with a time, by their workstations.
-    pub(crate) timed_jobs: Groups,
+    /// The members, and members' jobs, with a time.
+    pub(crate) timed: GivenObjects,
+    /// Those with a dependency on a file.
+    pub(crate) filed: GivenObjects,
 }
 
 /// Written out, so that dropping one is a call for whoever owns it.
@@ -111,8 +111,8 @@ impl Drop for Sets {
             begun: _begun,
             opened: _opened,
             by_stream: _by_stream,
-            timed_streams: _timed_streams,
-            timed_jobs: _timed_jobs,
+            timed: _timed,
+            filed: _filed,
         } = self;
     }
 }
@@ -127,8 +127,8 @@ impl Sets {
             begun: Groups::new(alloc),
             opened: Groups::new(alloc),
             by_stream: Groups::new(alloc),
-            timed_streams: Groups::new(alloc),
-            timed_jobs: Groups::new(alloc),
+            timed: GivenObjects::new(alloc),
+            filed: GivenObjects::new(alloc),
         }
     }
 
@@ -151,15 +151,15 @@ impl Sets {
         let begun = begun_of(self.begun.empty(), kept, e, spots)?;
         let opened = opened_of(self.opened.empty(), kept, e, spots)?;
         let by_stream = by_stream_of(self.by_stream.empty(), kept, e, spots)?;
-        let timed_streams = timed_streams_of(self.timed_streams.empty(), kept, e, spots, members)?;
-        let timed_jobs = timed_jobs_of(self.timed_jobs.empty(), kept, e, spots, members)?;
+        let timed = self.timed.anew(Kind::Time, kept, e, spots, members)?;
+        let filed = self.filed.anew(Kind::File, kept, e, spots, members)?;
         Ok(Sets {
             waiting,
             begun,
             opened,
             by_stream,
-            timed_streams,
-            timed_jobs,
+            timed,
+            filed,
         })
     }
 
@@ -183,10 +183,8 @@ impl Sets {
                     Ok(())
                 }
             }
-            Change::StreamTime(w, s) => {
-                include(&mut self.timed_streams, *w, index.streams.place(*s))
-            }
-            Change::JobTime(w, j) => include(&mut self.timed_jobs, *w, index.jobs.place(*j)),
+            Change::TimeGiven(w, o) => self.timed.include(index, *w, o),
+            Change::FileGiven(w, o) => self.filed.include(index, *w, o),
             Change::NoChange => Ok(()),
         }
     }
@@ -210,7 +208,7 @@ impl Sets {
                     settle_opened(&mut self.opened, kept, Ws(*w), JobNo(*j), place);
                 }
             }
-            Change::StreamTime(_, _) | Change::JobTime(_, _) | Change::NoChange => {}
+            Change::TimeGiven(_, _) | Change::FileGiven(_, _) | Change::NoChange => {}
         }
     }
 }

@@ -6,12 +6,12 @@ ghost use Rattle.model.specs.Types.{Events, Job, Stream, StreamDoc as Doc};
 ghost use Rattle.model.specs.History.{view_of};
 ghost use Rattle.model.specs.Catalogue.{StreamJob};
 ghost use Rattle.model.specs.OwnMembers.{own_jobs, own_streams};
-ghost use Rattle.owner_fold.specs.Given.{is_timed};
+ghost use Rattle.owner_fold.specs.Given.{is_given, is_given_job_here, is_given_stream_here, is_of, is_timed};
 ghost use Rattle.owner_fold.specs.Sets as spec;
 ghost use Rattle.owner_fold.specs.Spots.{stream_job};
-ghost use Rattle.owner_fold.specs.Times.{is_timed_job_here, is_timed_stream_here, timed_jobs_left, timed_streams_left};
+ghost use Rattle.owner_fold.specs.Times.{timed_jobs_left, timed_streams_left};
 
-use crate::given::is_timed;
+use crate::given::{Kind, is_given};
 use crate::holdings::Owners;
 use base_types::{JobDoc, Obj, StreamDoc, Ws};
 
@@ -33,47 +33,53 @@ pub struct TimedJobs<'a> {
 }
 
 /// The stream at the place of a code of w.
-fn timed_stream_coded(owners: &Owners, w: Ws, code: u64) -> Option<&StreamDoc>
+pub(crate) fn stream_at_code(owners: &Owners, w: Ws, code: u64) -> Option<&StreamDoc>
     ensures { option_copied result ≡ spec.stream_coded owners.now w code }
 {
     owners.stream_coded(u32::from(w.0), code)
 }
 
 /// The job at the place of a code of w, with its stream.
-fn timed_job_coded(owners: &Owners, w: Ws, code: u64) -> Option<(&StreamDoc, &JobDoc)>
+pub(crate) fn job_at_code(owners: &Owners, w: Ws, code: u64) -> Option<(&StreamDoc, &JobDoc)>
     ensures { option_map (λ p. stream_job p.0.now p.1.now) result ≡ spec.job_coded owners.now w code }
 {
     owners.job_coded(u32::from(w.0), code)
 }
 
-/// The stream of w has a time.
-fn has_stream_time(owners: &Owners, w: Ws, doc: &StreamDoc) -> bool
-    ensures { result ≡ is_timed (Stream doc.now.no) doc.now.deps (view_of owners.now (Events w)) }
+/// The stream of w was given a dependency of the kind.
+fn is_stream_given(kind: Kind, owners: &Owners, w: Ws, doc: &StreamDoc) -> bool
+    ensures { result ≡ is_given (is_of kind) (Stream doc.now.no) doc.now.deps (view_of owners.now (Events w)) }
 {
     let o = Obj::Stream(doc.no);
-    is_timed(owners.kept(), w, &o, doc.deps.as_slice())
+    is_given(kind, owners.kept(), w, &o, doc.deps.as_slice())
 }
 
-/// The job of w has a time.
-fn has_job_time(owners: &Owners, w: Ws, doc: &JobDoc) -> bool
-    ensures { result ≡ is_timed (Job doc.now.no) doc.now.deps (view_of owners.now (Events w)) }
+/// The job of w was given one.
+fn is_job_given(kind: Kind, owners: &Owners, w: Ws, doc: &JobDoc) -> bool
+    ensures { result ≡ is_given (is_of kind) (Job doc.now.no) doc.now.deps (view_of owners.now (Events w)) }
 {
     let o = Obj::Job(doc.no);
-    is_timed(owners.kept(), w, &o, doc.deps.as_slice())
+    is_given(kind, owners.kept(), w, &o, doc.deps.as_slice())
 }
 
-/// The stream is an own member of w with a time.
-fn is_timed_stream_at(owners: &Owners, w: Ws, doc: &StreamDoc) -> bool
-    ensures { result ≡ is_timed_stream_here (view_of owners.now) w doc.now }
+/// The stream is an own member of w that was given a dependency of the kind.
+pub(crate) fn is_given_stream(kind: Kind, owners: &Owners, w: Ws, doc: &StreamDoc) -> bool
+    ensures { result ≡ is_given_stream_here (is_of kind) (view_of owners.now) w doc.now }
 {
-    doc.ws.0 == w.0 && (owners.is_member(doc.no) && has_stream_time(owners, w, doc))
+    doc.ws.0 == w.0 && (owners.is_member(doc.no) && is_stream_given(kind, owners, w, doc))
 }
 
-/// The job is an own member's of w with a time.
-fn is_timed_job_at(owners: &Owners, w: Ws, parent: &StreamDoc, doc: &JobDoc) -> bool
-    ensures { result ≡ is_timed_job_here (view_of owners.now) w (stream_job parent.now doc.now) }
+/// The job is an own member's of w that was given one.
+pub(crate) fn is_given_job(
+    kind: Kind,
+    owners: &Owners,
+    w: Ws,
+    parent: &StreamDoc,
+    doc: &JobDoc,
+) -> bool
+    ensures { result ≡ is_given_job_here (is_of kind) (view_of owners.now) w (stream_job parent.now doc.now) }
 {
-    doc.ws.0 == w.0 && (owners.is_member(parent.no) && has_job_time(owners, w, doc))
+    doc.ws.0 == w.0 && (owners.is_member(parent.no) && is_job_given(kind, owners, w, doc))
 }
 
 impl<'a> Iterator for TimedStreams<'a> {
@@ -87,8 +93,8 @@ impl<'a> Iterator for TimedStreams<'a> {
     fn next(&mut self) -> Option<&'a StreamDoc> {
         let codes = self.codes;
         for (i, code) in codes.iter().enumerate() {
-            if let Some(doc) = timed_stream_coded(self.owners, self.ws, *code) {
-                if is_timed_stream_at(self.owners, self.ws, doc) {
+            if let Some(doc) = stream_at_code(self.owners, self.ws, *code) {
+                if is_given_stream(Kind::Time, self.owners, self.ws, doc) {
                     self.codes = &codes[i + 1..];
                     return Some(doc);
                 }
@@ -110,8 +116,8 @@ impl<'a> Iterator for TimedJobs<'a> {
     fn next(&mut self) -> Option<(&'a StreamDoc, &'a JobDoc)> {
         let codes = self.codes;
         for (i, code) in codes.iter().enumerate() {
-            if let Some((parent, job)) = timed_job_coded(self.owners, self.ws, *code) {
-                if is_timed_job_at(self.owners, self.ws, parent, job) {
+            if let Some((parent, job)) = job_at_code(self.owners, self.ws, *code) {
+                if is_given_job(Kind::Time, self.owners, self.ws, parent, job) {
                     self.codes = &codes[i + 1..];
                     return Some((parent, job));
                 }

@@ -6,8 +6,8 @@ ghost use Rattle.owner_rows.specs.Answers.{IsAnswerRow};
 ghost use Rattle.owner_rows.specs.Subjects.{issuer_in, key_in};
 ghost use Rattle.owner_rows.specs.Tables.{AreRows, has_row};
 
+use crate::body_facts::is_answer;
 use crate::jobs::counted;
-use crate::sayings::is_answer;
 use crate::subjects::issuer_key;
 use crate::tables::Table;
 use base_types::Entry;

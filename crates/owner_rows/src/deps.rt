@@ -9,7 +9,7 @@ ghost use Rattle.owner_rows.specs.Deps.{IsDepRow, IsRowOfDep, deleted_by, reply_
 ghost use Rattle.owner_rows.specs.Subjects.{dep_number_in, key_in};
 ghost use Rattle.owner_rows.specs.Tables.{ArePairRows, has_pair_row};
 
-use crate::sayings::same_object;
+use crate::body_facts::same_object;
 use crate::subjects::{dep_in, dep_key};
 use crate::tables::PairTable;
 use base_types::{Body, Cmd, Entry, Obj};

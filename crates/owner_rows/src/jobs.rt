@@ -10,8 +10,8 @@ ghost use Rattle.owner_rows.specs.Outcomes.{told_outcome};
 ghost use Rattle.owner_rows.specs.Subjects.{job_in, key_in};
 ghost use Rattle.owner_rows.specs.Tables.{AreRows, has_row};
 
+use crate::body_facts::{is_confirm, is_launch, is_rerun, is_start};
 use crate::launches::{Outcome, code_in, end_in};
-use crate::sayings::{is_confirm, is_launch, is_rerun, is_start};
 use crate::subjects::job_key;
 use crate::tables::Table;
 use base_types::{Body, Entry};

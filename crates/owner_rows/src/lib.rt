@@ -9,6 +9,7 @@
 #![tactic(auto)]
 
 mod answers;
+mod body_facts;
 mod counts;
 mod deps;
 mod job_facts;
@@ -19,7 +20,6 @@ mod object_facts;
 mod objects;
 mod places;
 mod replies;
-mod sayings;
 mod starts;
 mod station_facts;
 mod station_tables;

@@ -11,8 +11,8 @@ ghost use Rattle.owner_rows.specs.Tables.{AreRows, has_row};
 ghost use Rattle.owner_rows.specs.Objects.{IsObjectRow, IsRowOfObject, adds, cancels};
 ghost use Rattle.owner_rows.specs.Objects.{frees_by, is_behind, priority_said};
 
+use crate::body_facts::same_object;
 use crate::jobs::counted;
-use crate::sayings::same_object;
 use crate::subjects::{object_in, object_key};
 use crate::tables::Table;
 use base_types::{Body, Cmd, Entry, Obj, OnUntil};

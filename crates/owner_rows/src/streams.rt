@@ -6,7 +6,7 @@ ghost use Rattle.owner_rows.specs.Streams.{IsStreamRow, stream_with};
 ghost use Rattle.owner_rows.specs.Subjects.{key_in, stream_in};
 ghost use Rattle.owner_rows.specs.Tables.{AreRows, has_row};
 
-use crate::sayings::{is_end, is_release, stream_limit_of};
+use crate::body_facts::{is_end, is_release, stream_limit_of};
 use crate::subjects::stream_key;
 use crate::tables::Table;
 use base_types::{Body, Entry};

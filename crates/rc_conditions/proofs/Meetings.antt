@@ -1,11 +1,12 @@
 -- Conditions asked of a return code, as far as the operations were carried out.
-use Rattle.std.proofs.Common.{◌≡◌, ◌≤◌, ◌<◌, ◌+◌, ℕ, ℤ, Bool, true, false, leb, List, [], ◌∷◌, ◌++◌, append_assoc}
-use Rattle.std.proofs.Common.{append-nil, length, drop, get_or, refl, ap, sym, ◌∙◌, arith}
+use Rattle.std.proofs.Common.{◌≡◌, ◌≢◌, ◌≤◌, ◌<◌, ◌+◌, ◌&&◌, ◌||◌, ℕ, ℤ, Bool, true, false, not, leb, List, [], ◌∷◌, ◌++◌}
+use Rattle.std.proofs.Common.{append_assoc, append-nil, length, drop, get_or, refl, ap, sym, ◌∙◌, arith, Some}
 use Rattle.std.proofs.lemmas.List.{at_drop_more, at_drop_all}
 use Rattle.std.proofs.lemmas.Bool.Decides.{nat_tests}
-use Rattle.model.specs.Types.{CondOp, And, Or, Not}
-use Rattle.model.specs.Conditions.{meets, result_of}
-use Rattle.rc_conditions.specs.Expressions.{Expression, compared, negated, both, either, postfix, is_met}
+use Rattle.model.specs.Types.{CondOp, Cmp, And, Or, Not}
+use Rattle.model.specs.Conditions.{compares, meets, result_of}
+use Rattle.rc_conditions.specs.Expressions.{Expression, IsPostfix, compared, negated, both, either, postfix, is_met}
+use Rattle.rc_conditions.proofs.Depths.{depth, postfix_from_depth}
 use Rattle.rc_conditions.proofs.Fronts.{some_ops}
 
 meets_by_result : (ops : List CondOp) (rc : ℤ) → 0 < length ops → length ops ≤ 64 → meets ops rc ≡ result_of rc [] ops
@@ -61,3 +62,37 @@ pub met_by_expression : (e : Expression) (rc : ℤ) → length (postfix e) ≤ 6
 met_by_expression e rc few =
     meets_by_result (postfix e) rc (some_ops e) few
     ∙ ap (λ xs. result_of rc [] xs) (sym (append-nil (postfix e))) ∙ adds_result e rc [] []
+
+-- operations that leave no results or several, or lack one, give none
+no_result : (rc : ℤ) (so_far : List Bool) (ops : List CondOp) → ¬ (depth (length so_far) ops ≡ Some 1)
+    → result_of rc so_far ops ≡ false
+no_result rc [] [] h = refl
+no_result rc (b ∷ []) [] h = absurd (h refl)
+no_result rc (b ∷ a ∷ so_far) [] h = refl
+no_result rc [] (Cmp r n ∷ ops) h = no_result rc (compares r rc n ∷ []) ops h
+no_result rc (b ∷ []) (Cmp r n ∷ ops) h = no_result rc (compares r rc n ∷ b ∷ []) ops h
+no_result rc (b ∷ a ∷ so_far) (Cmp r n ∷ ops) h = no_result rc (compares r rc n ∷ b ∷ a ∷ so_far) ops h
+no_result rc [] (Not ∷ ops) h = refl
+no_result rc (b ∷ so_far) (Not ∷ ops) h = no_result rc (not b ∷ so_far) ops h
+no_result rc [] (And ∷ ops) h = refl
+no_result rc (b ∷ []) (And ∷ ops) h = refl
+no_result rc (b ∷ a ∷ so_far) (And ∷ ops) h = no_result rc ((a && b) ∷ so_far) ops h
+no_result rc [] (Or ∷ ops) h = refl
+no_result rc (b ∷ []) (Or ∷ ops) h = refl
+no_result rc (b ∷ a ∷ so_far) (Or ∷ ops) h = no_result rc ((a || b) ∷ so_far) ops h
+
+never_both : (b : Bool) → (b && false) ≡ false
+never_both true = refl
+never_both false = refl
+
+pub no_expression_met : (ops : List CondOp) (rc : ℤ) → ops ≢ [] → ¬ (IsPostfix ops) → meets ops rc ≡ false
+no_expression_met [] rc some none = absurd (some refl)
+no_expression_met (op ∷ ops) rc some none =
+    ap (λ (r : Bool). leb (length (op ∷ ops)) 64 && r)
+    (no_result rc [] (op ∷ ops) (λ one. none (postfix_from_depth (op ∷ ops) one)))
+    ∙ never_both (leb (length (op ∷ ops)) 64)
+
+pub too_long_met : (ops : List CondOp) (rc : ℤ) → 64 < length ops → meets ops rc ≡ false
+too_long_met [] rc long = absurd (omega arith)
+too_long_met (op ∷ ops) rc long =
+    let is : leb (length (op ∷ ops)) 64 ≡ false = grind (arith, nat_tests) in rw is refl

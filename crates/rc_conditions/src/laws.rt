@@ -1,8 +1,8 @@
 //! What holds of all conditions.
-ghost use Rattle.std.specs.Prelude.{◌≡◌, ◌≤◌, ℕ, ℤ, List, [], ◌∷◌, length, codes, pos};
-ghost use Rattle.model.specs.Conditions.{meets};
+ghost use Rattle.std.specs.Prelude.{◌≡◌, ◌≢◌, ◌≤◌, ◌<◌, ℕ, ℤ, List, [], ◌∷◌, length, codes, pos, false};
+ghost use Rattle.model.specs.Conditions.{compares, meets};
 ghost use Rattle.model.specs.Types.{CondOp as Operation, Cmp, Eq as Equals};
-ghost use Rattle.rc_conditions.specs.Expressions.{Expression as Tree, postfix, is_met, NumbersFit};
+ghost use Rattle.rc_conditions.specs.Expressions.{Expression as Tree, IsPostfix, postfix, is_met, NumbersFit};
 ghost use Rattle.rc_conditions.specs.Grammar.{Reads};
 ghost use Rattle.rc_conditions.specs.Printing.{printed};
 
@@ -20,4 +20,12 @@ pub fn texts_have_one_reading()
 /// A condition of at most 64 operations holds where its expression is met.
 pub fn conditions_hold_where_they_are_met()
     ensures { (e : Tree) → (rc : ℤ) → length (postfix e) ≤ 64 → meets (postfix e) rc ≡ is_met e rc }
+{}
+
+/// The empty list asks for 0. Any other list that is no postfix expression, and each of more than 64 operations, holds of
+/// no return code.
+pub fn other_lists_hold_of_nothing()
+    ensures empty { (rc : ℤ) → meets [] rc ≡ compares Equals rc (pos 0) }
+    ensures no_expression { (ops : List Operation) → (rc : ℤ) → ops ≢ [] → ¬ (IsPostfix ops) → meets ops rc ≡ false }
+    ensures too_long { (ops : List Operation) → (rc : ℤ) → 64 < length ops → meets ops rc ≡ false }
 {}

@@ -14,7 +14,8 @@ mod results;
 mod tokens;
 
 pub use laws::{
-    conditions_hold_where_they_are_met, printed_texts_are_read_back, texts_have_one_reading,
+    conditions_hold_where_they_are_met, other_lists_hold_of_nothing, printed_texts_are_read_back,
+    texts_have_one_reading,
 };
 pub use printing::print_cond;
 pub use reading::read_cond;

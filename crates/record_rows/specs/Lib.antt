@@ -3,3 +3,4 @@ pub mod Plans
 pub mod Steps
 pub mod Rows
 pub mod Ranges
+pub mod Behind

@@ -1,6 +1,9 @@
 //! The lines that are dependencies of the object above.
-ghost use Rattle.std.specs.Prelude.{◌≡◌, IfOk};
+ghost use Rattle.std.specs.Prelude.{◌≡◌, IfOk, option_map};
+ghost use Rattle.syntax.specs.Names.{name_of};
 ghost use Rattle.record_rows.specs.Plans as spec;
+ghost use Rattle.record_rows.specs.Words.{text_of};
+ghost use Rattle.record_rows.specs.declared.rows.DepRow.TheVariants as dep;
 
 use crate::quotes::text;
 use crate::rows::DepRow;
@@ -99,6 +102,16 @@ fn follows(alloc: Global, word: &str) -> Result<Option<DepRow>, NoMemory>
     follows_on(alloc, ws, behind)
 }
 
+/// `JOB` of a stream
+fn follows_job(alloc: Global, ws: Text, stream: Text, job: &str) -> Result<Option<DepRow>, NoMemory>
+    ensures { IfOk result (λ o. o ≡ option_map (dep.FollowsJob ws stream) (name_of job.now)) }
+{
+    let Some(job) = name(alloc, job)? else {
+        return Ok(None);
+    };
+    Ok(Some(DepRow::FollowsJob(ws, stream, job)))
+}
+
 /// `STREAM`, `STREAM.JOB` on a workstation
 fn follows_on(alloc: Global, ws: Text, word: &str) -> Result<Option<DepRow>, NoMemory>
     ensures { IfOk result (λ o. o ≡ spec.follows_on ws word.now) }
@@ -110,10 +123,14 @@ fn follows_on(alloc: Global, ws: Text, word: &str) -> Result<Option<DepRow>, NoM
     if stream == word {
         return Ok(Some(DepRow::FollowsStream(ws, own)));
     }
-    let Some(job) = name(alloc, job)? else {
-        return Ok(None);
-    };
-    Ok(Some(DepRow::FollowsJob(ws, own, job)))
+    follows_job(alloc, ws, own, job)
+}
+
+/// A file by the text behind `opens`.
+fn opens(alloc: Global, rest: &str) -> Result<Option<DepRow>, NoMemory>
+    ensures { IfOk result (λ o. o ≡ option_map dep.Opens (text_of rest.now)) }
+{
+    Ok(text(alloc, rest)?.map(DepRow::Opens))
 }
 
 /// A dependency, by the line's first word and what follows it. None where it is none.
@@ -134,7 +151,7 @@ pub(crate) fn dep(alloc: Global, word: &str, rest: &str) -> Result<Option<DepRow
     } else if word == "ask" {
         ask(alloc, rest)
     } else if word == "opens" {
-        Ok(text(alloc, rest)?.map(DepRow::Opens))
+        opens(alloc, rest)
     } else {
         Ok(None)
     }

@@ -1,11 +1,15 @@
 //! The lines of a network.
-ghost use Rattle.std.specs.Prelude.{◌≡◌, IfOk, map};
+ghost use Rattle.std.specs.Prelude.{◌≡◌, IfOk, map, option_map};
+ghost use Rattle.syntax.specs.Splits.{words_of};
 ghost use Rattle.record_rows.specs.Rows as spec;
+ghost use Rattle.record_rows.specs.Behind.{resource_behind, resource_on};
+ghost use Rattle.record_rows.specs.Words.{text_of};
+ghost use Rattle.record_rows.specs.declared.rows.Row.TheVariants as row;
 
 use crate::quotes::text;
 use crate::rows::{Row, StationRow};
 use crate::words::number_up_to;
-use base_types::{Carry, NoMemory};
+use base_types::{Carry, NoMemory, Text};
 use std::alloc::Global;
 use syntax::{first_word, name, words};
 
@@ -71,7 +75,33 @@ fn station(alloc: Global, words: &[&str]) -> Result<Option<Row>, NoMemory>
     }
 }
 
-/// `res WS NAME TOTAL`
+/// A station by the words behind `ws`.
+fn station_row(alloc: Global, rest: &str) -> Result<Option<Row>, NoMemory>
+    ensures { IfOk result (λ o. o ≡ spec.station_of (words_of rest.now)) }
+{
+    let words = words(alloc, rest)?;
+    station(alloc, &words)
+}
+
+/// `TOTAL`, behind the workstation and the name
+fn resource_behind(ws: Text, own: Text, total: &str) -> Option<Row>
+    ensures { result ≡ resource_behind ws own total.now }
+{
+    let total = number_up_to(1024, total)?;
+    Some(Row::Resource(ws, own, total))
+}
+
+/// `NAME TOTAL`, behind the workstation
+fn resource_on(alloc: Global, ws: Text, own: &str, total: &str) -> Result<Option<Row>, NoMemory>
+    ensures { IfOk result (λ o. o ≡ resource_on ws own.now total.now) }
+{
+    let Some(own) = name(alloc, own)? else {
+        return Ok(None);
+    };
+    Ok(resource_behind(ws, own, total))
+}
+
+/// `WS NAME TOTAL`
 #[tactic(auto, unfolding(crate::specs::Rows::resource_of))]
 fn resource(alloc: Global, words: &[&str]) -> Result<Option<Row>, NoMemory>
     ensures { IfOk result (λ o. o ≡ spec.resource_of (map (λ x. x.now) words.now)) }
@@ -81,19 +111,31 @@ fn resource(alloc: Global, words: &[&str]) -> Result<Option<Row>, NoMemory>
             let Some(ws) = name(alloc, ws)? else {
                 return Ok(None);
             };
-            let Some(own) = name(alloc, own)? else {
-                return Ok(None);
-            };
-            let Some(total) = number_up_to(1024, total) else {
-                return Ok(None);
-            };
-            Ok(Some(Row::Resource(ws, own, total)))
+            resource_on(alloc, ws, own, total)
         }
         _ => Ok(None),
     }
 }
 
-/// `prompt NAME "TEXT"`
+/// A resource by the words behind `res`.
+fn resource_row(alloc: Global, rest: &str) -> Result<Option<Row>, NoMemory>
+    ensures { IfOk result (λ o. o ≡ spec.resource_of (words_of rest.now)) }
+{
+    let words = words(alloc, rest)?;
+    resource(alloc, &words)
+}
+
+/// `"TEXT"`, behind the name
+fn prompt_named(alloc: Global, own: Text, rest: &str) -> Result<Option<Row>, NoMemory>
+    ensures { IfOk result (λ o. o ≡ option_map (row.Prompt own) (text_of rest.now)) }
+{
+    let Some(asked) = text(alloc, rest)? else {
+        return Ok(None);
+    };
+    Ok(Some(Row::Prompt(own, asked)))
+}
+
+/// `NAME "TEXT"`
 #[tactic(auto, unfolding(crate::specs::Rows::prompt_of))]
 fn prompt(alloc: Global, rest: &str) -> Result<Option<Row>, NoMemory>
     ensures { IfOk result (λ o. o ≡ spec.prompt_of rest.now) }
@@ -102,10 +144,7 @@ fn prompt(alloc: Global, rest: &str) -> Result<Option<Row>, NoMemory>
     let Some(own) = name(alloc, own)? else {
         return Ok(None);
     };
-    let Some(asked) = text(alloc, rest)? else {
-        return Ok(None);
-    };
-    Ok(Some(Row::Prompt(own, asked)))
+    prompt_named(alloc, own, rest)
 }
 
 /// `carryforward yes`, `carryforward no`, `carryforward all`
@@ -129,11 +168,9 @@ pub(crate) fn network_row(alloc: Global, word: &str, rest: &str) -> Result<Optio
     ensures { IfOk result (λ o. o ≡ spec.network_row word.now rest.now) }
 {
     if word == "ws" {
-        let words = words(alloc, rest)?;
-        station(alloc, &words)
+        station_row(alloc, rest)
     } else if word == "res" {
-        let words = words(alloc, rest)?;
-        resource(alloc, &words)
+        resource_row(alloc, rest)
     } else if word == "prompt" {
         prompt(alloc, rest)
     } else if word == "carryforward" {

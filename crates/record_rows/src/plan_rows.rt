@@ -1,6 +1,10 @@
 //! The lines of a plan but its dependencies: streams, jobs and the parts of jobs.
 ghost use Rattle.std.specs.Prelude.{◌≡◌, IfOk, map, option_map};
+ghost use Rattle.syntax.specs.Splits.{words_of};
 ghost use Rattle.record_rows.specs.Plans as spec;
+ghost use Rattle.record_rows.specs.Words.{text_of};
+ghost use Rattle.record_rows.specs.declared.rows.PartRow.TheVariants as part;
+ghost use Rattle.record_rows.specs.declared.rows.Row.TheVariants as row;
 ghost use Rattle.record_rows.specs.Rows.{plan_row};
 
 use crate::quotes::text;
@@ -103,6 +107,14 @@ fn stream(alloc: Global, words: &[&str]) -> Result<Option<StreamRow>, NoMemory>
     }
 }
 
+/// A stream by the words behind `stream`.
+fn stream_row(alloc: Global, rest: &str) -> Result<Option<Row>, NoMemory>
+    ensures { IfOk result (λ o. o ≡ option_map row.Stream (spec.stream_of (words_of rest.now))) }
+{
+    let words = words(alloc, rest)?;
+    Ok(stream(alloc, &words)?.map(Row::Stream))
+}
+
 /// `job WS NAME [prio N]`
 #[tactic(auto, unfolding(crate::specs::Plans::job_of))]
 fn job(alloc: Global, words: &[&str]) -> Result<Option<JobRow>, NoMemory>
@@ -132,17 +144,23 @@ fn job(alloc: Global, words: &[&str]) -> Result<Option<JobRow>, NoMemory>
     }
 }
 
+/// A job by the words behind `job`.
+fn job_row(alloc: Global, rest: &str) -> Result<Option<Row>, NoMemory>
+    ensures { IfOk result (λ o. o ≡ option_map row.Job (spec.job_of (words_of rest.now))) }
+{
+    let words = words(alloc, rest)?;
+    Ok(job(alloc, &words)?.map(Row::Job))
+}
+
 /// A stream or a job, by the line's first word and what follows it. None where it is none.
 #[tactic(auto, unfolding(crate::specs::Rows::plan_row))]
 pub(crate) fn object_row(alloc: Global, word: &str, rest: &str) -> Result<Option<Row>, NoMemory>
     ensures { IfOk result (λ o. o ≡ plan_row word.now rest.now) }
 {
     if word == "stream" {
-        let words = words(alloc, rest)?;
-        Ok(stream(alloc, &words)?.map(Row::Stream))
+        stream_row(alloc, rest)
     } else if word == "job" {
-        let words = words(alloc, rest)?;
-        Ok(job(alloc, &words)?.map(Row::Job))
+        job_row(alloc, rest)
     } else {
         Ok(None)
     }
@@ -161,6 +179,34 @@ fn recovery(rest: &str) -> Option<Recovery>
     }
 }
 
+/// A text behind `do`.
+fn command(alloc: Global, rest: &str) -> Result<Option<PartRow>, NoMemory>
+    ensures { IfOk result (λ o. o ≡ option_map part.Command (text_of rest.now)) }
+{
+    Ok(text(alloc, rest)?.map(PartRow::Command))
+}
+
+/// A text behind `script`.
+fn script(alloc: Global, rest: &str) -> Result<Option<PartRow>, NoMemory>
+    ensures { IfOk result (λ o. o ≡ option_map part.Script (text_of rest.now)) }
+{
+    Ok(text(alloc, rest)?.map(PartRow::Script))
+}
+
+/// A text behind `logon`.
+fn logon(alloc: Global, rest: &str) -> Result<Option<PartRow>, NoMemory>
+    ensures { IfOk result (λ o. o ≡ option_map part.Logon (text_of rest.now)) }
+{
+    Ok(text(alloc, rest)?.map(PartRow::Logon))
+}
+
+/// A text behind `succ`.
+fn condition(alloc: Global, rest: &str) -> Result<Option<PartRow>, NoMemory>
+    ensures { IfOk result (λ o. o ≡ option_map part.Cond (text_of rest.now)) }
+{
+    Ok(text(alloc, rest)?.map(PartRow::Cond))
+}
+
 /// `do "TEXT"`, `script "TEXT"`, `logon "TEXT"`, `succ "COND"`, `recovery continue`, `recovery rerun`. None where it is
 /// none of these.
 #[tactic(auto, unfolding(crate::specs::Plans::part_of))]
@@ -168,13 +214,13 @@ pub(crate) fn part(alloc: Global, word: &str, rest: &str) -> Result<Option<PartR
     ensures { IfOk result (λ o. o ≡ spec.part_of word.now rest.now) }
 {
     if word == "do" {
-        Ok(text(alloc, rest)?.map(PartRow::Command))
+        command(alloc, rest)
     } else if word == "script" {
-        Ok(text(alloc, rest)?.map(PartRow::Script))
+        script(alloc, rest)
     } else if word == "logon" {
-        Ok(text(alloc, rest)?.map(PartRow::Logon))
+        logon(alloc, rest)
     } else if word == "succ" {
-        Ok(text(alloc, rest)?.map(PartRow::Cond))
+        condition(alloc, rest)
     } else if word == "recovery" {
         Ok(recovery(rest).map(PartRow::Recovery))
     } else {

@@ -1,7 +1,10 @@
 //! The rows of a text's lines.
-ghost use Rattle.std.specs.Prelude.{◌≡◌, IfOk, map};
+ghost use Rattle.std.specs.Prelude.{◌≡◌, IfOk, map, option_map};
+ghost use Rattle.record_rows.specs.Plans.{dep_of, part_of};
 ghost use Rattle.record_rows.specs.Rows as spec;
-ghost use Rattle.record_rows.specs.Rows.{row_of, rows_of};
+ghost use Rattle.record_rows.specs.Rows.{◌else_◌, plan_row, row_of, rows_of};
+ghost use Rattle.record_rows.specs.Steps.{step_of};
+ghost use Rattle.record_rows.specs.declared.rows.Row.TheVariants as row;
 
 use crate::dependency_rows::dep;
 use crate::network_rows::network_row;
@@ -29,25 +32,59 @@ fn header(text: &str) -> Option<Row>
     }
 }
 
+/// A dependency, or else a step.
+fn dep_or_step(alloc: Global, text: &str, word: &str, rest: &str) -> Result<Option<Row>, NoMemory>
+    ensures { IfOk result (λ o. o ≡ (option_map row.Dep (dep_of word.now rest.now)
+        else_ option_map row.Step (step_of text.now))) }
+{
+    match dep(alloc, word, rest)? {
+        Some(dep) => Ok(Some(Row::Dep(dep))),
+        None => Ok(step(alloc, text)?.map(Row::Step)),
+    }
+}
+
+/// A part of a job, or else a line of those behind it in the table.
+fn part_or_behind(
+    alloc: Global,
+    text: &str,
+    word: &str,
+    rest: &str,
+) -> Result<Option<Row>, NoMemory>
+    ensures { IfOk result (λ o. o ≡ (option_map row.Part (part_of word.now rest.now)
+        else_ option_map row.Dep (dep_of word.now rest.now) else_ option_map row.Step (step_of text.now))) }
+{
+    match part(alloc, word, rest)? {
+        Some(part) => Ok(Some(Row::Part(part))),
+        None => dep_or_step(alloc, text, word, rest),
+    }
+}
+
+/// A stream or a job, or else a line of those behind them in the table.
+fn object_or_behind(
+    alloc: Global,
+    text: &str,
+    word: &str,
+    rest: &str,
+) -> Result<Option<Row>, NoMemory>
+    ensures { IfOk result (λ o. o ≡ (plan_row word.now rest.now else_ option_map row.Part (part_of word.now rest.now)
+        else_ option_map row.Dep (dep_of word.now rest.now) else_ option_map row.Step (step_of text.now))) }
+{
+    match object_row(alloc, word, rest)? {
+        Some(row) => Ok(Some(row)),
+        None => part_or_behind(alloc, text, word, rest),
+    }
+}
+
 /// A line that is no header. None where it has no form.
 #[tactic(auto, unfolding(crate::specs::Rows::form_below))]
 fn form_below(alloc: Global, text: &str) -> Result<Option<Row>, NoMemory>
     ensures { IfOk result (λ o. o ≡ spec.form_below text.now) }
 {
     let (word, rest) = first_word(text);
-    if let Some(row) = network_row(alloc, word, rest)? {
-        return Ok(Some(row));
+    match network_row(alloc, word, rest)? {
+        Some(row) => Ok(Some(row)),
+        None => object_or_behind(alloc, text, word, rest),
     }
-    if let Some(row) = object_row(alloc, word, rest)? {
-        return Ok(Some(row));
-    }
-    if let Some(part) = part(alloc, word, rest)? {
-        return Ok(Some(Row::Part(part)));
-    }
-    if let Some(dep) = dep(alloc, word, rest)? {
-        return Ok(Some(Row::Dep(dep)));
-    }
-    Ok(step(alloc, text)?.map(Row::Step))
 }
 
 /// The row that a line is. None where it has no form.

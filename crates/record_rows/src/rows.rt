@@ -11,7 +11,6 @@ pub enum Ranged<T> {
 }
 
 /// A workstation that has a hop: `ws NAME HOP [manager] [on]`.
-#[derive(Drop)]
 pub struct StationRow {
     pub name: Text,
     pub hop: Text,
@@ -20,8 +19,18 @@ pub struct StationRow {
     pub full: bool,
 }
 
+impl Drop for StationRow {
+    fn drop(self) {
+        let StationRow {
+            name: _name,
+            hop: _hop,
+            manager: _manager,
+            full: _full,
+        } = self;
+    }
+}
+
 /// A job stream: `stream WS NAME [prio N] [limit N] [carry]`.
-#[derive(Drop)]
 pub struct StreamRow {
     pub ws: Text,
     pub name: Text,
@@ -32,13 +41,34 @@ pub struct StreamRow {
     pub carry: bool,
 }
 
+impl Drop for StreamRow {
+    fn drop(self) {
+        let StreamRow {
+            ws: _ws,
+            name: _name,
+            priority: _priority,
+            limit: _limit,
+            carry: _carry,
+        } = self;
+    }
+}
+
 /// A job: `job WS NAME [prio N]`.
-#[derive(Drop)]
 pub struct JobRow {
     pub ws: Text,
     pub name: Text,
     /// From 0 to 101; 10 where it is left out.
     pub priority: Ranged<u8>,
+}
+
+impl Drop for JobRow {
+    fn drop(self) {
+        let JobRow {
+            ws: _ws,
+            name: _name,
+            priority: _priority,
+        } = self;
+    }
 }
 
 /// A part of the job above. Texts have at most 4,096 bytes.

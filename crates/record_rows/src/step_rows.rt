@@ -1,9 +1,13 @@
 //! The lines that are steps.
 ghost use Rattle.std.specs.Prelude.{◌≡◌, IfOk, Ok, map, option_map};
 ghost use Rattle.std.specs.Str.{bytes_eq};
+ghost use Rattle.syntax.specs.Names.{name_of};
+ghost use Rattle.syntax.specs.Splits.{words_of};
 ghost use Rattle.conman_syntax.specs.Rows.{due_line};
 ghost use Rattle.record_rows.specs.Steps as spec;
+ghost use Rattle.record_rows.specs.Behind as behind;
 ghost use Rattle.record_rows.specs.declared.rows.OwnRow.TheVariants as own;
+ghost use Rattle.record_rows.specs.declared.rows.StepRow.TheVariants as step;
 
 use crate::rows::{CutRow, ObjRow, OwnRow, Ranged, StepRow};
 use crate::words::{code, count, dep_no, job_no, moment, stream_no};
@@ -81,6 +85,16 @@ fn own(alloc: Global, word: &str, rest: &str) -> Result<Option<OwnRow>, NoMemory
     }
 }
 
+/// What a workstation does or is told, behind its name
+fn step_on(alloc: Global, ws: Text, word: &str, rest: &str) -> Result<Option<StepRow>, NoMemory>
+    ensures { IfOk result (λ o. o ≡ option_map (step.Own ws) (spec.own_of word.now rest.now)) }
+{
+    let Some(step) = own(alloc, word, rest)? else {
+        return Ok(None);
+    };
+    Ok(Some(StepRow::Own(ws, step)))
+}
+
 /// A step that is a workstation's own.
 #[tactic(auto, unfolding(crate::specs::Steps::own_step))]
 fn own_step(alloc: Global, word: &str, rest: &str) -> Result<Option<StepRow>, NoMemory>
@@ -90,10 +104,17 @@ fn own_step(alloc: Global, word: &str, rest: &str) -> Result<Option<StepRow>, No
     let Some(ws) = name(alloc, ws)? else {
         return Ok(None);
     };
-    let Some(step) = own(alloc, word, rest)? else {
+    step_on(alloc, ws, word, rest)
+}
+
+/// `B`, behind a name
+fn pair_with(alloc: Global, a: Text, b: &str) -> Result<Option<(Text, Text)>, NoMemory>
+    ensures { IfOk result (λ o. o ≡ behind.pair_with a b.now) }
+{
+    let Some(b) = name(alloc, b)? else {
         return Ok(None);
     };
-    Ok(Some(StepRow::Own(ws, step)))
+    Ok(Some((a, b)))
 }
 
 /// `A B`
@@ -104,10 +125,30 @@ fn pair(alloc: Global, rest: &str) -> Result<Option<(Text, Text)>, NoMemory>
     let Some(a) = name(alloc, a)? else {
         return Ok(None);
     };
-    let Some(b) = name(alloc, b)? else {
+    pair_with(alloc, a, b)
+}
+
+/// `K`, behind two names
+fn packet_between(from: Text, to: Text, k: &str) -> Option<(Text, Text, Ranged<u32>)>
+    ensures { result ≡ behind.packet_between from to k.now }
+{
+    let k = count(k)?;
+    Some((from, to, k))
+}
+
+/// `B K`, behind a name
+fn packet_from(
+    alloc: Global,
+    from: Text,
+    to: &str,
+    k: &str,
+) -> Result<Option<(Text, Text, Ranged<u32>)>, NoMemory>
+    ensures { IfOk result (λ o. o ≡ behind.packet_from from to.now k.now) }
+{
+    let Some(to) = name(alloc, to)? else {
         return Ok(None);
     };
-    Ok(Some((a, b)))
+    Ok(packet_between(from, to, k))
 }
 
 /// `A B K`
@@ -119,16 +160,18 @@ fn packet(alloc: Global, words: &[&str]) -> Result<Option<(Text, Text, Ranged<u3
             let Some(from) = name(alloc, a)? else {
                 return Ok(None);
             };
-            let Some(to) = name(alloc, b)? else {
-                return Ok(None);
-            };
-            let Some(k) = count(k) else {
-                return Ok(None);
-            };
-            Ok(Some((from, to, k)))
+            packet_from(alloc, from, b, k)
         }
         _ => Ok(None),
     }
+}
+
+/// `A B K`, as the words of a text
+fn packet_in(alloc: Global, rest: &str) -> Result<Option<(Text, Text, Ranged<u32>)>, NoMemory>
+    ensures { IfOk result (λ o. o ≡ spec.packet_of (words_of rest.now)) }
+{
+    let words = words(alloc, rest)?;
+    packet(alloc, &words)
 }
 
 /// `W RC`
@@ -159,6 +202,15 @@ fn object(kind: &str, n: &str) -> Option<ObjRow>
     }
 }
 
+/// `job J I`, `stream S I`, behind the workstation
+fn fulfil_on(ws: Text, kind: &str, n: &str, i: &str) -> Option<StepRow>
+    ensures { result ≡ behind.fulfil_on ws kind.now n.now i.now }
+{
+    let object = object(kind, n)?;
+    let i = dep_no(i)?;
+    Some(StepRow::Fulfil(ws, object, i))
+}
+
 /// `W job J I`, `W stream S I`
 #[tactic(auto, unfolding(crate::specs::Steps::fulfil_of))]
 fn fulfil(alloc: Global, words: &[&str]) -> Result<Option<StepRow>, NoMemory>
@@ -169,13 +221,7 @@ fn fulfil(alloc: Global, words: &[&str]) -> Result<Option<StepRow>, NoMemory>
             let Some(ws) = name(alloc, ws)? else {
                 return Ok(None);
             };
-            let Some(object) = object(kind, n) else {
-                return Ok(None);
-            };
-            let Some(i) = dep_no(i) else {
-                return Ok(None);
-            };
-            Ok(Some(StepRow::Fulfil(ws, object, i)))
+            Ok(fulfil_on(ws, kind, n, i))
         }
         _ => Ok(None),
     }
@@ -202,19 +248,27 @@ fn own_cut(alloc: Global, ws: &Text, word: &str, rest: &str) -> Result<Option<Cu
     Ok(own(alloc, word, rest)?.map(CutRow::Own))
 }
 
+/// The packet that was read, where it goes to this workstation.
+fn packet_to(ws: &Text, packet: (Text, Text, Ranged<u32>)) -> Option<CutRow>
+    ensures { result ≡ behind.packet_to ws.now packet }
+{
+    let (from, to, k) = packet;
+    if is_same(&to, ws) {
+        Some(CutRow::Deliver(from, k))
+    } else {
+        None
+    }
+}
+
 /// A packet to this workstation, at which it stops.
 #[tactic(auto, unfolding(crate::specs::Steps::packet_cut))]
 fn packet_cut(alloc: Global, ws: &Text, rest: &str) -> Result<Option<CutRow>, NoMemory>
     ensures { IfOk result (λ o. o ≡ spec.packet_cut ws.now rest.now) }
 {
-    let words = words(alloc, rest)?;
-    let Some((from, to, k)) = packet(alloc, &words)? else {
-        return Ok(None);
-    };
-    if !is_same(&to, ws) {
-        return Ok(None);
+    match packet_in(alloc, rest)? {
+        Some(packet) => Ok(packet_to(ws, packet)),
+        None => Ok(None),
     }
-    Ok(Some(CutRow::Deliver(from, k)))
 }
 
 /// A step in which this workstation stops.
@@ -278,6 +332,61 @@ fn crash(alloc: Global, rest: &str) -> Result<Option<StepRow>, NoMemory>
     crash_in(alloc, ws, behind)
 }
 
+/// `A B`, behind `link`
+fn link(alloc: Global, rest: &str) -> Result<Option<StepRow>, NoMemory>
+    ensures { IfOk result (λ o. o ≡ option_map (λ p. step.Link p.0 p.1) (spec.pair_of rest.now)) }
+{
+    match pair(alloc, rest)? {
+        Some((a, b)) => Ok(Some(StepRow::Link(a, b))),
+        None => Ok(None),
+    }
+}
+
+/// `A B`, behind `unlink`
+fn unlink(alloc: Global, rest: &str) -> Result<Option<StepRow>, NoMemory>
+    ensures { IfOk result (λ o. o ≡ option_map (λ p. step.Unlink p.0 p.1) (spec.pair_of rest.now)) }
+{
+    match pair(alloc, rest)? {
+        Some((a, b)) => Ok(Some(StepRow::Unlink(a, b))),
+        None => Ok(None),
+    }
+}
+
+/// `A B`, behind `flow`
+fn flow(alloc: Global, rest: &str) -> Result<Option<StepRow>, NoMemory>
+    ensures { IfOk result (λ o. o ≡ option_map (λ p. step.Flow p.0 p.1) (spec.pair_of rest.now)) }
+{
+    match pair(alloc, rest)? {
+        Some((a, b)) => Ok(Some(StepRow::Flow(a, b))),
+        None => Ok(None),
+    }
+}
+
+/// `A B K`, behind `deliver`
+fn deliver(alloc: Global, rest: &str) -> Result<Option<StepRow>, NoMemory>
+    ensures { IfOk result (λ o. o ≡ option_map (λ p. step.Deliver p.0 p.1 p.2) (spec.packet_of (words_of rest.now))) }
+{
+    match packet_in(alloc, rest)? {
+        Some((from, to, k)) => Ok(Some(StepRow::Deliver(from, to, k))),
+        None => Ok(None),
+    }
+}
+
+/// `W job J I`, `W stream S I`, as the words of a text
+fn fulfil_in(alloc: Global, rest: &str) -> Result<Option<StepRow>, NoMemory>
+    ensures { IfOk result (λ o. o ≡ spec.fulfil_of (words_of rest.now)) }
+{
+    let words = words(alloc, rest)?;
+    fulfil(alloc, &words)
+}
+
+/// `W`, behind `recover`
+fn recover(alloc: Global, rest: &str) -> Result<Option<StepRow>, NoMemory>
+    ensures { IfOk result (λ o. o ≡ option_map step.Recover (name_of rest.now)) }
+{
+    Ok(name(alloc, rest)?.map(StepRow::Recover))
+}
+
 /// A step by its first word and what follows it.
 #[tactic(auto, unfolding(crate::specs::Steps::step_of_word))]
 fn step_of_word(alloc: Global, word: &str, rest: &str) -> Result<Option<StepRow>, NoMemory>
@@ -286,23 +395,21 @@ fn step_of_word(alloc: Global, word: &str, rest: &str) -> Result<Option<StepRow>
     if word == "next" {
         Ok(read_date(rest).map(StepRow::NextDay))
     } else if word == "link" {
-        Ok(pair(alloc, rest)?.map(|(a, b)| StepRow::Link(a, b)))
+        link(alloc, rest)
     } else if word == "unlink" {
-        Ok(pair(alloc, rest)?.map(|(a, b)| StepRow::Unlink(a, b)))
+        unlink(alloc, rest)
     } else if word == "deliver" {
-        let words = words(alloc, rest)?;
-        Ok(packet(alloc, &words)?.map(|(from, to, k)| StepRow::Deliver(from, to, k)))
+        deliver(alloc, rest)
     } else if word == "flow" {
-        Ok(pair(alloc, rest)?.map(|(a, b)| StepRow::Flow(a, b)))
+        flow(alloc, rest)
     } else if word == "reap" {
         reap(alloc, rest)
     } else if word == "crash" {
         crash(alloc, rest)
     } else if word == "fulfil" {
-        let words = words(alloc, rest)?;
-        fulfil(alloc, &words)
+        fulfil_in(alloc, rest)
     } else if word == "recover" {
-        Ok(name(alloc, rest)?.map(StepRow::Recover))
+        recover(alloc, rest)
     } else {
         own_step(alloc, word, rest)
     }

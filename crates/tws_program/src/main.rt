@@ -1,15 +1,13 @@
 //! The program: its words, standard input and standard output, its exit status, and the real outside of a node.
 #![tactic(auto)]
 
-mod streams;
-
 use base_types::{NoMemory, Text};
 use real_outside::{ChildSpawner, FileDisk, FileProber, SystemClock, TcpLink};
+use standard_streams::{StdSink, StdSource};
 use std::alloc::{AllocError, Global};
 use std::process::ExitCode;
 use std::rt::Env;
 use std::{env, io};
-use streams::{StdSink, StdSource};
 use tws_top::tws;
 
 const NO_MEMORY: u8 = 9;

@@ -4,14 +4,14 @@ ghost use Rattle.entry_codec.specs.Read.{Gives, IsPlace};
 ghost use Rattle.entry_codec.specs.Entries.{body_at, event_at, order_at};
 
 use crate::EntryFault;
-use crate::reading::commands::read_cmd;
 use crate::reading::events::{
     read_added, read_declined, read_ended, read_failed, read_fulfilled, read_late, read_launched,
     read_lost, read_new_plan, read_obeyed, read_released, read_started, read_stream_ended,
     read_until_passed,
 };
 use crate::reading::fields::{read_u8, read_u64};
-use base_types::{Body, Feed, Moment};
+use crate::reading::lists::Read;
+use base_types::{Body, Cmd, Feed, Moment};
 use std::alloc::Global;
 
 /// The body of an entry of a feed: its kind, which is one of the feed's, and its fields.
@@ -47,7 +47,7 @@ fn read_order(
 {
     match read_u8(from, at)? {
         (15, next) => {
-            let (cmd, next) = read_cmd(alloc, second, from, next)?;
+            let (cmd, next) = Cmd::read(alloc, second, from, next)?;
             Ok((Body::Order(cmd), next))
         }
         _ => Err(EntryFault::BadField(at as u32)),
@@ -73,18 +73,18 @@ fn read_event(
             let (time, next) = read_u64(from, next)?;
             Ok((Body::Clock(Moment(time)), next))
         }
-        (4, next) => read_released(alloc, from, next),
-        (5, next) => read_stream_ended(alloc, from, next),
-        (6, next) => read_until_passed(from, next),
-        (7, next) => read_launched(alloc, from, next),
-        (8, next) => read_started(from, next),
-        (9, next) => read_failed(from, next),
-        (10, next) => read_ended(from, next),
-        (11, next) => read_lost(from, next),
-        (12, next) => read_fulfilled(from, next),
+        (4, next) => read_released(alloc, second, from, next),
+        (5, next) => read_stream_ended(alloc, second, from, next),
+        (6, next) => read_until_passed(alloc, second, from, next),
+        (7, next) => read_launched(alloc, second, from, next),
+        (8, next) => read_started(alloc, second, from, next),
+        (9, next) => read_failed(alloc, second, from, next),
+        (10, next) => read_ended(alloc, second, from, next),
+        (11, next) => read_lost(alloc, second, from, next),
+        (12, next) => read_fulfilled(alloc, second, from, next),
         (13, next) => read_obeyed(alloc, second, from, next),
-        (14, next) => read_declined(from, next),
-        (16, next) if second => read_late(from, next),
+        (14, next) => read_declined(alloc, second, from, next),
+        (16, next) if second => read_late(alloc, second, from, next),
         _ => Err(EntryFault::BadField(at as u32)),
     }
 }

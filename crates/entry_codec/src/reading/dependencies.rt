@@ -4,10 +4,9 @@ ghost use Rattle.entry_codec.specs.Read.{Gives, IsPlace};
 ghost use Rattle.entry_codec.specs.Parts.{dep_at};
 
 use crate::EntryFault;
-use crate::reading::fields::{read_text, read_u8, read_u16, read_u32, read_u64};
-use crate::reading::lists::{Read, read_job_name};
-use crate::reading::parts::read_until;
-use base_types::{Dep, DraftDep, JobNo, Moment, PromptRef, StreamNo, Ws};
+use crate::reading::fields::{read_u8, read_u16, read_u32, read_u64};
+use crate::reading::lists::Read;
+use base_types::{Dep, DraftDep, JobNo, Moment, OnUntil, PromptRef, StreamNo, Text, Ws};
 use std::alloc::Global;
 
 impl Read for Dep {
@@ -42,8 +41,7 @@ fn read_dep(alloc: Global, second: bool, from: &[u8], at: usize) -> Result<(Dep,
             Ok((Dep::FollowsStream(StreamNo(stream)), next))
         }
         (3, next) => {
-            let (resource, next) = read_u16(from, next)?;
-            let (units, next) = read_u16(from, next)?;
+            let ((resource, units), next) = <(u16, u16)>::read(alloc, second, from, next)?;
             Ok((Dep::Needs(resource, units), next))
         }
         (4, next) => {
@@ -51,7 +49,7 @@ fn read_dep(alloc: Global, second: bool, from: &[u8], at: usize) -> Result<(Dep,
             Ok((Dep::Prompt(PromptRef::Global(prompt)), next))
         }
         (5, next) => {
-            let (text, next) = read_text(alloc, from, next)?;
+            let (text, next) = Text::read(alloc, second, from, next)?;
             Ok((Dep::Prompt(PromptRef::Own(text)), next))
         }
         (6, next) => {
@@ -59,12 +57,11 @@ fn read_dep(alloc: Global, second: bool, from: &[u8], at: usize) -> Result<(Dep,
             Ok((Dep::At(Moment(time)), next))
         }
         (7, next) => {
-            let (time, next) = read_u64(from, next)?;
-            let (mark, next) = read_until(from, next)?;
-            Ok((Dep::Until(Moment(time), mark), next))
+            let ((time, mark), next) = <(Moment, OnUntil)>::read(alloc, second, from, next)?;
+            Ok((Dep::Until(time, mark), next))
         }
         (8, next) => {
-            let (path, next) = read_text(alloc, from, next)?;
+            let (path, next) = Text::read(alloc, second, from, next)?;
             Ok((Dep::Outside(path), next))
         }
         (9, next) if second => {
@@ -89,10 +86,10 @@ impl Read for DraftDep {
     ) -> Result<(DraftDep, usize), EntryFault> {
         let (choice, next) = read_u8(from, at)?;
         if choice == 0 {
-            let (ws, next) = read_u16(from, next)?;
-            let (name, next) = read_text(alloc, from, next)?;
-            let (job, next) = read_job_name(alloc, from, next)?;
-            Ok((DraftDep::Follows(Ws(ws), name, job), next))
+            let (((ws, name), job), next) = <((Ws, Text), Option<Text>)>::read(
+                alloc, second, from, next,
+            )?;
+            Ok((DraftDep::Follows(ws, name, job), next))
         } else {
             let (dep, next) = read_dep(alloc, second, from, at)?;
             Ok((DraftDep::Plain(dep), next))

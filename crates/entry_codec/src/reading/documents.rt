@@ -3,15 +3,58 @@ ghost use Rattle.std.specs.Prelude.{◌≡◌, ◌≤◌, length, nat_le, IfOk};
 ghost use Rattle.std.specs.Int.{w8};
 ghost use Rattle.entry_codec.specs.Read.{Gives, IsPlace, one};
 ghost use Rattle.entry_codec.specs.Fields.{i32_at, items_at, number_with};
-ghost use Rattle.entry_codec.specs.Parts.{cond_at, op_at, work_at};
+ghost use Rattle.entry_codec.specs.Parts.{cond_at, op_at};
 ghost use Rattle.base_types.specs.declared.CondOp.TheVariants.{Cmp};
 
 use crate::EntryFault;
-use crate::reading::fields::{read_flag, read_i32, read_text, read_u8, read_u16, read_u32};
-use crate::reading::lists::{Read, read_limit, read_list};
+use crate::reading::fields::{read_i32, read_u8};
+use crate::reading::lists::Read;
 use crate::reading::parts::read_recovery;
-use base_types::{Cond, CondOp, Items, JobDoc, JobNo, Rel, StreamDoc, StreamNo, Work, Ws};
+use base_types::{
+    Cond, CondOp, Deps, Items, JobDoc, JobNo, Jobs, Recovery, Rel, StreamDoc, StreamNo, Text, Work,
+    Ws,
+};
 use std::alloc::Global;
+
+/// What documents and drafts begin with: the workstation, the name and the priority.
+pub(crate) type Named = ((Ws, Text), u8);
+
+/// What streams begin with: that, the limit, and whether an unfinished stream is carried.
+pub(crate) type Front = ((Named, Option<u16>), bool);
+
+/// What a job runs, for whom, and what its end means.
+#[derive(Drop)]
+pub(crate) struct Task {
+    pub(crate) work: Work,
+    pub(crate) logon: Text,
+    pub(crate) cond: Cond,
+    pub(crate) recovery: Recovery,
+}
+
+impl Read for Task {
+    ghost use Rattle.entry_codec.specs.Parts.{task_at};
+
+    ghost reader = { λ _. task_at };
+
+    #[tactic(auto, unfolding(crate::specs::Read::chain, crate::specs::Parts::task_at))]
+    fn read(
+        alloc: Global,
+        second: bool,
+        from: &[u8],
+        at: usize,
+    ) -> Result<(Task, usize), EntryFault> {
+        let ((work, logon), next) = <(Work, Text)>::read(alloc, second, from, at)?;
+        let (cond, next) = read_cond(alloc, from, next)?;
+        let (recovery, next) = read_recovery(from, next)?;
+        let task = Task {
+            work,
+            logon,
+            cond,
+            recovery,
+        };
+        Ok((task, next))
+    }
+}
 
 impl Read for JobDoc {
     ghost use Rattle.entry_codec.specs.Parts.{job_at};
@@ -25,18 +68,19 @@ impl Read for JobDoc {
         from: &[u8],
         at: usize,
     ) -> Result<(JobDoc, usize), EntryFault> {
-        let (no, next) = read_u32(from, at)?;
-        let (ws, next) = read_u16(from, next)?;
-        let (name, next) = read_text(alloc, from, next)?;
-        let (priority, next) = read_u8(from, next)?;
-        let (work, next) = read_work(alloc, from, next)?;
-        let (logon, next) = read_text(alloc, from, next)?;
-        let (cond, next) = read_cond(alloc, from, next)?;
-        let (recovery, next) = read_recovery(from, next)?;
-        let (deps, next) = read_list(alloc, second, from, next)?;
+        let ((((no, named), task), deps), next) = <(((JobNo, Named), Task), Deps)>::read(
+            alloc, second, from, at,
+        )?;
+        let ((ws, name), priority) = named;
+        let Task {
+            work,
+            logon,
+            cond,
+            recovery,
+        } = task;
         let doc = JobDoc {
-            no: JobNo(no),
-            ws: Ws(ws),
+            no,
+            ws,
             name,
             priority,
             work,
@@ -61,17 +105,13 @@ impl Read for StreamDoc {
         from: &[u8],
         at: usize,
     ) -> Result<(StreamDoc, usize), EntryFault> {
-        let (no, next) = read_u32(from, at)?;
-        let (ws, next) = read_u16(from, next)?;
-        let (name, next) = read_text(alloc, from, next)?;
-        let (priority, next) = read_u8(from, next)?;
-        let (limit, next) = read_limit(from, next)?;
-        let (carry, next) = read_flag(from, next)?;
-        let (deps, next) = read_list(alloc, second, from, next)?;
-        let (jobs, next) = read_list(alloc, second, from, next)?;
+        let ((((no, front), deps), jobs), next) = <(((StreamNo, Front), Deps), Jobs)>::read(
+            alloc, second, from, at,
+        )?;
+        let ((((ws, name), priority), limit), carry) = front;
         let doc = StreamDoc {
-            no: StreamNo(no),
-            ws: Ws(ws),
+            no,
+            ws,
             name,
             priority,
             limit,
@@ -84,28 +124,35 @@ impl Read for StreamDoc {
 }
 
 /// What a job runs: its choice and its text.
-#[tactic(auto, unfolding(crate::specs::Read::chain, crate::specs::Fields::choice_at, crate::specs::Parts::work_at))]
-pub(crate) fn read_work(alloc: Global, from: &[u8], at: usize) -> Result<(Work, usize), EntryFault>
-    requires { IsPlace from.now at }
-    ensures reads { Gives result (work_at from.now at) }
-    ensures within { IfOk result (λ r. r.1 ≤ length from.now) }
-{
-    match read_u8(from, at)? {
-        (0, next) => {
-            let (text, next) = read_text(alloc, from, next)?;
-            Ok((Work::Command(text), next))
+impl Read for Work {
+    ghost use Rattle.entry_codec.specs.Parts.{work_at};
+
+    ghost reader = { λ _. work_at };
+
+    #[tactic(auto, unfolding(crate::specs::Read::chain, crate::specs::Fields::choice_at, crate::specs::Parts::work_at))]
+    fn read(
+        alloc: Global,
+        second: bool,
+        from: &[u8],
+        at: usize,
+    ) -> Result<(Work, usize), EntryFault> {
+        match read_u8(from, at)? {
+            (0, next) => {
+                let (text, next) = Text::read(alloc, second, from, next)?;
+                Ok((Work::Command(text), next))
+            }
+            (1, next) => {
+                let (text, next) = Text::read(alloc, second, from, next)?;
+                Ok((Work::Script(text), next))
+            }
+            _ => Err(EntryFault::BadField(at as u32)),
         }
-        (1, next) => {
-            let (text, next) = read_text(alloc, from, next)?;
-            Ok((Work::Script(text), next))
-        }
-        _ => Err(EntryFault::BadField(at as u32)),
     }
 }
 
 /// A condition: a count of at most 64 in one byte, and the operations.
 #[tactic(auto, unfolding(crate::specs::Read::chain, crate::specs::Parts::cond_at))]
-pub(crate) fn read_cond(alloc: Global, from: &[u8], at: usize) -> Result<(Cond, usize), EntryFault>
+fn read_cond(alloc: Global, from: &[u8], at: usize) -> Result<(Cond, usize), EntryFault>
     requires { IsPlace from.now at }
     ensures reads { Gives result (cond_at from.now at) }
     ensures within { IfOk result (λ r. r.1 ≤ length from.now) }

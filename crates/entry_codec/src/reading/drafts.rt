@@ -1,10 +1,8 @@
 //! The drafts of streams and jobs.
 use crate::EntryFault;
-use crate::reading::documents::{read_cond, read_work};
-use crate::reading::fields::{read_flag, read_text, read_u8, read_u16};
-use crate::reading::lists::{Read, read_limit, read_list};
-use crate::reading::parts::read_recovery;
-use base_types::{JobDraft, StreamDraft, Ws};
+use crate::reading::documents::{Front, Named, Task};
+use crate::reading::lists::Read;
+use base_types::{DraftDeps, JobDraft, JobDrafts, StreamDraft};
 use std::alloc::Global;
 
 impl Read for JobDraft {
@@ -19,16 +17,18 @@ impl Read for JobDraft {
         from: &[u8],
         at: usize,
     ) -> Result<(JobDraft, usize), EntryFault> {
-        let (ws, next) = read_u16(from, at)?;
-        let (name, next) = read_text(alloc, from, next)?;
-        let (priority, next) = read_u8(from, next)?;
-        let (work, next) = read_work(alloc, from, next)?;
-        let (logon, next) = read_text(alloc, from, next)?;
-        let (cond, next) = read_cond(alloc, from, next)?;
-        let (recovery, next) = read_recovery(from, next)?;
-        let (deps, next) = read_list(alloc, second, from, next)?;
+        let (((named, task), deps), next) = <((Named, Task), DraftDeps)>::read(
+            alloc, second, from, at,
+        )?;
+        let ((ws, name), priority) = named;
+        let Task {
+            work,
+            logon,
+            cond,
+            recovery,
+        } = task;
         let draft = JobDraft {
-            ws: Ws(ws),
+            ws,
             name,
             priority,
             work,
@@ -53,15 +53,12 @@ impl Read for StreamDraft {
         from: &[u8],
         at: usize,
     ) -> Result<(StreamDraft, usize), EntryFault> {
-        let (ws, next) = read_u16(from, at)?;
-        let (name, next) = read_text(alloc, from, next)?;
-        let (priority, next) = read_u8(from, next)?;
-        let (limit, next) = read_limit(from, next)?;
-        let (carry, next) = read_flag(from, next)?;
-        let (deps, next) = read_list(alloc, second, from, next)?;
-        let (jobs, next) = read_list(alloc, second, from, next)?;
+        let (((front, deps), jobs), next) = <((Front, DraftDeps), JobDrafts)>::read(
+            alloc, second, from, at,
+        )?;
+        let ((((ws, name), priority), limit), carry) = front;
         let draft = StreamDraft {
-            ws: Ws(ws),
+            ws,
             name,
             priority,
             limit,

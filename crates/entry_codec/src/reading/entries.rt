@@ -13,9 +13,10 @@ ghost use Rattle.entry_codec.specs.Entries.{HasOtherVersion, IsLeftAt, IsLasting
 use crate::EntryFault;
 use crate::reading::bodies::read_body;
 use crate::reading::fields::read_u8;
-use crate::reading::parts::{read_count, read_feed};
+use crate::reading::lists::Read;
+use crate::reading::parts::read_count;
 use crate::versions::version;
-use base_types::Entry;
+use base_types::{Entry, Feed};
 use std::alloc::Global;
 
 /// The entry that the bytes are, which are at most 4,294,967,295.
@@ -69,7 +70,7 @@ fn read_front(alloc: Global, from: &[u8]) -> Result<((u8, Entry), usize), EntryF
     ensures within { IfOk result (λ r. r.1 ≤ length from.now) }
 {
     let (number, next) = read_version(from)?;
-    let (feed, next) = read_feed(from, next)?;
+    let (feed, next) = Feed::read(alloc, number == 2, from, next)?;
     let (place, next) = read_count(from, next)?;
     let (body, next) = read_body(alloc, number == 2, &feed, from, next)?;
     Ok(((number, Entry { feed, place, body }), next))

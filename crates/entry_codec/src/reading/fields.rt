@@ -3,9 +3,10 @@ ghost use Rattle.std.specs.Prelude.{◌≡◌, ◌≤◌, ℕ, Bool, length, IfO
 ghost use Rattle.std.specs.Int.{w8, w16, w32, w64};
 ghost use Rattle.entry_codec.specs.declared.EntryFault.TheVariants.{NoMemory as NoRoom};
 ghost use Rattle.entry_codec.specs.Read.{Gives, IsPlace};
-ghost use Rattle.entry_codec.specs.Fields.{number_at, i32_at, text_at, flag_at};
+ghost use Rattle.entry_codec.specs.Fields.{number_at, i32_at};
 
 use crate::EntryFault;
+use crate::reading::lists::Read;
 use base_types::{NoMemory, Text};
 use byte_fields::{FieldFault, take_text, take_u8, take_u16, take_u32, take_u64};
 use std::alloc::Global;
@@ -81,31 +82,105 @@ pub(crate) fn read_i32(from: &[u8], at: usize) -> Result<(i32, usize), EntryFaul
     Ok((bits.cast_signed(), next))
 }
 
+impl Read for u8 {
+    ghost use Rattle.entry_codec.specs.Fields.{u8_at};
+
+    ghost reader = { λ _. u8_at };
+
+    fn read(
+        _alloc: Global,
+        _second: bool,
+        from: &[u8],
+        at: usize,
+    ) -> Result<(u8, usize), EntryFault> {
+        read_u8(from, at)
+    }
+}
+
+impl Read for u16 {
+    ghost use Rattle.entry_codec.specs.Fields.{u16_at};
+
+    ghost reader = { λ _. u16_at };
+
+    fn read(
+        _alloc: Global,
+        _second: bool,
+        from: &[u8],
+        at: usize,
+    ) -> Result<(u16, usize), EntryFault> {
+        read_u16(from, at)
+    }
+}
+
+impl Read for u32 {
+    ghost use Rattle.entry_codec.specs.Fields.{u32_at};
+
+    ghost reader = { λ _. u32_at };
+
+    fn read(
+        _alloc: Global,
+        _second: bool,
+        from: &[u8],
+        at: usize,
+    ) -> Result<(u32, usize), EntryFault> {
+        read_u32(from, at)
+    }
+}
+
+impl Read for i32 {
+    ghost use Rattle.entry_codec.specs.Fields.{i32_at};
+
+    ghost reader = { λ _. i32_at };
+
+    fn read(
+        _alloc: Global,
+        _second: bool,
+        from: &[u8],
+        at: usize,
+    ) -> Result<(i32, usize), EntryFault> {
+        read_i32(from, at)
+    }
+}
+
 /// A text behind its length.
-#[tactic(auto, using(crate::proofs::ShortTexts::text_fields))]
-pub(crate) fn read_text(alloc: Global, from: &[u8], at: usize) -> Result<(Text, usize), EntryFault>
-    requires { IsPlace from.now at }
-    ensures reads { Gives result (text_at from.now at) }
-    ensures within { IfOk result (λ r. r.1 ≤ length from.now) }
-{
-    match take_text(alloc, from, at) {
-        Ok((text, next)) => Ok((text, next)),
-        Err(FieldFault::Short) => Err(EntryFault::Short(at as u32)),
-        Err(FieldFault::BadText) => Err(EntryFault::BadField(at as u32)),
-        Err(FieldFault::NoMemory) => Err(EntryFault::NoMemory),
+impl Read for Text {
+    ghost use Rattle.entry_codec.specs.Fields.{text_at};
+
+    ghost reader = { λ _. text_at };
+
+    #[tactic(auto, using(crate::proofs::ShortTexts::text_fields))]
+    fn read(
+        alloc: Global,
+        _second: bool,
+        from: &[u8],
+        at: usize,
+    ) -> Result<(Text, usize), EntryFault> {
+        match take_text(alloc, from, at) {
+            Ok((text, next)) => Ok((text, next)),
+            Err(FieldFault::Short) => Err(EntryFault::Short(at as u32)),
+            Err(FieldFault::BadText) => Err(EntryFault::BadField(at as u32)),
+            Err(FieldFault::NoMemory) => Err(EntryFault::NoMemory),
+        }
     }
 }
 
 /// A flag.
-#[tactic(auto, unfolding(crate::specs::Fields::choice_at))]
-pub(crate) fn read_flag(from: &[u8], at: usize) -> Result<(bool, usize), EntryFault>
-    requires { IsPlace from.now at }
-    ensures reads { Gives result (flag_at from.now at) }
-    ensures within { IfOk result (λ r. r.1 ≤ length from.now) }
-{
-    match read_u8(from, at)? {
-        (0, next) => Ok((false, next)),
-        (1, next) => Ok((true, next)),
-        _ => Err(EntryFault::BadField(at as u32)),
+impl Read for bool {
+    ghost use Rattle.entry_codec.specs.Fields.{flag_at};
+
+    ghost reader = { λ _. flag_at };
+
+    #[tactic(auto, unfolding(crate::specs::Fields::choice_at))]
+    fn read(
+        _alloc: Global,
+        _second: bool,
+        from: &[u8],
+        at: usize,
+    ) -> Result<(bool, usize), EntryFault> {
+        match read_u8(from, at)? {
+            (0, next) => Ok((false, next)),
+            (1, next) => Ok((true, next)),
+            _ => Err(EntryFault::BadField(at as u32)),
+        }
     }
 }

@@ -1,14 +1,14 @@
-//! Lists, options and what stands in them.
+//! Values by their types, and how they are put together: pairs, options and lists.
 ghost use Rattle.std.specs.Prelude.{◌≡◌, ◌≤◌, length, IfOk};
 ghost use Rattle.entry_codec.specs.Read.{Gives, IsPlace};
-ghost use Rattle.entry_codec.specs.Fields.{items_at, list_at, option_at, text_at, u16_at};
+ghost use Rattle.entry_codec.specs.Fields.{items_at};
 
 use crate::EntryFault;
-use crate::reading::fields::{read_text, read_u8, read_u16, read_u32};
-use base_types::{Items, StreamNo, Text};
+use crate::reading::fields::{read_u8, read_u32};
+use base_types::Items;
 use std::alloc::Global;
 
-/// A value that stands in lists.
+/// A value that is read by its type.
 pub(crate) trait Read: Sized + Drop {
     ghost use Rattle.std.specs.Prelude.{Bool};
     ghost use Rattle.entry_codec.specs.Read.{Reader};
@@ -28,36 +28,65 @@ pub(crate) trait Read: Sized + Drop {
         ensures within { IfOk result (λ r. r.1 ≤ length from.now) };
 }
 
-impl Read for StreamNo {
-    ghost use Rattle.entry_codec.specs.Fields.{u32_at};
+/// A value, and behind it another.
+impl<A: Read, B: Read> Read for (A, B) {
+    ghost use Rattle.entry_codec.specs.Read.{pair};
 
-    ghost reader = { λ _. u32_at };
+    ghost reader = { λ second. pair (A.reader second) (B.reader second) };
 
+    #[tactic(auto, unfolding(crate::specs::Read::chain, crate::specs::Read::pair))]
     fn read(
-        _alloc: Global,
-        _second: bool,
+        alloc: Global,
+        second: bool,
         from: &[u8],
         at: usize,
-    ) -> Result<(StreamNo, usize), EntryFault> {
-        let (number, next) = read_u32(from, at)?;
-        Ok((StreamNo(number), next))
+    ) -> Result<((A, B), usize), EntryFault> {
+        let (first, next) = A::read(alloc, second, from, at)?;
+        let (other, next) = B::read(alloc, second, from, next)?;
+        Ok(((first, other), next))
+    }
+}
+
+/// A flag, and after 1 the value.
+impl<T: Read> Read for Option<T> {
+    ghost use Rattle.entry_codec.specs.Fields.{option_at};
+
+    ghost reader = { λ second. option_at (T.reader second) };
+
+    #[tactic(auto, unfolding(crate::specs::Read::chain, crate::specs::Fields::choice_at))]
+    fn read(
+        alloc: Global,
+        second: bool,
+        from: &[u8],
+        at: usize,
+    ) -> Result<(Option<T>, usize), EntryFault> {
+        match read_u8(from, at)? {
+            (0, next) => Ok((None, next)),
+            (1, next) => {
+                let (value, next) = T::read(alloc, second, from, next)?;
+                Ok((Some(value), next))
+            }
+            _ => Err(EntryFault::BadField(at as u32)),
+        }
     }
 }
 
 /// A count and so many items. No room is made for items that are not there.
-#[tactic(auto, unfolding(crate::specs::Read::chain, crate::specs::Fields::list_at))]
-pub(crate) fn read_list<T: Read>(
-    alloc: Global,
-    second: bool,
-    from: &[u8],
-    at: usize,
-) -> Result<(Items<T>, usize), EntryFault>
-    requires { IsPlace from.now at }
-    ensures reads { Gives result (list_at (T.reader second) from.now at) }
-    ensures within { IfOk result (λ r. r.1 ≤ length from.now) }
-{
-    let (count, next) = read_u32(from, at)?;
-    read_items(alloc, second, count, from, next)
+impl<T: Read> Read for Items<T> {
+    ghost use Rattle.entry_codec.specs.Fields.{list_at};
+
+    ghost reader = { λ second. list_at (T.reader second) };
+
+    #[tactic(auto, unfolding(crate::specs::Read::chain, crate::specs::Fields::list_at))]
+    fn read(
+        alloc: Global,
+        second: bool,
+        from: &[u8],
+        at: usize,
+    ) -> Result<(Items<T>, usize), EntryFault> {
+        let (count, next) = read_u32(from, at)?;
+        read_items(alloc, second, count, from, next)
+    }
 }
 
 /// So many items.
@@ -80,42 +109,4 @@ fn read_items<T: Read>(
         next = after;
     }
     Ok((items, next))
-}
-
-/// A flag, and after 1 a limit.
-#[tactic(auto, unfolding(crate::specs::Read::chain, crate::specs::Fields::choice_at))]
-pub(crate) fn read_limit(from: &[u8], at: usize) -> Result<(Option<u16>, usize), EntryFault>
-    requires { IsPlace from.now at }
-    ensures reads { Gives result (option_at u16_at from.now at) }
-    ensures within { IfOk result (λ r. r.1 ≤ length from.now) }
-{
-    match read_u8(from, at)? {
-        (0, next) => Ok((None, next)),
-        (1, next) => {
-            let (limit, next) = read_u16(from, next)?;
-            Ok((Some(limit), next))
-        }
-        _ => Err(EntryFault::BadField(at as u32)),
-    }
-}
-
-/// A flag, and after 1 a name.
-#[tactic(auto, unfolding(crate::specs::Read::chain, crate::specs::Fields::choice_at))]
-pub(crate) fn read_job_name(
-    alloc: Global,
-    from: &[u8],
-    at: usize,
-) -> Result<(Option<Text>, usize), EntryFault>
-    requires { IsPlace from.now at }
-    ensures reads { Gives result (option_at text_at from.now at) }
-    ensures within { IfOk result (λ r. r.1 ≤ length from.now) }
-{
-    match read_u8(from, at)? {
-        (0, next) => Ok((None, next)),
-        (1, next) => {
-            let (name, next) = read_text(alloc, from, next)?;
-            Ok((Some(name), next))
-        }
-        _ => Err(EntryFault::BadField(at as u32)),
-    }
 }

@@ -13,8 +13,8 @@ loop-i-preserved c =
           (ap (λ k. has (drop k c.args.numbers.now) c.args.s) before ∙ c.loop-i.invariant.absent);
     }
 
-pub returns-clause-told : goal.returns-clause-told
-returns-clause-told c =
+pub returns-clause-last : goal.returns-clause-last
+returns-clause-last c =
     λ others.
     let here : c.args.from ≡ c.loop-i.i = omega arith in
     absent others c.args.s (drop c.args.from c.args.numbers.now)

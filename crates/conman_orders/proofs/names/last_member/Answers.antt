@@ -21,6 +21,6 @@ loop-doc-preserved-then-is_called c =
           c.loop-doc.invariant.found
           ∙ (ap
           (λ ns. option_or (last_that (has ns) (drop c.loop-doc.latest.next members)) c.loop-doc.latest.found) numbers
-          ∙ c.looked_for-latest.ensures.told
+          ∙ c.looked_for-latest.ensures.last
           (map (λ (d : StreamDoc). d.no) (filter (is_called c.args.w c.args.name.now) rest)));
     }

@@ -10,6 +10,6 @@ returns-in-Some c =
 
 pub returns-in-None : goal.returns-in-None
 returns-in-None c =
-    c.unfit.ensures
+    c.added_reason.ensures
     ∙ by_dep c.args.net.now (view_of c.args.o.now) c.args.me c.args.object.now c.args.dep.now
     (c.in-None.ensures c.args.net.now)

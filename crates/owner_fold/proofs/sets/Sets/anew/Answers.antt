@@ -7,6 +7,6 @@ returns c =
       begun = c.in_ok-begun.ensures streams are_streams;
       opened = c.in_ok-opened.ensures placed are_jobs;
       by_stream = c.in_ok-by_stream.ensures placed are_jobs;
-      timed_streams = c.in_ok-timed_streams.ensures ms streams are_members are_streams;
-      timed_jobs = c.in_ok-timed_jobs.ensures ms placed are_members are_jobs;
+      timed = c.in_ok-timed.ensures ms streams placed are_members are_streams are_jobs;
+      filed = c.in_ok-filed.ensures ms streams placed are_members are_streams are_jobs;
     }

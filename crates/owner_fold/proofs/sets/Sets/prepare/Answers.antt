@@ -1,6 +1,6 @@
 use Rattle.std.proofs.Common.{Err, Ok, Result, subst, sym, ◌∙◌}
 use Rattle.std.specs.Prelude.{OnOk}
-use Rattle.owner_fold.specs.Sets.{Begins, HasPlace}
+use Rattle.owner_fold.specs.Sets.{Begins, HasGiven, HasPlace}
 use Rattle.owner_fold.specs.declared.changes.Change.{Change}
 use Rattle.owner_fold.proofs.sets.Sets.prepare.Goals as goal
 
@@ -18,8 +18,8 @@ returns-then-begins-clause-begins c =
       begun = c.include.new.groups;
       opened = c.args.self.now.opened;
       by_stream = c.args.self.now.by_stream;
-      timed_streams = c.args.self.now.timed_streams;
-      timed_jobs = c.args.self.now.timed_jobs;
+      timed = c.args.self.now.timed;
+      filed = c.args.self.now.filed;
     })) (sym c.in-StreamChange.is)
     (λ begins numbers places i e. there i (c.place.ensures numbers places ∙ e)))
     c.include.ensures.there
@@ -34,42 +34,38 @@ returns-then-begins-2-clause-begins c =
       begun = c.args.self.now.begun;
       opened = c.include-then-begins-2.new.groups;
       by_stream = c.args.self.now.by_stream;
-      timed_streams = c.args.self.now.timed_streams;
-      timed_jobs = c.args.self.now.timed_jobs;
+      timed = c.args.self.now.timed;
+      filed = c.args.self.now.filed;
     })) (sym c.in-JobChange.is)
     (λ begins numbers places i e. there i (c.place-then-begins-2.ensures numbers places ∙ e)))
     c.include-then-begins-2.ensures.there
 
-pub returns-in-StreamTime-clause-begins : goal.returns-in-StreamTime-clause-begins
-returns-in-StreamTime-clause-begins c =
-    on_ok c.include-in-StreamTime.result
-    (λ (there : HasPlace c.in-StreamTime.w c.place-in-StreamTime.result c.include-in-StreamTime.new.groups).
-    subst
-    (λ (change : Change). Begins c.args.index.now change
+pub returns-in-TimeGiven-clause-begins : goal.returns-in-TimeGiven-clause-begins
+returns-in-TimeGiven-clause-begins c =
+    on_ok c.include-in-TimeGiven.result
+    (λ (there : HasGiven c.args.index.now c.in-TimeGiven.w c.in-TimeGiven.o c.include-in-TimeGiven.new.self).
+    subst (λ (change : Change). Begins c.args.index.now change
     (record {
       waiting = c.args.self.now.waiting;
       begun = c.args.self.now.begun;
       opened = c.args.self.now.opened;
       by_stream = c.args.self.now.by_stream;
-      timed_streams = c.include-in-StreamTime.new.groups;
-      timed_jobs = c.args.self.now.timed_jobs;
-    }))
-    (sym c.in-StreamTime.is) (λ numbers places i e. there i (c.place-in-StreamTime.ensures numbers places ∙ e)))
-    c.include-in-StreamTime.ensures.there
+      timed = c.include-in-TimeGiven.new.self;
+      filed = c.args.self.now.filed;
+    })) (sym c.in-TimeGiven.is) there)
+    c.include-in-TimeGiven.ensures.there
 
-pub returns-in-JobTime-clause-begins : goal.returns-in-JobTime-clause-begins
-returns-in-JobTime-clause-begins c =
-    on_ok c.include-in-JobTime.result
-    (λ (there : HasPlace c.in-JobTime.w c.place-in-JobTime.result c.include-in-JobTime.new.groups).
-    subst
-    (λ (change : Change). Begins c.args.index.now change
+pub returns-in-FileGiven-clause-begins : goal.returns-in-FileGiven-clause-begins
+returns-in-FileGiven-clause-begins c =
+    on_ok c.include-in-FileGiven.result
+    (λ (there : HasGiven c.args.index.now c.in-FileGiven.w c.in-FileGiven.o c.include-in-FileGiven.new.self).
+    subst (λ (change : Change). Begins c.args.index.now change
     (record {
       waiting = c.args.self.now.waiting;
       begun = c.args.self.now.begun;
       opened = c.args.self.now.opened;
       by_stream = c.args.self.now.by_stream;
-      timed_streams = c.args.self.now.timed_streams;
-      timed_jobs = c.include-in-JobTime.new.groups;
-    }))
-    (sym c.in-JobTime.is) (λ numbers places i e. there i (c.place-in-JobTime.ensures numbers places ∙ e)))
-    c.include-in-JobTime.ensures.there
+      timed = c.args.self.now.timed;
+      filed = c.include-in-FileGiven.new.self;
+    })) (sym c.in-FileGiven.is) there)
+    c.include-in-FileGiven.ensures.there

@@ -21,8 +21,8 @@ returns-in-Some c =
           h.begun;
       opened = h.opened;
       by_stream = h.by_stream;
-      timed_streams = h.timed_streams;
-      timed_jobs = h.timed_jobs;
+      timed = h.timed;
+      filed = h.filed;
     }
 
 pub returns-in-Some-place : goal.returns-in-Some-place
@@ -38,6 +38,6 @@ returns-in-Some-place c =
           ∙ c.in-Some-place.is) e)
           h.opened;
       by_stream = h.by_stream;
-      timed_streams = h.timed_streams;
-      timed_jobs = h.timed_jobs;
+      timed = h.timed;
+      filed = h.filed;
     }

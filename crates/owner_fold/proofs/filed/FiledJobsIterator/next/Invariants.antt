@@ -1,0 +1,14 @@
+use Rattle.std.proofs.Common.{◌≡◌, drop, filter, filter_map}
+use Rattle.model.specs.History.{view_of}
+use Rattle.model.specs.StepFaults.{is_outside}
+use Rattle.owner_fold.specs.Given.{is_given_job_here}
+use Rattle.owner_fold.specs.Sets.{job_coded}
+use Rattle.owner_fold.proofs.filed.FiledJobsIterator.next.Given as goal
+
+abbrev pub invariant-loop-i : goal.invariant-loop-i
+invariant-loop-i l =
+    (l.self ≡ l.initial.self)
+    × (filter (is_given_job_here is_outside (view_of l.self.owners.now) l.self.ws)
+    (filter_map (job_coded l.self.owners.now l.self.ws) l.codes)
+    ≡ filter (is_given_job_here is_outside (view_of l.self.owners.now) l.self.ws)
+    (filter_map (job_coded l.self.owners.now l.self.ws) (drop l.i l.codes)))

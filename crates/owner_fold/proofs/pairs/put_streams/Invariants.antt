@@ -1,0 +1,13 @@
+use Rattle.std.proofs.Common.{[], ◌++◌, ◌∷◌, flat_map, take}
+use Rattle.model.specs.History.{view_of}
+use Rattle.model.specs.Catalogue.{catalogue}
+use Rattle.model.specs.Dependencies.{dep_cites}
+use Rattle.owner_fold.specs.Pairs.{Grows, stream_pairs}
+use Rattle.owner_fold.proofs.pairs.put_streams.Given as goal
+
+abbrev pub invariant-loop-spot : goal.invariant-loop-spot
+invariant-loop-spot l =
+    Grows
+    (flat_map (stream_pairs (dep_cites (view_of (l.kept ++ l.e ∷ []))) l.kept)
+    (take l.spot-index (catalogue (view_of (l.kept ++ l.e ∷ [])))))
+    l.initial.pairs l.pairs

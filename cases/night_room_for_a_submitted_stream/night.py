@@ -8,7 +8,7 @@ res L TAPE 2
 prompt GO go on?
 prompt SHOWN :look
 $QUESTIONS
-M 2 newplan 1 cut - carried - fresh 1,2
+M 1 newplan 1 cut - carried - fresh 1,2
   stream 1 M S carry
   job 1 M A
     do "echo a"

@@ -10,7 +10,7 @@ ghost use Rattle.model.specs.OwnMembers.{has_begun, own_jobs, own_streams};
 ghost use Rattle.model.specs.StepFaults.{is_outside};
 ghost use Rattle.dependencies.specs.Left.{numbered};
 ghost use Rattle.dependencies.specs.Planned.{IsPlannedJob, IsPlannedStream};
-ghost use Rattle.owner_fold.specs.Spots.{stream_job};
+ghost use Rattle.owner_fold.specs.DocPlaces.{stream_job};
 ghost use Rattle.file_watch.specs.Circle.{soonest};
 ghost use Rattle.file_watch.specs.Probes as spec;
 ghost use Rattle.file_watch.specs.Walks.{due_of_job, due_of_stream, may_wait};

@@ -2,7 +2,7 @@ use Rattle.std.proofs.Common.{◌≡◌, false, rules, sym, true}
 use Rattle.std.specs.Prelude.{◌==◌}
 use Rattle.model.specs.Types.{Events, Job}
 use Rattle.model.specs.History.{view_of}
-use Rattle.owner_fold.specs.Spots.{stream_job}
+use Rattle.owner_fold.specs.DocPlaces.{stream_job}
 use Rattle.file_watch.specs.Walks.{may_wait}
 use Rattle.file_watch.proofs.Waits.{no_file_of_job}
 use Rattle.file_watch.proofs.probes.soonest_of_job.Goals as goal

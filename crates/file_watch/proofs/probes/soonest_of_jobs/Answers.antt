@@ -2,7 +2,7 @@ use Rattle.std.proofs.Common.{◌≡◌, ◌∙◌, ◌∷◌, List, Option, ap,
 use Rattle.std.specs.Prelude.{flat_map, map}
 use Rattle.model.specs.Types.{Job}
 use Rattle.model.specs.OwnMembers.{own_jobs}
-use Rattle.owner_fold.specs.Spots.{stream_job}
+use Rattle.owner_fold.specs.DocPlaces.{stream_job}
 use Rattle.dependencies.specs.Planned.{ArePlannedJobs}
 use Rattle.file_watch.specs.Probes.{due_at}
 use Rattle.file_watch.specs.Walks.{due_of_job}

@@ -1,7 +1,7 @@
 mod Order
 pub mod Soonest
-mod Members
 pub mod Waits
+mod Members
 mod Chosen
 pub mod Due
 pub mod Launches

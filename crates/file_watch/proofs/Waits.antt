@@ -1,22 +1,19 @@
 -- An object that was given no file waits for none.
-use Rattle.std.proofs.Common.{◌≡◌, ◌∙◌, ◌∷◌, ◌++◌, ◌+◌, [], ℕ, Bool, List, None, Option, ap, arith, cond, false, map, refl}
-use Rattle.std.proofs.Common.{length, suc, take, true, zero}
-use Rattle.std.proofs.lemmas.List.{append-nil}
+use Rattle.std.proofs.Common.{◌≡◌, ◌∙◌, ◌∷◌, ◌++◌, ◌+◌, [], ℕ, Bool, List, ap, cond, false, map, refl}
+use Rattle.std.proofs.Common.{suc, take, true, zero}
 use Rattle.std.specs.List.{list_any}
-use Rattle.std.specs.Prelude.{◌==◌, ◌||◌, filter, flat_map, nat_lt, not}
-use Rattle.model.specs.Types.{Body, Dep, Events, Job, Obj, Stream, StreamDoc}
+use Rattle.std.specs.Prelude.{◌||◌, filter, flat_map, not}
+use Rattle.model.specs.Types.{Body, Dep, Events, Obj}
 use Rattle.model.specs.History.{View}
-use Rattle.model.specs.Catalogue.{StreamJob}
 use Rattle.model.specs.Facts.{commands, is_cancelled}
 use Rattle.model.specs.Dependencies.{NumberedDep, deps, deps_added_by, document_deps, is_waived, numbered_deps}
 use Rattle.model.specs.Dependencies.{owner_events, unwaived_deps}
 use Rattle.model.specs.OwnMembers.{has_begun}
 use Rattle.model.specs.StepFaults.{is_outside}
-use Rattle.dependencies.specs.Planned.{IsPlannedJob, IsPlannedStream}
-use Rattle.dependencies.proofs.Timed.{job_given, stream_given}
-use Rattle.file_watch.specs.Circle.{Spot, soonest}
+use Rattle.owner_fold.specs.Given.{is_filed}
+use Rattle.owner_fold.proofs.Additions.{added_such, either_list}
+use Rattle.file_watch.specs.Circle.{Spot}
 use Rattle.file_watch.specs.Probes.{due_at, due_files, is_file_due}
-use Rattle.file_watch.specs.Walks.{due_of_job, due_of_stream, may_wait}
 
 or_left : (a b : Bool) → (a || b) ≡ false → a ≡ false
 or_left true b h = cc
@@ -52,55 +49,23 @@ none_due q events o n (d ∷ ds) h =
     go true e ih = rw e ih
     go false e ih = ih
 
-no_length : {X : Type 0} (xs : List X) → nat_lt 0 (length xs) ≡ false → xs ≡ []
-no_length [] h = refl
-no_length (x ∷ xs) h = absurd (contradicts h)
-  where
-    contradicts : nat_lt 0 (length (x ∷ xs)) ≡ false → ⊥
-    contradicts k = grind (arith, k)
-
 none_over : (over : Bool) (o : Obj) (due : List NumberedDep) → due ≡ []
     → map {B = Spot} (λ (p : NumberedDep). (o, p.number)) (cond over [] due) ≡ []
 none_over true o due e = refl
 none_over false o due e = ap (map {B = Spot} (λ (p : NumberedDep). (o, p.number))) e
 
 pub no_file : (V : View) (w : ℕ) (o : Obj) (written : List Dep) → document_deps V o ≡ written
-    → owner_events V o ≡ V (Events w) → may_wait o written (V (Events w)) ≡ false → due_at V w o ≡ []
+    → owner_events V o ≡ V (Events w) → is_filed o written (V (Events w)) ≡ false → due_at V w o ≡ []
 unfolding due_at due_files unwaived_deps deps
 no_file V w o written docs events h =
-    let added : List Dep = flat_map (deps_added_by o) (commands (owner_events V o)) in
-    let none_added : flat_map (deps_added_by o) (commands (V (Events w))) ≡ [] =
-    no_length (flat_map (deps_added_by o) (commands (V (Events w))))
-    (or_right (list_any is_outside written) (nat_lt 0 (length (flat_map (deps_added_by o) (commands (V (Events w)))))) h)
-    in
-    let nothing_added : added ≡ [] =
-    ap (λ (l : List Body). flat_map (deps_added_by o) (commands l)) events ∙ none_added
-    in
-    let all : document_deps V o ++ added ≡ written = (λ j. docs j ++ nothing_added j) ∙ append-nil written in
-    let none : list_any is_outside (document_deps V o ++ added) ≡ false =
-    ap (list_any is_outside) all
-    ∙ or_left (list_any is_outside written) (nat_lt 0 (length (flat_map (deps_added_by o) (commands (V (Events w)))))) h
+    let all : List Dep = document_deps V o ++ flat_map (deps_added_by o) (commands (owner_events V o)) in
+    let none : list_any is_outside all ≡ false =
+    either_list is_outside (document_deps V o) (flat_map (deps_added_by o) (commands (owner_events V o)))
+    ∙ (λ j. list_any is_outside (docs j)
+    || (ap (λ (l : List Body). list_any is_outside (flat_map (deps_added_by o) (commands l))) events
+    ∙ added_such is_outside o (commands (V (Events w)))) j)
+    ∙ h
     in
     none_over (is_cancelled o (V (Events w)) || has_begun (V (Events w)) o) o _
-    (none_due (λ (p : NumberedDep). not (is_waived V o p.number)) (V (Events w)) o 1
-    (take 65535 (document_deps V o ++ added)) (none_taken 65535 (document_deps V o ++ added) none))
-
-where_not : (b : Bool) (due : List Spot) → due ≡ [] → cond b due [] ≡ []
-where_not true due e = e
-where_not false due e = refl
-
--- a stream that was given no file
-pub no_file_of_stream : (V : View) (w : ℕ) (last : Option Spot) (d : StreamDoc) → IsPlannedStream V d
-    → (d.ws == w) ≡ true → may_wait (Stream d.no) d.deps (V (Events w)) ≡ false
-    → soonest last (due_of_stream V w d) ≡ None
-no_file_of_stream V w last d planned here h =
-    let given = stream_given V w d planned here in
-    ap (soonest last) (where_not _ (due_at V w (Stream d.no)) (no_file V w (Stream d.no) d.deps given.0 given.1 h))
-
--- a job that was given none
-pub no_file_of_job : (V : View) (w : ℕ) (last : Option Spot) (p : StreamJob) → IsPlannedJob V p
-    → (p.doc.ws == w) ≡ true → may_wait (Job p.doc.no) p.doc.deps (V (Events w)) ≡ false
-    → soonest last (due_of_job V w p) ≡ None
-no_file_of_job V w last p planned here h =
-    let given = job_given V w p planned here in
-    ap (soonest last) (where_not _ (due_at V w (Job p.doc.no)) (no_file V w (Job p.doc.no) p.doc.deps given.0 given.1 h))
+    (none_due (λ (p : NumberedDep). not (is_waived V o p.number)) (V (Events w)) o 1 (take 65535 all)
+    (none_taken 65535 all none))

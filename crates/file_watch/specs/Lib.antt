@@ -1,4 +1,3 @@
 pub mod Asked
 pub mod Circle
 pub mod Probes
-pub mod Walks

@@ -1,22 +1,18 @@
 //! The file that is looked for next.
-ghost use Rattle.std.specs.Prelude.{◌≡◌, ◌==◌, ◌&&◌, ◌||◌, Some, flat_map, map, true, false};
-ghost use Rattle.std.specs.List.{list_any};
+ghost use Rattle.std.specs.Prelude.{◌≡◌, ◌||◌, Some, flat_map, map};
 ghost use Rattle.std.specs.Option.{option_copied};
 ghost use Rattle.model.specs.Types.{Events, Job, Stream, StreamDoc as Doc};
 ghost use Rattle.model.specs.History.{view_of};
-ghost use Rattle.model.specs.Catalogue.{StreamJob, is_member};
+ghost use Rattle.model.specs.Catalogue.{StreamJob};
 ghost use Rattle.model.specs.Facts.{is_cancelled};
 ghost use Rattle.model.specs.OwnMembers.{has_begun, own_jobs, own_streams};
 ghost use Rattle.model.specs.StepFaults.{is_outside};
 ghost use Rattle.dependencies.specs.Left.{numbered};
-ghost use Rattle.dependencies.specs.Planned.{IsPlannedJob, IsPlannedStream};
-ghost use Rattle.owner_fold.specs.DocPlaces.{stream_job};
 ghost use Rattle.file_watch.specs.Circle.{soonest};
 ghost use Rattle.file_watch.specs.Probes as spec;
-ghost use Rattle.file_watch.specs.Walks.{due_of_job, due_of_stream, may_wait};
 
 use crate::circle::sooner_of;
-use base_types::{Dep, JobDoc, Obj, StreamDoc, Text, Ws};
+use base_types::{Dep, Obj, Text, Ws};
 use dependencies::unwaived_deps;
 use network_tree::Network;
 use owner_fold::Owners;
@@ -56,8 +52,8 @@ fn soonest_of_streams(o: &Owners, w: Ws, last: &Option<(Obj, u16)>) -> Option<(O
         result ≡ soonest last.now (flat_map (spec.due_at V w) (map (λ (d : Doc). Stream d.no) (own_streams V w))) }
 {
     let mut so_far = None;
-    for doc in o.streams() {
-        let found = soonest_of_stream(o, w, last, doc);
+    for doc in o.filed_streams(w) {
+        let found = soonest_at(o, w, last, &Obj::Stream(doc.no));
         so_far = sooner_of(last, &so_far, &found);
     }
     so_far
@@ -69,75 +65,11 @@ fn soonest_of_jobs(o: &Owners, w: Ws, last: &Option<(Obj, u16)>) -> Option<(Obj,
         result ≡ soonest last.now (flat_map (spec.due_at V w) (map (λ (p : StreamJob). Job p.doc.no) (own_jobs V w))) }
 {
     let mut so_far = None;
-    for (parent, doc) in o.jobs() {
-        let found = soonest_of_job(o, w, last, parent, doc);
+    for (_parent, doc) in o.filed_jobs(w) {
+        let found = soonest_at(o, w, last, &Obj::Job(doc.no));
         so_far = sooner_of(last, &so_far, &found);
     }
     so_far
-}
-
-/// The soonest due dependency of a stream, where it is an own member of w.
-#[tactic(auto, using(crate::proofs::Waits::no_file_of_stream))]
-fn soonest_of_stream(
-    o: &Owners,
-    w: Ws,
-    last: &Option<(Obj, u16)>,
-    doc: &StreamDoc,
-) -> Option<(Obj, u16)>
-    requires { IsPlannedStream (view_of o.now) doc.now }
-    ensures { result ≡ soonest last.now (due_of_stream (view_of o.now) w doc.now) }
-{
-    if doc.ws != w {
-        return None;
-    }
-    let object = Obj::Stream(doc.no);
-    if !may_wait(o, w, &object, doc.deps.as_slice()) {
-        return None;
-    }
-    if !o.is_member(doc.no) {
-        return None;
-    }
-    soonest_at(o, w, last, &object)
-}
-
-/// The soonest due dependency of a job, where it is an own member's of w.
-#[tactic(auto, using(crate::proofs::Waits::no_file_of_job))]
-fn soonest_of_job(
-    o: &Owners,
-    w: Ws,
-    last: &Option<(Obj, u16)>,
-    parent: &StreamDoc,
-    doc: &JobDoc,
-) -> Option<(Obj, u16)>
-    requires { IsPlannedJob (view_of o.now) (stream_job parent.now doc.now) }
-    ensures { result ≡ soonest last.now (due_of_job (view_of o.now) w (stream_job parent.now doc.now)) }
-{
-    if doc.ws != w {
-        return None;
-    }
-    let object = Obj::Job(doc.no);
-    if !may_wait(o, w, &object, doc.deps.as_slice()) {
-        return None;
-    }
-    if !o.is_member(parent.no) {
-        return None;
-    }
-    soonest_at(o, w, last, &object)
-}
-
-/// Whether an object was written with a file to wait for, or commands of w added any dependency: where not, it waits
-/// for no file.
-fn may_wait(o: &Owners, w: Ws, object: &Obj, written: &[Dep]) -> bool
-    ensures { result ≡ may_wait object.now written.now (view_of o.now (Events w)) }
-{
-    has_file(written) || o.kept().added_at(w, object) > 0
-}
-
-/// Whether one of these dependencies waits for a file.
-fn has_file(written: &[Dep]) -> bool
-    ensures { result ≡ list_any is_outside written.now }
-{
-    written.iter().any(|dep| waits_for_file(dep))
 }
 
 /// Whether a dependency waits for a file.

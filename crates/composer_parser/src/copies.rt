@@ -46,8 +46,8 @@ impl Copied for CalendarDef {
     fn copy(&self) -> Result<CalendarDef, NoMemory> {
         Ok(CalendarDef {
             name: self.name.copy()?,
-            text: self.text.copy()?,
             days: self.days.copy()?,
+            text: self.text.copy()?,
         })
     }
 }
@@ -118,9 +118,9 @@ impl Copied for OnDef {
 impl Copied for Pred {
     fn copy(&self) -> Result<Pred, NoMemory> {
         Ok(Pred {
-            ws: self.ws.copy()?,
             name: self.name.copy()?,
             part: self.part.copy()?,
+            ws: self.ws.copy()?,
         })
     }
 }
@@ -129,8 +129,8 @@ impl Copied for Need {
     fn copy(&self) -> Result<Need, NoMemory> {
         Ok(Need {
             units: self.units,
-            ws: self.ws.copy()?,
             name: self.name.copy()?,
+            ws: self.ws.copy()?,
         })
     }
 }

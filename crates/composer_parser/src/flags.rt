@@ -5,7 +5,7 @@ ghost use Rattle.composer_parser.specs.Stations as spec;
 ghost use Rattle.composer_parser.specs.Stations.{no_flags, after_flag, may_flag};
 ghost use Rattle.composer_parser.specs.Tokens.{all_spelled, Gives};
 
-use crate::parts::{is_next, key};
+use crate::parts::{is_keyword, is_next};
 use crate::stops::{Stop, Why};
 use base_types::Token;
 
@@ -84,47 +84,55 @@ impl CpuFlags {
 fn on_or_off<'a>(text: &str, rest: &'a [Token]) -> Result<(bool, &'a [Token]), Stop>
     ensures { Gives (λ x. x.0) (λ x. x.1.now) text.now result (read spec.on_or_off (all_spelled text.now rest.now)) }
 {
-    if is_next(text, rest, "ON") {
-        let (_, rest) = key(text, rest, "ON")?;
-        return Ok((true, rest));
+    let [token, behind @ ..] = rest else {
+        return Err(Stop::Here(Why::NotExpected, 0));
+    };
+    if is_keyword(text, token, "ON") {
+        return Ok((true, behind));
     }
-    let (_, rest) = key(text, rest, "OFF")?;
-    Ok((false, rest))
+    if is_keyword(text, token, "OFF") {
+        return Ok((false, behind));
+    }
+    Err(Stop::Here(Why::NotExpected, rest.len()))
 }
 
 #[tactic(auto, unfolding(crate::specs::Stations::flag))]
 fn flag<'a>(text: &str, rest: &'a [Token]) -> Result<(CpuFlag, &'a [Token]), Stop>
     ensures { Gives (λ x. x.0) (λ x. x.1.now) text.now result (read spec.flag (all_spelled text.now rest.now)) }
 {
-    if is_next(text, rest, "AUTOLINK") {
-        let (_, rest) = key(text, rest, "AUTOLINK")?;
-        let (on, rest) = on_or_off(text, rest)?;
+    let [token, behind @ ..] = rest else {
+        return Err(Stop::Here(Why::NotExpected, 0));
+    };
+    if is_keyword(text, token, "AUTOLINK") {
+        let (on, rest) = on_or_off(text, behind)?;
         return Ok((CpuFlag::AutoLink(on), rest));
     }
-    if is_next(text, rest, "BEHINDFIREWALL") {
-        let (_, rest) = key(text, rest, "BEHINDFIREWALL")?;
-        let rest = firewall_off(text, rest)?;
+    if is_keyword(text, token, "BEHINDFIREWALL") {
+        let rest = firewall_off(text, behind)?;
         return Ok((CpuFlag::BehindFirewall, rest));
     }
-    if is_next(text, rest, "RESOLVEDEP") {
-        let (_, rest) = key(text, rest, "RESOLVEDEP")?;
-        let (_, rest) = on_or_off(text, rest)?;
+    if is_keyword(text, token, "RESOLVEDEP") {
+        let (_, rest) = on_or_off(text, behind)?;
         return Ok((CpuFlag::ResolveDep, rest));
     }
-    let (_, rest) = key(text, rest, "FULLSTATUS")?;
-    let (on, rest) = on_or_off(text, rest)?;
-    Ok((CpuFlag::FullStatus(on), rest))
+    if is_keyword(text, token, "FULLSTATUS") {
+        let (on, rest) = on_or_off(text, behind)?;
+        return Ok((CpuFlag::FullStatus(on), rest));
+    }
+    Err(Stop::Here(Why::NotExpected, rest.len()))
 }
 
 #[tactic(auto, unfolding(crate::specs::Stations::firewall_off))]
 fn firewall_off<'a>(text: &str, rest: &'a [Token]) -> Result<&'a [Token], Stop>
     ensures { Gives (λ x. tt) (λ x. x.now) text.now result (read spec.firewall_off (all_spelled text.now rest.now)) }
 {
-    if is_next(text, rest, "OFF") {
-        let (_, rest) = key(text, rest, "OFF")?;
-        return Ok(rest);
+    let [token, behind @ ..] = rest else {
+        return Err(Stop::Here(Why::NotExpected, 0));
+    };
+    if is_keyword(text, token, "OFF") {
+        return Ok(behind);
     }
-    if is_next(text, rest, "ON") {
+    if is_keyword(text, token, "ON") {
         return Err(Stop::Here(Why::IsLeftOut, rest.len()));
     }
     Err(Stop::Here(Why::NotExpected, rest.len()))

@@ -10,7 +10,7 @@ ghost use Rattle.composer_parser.specs.Reading.{begins, turns};
 
 use crate::batches::room_for_one;
 use crate::moments::{date_value, is_date_next, is_offset_next, signed};
-use crate::parts::{is_mark_next, is_next, is_word_of, key, mark, name_word, quoted_value};
+use crate::parts::{is_keyword, is_mark_next, is_next, is_word_of, mark, name_word, quoted_value};
 use crate::places::is_name_next;
 use crate::rules::{is_foreign_rule, is_rule};
 use crate::schedules::{Offset, OffsetUnit, OnItem};
@@ -25,16 +25,19 @@ const WEEKDAYS: [&str; 7] = ["MO", "TU", "WE", "TH", "FR", "SA", "SU"];
 fn offset_unit<'a>(text: &str, rest: &'a [Token]) -> Result<(OffsetUnit, &'a [Token]), Stop>
     ensures { Gives (λ x. x.0) (λ x. x.1.now) text.now result (read spec.offset_unit (all_spelled text.now rest.now)) }
 {
-    if is_next(text, rest, "DAYS") {
-        let (_, rest) = key(text, rest, "DAYS")?;
-        return Ok((OffsetUnit::Days, rest));
+    let [token, behind @ ..] = rest else {
+        return Err(Stop::Here(Why::NotExpected, 0));
+    };
+    if is_keyword(text, token, "DAYS") {
+        return Ok((OffsetUnit::Days, behind));
     }
-    if is_next(text, rest, "WEEKDAYS") {
-        let (_, rest) = key(text, rest, "WEEKDAYS")?;
-        return Ok((OffsetUnit::Weekdays, rest));
+    if is_keyword(text, token, "WEEKDAYS") {
+        return Ok((OffsetUnit::Weekdays, behind));
     }
-    let (_, rest) = key(text, rest, "WORKDAYS")?;
-    Ok((OffsetUnit::Workdays, rest))
+    if is_keyword(text, token, "WORKDAYS") {
+        return Ok((OffsetUnit::Workdays, behind));
+    }
+    Err(Stop::Here(Why::NotExpected, rest.len()))
 }
 
 #[tactic(auto, unfolding(crate::specs::Schedules::offset))]
@@ -68,56 +71,56 @@ fn calendar_item<'a>(
 fn weekday<'a>(text: &str, rest: &'a [Token]) -> Result<(OnItem, &'a [Token]), Stop>
     ensures { Gives (λ x. x.0) (λ x. x.1.now) text.now result (read spec.weekday (all_spelled text.now rest.now)) }
 {
-    if is_next(text, rest, "MO") {
-        let (_, rest) = key(text, rest, "MO")?;
-        return Ok((OnItem::Weekday(0), rest));
+    let [token, behind @ ..] = rest else {
+        return Err(Stop::Here(Why::NotExpected, 0));
+    };
+    if is_keyword(text, token, "MO") {
+        return Ok((OnItem::Weekday(0), behind));
     }
-    if is_next(text, rest, "TU") {
-        let (_, rest) = key(text, rest, "TU")?;
-        return Ok((OnItem::Weekday(1), rest));
+    if is_keyword(text, token, "TU") {
+        return Ok((OnItem::Weekday(1), behind));
     }
-    if is_next(text, rest, "WE") {
-        let (_, rest) = key(text, rest, "WE")?;
-        return Ok((OnItem::Weekday(2), rest));
+    if is_keyword(text, token, "WE") {
+        return Ok((OnItem::Weekday(2), behind));
     }
-    if is_next(text, rest, "TH") {
-        let (_, rest) = key(text, rest, "TH")?;
-        return Ok((OnItem::Weekday(3), rest));
+    if is_keyword(text, token, "TH") {
+        return Ok((OnItem::Weekday(3), behind));
     }
-    if is_next(text, rest, "FR") {
-        let (_, rest) = key(text, rest, "FR")?;
-        return Ok((OnItem::Weekday(4), rest));
+    if is_keyword(text, token, "FR") {
+        return Ok((OnItem::Weekday(4), behind));
     }
-    if is_next(text, rest, "SA") {
-        let (_, rest) = key(text, rest, "SA")?;
-        return Ok((OnItem::Weekday(5), rest));
+    if is_keyword(text, token, "SA") {
+        return Ok((OnItem::Weekday(5), behind));
     }
-    let (_, rest) = key(text, rest, "SU")?;
-    Ok((OnItem::Weekday(6), rest))
+    if is_keyword(text, token, "SU") {
+        return Ok((OnItem::Weekday(6), behind));
+    }
+    Err(Stop::Here(Why::NotExpected, rest.len()))
 }
 
 #[tactic(auto, unfolding(crate::specs::Schedules::days))]
 fn days<'a>(text: &str, rest: &'a [Token]) -> Result<(OnItem, &'a [Token]), Stop>
     ensures { Gives (λ x. x.0) (λ x. x.1.now) text.now result (read spec.days (all_spelled text.now rest.now)) }
 {
-    if is_next(text, rest, "EVERYDAY") {
-        let (_, rest) = key(text, rest, "EVERYDAY")?;
-        return Ok((OnItem::EveryDay, rest));
+    let [token, behind @ ..] = rest else {
+        return Err(Stop::Here(Why::NotExpected, 0));
+    };
+    if is_keyword(text, token, "EVERYDAY") {
+        return Ok((OnItem::EveryDay, behind));
     }
-    if is_next(text, rest, "WEEKDAYS") {
-        let (_, rest) = key(text, rest, "WEEKDAYS")?;
-        return Ok((OnItem::Weekdays, rest));
+    if is_keyword(text, token, "WEEKDAYS") {
+        return Ok((OnItem::Weekdays, behind));
     }
-    if is_next(text, rest, "WORKDAYS") {
-        let (_, rest) = key(text, rest, "WORKDAYS")?;
-        return Ok((OnItem::Workdays, rest));
+    if is_keyword(text, token, "WORKDAYS") {
+        return Ok((OnItem::Workdays, behind));
     }
-    if is_next(text, rest, "FREEDAYS") {
-        let (_, rest) = key(text, rest, "FREEDAYS")?;
-        return Ok((OnItem::FreeDays, rest));
+    if is_keyword(text, token, "FREEDAYS") {
+        return Ok((OnItem::FreeDays, behind));
     }
-    let (_, rest) = key(text, rest, "REQUEST")?;
-    Ok((OnItem::Request, rest))
+    if is_keyword(text, token, "REQUEST") {
+        return Ok((OnItem::Request, behind));
+    }
+    Err(Stop::Here(Why::NotExpected, rest.len()))
 }
 
 /// Whether the next token is a day of the week.

@@ -10,7 +10,7 @@ ghost use Rattle.composer_parser.specs.declared.schedules.OnDef.{OnDef as On};
 use crate::definitions::Lined;
 use crate::items::items;
 use crate::moments::date_value;
-use crate::parts::{description, is_mark_next, is_next, key, name_word};
+use crate::parts::{description, is_keyword, is_mark_next, is_next, key, name_word};
 use crate::schedules::{CycleDef, OnDef, Shift};
 use crate::stops::{Stop, Why};
 use base_types::{Items, Text, Token};
@@ -20,24 +20,26 @@ use std::alloc::Global;
 fn valid_from<'a>(text: &str, rest: &'a [Token]) -> Result<(Option<u32>, &'a [Token]), Stop>
     ensures { Gives (λ x. x.0) (λ x. x.1.now) text.now result (read spec.valid_from (all_spelled text.now rest.now)) }
 {
-    if is_next(text, rest, "VALIDFROM") {
-        let (_, rest) = key(text, rest, "VALIDFROM")?;
-        let (day, rest) = date_value(text, rest)?;
-        return Ok((Some(day), rest));
+    match rest {
+        [token, behind @ ..] if is_keyword(text, token, "VALIDFROM") => {
+            let (day, rest) = date_value(text, behind)?;
+            Ok((Some(day), rest))
+        }
+        _ => Ok((None, rest)),
     }
-    Ok((None, rest))
 }
 
 #[tactic(auto, unfolding(crate::specs::Schedules::valid_to))]
 fn valid_to<'a>(text: &str, rest: &'a [Token]) -> Result<(Option<u32>, &'a [Token]), Stop>
     ensures { Gives (λ x. x.0) (λ x. x.1.now) text.now result (read spec.valid_to (all_spelled text.now rest.now)) }
 {
-    if is_next(text, rest, "VALIDTO") {
-        let (_, rest) = key(text, rest, "VALIDTO")?;
-        let (day, rest) = date_value(text, rest)?;
-        return Ok((Some(day), rest));
+    match rest {
+        [token, behind @ ..] if is_keyword(text, token, "VALIDTO") => {
+            let (day, rest) = date_value(text, behind)?;
+            Ok((Some(day), rest))
+        }
+        _ => Ok((None, rest)),
     }
-    Ok((None, rest))
 }
 
 /// A run cycle, if one is named.
@@ -65,17 +67,17 @@ fn cycle<'a>(
 fn shift<'a>(text: &str, rest: &'a [Token]) -> Result<(Option<Shift>, &'a [Token]), Stop>
     ensures { Gives (λ x. x.0) (λ x. x.1.now) text.now result (read spec.shift (all_spelled text.now rest.now)) }
 {
-    if is_next(text, rest, "FDIGNORE") {
-        let (_, rest) = key(text, rest, "FDIGNORE")?;
-        return Ok((Some(Shift::Ignore), rest));
+    let [token, behind @ ..] = rest else {
+        return Ok((None, rest));
+    };
+    if is_keyword(text, token, "FDIGNORE") {
+        return Ok((Some(Shift::Ignore), behind));
     }
-    if is_next(text, rest, "FDNEXT") {
-        let (_, rest) = key(text, rest, "FDNEXT")?;
-        return Ok((Some(Shift::Next), rest));
+    if is_keyword(text, token, "FDNEXT") {
+        return Ok((Some(Shift::Next), behind));
     }
-    if is_next(text, rest, "FDPREV") {
-        let (_, rest) = key(text, rest, "FDPREV")?;
-        return Ok((Some(Shift::Prev), rest));
+    if is_keyword(text, token, "FDPREV") {
+        return Ok((Some(Shift::Prev), behind));
     }
     Ok((None, rest))
 }
@@ -96,12 +98,16 @@ fn no_times<'a>(text: &str, rest: &'a [Token]) -> Result<&'a [Token], Stop>
 fn on_key<'a>(text: &str, rest: &'a [Token]) -> Result<((bool, u32), &'a [Token]), Stop>
     ensures { Gives (λ x. x.0) (λ x. x.1.now) text.now result (read spec.on_key (all_spelled text.now rest.now)) }
 {
-    if is_next(text, rest, "ON") {
-        let (line, rest) = key(text, rest, "ON")?;
-        return Ok(((false, line), rest));
+    let [token, behind @ ..] = rest else {
+        return Err(Stop::Here(Why::NotExpected, 0));
+    };
+    if is_keyword(text, token, "ON") {
+        return Ok(((false, token.line), behind));
     }
-    let (line, rest) = key(text, rest, "EXCEPT")?;
-    Ok(((true, line), rest))
+    if is_keyword(text, token, "EXCEPT") {
+        return Ok(((true, token.line), behind));
+    }
+    Err(Stop::Here(Why::NotExpected, rest.len()))
 }
 
 /// An ON or an EXCEPT.

@@ -6,8 +6,8 @@ ghost use Rattle.composer_parser.specs.Tokens.{all_spelled, Gives};
 
 use crate::definitions::Lined;
 use crate::moments::time;
-use crate::parts::{is_next, key, text_value};
-use crate::stops::Stop;
+use crate::parts::{is_keyword, is_next, key, text_value};
+use crate::stops::{Stop, Why};
 use base_types::{Carry, Text, Token};
 use std::alloc::Global;
 
@@ -26,12 +26,14 @@ fn start_of_day<'a>(
 ) -> Result<(Option<Lined<u16>>, &'a [Token]), Stop>
     ensures { Gives (λ x. x.0) (λ x. x.1.now) text.now result (read spec.start_of_day (all_spelled text.now rest.now)) }
 {
-    if is_next(text, rest, "STARTOFDAY") {
-        let (line, rest) = key(text, rest, "STARTOFDAY")?;
-        let (item, rest) = time(text, rest)?;
-        return Ok((Some(Lined { line, item }), rest));
+    match rest {
+        [token, behind @ ..] if is_keyword(text, token, "STARTOFDAY") => {
+            let (item, rest) = time(text, behind)?;
+            let line = token.line;
+            Ok((Some(Lined { line, item }), rest))
+        }
+        _ => Ok((None, rest)),
     }
-    Ok((None, rest))
 }
 
 #[tactic(auto, unfolding(crate::specs::Composer::time_zone))]
@@ -42,28 +44,33 @@ fn time_zone<'a>(
 ) -> Result<(Option<Lined<Text>>, &'a [Token]), Stop>
     ensures { Gives (λ x. x.0) (λ x. x.1.now) text.now result (read spec.time_zone (all_spelled text.now rest.now)) }
 {
-    if is_next(text, rest, "TIMEZONE") {
-        let (line, rest) = key(text, rest, "TIMEZONE")?;
-        let (item, rest) = text_value(alloc, text, rest)?;
-        return Ok((Some(Lined { line, item }), rest));
+    match rest {
+        [token, behind @ ..] if is_keyword(text, token, "TIMEZONE") => {
+            let (item, rest) = text_value(alloc, text, behind)?;
+            let line = token.line;
+            Ok((Some(Lined { line, item }), rest))
+        }
+        _ => Ok((None, rest)),
     }
-    Ok((None, rest))
 }
 
 #[tactic(auto, unfolding(crate::specs::Composer::carry_word))]
 fn carry_word<'a>(text: &str, rest: &'a [Token]) -> Result<(Carry, &'a [Token]), Stop>
     ensures { Gives (λ x. x.0) (λ x. x.1.now) text.now result (read spec.carry_word (all_spelled text.now rest.now)) }
 {
-    if is_next(text, rest, "YES") {
-        let (_, rest) = key(text, rest, "YES")?;
-        return Ok((Carry::Yes, rest));
+    let [token, behind @ ..] = rest else {
+        return Err(Stop::Here(Why::NotExpected, 0));
+    };
+    if is_keyword(text, token, "YES") {
+        return Ok((Carry::Yes, behind));
     }
-    if is_next(text, rest, "NO") {
-        let (_, rest) = key(text, rest, "NO")?;
-        return Ok((Carry::No, rest));
+    if is_keyword(text, token, "NO") {
+        return Ok((Carry::No, behind));
     }
-    let (_, rest) = key(text, rest, "ALL")?;
-    Ok((Carry::All, rest))
+    if is_keyword(text, token, "ALL") {
+        return Ok((Carry::All, behind));
+    }
+    Err(Stop::Here(Why::NotExpected, rest.len()))
 }
 
 #[tactic(auto, unfolding(crate::specs::Composer::carry_forward))]
@@ -73,12 +80,14 @@ fn carry_forward<'a>(
 ) -> Result<(Option<Lined<Carry>>, &'a [Token]), Stop>
     ensures { Gives (λ x. x.0) (λ x. x.1.now) text.now result (read spec.carry_forward (all_spelled text.now rest.now)) }
 {
-    if is_next(text, rest, "ENCARRYFORWARD") {
-        let (line, rest) = key(text, rest, "ENCARRYFORWARD")?;
-        let (item, rest) = carry_word(text, rest)?;
-        return Ok((Some(Lined { line, item }), rest));
+    match rest {
+        [token, behind @ ..] if is_keyword(text, token, "ENCARRYFORWARD") => {
+            let (item, rest) = carry_word(text, behind)?;
+            let line = token.line;
+            Ok((Some(Lined { line, item }), rest))
+        }
+        _ => Ok((None, rest)),
     }
-    Ok((None, rest))
 }
 
 /// The options, none where the text does not begin with them.

@@ -8,7 +8,7 @@ ghost use Rattle.composer_parser.specs.Tokens.{all_spelled, Gives};
 use crate::definitions::{CpuDef, DomainDef, Lined};
 use crate::flags::{CpuFlags, flags};
 use crate::parts::{
-    description, is_any_word, is_next, key, name, name_word, number, upper_word, value,
+    description, is_any_word, is_keyword, key, name, name_word, number, upper_word, value,
 };
 use crate::stops::{Stop, Why};
 use base_types::{NoMemory, Text, Token};
@@ -18,13 +18,14 @@ use std::alloc::Global;
 fn cpu_type<'a>(text: &str, rest: &'a [Token]) -> Result<(bool, &'a [Token]), Stop>
     ensures { Gives (λ x. x.0) (λ x. x.1.now) text.now result (read spec.cpu_type (all_spelled text.now rest.now)) }
 {
-    if is_next(text, rest, "MANAGER") {
-        let (_, rest) = key(text, rest, "MANAGER")?;
-        return Ok((true, rest));
+    let [token, behind @ ..] = rest else {
+        return Err(Stop::Here(Why::NotExpected, 0));
+    };
+    if is_keyword(text, token, "MANAGER") {
+        return Ok((true, behind));
     }
-    if is_next(text, rest, "FTA") {
-        let (_, rest) = key(text, rest, "FTA")?;
-        return Ok((false, rest));
+    if is_keyword(text, token, "FTA") {
+        return Ok((false, behind));
     }
     if is_any_word(text, rest) {
         return Err(Stop::Here(Why::IsLeftOut, rest.len()));
@@ -36,12 +37,13 @@ fn cpu_type<'a>(text: &str, rest: &'a [Token]) -> Result<(bool, &'a [Token]), St
 fn port<'a>(text: &str, rest: &'a [Token]) -> Result<(Option<u32>, &'a [Token]), Stop>
     ensures { Gives (λ x. x.0) (λ x. x.1.now) text.now result (read spec.port (all_spelled text.now rest.now)) }
 {
-    if is_next(text, rest, "TCPADDR") {
-        let (_, rest) = key(text, rest, "TCPADDR")?;
-        let (port, rest) = number(text, rest)?;
-        return Ok((Some(port), rest));
+    match rest {
+        [token, behind @ ..] if is_keyword(text, token, "TCPADDR") => {
+            let (port, rest) = number(text, behind)?;
+            Ok((Some(port), rest))
+        }
+        _ => Ok((None, rest)),
     }
-    Ok((None, rest))
 }
 
 /// The machine of a workstation.
@@ -136,11 +138,10 @@ pub(crate) fn cpu<'a>(
 fn star<'a>(text: &str, rest: &'a [Token]) -> Result<&'a [Token], Stop>
     ensures { Gives (λ x. tt) (λ x. x.now) text.now result (read spec.star (all_spelled text.now rest.now)) }
 {
-    if is_next(text, rest, "*") {
-        let (_, rest) = key(text, rest, "*")?;
-        return Ok(rest);
+    match rest {
+        [token, behind @ ..] if is_keyword(text, token, "*") => Ok(behind),
+        _ => Ok(rest),
     }
-    Ok(rest)
 }
 
 /// The domain above, or that there is none.
@@ -152,13 +153,17 @@ fn parent<'a>(
 ) -> Result<(Option<Text>, &'a [Token]), Stop>
     ensures { Gives (λ x. x.0) (λ x. x.1.now) text.now result (read spec.parent (all_spelled text.now rest.now)) }
 {
-    if is_next(text, rest, "PARENT") {
-        let (_, rest) = key(text, rest, "PARENT")?;
-        let (above, rest) = name(alloc, text, rest)?;
+    let [token, behind @ ..] = rest else {
+        return Err(Stop::Here(Why::NotExpected, 0));
+    };
+    if is_keyword(text, token, "PARENT") {
+        let (above, rest) = name(alloc, text, behind)?;
         return Ok((Some(above), rest));
     }
-    let (_, rest) = key(text, rest, "ISMASTER")?;
-    Ok((None, rest))
+    if is_keyword(text, token, "ISMASTER") {
+        return Ok((None, behind));
+    }
+    Err(Stop::Here(Why::NotExpected, rest.len()))
 }
 
 /// The domain of these names.

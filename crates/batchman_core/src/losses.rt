@@ -7,7 +7,7 @@ ghost use Rattle.model.specs.History.{view_of};
 ghost use Rattle.model.specs.Catalogue.{owner};
 ghost use Rattle.model.specs.Facts.{open_launch};
 ghost use Rattle.model.specs.Turn as spec;
-ghost use Rattle.owner_fold.specs.Spots.{stream_job};
+ghost use Rattle.owner_fold.specs.DocPlaces.{stream_job};
 ghost use Rattle.dependencies.specs.Planned.{IsPlannedJob};
 
 use crate::lowest::lower;

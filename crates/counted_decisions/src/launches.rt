@@ -6,7 +6,7 @@ ghost use Rattle.model.specs.Catalogue as catalogue;
 ghost use Rattle.model.specs.Facts as facts;
 ghost use Rattle.model.specs.Readiness as spec;
 ghost use Rattle.dependencies.specs.Planned.{IsPlannedJob};
-ghost use Rattle.owner_fold.specs.Spots.{stream_job};
+ghost use Rattle.owner_fold.specs.DocPlaces.{stream_job};
 ghost use Rattle.counted_decisions.specs.Sights.{CountsAllOf, IsSight, seen_in};
 
 use crate::limits::{is_within_limit, is_within_workstation_limit};

@@ -3,7 +3,7 @@ ghost use Rattle.std.specs.Prelude.{◌≡◌};
 ghost use Rattle.model.specs.Dependencies as spec;
 ghost use Rattle.model.specs.OwnMembers as own;
 ghost use Rattle.counted_decisions.specs.Sights.{IsSight, seen_in};
-ghost use Rattle.owner_fold.specs.Spots.{stream_job};
+ghost use Rattle.owner_fold.specs.DocPlaces.{stream_job};
 
 use crate::sights::{Sight, is_cancelled, is_done, is_ended, planned_job, stream};
 use base_types::{JobDoc, JobNo, StreamDoc, StreamNo};

@@ -10,7 +10,7 @@ ghost use Rattle.model.specs.Words.{is_yes};
 ghost use Rattle.counted_facts.specs.Facts as spec;
 ghost use Rattle.counted_facts.specs.Subjects.{brings};
 ghost use Rattle.counted_decisions.specs.Sights.{IsSight, seen_in};
-ghost use Rattle.owner_fold.specs.Spots.{stream_job};
+ghost use Rattle.owner_fold.specs.DocPlaces.{stream_job};
 
 use base_types::{JobDoc, JobNo, Seen, StreamDoc, StreamNo, Ws};
 use counted_facts::CountedFacts;

@@ -7,7 +7,7 @@ ghost use Rattle.model.specs.Readiness as spec;
 ghost use Rattle.dependencies.specs.Planned.{IsPlannedJob};
 ghost use Rattle.dependencies.specs.Ranks as ranks;
 ghost use Rattle.dependencies.specs.Ranks.{better_rank, rank_of};
-ghost use Rattle.owner_fold.specs.Spots.{stream_job};
+ghost use Rattle.owner_fold.specs.DocPlaces.{stream_job};
 
 use crate::launches::is_ready_in;
 use crate::priorities::{job_priority, stream_priority};

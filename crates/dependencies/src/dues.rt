@@ -8,7 +8,7 @@ ghost use Rattle.model.specs.OwnMembers.{own_job_numbers, own_numbers};
 ghost use Rattle.dependencies.specs.Dues as spec;
 ghost use Rattle.dependencies.specs.Dues.{due_among};
 ghost use Rattle.dependencies.specs.Planned.{IsPlannedJob, IsPlannedStream};
-ghost use Rattle.owner_fold.specs.Spots.{stream_job};
+ghost use Rattle.owner_fold.specs.DocPlaces.{stream_job};
 
 use crate::lates::late_at;
 use crate::untils::until_at;

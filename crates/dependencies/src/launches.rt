@@ -7,7 +7,7 @@ ghost use Rattle.model.specs.Catalogue as catalogue;
 ghost use Rattle.model.specs.Facts as facts;
 ghost use Rattle.model.specs.Readiness as spec;
 ghost use Rattle.dependencies.specs.Planned.{IsPlannedJob, IsPlannedStream};
-ghost use Rattle.owner_fold.specs.Spots.{stream_job};
+ghost use Rattle.owner_fold.specs.DocPlaces.{stream_job};
 
 use crate::limits::{is_open, is_within_limit, is_within_workstation_limit};
 use crate::priorities::job_priority;

@@ -6,7 +6,7 @@ ghost use Rattle.model.specs.Facts.{is_cancelled};
 ghost use Rattle.model.specs.Dependencies as spec;
 ghost use Rattle.model.specs.OwnMembers as own;
 ghost use Rattle.dependencies.specs.Planned.{IsPlannedJob};
-ghost use Rattle.owner_fold.specs.Spots.{stream_job};
+ghost use Rattle.owner_fold.specs.DocPlaces.{stream_job};
 
 use base_types::{JobDoc, JobNo, Obj, StreamDoc, StreamNo};
 use owner_fold::Owners;

@@ -3,7 +3,7 @@ ghost use Rattle.std.specs.Prelude.{◌≡◌};
 ghost use Rattle.model.specs.History.{view_of};
 ghost use Rattle.model.specs.Readiness as spec;
 ghost use Rattle.dependencies.specs.Planned.{IsPlannedJob, IsPlannedStream};
-ghost use Rattle.owner_fold.specs.Spots.{stream_job};
+ghost use Rattle.owner_fold.specs.DocPlaces.{stream_job};
 
 use base_types::{JobDoc, Obj, StreamDoc};
 use owner_fold::Owners;

@@ -16,12 +16,12 @@ use Rattle.model_laws.proofs.Options.{filter_all}
 use Rattle.model_laws.proofs.Lists.{all_filter, all_map}
 use Rattle.model_laws.proofs.Untils.{open_is_nth}
 use Rattle.dependencies.proofs.Lists.{all_both, all_flat, all_such}
-use Rattle.file_watch.specs.Circle.{Spot}
+use Rattle.file_watch.specs.Circle.{DepPlace}
 use Rattle.file_watch.specs.Probes.{due_at, due_files, due_probes, is_file_due, next_probe, path_at, path_in}
 use Rattle.file_watch.proofs.Chosen.{holds_of_soonest}
 
 -- an own member's object's dependency that waits for a file, which was not told
-pub record IsDue (V : View) (w : ℕ) (p : Spot) : Type 0 where
+pub record IsDue (V : View) (w : ℕ) (p : DepPlace) : Type 0 where
   pub mine : obj_among (own_objects V w) p.0 ≡ true
   pub file : option_map_or is_outside (dep V p.0 p.1) false ≡ true
   pub fresh : is_fulfilled p.0 p.1 (V (Events w)) ≡ false
@@ -95,7 +95,7 @@ all_due V w =
     (λ (o : Obj). AllByRecursion (IsDue V w) (due_at V w o)) (own_objects V w) (due_here V w)
     (all_among (own_objects V w)))
 
-next_is_due : (V : View) (w : ℕ) (last : Option Spot) (p : Spot) → next_probe V w last ≡ Some p → IsDue V w p
+next_is_due : (V : View) (w : ℕ) (last : Option DepPlace) (p : DepPlace) → next_probe V w last ≡ Some p → IsDue V w p
 unfolding next_probe
 next_is_due V w last p e = holds_of_soonest (IsDue V w) last (due_probes V w) p (all_due V w) e
 
@@ -107,11 +107,11 @@ path_there (Some d) h = go d h
     go (Outside path) h = refl
     go d h = cc
 
-pub probe_has_path : (V : View) (w : ℕ) (last : Option Spot) (o : Obj) (i : ℕ) → next_probe V w last ≡ Some (o, i)
+pub probe_has_path : (V : View) (w : ℕ) (last : Option DepPlace) (o : Obj) (i : ℕ) → next_probe V w last ≡ Some (o, i)
     → IsSome (path_at V o i)
 probe_has_path V w last o i e = path_there (dep V o i) (next_is_due V w last (o, i) e).file
 
-pub probe_may_be_told : (V : View) (w : ℕ) (last : Option Spot) (o : Obj) (i : ℕ) → next_probe V w last ≡ Some (o, i)
+pub probe_may_be_told : (V : View) (w : ℕ) (last : Option DepPlace) (o : Obj) (i : ℕ) → next_probe V w last ≡ Some (o, i)
     → lacks_dep w V (Input.Local (Fulfil o i)) ≡ false
 probe_may_be_told V w last o i e =
     let due = next_is_due V w last (o, i) e in

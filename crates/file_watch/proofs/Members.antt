@@ -11,17 +11,17 @@ use Rattle.owner_fold.specs.Given.{is_filed}
 use Rattle.dependencies.specs.Planned.{IsPlannedJob, IsPlannedStream}
 use Rattle.dependencies.proofs.Found.{jobs_planned, streams_planned}
 use Rattle.dependencies.proofs.Timed.{job_given, stream_given}
-use Rattle.file_watch.specs.Circle.{Spot}
+use Rattle.file_watch.specs.Circle.{DepPlace}
 use Rattle.file_watch.specs.Probes.{due_at}
 use Rattle.file_watch.proofs.Waits.{no_file}
 
-mapped : {X Y : Type 0} (f : Y → List Spot) (g : X → Y) (xs : List X)
+mapped : {X Y : Type 0} (f : Y → List DepPlace) (g : X → Y) (xs : List X)
     → flat_map f (map g xs) ≡ flat_map (λ (x : X). f (g x)) xs
 mapped f g [] = refl
-mapped f g (x ∷ xs) = ap (λ (l : List Spot). f (g x) ++ l) (mapped f g xs)
+mapped f g (x ∷ xs) = ap (λ (l : List DepPlace). f (g x) ++ l) (mapped f g xs)
 
 -- of those that pass two tests, one that fails the third has nothing
-passed : {X : Type 0} (P : X → Type 0) (p q test : X → Bool) (f : X → List Spot) (xs : List X) → AllByRecursion P xs
+passed : {X : Type 0} (P : X → Type 0) (p q test : X → Bool) (f : X → List DepPlace) (xs : List X) → AllByRecursion P xs
     → ((x : X) → P x → p x ≡ true → test x ≡ false → f x ≡ [])
     → flat_map f (filter q (filter p xs)) ≡ flat_map f (filter test (filter q (filter p xs)))
 passed P p q test f [] all none = refl
@@ -31,7 +31,7 @@ passed {X} P p q test f (x ∷ xs) all none =
     go : (a b c : Bool) → p x ≡ a → q x ≡ b → test x ≡ c
         → flat_map f (filter q (filter p xs)) ≡ flat_map f (filter test (filter q (filter p xs)))
         → flat_map f (filter q (filter p (x ∷ xs))) ≡ flat_map f (filter test (filter q (filter p (x ∷ xs))))
-    go true true true e g h ih = rw (e, g, h) (ap (λ (l : List Spot). f x ++ l) ih)
+    go true true true e g h ih = rw (e, g, h) (ap (λ (l : List DepPlace). f x ++ l) ih)
     go true true false e g h ih = rw (e, g, h, none x all.0 e h) ih
     go true false c e g h ih = rw (e, g) ih
     go false b c e g h ih = rw e ih

@@ -3,7 +3,7 @@ use Rattle.std.proofs.Common.{◌≡◌, ℕ, Bool, arith, cond, false, refl, tr
 use Rattle.std.proofs.lemmas.Bool.Decides.{nat_tests}
 use Rattle.std.specs.Prelude.{◌==◌, ◌&&◌, ◌||◌, Option, nat_lt, not}
 use Rattle.model.specs.Types.{Job, Obj, Stream}
-use Rattle.file_watch.specs.Circle.{Spot, comes_before, comes_sooner, is_behind, object_before}
+use Rattle.file_watch.specs.Circle.{DepPlace, comes_before, comes_sooner, is_behind, object_before}
 
 -- by two numbers, the first before the second
 numbers_through : (a b c i k m : ℕ)
@@ -71,23 +71,23 @@ flags_apart : (a x : Bool) → x ≡ false → sooner_by a a x ≡ false
 flags_apart true x h = h
 flags_apart false x h = h
 
-pub sooner_through : (last : Option Spot) (p q r : Spot) → comes_sooner last p q ≡ true → comes_sooner last q r ≡ true
+pub sooner_through : (last : Option DepPlace) (p q r : DepPlace) → comes_sooner last p q ≡ true → comes_sooner last q r ≡ true
     → comes_sooner last p r ≡ true
 sooner_through last p q r h g =
     flags_through (is_behind last p) (is_behind last q) (is_behind last r) (comes_before p q) (comes_before q r)
     (comes_before p r) (objects_through p.0 q.0 r.0 p.1 q.1 r.1) h g
 
-pub sooner_back : (last : Option Spot) (p q r : Spot) → comes_sooner last p q ≡ false → comes_sooner last q r ≡ false
+pub sooner_back : (last : Option DepPlace) (p q r : DepPlace) → comes_sooner last p q ≡ false → comes_sooner last q r ≡ false
     → comes_sooner last p r ≡ false
 sooner_back last p q r h g =
     flags_back (is_behind last p) (is_behind last q) (is_behind last r) (comes_before p q) (comes_before q r)
     (comes_before p r) (objects_back p.0 q.0 r.0 p.1 q.1 r.1) h g
 
-pub sooner_apart : (last : Option Spot) (p : Spot) → comes_sooner last p p ≡ false
+pub sooner_apart : (last : Option DepPlace) (p : DepPlace) → comes_sooner last p p ≡ false
 sooner_apart last p = flags_apart (is_behind last p) (comes_before p p) (objects_apart p.0 p.1)
 
 -- of two, not each comes before the other
-pub sooner_once : (last : Option Spot) (p q : Spot) → comes_sooner last p q ≡ true → comes_sooner last q p ≡ false
+pub sooner_once : (last : Option DepPlace) (p q : DepPlace) → comes_sooner last p q ≡ true → comes_sooner last q p ≡ false
 sooner_once last p q h = go (comes_sooner last q p) refl
   where
     go : (b : Bool) → comes_sooner last q p ≡ b → b ≡ false

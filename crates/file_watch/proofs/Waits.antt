@@ -12,7 +12,7 @@ use Rattle.model.specs.OwnMembers.{has_begun}
 use Rattle.model.specs.StepFaults.{is_outside}
 use Rattle.owner_fold.specs.Given.{is_filed}
 use Rattle.owner_fold.proofs.Additions.{added_such, either_list}
-use Rattle.file_watch.specs.Circle.{Spot}
+use Rattle.file_watch.specs.Circle.{DepPlace}
 use Rattle.file_watch.specs.Probes.{due_at, due_files, is_file_due}
 
 or_left : (a b : Bool) → (a || b) ≡ false → a ≡ false
@@ -50,9 +50,9 @@ none_due q events o n (d ∷ ds) h =
     go false e ih = ih
 
 none_over : (over : Bool) (o : Obj) (due : List NumberedDep) → due ≡ []
-    → map {B = Spot} (λ (p : NumberedDep). (o, p.number)) (cond over [] due) ≡ []
+    → map {B = DepPlace} (λ (p : NumberedDep). (o, p.number)) (cond over [] due) ≡ []
 none_over true o due e = refl
-none_over false o due e = ap (map {B = Spot} (λ (p : NumberedDep). (o, p.number))) e
+none_over false o due e = ap (map {B = DepPlace} (λ (p : NumberedDep). (o, p.number))) e
 
 pub no_file : (V : View) (w : ℕ) (o : Obj) (written : List Dep) → document_deps V o ≡ written
     → owner_events V o ≡ V (Events w) → is_filed o written (V (Events w)) ≡ false → due_at V w o ≡ []

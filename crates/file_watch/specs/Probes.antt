@@ -7,7 +7,7 @@ use Rattle.model.specs.Facts.{is_cancelled, is_fulfilled}
 use Rattle.model.specs.Dependencies.{NumberedDep, dep, unwaived_deps}
 use Rattle.model.specs.OwnMembers.{has_begun, own_objects}
 use Rattle.model.specs.StepFaults.{is_outside}
-use Rattle.file_watch.specs.Circle.{Spot, soonest}
+use Rattle.file_watch.specs.Circle.{DepPlace, soonest}
 
 -- it waits for a file that was not told yet
 abbrev pub is_file_due : List Body → Obj → NumberedDep → Bool
@@ -21,15 +21,15 @@ due_files V w o =
     else filter (is_file_due (V (Events w)) o) (unwaived_deps V o)
 
 -- the same, each with the object
-unfoldable pub due_at : View → ℕ → Obj → List Spot
+unfoldable pub due_at : View → ℕ → Obj → List DepPlace
 due_at V w o = map (λ (p : NumberedDep). (o, p.number)) (due_files V w o)
 
 -- those of own members and of own members' jobs
-unfoldable pub due_probes : View → ℕ → List Spot
+unfoldable pub due_probes : View → ℕ → List DepPlace
 due_probes V w = flat_map (due_at V w) (own_objects V w)
 
 -- the one whose turn comes next behind the last one, none where none is due
-unfoldable pub next_probe : View → ℕ → Option Spot → Option Spot
+unfoldable pub next_probe : View → ℕ → Option DepPlace → Option DepPlace
 next_probe V w last = soonest last (due_probes V w)
 
 -- the path of a dependency that waits for a file

@@ -6,25 +6,25 @@ ghost use Rattle.model.specs.Facts.{is_fulfilled};
 ghost use Rattle.model.specs.Dependencies.{dep, is_waived};
 ghost use Rattle.model.specs.Readiness.{is_ready};
 ghost use Rattle.model.specs.StepFaults.{lacks_dep};
-ghost use Rattle.file_watch.specs.Circle.{Spot, comes_sooner};
+ghost use Rattle.file_watch.specs.Circle.{DepPlace, comes_sooner};
 ghost use Rattle.file_watch.specs.Probes.{due_probes, next_probe, path_at};
 
 /// The next probe is for a due dependency, and none that is due comes sooner in the circle. There is none only where
 /// nothing is due.
 pub fn next_is_soonest()
-    ensures due { (V : View) (w : ℕ) (last : Option Spot) (p : Spot) → next_probe V w last ≡ Some p →
+    ensures due { (V : View) (w : ℕ) (last : Option DepPlace) (p : DepPlace) → next_probe V w last ≡ Some p →
         Contains (due_probes V w) p }
-    ensures soonest { (V : View) (w : ℕ) (last : Option Spot) (p : Spot) → next_probe V w last ≡ Some p →
+    ensures soonest { (V : View) (w : ℕ) (last : Option DepPlace) (p : DepPlace) → next_probe V w last ≡ Some p →
         All (λ q. comes_sooner last q p ≡ false) (due_probes V w) }
-    ensures none { (V : View) (w : ℕ) (last : Option Spot) → (next_probe V w last ≡ None) ↔ (due_probes V w ≡ []) }
+    ensures none { (V : View) (w : ℕ) (last : Option DepPlace) → (next_probe V w last ≡ None) ↔ (due_probes V w ≡ []) }
 {}
 
 /// Where a file is looked for, there is a path to look at, and that the file is there can be told: no step of the node
 /// refuses it.
 pub fn probes_may_be_told()
-    ensures path { (V : View) (w : ℕ) (last : Option Spot) (o : Obj) (i : ℕ) → next_probe V w last ≡ Some (o, i) →
+    ensures path { (V : View) (w : ℕ) (last : Option DepPlace) (o : Obj) (i : ℕ) → next_probe V w last ≡ Some (o, i) →
         IsSome (path_at V o i) }
-    ensures told { (V : View) (w : ℕ) (last : Option Spot) (o : Obj) (i : ℕ) → next_probe V w last ≡ Some (o, i) →
+    ensures told { (V : View) (w : ℕ) (last : Option DepPlace) (o : Obj) (i : ℕ) → next_probe V w last ≡ Some (o, i) →
         lacks_dep w V (Input.Local (Fulfil o i)) ≡ false }
 {}
 

@@ -1,7 +1,7 @@
 //! What a workstation may do.
 use crate::asked::Asked;
 use crate::nights::Night;
-use crate::told::{Told, job_number, maybe_spot, truth};
+use crate::told::{Told, job_number, maybe_dep_place, truth};
 use base_types::{Feed, NoMemory, Ws};
 use dependencies::{Readiness, Scan, late_due, may_end, may_release, ready, sat, until_due};
 use file_watch::next_probe;
@@ -27,14 +27,14 @@ fn of_waits(net: &Network, o: &Owners, asked: &Asked) -> Option<Told> {
 fn of_times(net: &Network, o: &Owners, asked: &Asked) -> Option<Told> {
     let w = asked.ws(0);
     if asked.is("until-due", 1) {
-        maybe_spot(&until_due(net, o, w))
+        maybe_dep_place(&until_due(net, o, w))
     } else if asked.is("late-due", 1) {
-        maybe_spot(&late_due(net, o, w))
+        maybe_dep_place(&late_due(net, o, w))
     } else if asked.is("probe", 1) {
-        maybe_spot(&next_probe(net, o, w, None))
+        maybe_dep_place(&next_probe(net, o, w, None))
     } else if asked.is("probe", 4) {
         let last = Some((asked.object(1), asked.small(3)));
-        maybe_spot(&next_probe(net, o, w, last))
+        maybe_dep_place(&next_probe(net, o, w, last))
     } else {
         None
     }

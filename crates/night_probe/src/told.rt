@@ -11,7 +11,7 @@ pub enum Told {
     Number(u64),
     Code(i32),
     /// A dependency by its object and number.
-    Spot(Obj, u16),
+    DepPlace(Obj, u16),
     Ended(Outcome),
     OfJob(JobState),
     OfStream(StreamState),
@@ -64,9 +64,9 @@ pub fn maybe_truth(holds: Option<bool>) -> Option<Told> {
     }
 }
 
-pub fn maybe_spot(spot: &Option<(Obj, u16)>) -> Option<Told> {
-    match spot {
-        Some((object, i)) => Some(Told::Spot(*object, *i)),
+pub fn maybe_dep_place(place: &Option<(Obj, u16)>) -> Option<Told> {
+    match place {
+        Some((object, i)) => Some(Told::DepPlace(*object, *i)),
         None => Some(Told::None),
     }
 }
@@ -79,7 +79,7 @@ pub fn job_number(j: Option<JobNo>) -> u32 {
     }
 }
 
-fn put_spot(out: &mut String, object: &Obj, i: u16) -> Result<(), NoMemory> {
+fn put_dep_place(out: &mut String, object: &Obj, i: u16) -> Result<(), NoMemory> {
     match object {
         Obj::Job(j) => write!(out, "job {} dep {i}", j.0)?,
         Obj::Stream(s) => write!(out, "stream {} dep {i}", s.0)?,
@@ -108,7 +108,7 @@ pub fn put_told(out: &mut String, told: &Told) -> Result<(), NoMemory> {
         Told::Yes(holds) => put_truth(out, *holds),
         Told::Number(n) => put_number(out, *n),
         Told::Code(code) => put_code(out, *code),
-        Told::Spot(object, i) => put_spot(out, object, *i),
+        Told::DepPlace(object, i) => put_dep_place(out, object, *i),
         _ => put_state(out, told),
     }
 }

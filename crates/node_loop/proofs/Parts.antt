@@ -5,7 +5,7 @@ use Rattle.composer_parser.specs.declared.Defs.{Defs}
 use Rattle.model.specs.Types.{Cmd, Input, Local, Turn, Typed}
 use Rattle.agent_core.specs.Nodes.{NodeState, view_in}
 use Rattle.file_watch.specs.Asked.{Probe}
-use Rattle.file_watch.specs.Circle.{Spot}
+use Rattle.file_watch.specs.Circle.{DepPlace}
 use Rattle.file_watch.specs.Probes.{next_probe, path_at}
 use Rattle.outside.specs.Arrivals.{Arrives}
 use Rattle.outside.specs.Calls.{AddsOrEnds, LinkCalls, Polls, Reports, SpawnerCalls}
@@ -93,31 +93,31 @@ module _ {K : Type 0} {kept_in : K → Option Bodies} {size faults moment : K �
       did_as (λ trace h. h) (did_if_false (Take (Input.Local (Local.Ended ended.job ended.rc))) (is_live old ended) e d)
 
   -- a file is looked for
-  pub did_look : (spot : Spot) (path : List ℕ) (answer : Result Bool Failed) (heard : ℕ → Heard) (asked : Option Spot) {old new : NodeState} {keeper later : K} (link : LinkCalls) (jobs : SpawnerCalls) (clock : Option (List ℕ)) (before after : Option (List Probe)) {now : Told} {end : Option NodeEnd}
-      → next_probe (view_in old) old.me asked ≡ Some spot → path_at (view_in old) spot.0 spot.1 ≡ Some path
+  pub did_look : (place : DepPlace) (path : List ℕ) (answer : Result Bool Failed) (heard : ℕ → Heard) (asked : Option DepPlace) {old new : NodeState} {keeper later : K} (link : LinkCalls) (jobs : SpawnerCalls) (clock : Option (List ℕ)) (before after : Option (List Probe)) {now : Told} {end : Option NodeEnd}
+      → next_probe (view_in old) old.me asked ≡ Some place → path_at (view_in old) place.0 place.1 ≡ Some path
       → AddsOrEnds (record { path = path; answer = answer }) before after → (spent : K → Bool) → IsReady kept_in spent may_leave keeper
-      → Does kept_in size faults moment may_leave left_since opens_since (Found spot answer) old new keeper later (told_by link jobs clock after) now end
-      → Does kept_in size faults moment may_leave left_since opens_since Probing (running_with old heard asked) (running_with new heard (Some spot)) keeper later (told_by link jobs clock before) now end
-  did_look spot path answer heard asked {old} {new} {keeper} {later} link jobs clock before after {now} {end} due its_path looks spent ready d =
+      → Does kept_in size faults moment may_leave left_since opens_since (Found place answer) old new keeper later (told_by link jobs clock after) now end
+      → Does kept_in size faults moment may_leave left_since opens_since Probing (running_with old heard asked) (running_with new heard (Some place)) keeper later (told_by link jobs clock before) now end
+  did_look place path answer heard asked {old} {new} {keeper} {later} link jobs clock before after {now} {end} due its_path looks spent ready d =
       let here = running_with old heard asked in
-      let there = running_with new heard (Some spot) in
-      let act : Action Running = λ o t e n. On (Found spot answer) (running_with o.node o.heard (Some spot)) t e n in
+      let there = running_with new heard (Some place) in
+      let act : Action Running = λ o t e n. On (Found place answer) (running_with o.node o.heard (Some place)) t e n in
       let found : Does kept_in size faults moment may_leave left_since opens_since act here there keeper later (told_by link jobs clock after) now end =
-      did_as (λ trace h. h) (did_on heard (Some spot) d) in
+      did_as (λ trace h. h) (did_on heard (Some place) d) in
       did_as
       (λ trace h.
       let e = event_first (Event.Looks path answer) act here there trace end h in
-      subst (λ (o : Option Spot). IfThere o (λ (s : Spot). λ o t e n. Looks s o t e n) Nothing here trace end there) (sym due)
+      subst (λ (o : Option DepPlace). IfThere o (λ (s : DepPlace). λ o t e n. Looks s o t e n) Nothing here trace end there) (sym due)
       (record { path = path; answer = answer; rest = e.0; its_path = its_path; split = e.1; acts = e.2 }))
       (did_event (Event.Looks path answer) (out_call (Event.Looks path answer) here refl (look_told link jobs clock path answer before after looks)) spent ready found)
 
-  pub did_not_look : (spent : K → Bool) (heard : ℕ → Heard) (asked : Option Spot) (node : NodeState) (keeper : K) (told : Told)
+  pub did_not_look : (spent : K → Bool) (heard : ℕ → Heard) (asked : Option DepPlace) (node : NodeState) (keeper : K) (told : Told)
       → next_probe (view_in node) node.me asked ≡ None → IsReady kept_in spent may_leave keeper
       → Does kept_in size faults moment may_leave left_since opens_since Probing (running_with node heard asked) (running_with node heard asked) keeper keeper told told None
   did_not_look spent heard asked node keeper told none ready =
       let here = running_with node heard asked in
       did_as
-      (λ trace h. subst (λ (o : Option Spot). IfThere o (λ (s : Spot). λ o t e n. Looks s o t e n) Nothing here trace None here) (sym none) h)
+      (λ trace h. subst (λ (o : Option DepPlace). IfThere o (λ (s : DepPlace). λ o t e n. Looks s o t e n) Nothing here trace None here) (sym none) h)
       (did_outside spent keeper ready (out_nothing here told))
 
   -- the advice is typed, where there is one
@@ -153,18 +153,18 @@ module _ {K : Type 0} {kept_in : K → Option Bodies} {size faults moment : K �
       (did_event (Event.Reads reading) (out_call (Event.Reads reading) old refl (read_told link jobs files reading before after reads)) spent ready d)
 
   -- a file that is not there, or is not known to be
-  pub did_unfound : (spent : K → Bool) (spot : Spot) (answer : Result Bool Failed) (node : NodeState) (keeper : K) (told : Told)
+  pub did_unfound : (spent : K → Bool) (place : DepPlace) (answer : Result Bool Failed) (node : NodeState) (keeper : K) (told : Told)
       → answer ≡ Ok false → IsReady kept_in spent may_leave keeper
-      → Does kept_in size faults moment may_leave left_since opens_since (Found spot answer) node node keeper keeper told told None
-  did_unfound spent spot answer node keeper told is ready =
-      did_as (λ trace h. subst (λ (a : Result Bool Failed). Found spot a node trace None node) (sym is) h)
+      → Does kept_in size faults moment may_leave left_since opens_since (Found place answer) node node keeper keeper told told None
+  did_unfound spent place answer node keeper told is ready =
+      did_as (λ trace h. subst (λ (a : Result Bool Failed). Found place a node trace None node) (sym is) h)
       (did_outside spent keeper ready (out_nothing node told))
 
-  pub did_fail : (spent : K → Bool) (spot : Spot) (answer : Result Bool Failed) (why : Failed) (node : NodeState) (keeper : K) (told : Told)
+  pub did_fail : (spent : K → Bool) (place : DepPlace) (answer : Result Bool Failed) (why : Failed) (node : NodeState) (keeper : K) (told : Told)
       → answer ≡ Err why → IsReady kept_in spent may_leave keeper
-      → Does kept_in size faults moment may_leave left_since opens_since (Found spot answer) node node keeper keeper told told None
-  did_fail spent spot answer why node keeper told is ready =
-      did_as (λ trace h. subst (λ (a : Result Bool Failed). Found spot a node trace None node) (sym is) h)
+      → Does kept_in size faults moment may_leave left_since opens_since (Found place answer) node node keeper keeper told told None
+  did_fail spent place answer why node keeper told is ready =
+      did_as (λ trace h. subst (λ (a : Result Bool Failed). Found place a node trace None node) (sym is) h)
       (did_outside spent keeper ready (out_nothing node told))
 
   -- what came is this
@@ -175,7 +175,7 @@ module _ {K : Type 0} {kept_in : K → Option Bodies} {size faults moment : K �
       did_as (λ trace h. subst (λ (c : Arrival). Arrive defs c old trace end new) (sym is) h) d
 
   -- bytes are heard, and the frames that they complete are taken
-  pub did_hear : (x : ℕ) (bytes : List ℕ) (frames given : List Frame) (bad : Option ℕ) (is_bad : Bool) (heard : ℕ → Heard) (asked : Option Spot)
+  pub did_hear : (x : ℕ) (bytes : List ℕ) (frames given : List Frame) (bad : Option ℕ) (is_bad : Bool) (heard : ℕ → Heard) (asked : Option DepPlace)
       {old new : NodeState} {keeper later : K} {told now : Told} {end : Option NodeEnd}
       → given ≡ frames → is_bad ≡ is_some bad → Completes (heard x) bytes frames bad
       → (spent : K → Bool) → IsReady kept_in spent may_leave keeper

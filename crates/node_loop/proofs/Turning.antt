@@ -6,7 +6,7 @@ use Rattle.composer_parser.specs.declared.Defs.{Defs}
 use Rattle.model.specs.Types.{Input}
 use Rattle.model.specs.Words.{with_at}
 use Rattle.agent_core.specs.Nodes.{NodeState}
-use Rattle.file_watch.specs.Circle.{Spot}
+use Rattle.file_watch.specs.Circle.{DepPlace}
 use Rattle.mail_frames.specs.declared.frames.Frame.{Frame}
 use Rattle.mail_frames.specs.Spelling.{IsFrame}
 use Rattle.outside.specs.Kept.{Bodies}
@@ -25,7 +25,7 @@ use Rattle.node_loop.specs.Frames.{Frames, input_of}
 use Rattle.node_loop.specs.Runs.{Hears, On, Run, Running, TurnOf, running_with}
 
 -- what was heard of a workstation is this
-pub heard_now : (node : NodeState) (heard : ℕ → Heard) (asked : Option Spot) (x : ℕ) (now : Heard) (told : Told)
+pub heard_now : (node : NodeState) (heard : ℕ → Heard) (asked : Option DepPlace) (x : ℕ) (now : Heard) (told : Told)
     → DoesOutside (Hears x now) (running_with node heard asked) (running_with node (with_at x now heard) asked) told told None
 heard_now node heard asked x now told =
     record { trace = []; acts = (refl, refl, refl); tells = nothing_told told; none_tried = refl }
@@ -42,7 +42,7 @@ frames_complete heard bytes frames bad h =
 
 module _ {K : Type 0} {kept_in : K → Option Bodies} {size faults moment : K → ℕ} {may_leave : K → Bodies → Type 0} {left_since : K → ℕ → Bodies → Type 0} {opens_since : K → ℕ → ℕ → Type 0} where
   -- what the node does, with all else as it was
-  pub did_on : {act : Action NodeState} {old new : NodeState} {keeper later : K} {told now : Told} {end : Option NodeEnd} (heard : ℕ → Heard) (asked : Option Spot)
+  pub did_on : {act : Action NodeState} {old new : NodeState} {keeper later : K} {told now : Told} {end : Option NodeEnd} (heard : ℕ → Heard) (asked : Option DepPlace)
       → Does kept_in size faults moment may_leave left_since opens_since act old new keeper later told now end
       → Does kept_in size faults moment may_leave left_since opens_since (λ o t e n. On act o t e n) (running_with old heard asked) (running_with new heard asked) keeper later told now end
   did_on heard asked a = did_as (λ trace h. record { acts = h; heard_ = refl; asked_ = refl }) a

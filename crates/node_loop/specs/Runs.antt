@@ -7,7 +7,7 @@ use Rattle.model.specs.Types.{Cmd, Fulfil, Input, Linked, LiveJob, Local, Turn, 
 use Rattle.model.specs.Sessions.{live_launch}
 use Rattle.model.specs.Words.{with_at}
 use Rattle.agent_core.specs.Nodes.{NodeState, view_in}
-use Rattle.file_watch.specs.Circle.{Spot}
+use Rattle.file_watch.specs.Circle.{DepPlace}
 use Rattle.file_watch.specs.Probes.{next_probe, path_at}
 use Rattle.mail_frames.specs.declared.frames.Frame.{Frame}
 use Rattle.outside.specs.declared.Failed.{Failed}
@@ -28,9 +28,9 @@ use Rattle.node_keeping.specs.declared.ends.NodeEnd.TheVariants.{NoMemory, Turns
 pub record Running : Type 0 where
   pub node : NodeState
   pub heard : ℕ → Heard
-  pub asked : Option Spot
+  pub asked : Option DepPlace
 
-abbrev pub running_with : NodeState → (ℕ → Heard) → Option Spot → Running
+abbrev pub running_with : NodeState → (ℕ → Heard) → Option DepPlace → Running
 running_with node heard asked = record { node = node; heard = heard; asked = asked }
 
 -- at the beginning of a run
@@ -98,25 +98,25 @@ pub record Reports (old : NodeState) (trace : Trace) (end : Option NodeEnd) (new
   pub acts : EndOf answer old rest end new
 
 -- the file of a dependency is there, or it is not known to be
-abbrev pub Found : Spot → Result Bool Failed → Action NodeState
-Found spot (Ok true) = Take (Input.Local (Fulfil spot.0 spot.1))
-Found spot (Ok false) = Nothing
-Found spot (Err failed) = Nothing
+abbrev pub Found : DepPlace → Result Bool Failed → Action NodeState
+Found place (Ok true) = Take (Input.Local (Fulfil place.0 place.1))
+Found place (Ok false) = Nothing
+Found place (Err failed) = Nothing
 
 -- the path of a dependency is looked at, which is then the one that was asked last
-pub record Looks (spot : Spot) (old : Running) (trace : Trace) (end : Option NodeEnd) (new : Running) : Type 0 where
+pub record Looks (place : DepPlace) (old : Running) (trace : Trace) (end : Option NodeEnd) (new : Running) : Type 0 where
   pub path : List ℕ
   pub answer : Result Bool Failed
   pub rest : Trace
-  pub its_path : path_at (view_in old.node) spot.0 spot.1 ≡ Some path
+  pub its_path : path_at (view_in old.node) place.0 place.1 ≡ Some path
   pub split : trace ≡ Event.Looks path answer ∷ rest
-  pub acts : On (Found spot answer) (running_with old.node old.heard (Some spot)) rest end new
+  pub acts : On (Found place answer) (running_with old.node old.heard (Some place)) rest end new
 
 -- one probe, where a file is due
 abbrev pub Probing : Action Running
 Probing = From (λ (now : Running).
     IfThere (next_probe (view_in now.node) now.node.me now.asked)
-    (λ (spot : Spot). λ old trace end new. Looks spot old trace end new) Nothing)
+    (λ (place : DepPlace). λ old trace end new. Looks place old trace end new) Nothing)
 
 -- the advice of the node as it stands is typed
 abbrev pub Advise : Action NodeState

@@ -2,7 +2,7 @@
 ghost use Rattle.std.specs.Prelude.{ℕ, ◌≡◌, IfOk, IfSome, List, OnOk, Option};
 ghost use Rattle.std.specs.List.{All};
 ghost use Rattle.file_watch.specs.Asked.{Probe};
-ghost use Rattle.file_watch.specs.Circle.{Spot};
+ghost use Rattle.file_watch.specs.Circle.{DepPlace};
 ghost use Rattle.model.specs.Fit.{IsFitInput};
 ghost use Rattle.node_keeping.specs.Keeping.{IsReady};
 ghost use Rattle.node_inputs.specs.Doings.{Does, end_of};
@@ -93,7 +93,7 @@ fn hear<K: Keeper, L: Link, J: Spawner>(
     requires heard { (heard : ℕ → Heard) × AreHeard streams.old heard }
     requires ready { IsReady K.kept K.spent K.may_leave keeper.old }
     requires keepable { AreKeepable agent.old.kept }
-    ensures does { (heard : ℕ → Heard) (asked : Option Spot) (clock : Option (List ℕ)) (files : Option (List Probe)) →
+    ensures does { (heard : ℕ → Heard) (asked : Option DepPlace) (clock : Option (List ℕ)) (files : Option (List Probe)) →
         AreHeard streams.old heard → (later : ℕ → Heard) × OnOk result (AreHeard streams.new later)
         × Does K.kept K.size K.faults K.moment K.may_leave K.left_since K.opens_since (Hear x bytes.now)
         (running_with agent.old heard asked) (running_with agent.new later asked) keeper.old keeper.new
@@ -131,7 +131,7 @@ fn turn_link<K: Keeper, L: Link, J: Spawner>(
     requires ready { IsReady K.kept K.spent K.may_leave keeper.old }
     requires keepable { AreKeepable agent.old.kept }
     requires fit { IsFitInput input.now }
-    ensures does { (heard : ℕ → Heard) (asked : Option Spot) (clock : Option (List ℕ)) (files : Option (List Probe)) →
+    ensures does { (heard : ℕ → Heard) (asked : Option DepPlace) (clock : Option (List ℕ)) (files : Option (List Probe)) →
         AreHeard streams.old heard → (later : ℕ → Heard) × OnOk result (AreHeard streams.new later)
         × Does K.kept K.size K.faults K.moment K.may_leave K.left_since K.opens_since (Anew x input.now)
         (running_with agent.old heard asked) (running_with agent.new later asked) keeper.old keeper.new
@@ -160,7 +160,7 @@ fn take_arrival<K: Keeper, L: Link, J: Spawner>(
     requires ready { IsReady K.kept K.spent K.may_leave keeper.old }
     requires keepable { AreKeepable agent.old.kept }
     requires plans { HasFitPlans workload.now }
-    ensures does { (heard : ℕ → Heard) (asked : Option Spot) (clock : Option (List ℕ)) (files : Option (List Probe)) →
+    ensures does { (heard : ℕ → Heard) (asked : Option DepPlace) (clock : Option (List ℕ)) (files : Option (List Probe)) →
         AreHeard streams.old heard → (later : ℕ → Heard) × OnOk result (AreHeard streams.new later)
         × Does K.kept K.size K.faults K.moment K.may_leave K.left_since K.opens_since (Arrive workload.now arrival.now)
         (running_with agent.old heard asked) (running_with agent.new later asked) keeper.old keeper.new
@@ -213,7 +213,7 @@ pub(crate) fn arrive<K: Keeper, L: Link, J: Spawner>(
     requires ready { IsReady K.kept K.spent K.may_leave keeper.old }
     requires keepable { AreKeepable agent.old.kept }
     requires plans { HasFitPlans workload.now }
-    ensures does { (heard : ℕ → Heard) (asked : Option Spot) (clock : Option (List ℕ)) (files : Option (List Probe)) →
+    ensures does { (heard : ℕ → Heard) (asked : Option DepPlace) (clock : Option (List ℕ)) (files : Option (List Probe)) →
         AreHeard streams.old heard → (later : ℕ → Heard) × OnOk result (AreHeard streams.new later)
         × Does K.kept K.size K.faults K.moment K.may_leave K.left_since K.opens_since (Come workload.now)
         (running_with agent.old heard asked) (running_with agent.new later asked) keeper.old keeper.new

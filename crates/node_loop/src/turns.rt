@@ -1,7 +1,7 @@
 //! Turn after turn.
 ghost use Rattle.std.specs.Prelude.{ℕ, ◌≡◌, List, Ok, OnOk, Option, Some};
 ghost use Rattle.file_watch.specs.Asked.{Probe};
-ghost use Rattle.file_watch.specs.Circle.{Spot};
+ghost use Rattle.file_watch.specs.Circle.{DepPlace};
 ghost use Rattle.model.specs.Sessions.{restarted};
 ghost use Rattle.agent_core.specs.Nodes.{session_in};
 ghost use Rattle.node_keeping.specs.Keeping.{IsReady};

@@ -10,7 +10,7 @@ use Rattle.owner_fold.specs.Numbers.{ArePlaces}
 use Rattle.owner_fold.specs.Pairs.{ArePairsAmong, ArePairsOf, HasAll, pairs_in}
 use Rattle.owner_fold.specs.Plans.{IsPlanOf, is_planning}
 use Rattle.owner_fold.specs.Sets.{AreSetsAmong, AreSetsOf, Begins, Prepared, change_in}
-use Rattle.owner_fold.specs.Spots.{AreJobSpots, AreStreamSpots, first_docs_among, first_jobs_among}
+use Rattle.owner_fold.specs.DocPlaces.{AreJobPlaces, AreStreamPlaces, first_docs_among, first_jobs_among}
 use Rattle.owner_fold.specs.declared.changes.Change.{Change}
 use Rattle.owner_fold.specs.declared.plans.Plan.{Plan}
 use Rattle.owner_fold.specs.declared.sets.Sets.{Sets}
@@ -41,8 +41,8 @@ pub beside_planned : (kept new : List Entry) (e : Entry) (plan : Plan) (sets : S
     → is_planning e ≡ true
     → IsPlanOf (kept ++ e ∷ []) plan
     → ((ms : List ℕ) (streams : List StreamDoc) (placed : List StreamJob) → ArePlaces ms plan.index.members
-    → AreStreamSpots (kept ++ e ∷ []) plan.spots.streams streams
-    → AreJobSpots (kept ++ e ∷ []) plan.spots.jobs placed → AreSetsAmong kept ms streams placed sets)
+    → AreStreamPlaces (kept ++ e ∷ []) plan.doc_places.streams streams
+    → AreJobPlaces (kept ++ e ∷ []) plan.doc_places.jobs placed → AreSetsAmong kept ms streams placed sets)
     → ArePairsAmong (dep_cites (view_of (kept ++ e ∷ []))) kept (catalogue (view_of (kept ++ e ∷ [])))
     (jobs (view_of (kept ++ e ∷ []))) pairs
     → new ≡ kept ++ e ∷ [] → IsKeptBeside new plan sets pairs
@@ -56,8 +56,8 @@ beside_planned kept new e plan sets pairs h p anew paired grown =
       plan = p;
       sets =
           sets_planned kept e ms (catalogue (view_of (kept ++ e ∷ []))) (jobs (view_of (kept ++ e ∷ []))) sets h
-          (anew ms (catalogue (view_of (kept ++ e ∷ []))) (jobs (view_of (kept ++ e ∷ []))) places p.spots.streams
-          p.spots.jobs);
+          (anew ms (catalogue (view_of (kept ++ e ∷ []))) (jobs (view_of (kept ++ e ∷ []))) places p.doc_places.streams
+          p.doc_places.jobs);
       pairs = pairs_planned kept e pairs h paired;
     })
 
@@ -77,9 +77,9 @@ beside_changed kept new e plan old mid last_ change_ pairs more h other one p be
     let docs : List StreamDoc = flat_map docs_in (list_of kept (Events 0)) in
     let all : List StreamJob = flat_map jobs_in (first_docs_among docs) in
     let streams : ArePlaces (map (λ (d : StreamDoc). d.no) (first_docs_among docs)) plan.index.streams =
-    subst (λ l. ArePlaces l plan.index.streams) h.plan.spots.streams.1 h.plan.index.streams in
+    subst (λ l. ArePlaces l plan.index.streams) h.plan.doc_places.streams.1 h.plan.index.streams in
     let placed : ArePlaces (map (λ (p : StreamJob). p.doc.no) (first_jobs_among all)) plan.index.jobs =
-    subst (λ l. ArePlaces l plan.index.jobs) h.plan.spots.jobs.1 h.plan.index.jobs in
+    subst (λ l. ArePlaces l plan.index.jobs) h.plan.doc_places.jobs.1 h.plan.index.jobs in
     let first_ : AreSetsAmong kept ms (first_docs_among docs) (first_jobs_among all) mid =
     sets_prepared kept ms (first_docs_among docs) (first_jobs_among all) old mid p h.sets in
     let next : AreSetsAmong (kept ++ e ∷ []) ms (first_docs_among docs) (first_jobs_among all) mid =

@@ -18,40 +18,40 @@ use Rattle.owner_fold.specs.Sets.{AreGivenAmong, AreSetsOf, Covers, began_by, is
 use Rattle.owner_fold.specs.Sets.{job_station_of, job_stream_of, opened_by, station_of, stream_coded, streams_waiting}
 use Rattle.owner_fold.specs.Sets.{waits_by}
 use Rattle.owner_fold.specs.Plans.{IsPlanOf}
-use Rattle.owner_fold.specs.Spots.{doc_at, first_docs_among, first_jobs_among, job_at}
+use Rattle.owner_fold.specs.DocPlaces.{doc_at, first_docs_among, first_jobs_among, job_at}
 use Rattle.owner_fold.specs.declared.given_objects.GivenObjects.{GivenObjects}
 use Rattle.owner_fold.specs.declared.plans.Plan.{Plan}
 use Rattle.owner_fold.specs.declared.sets.Sets.{Sets}
-use Rattle.owner_fold.specs.declared.spots.JobSpot.{JobSpot}
-use Rattle.owner_fold.specs.declared.spots.StreamSpot.{StreamSpot}
+use Rattle.owner_fold.specs.declared.doc_places.JobPlace.{JobPlace}
+use Rattle.owner_fold.specs.declared.doc_places.StreamPlace.{StreamPlace}
 use Rattle.owner_fold.proofs.Covering.{item_placed}
 use Rattle.owner_fold.proofs.Holders.{filter_filter, open_among}
 
 -- the stream and the job at the place of a code
-pub stream_of_code : (kept now : List Entry) (plan : Plan) (spots : List StreamSpot) (n group c : ℕ)
-    (o : Option StreamSpot) → IsPlanOf kept plan → kept ≡ now → o ≡ slice_get spots n → spots ≡ plan.spots.streams
+pub stream_of_code : (kept now : List Entry) (plan : Plan) (doc_places : List StreamPlace) (n group c : ℕ)
+    (o : Option StreamPlace) → IsPlanOf kept plan → kept ≡ now → o ≡ slice_get doc_places n → doc_places ≡ plan.doc_places.streams
     → n ≡ c - group * 2 ^ 32 → option_and_then (doc_at now) o ≡ stream_coded now group c
 unfolding catalogue
-stream_of_code kept now plan spots n group c o h same found same_spots place =
+stream_of_code kept now plan doc_places n group c o h same found same_places place =
     subst (λ (l : List Entry). option_and_then (doc_at l) o ≡ stream_coded l group c) same
     (ap (option_and_then (doc_at kept))
-    (found ∙ ap (λ (l : List StreamSpot). slice_get l n) same_spots ∙ ap (slice_get plan.spots.streams) place)
+    (found ∙ ap (λ (l : List StreamPlace). slice_get l n) same_places ∙ ap (slice_get plan.doc_places.streams) place)
     ∙ sym
-    (item_placed (doc_at kept) plan.spots.streams
-    (first_docs_among (flat_map docs_in (list_of kept (Events 0)))) h.spots.streams.0 (c - group * 2 ^ 32)))
+    (item_placed (doc_at kept) plan.doc_places.streams
+    (first_docs_among (flat_map docs_in (list_of kept (Events 0)))) h.doc_places.streams.0 (c - group * 2 ^ 32)))
 
-pub job_of_code : (kept now : List Entry) (plan : Plan) (spots : List JobSpot) (n group c : ℕ) (o : Option JobSpot)
-    → IsPlanOf kept plan → kept ≡ now → o ≡ slice_get spots n → spots ≡ plan.spots.jobs → n ≡ c - group * 2 ^ 32
+pub job_of_code : (kept now : List Entry) (plan : Plan) (doc_places : List JobPlace) (n group c : ℕ) (o : Option JobPlace)
+    → IsPlanOf kept plan → kept ≡ now → o ≡ slice_get doc_places n → doc_places ≡ plan.doc_places.jobs → n ≡ c - group * 2 ^ 32
     → option_and_then (job_at now) o ≡ job_coded now group c
 unfolding catalogue jobs
-job_of_code kept now plan spots n group c o h same found same_spots place =
+job_of_code kept now plan doc_places n group c o h same found same_places place =
     subst (λ (l : List Entry). option_and_then (job_at l) o ≡ job_coded l group c) same
     (ap (option_and_then (job_at kept))
-    (found ∙ ap (λ (l : List JobSpot). slice_get l n) same_spots ∙ ap (slice_get plan.spots.jobs) place)
+    (found ∙ ap (λ (l : List JobPlace). slice_get l n) same_places ∙ ap (slice_get plan.doc_places.jobs) place)
     ∙ sym
-    (item_placed (job_at kept) plan.spots.jobs
+    (item_placed (job_at kept) plan.doc_places.jobs
     (first_jobs_among (flat_map jobs_in (first_docs_among (flat_map docs_in (list_of kept (Events 0))))))
-    h.spots.jobs.0 (c - group * 2 ^ 32)))
+    h.doc_places.jobs.0 (c - group * 2 ^ 32)))
 
 -- who counts in a group is of the group and counts by itself
 in_group : {X : Type 0} (group : X → ℕ) (counts : X → Bool) (by_ : ℕ → X → Bool) (items : List X) (all : List ℕ) (g : ℕ)

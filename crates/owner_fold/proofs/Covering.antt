@@ -11,9 +11,9 @@ use Rattle.model.specs.Words.{firsts, has, insert_once}
 use Rattle.owner_fold.specs.Numbers.{place_of}
 use Rattle.owner_fold.specs.Sets.{Covers, CoversBelow, Further}
 
--- what stands at a place of the spots stands there among the items
-pub item_placed : {S X : Type 0} (f : S → Option X) (spots : List S) (items : List X) → map f spots ≡ map Some items
-    → (i : ℕ) → slice_get items i ≡ option_and_then f (slice_get spots i)
+-- what stands at a place of the places stands there among the items
+pub item_placed : {S X : Type 0} (f : S → Option X) (doc_places : List S) (items : List X) → map f doc_places ≡ map Some items
+    → (i : ℕ) → slice_get items i ≡ option_and_then f (slice_get doc_places i)
 item_placed f [] [] h i = refl
 item_placed f [] (x ∷ xs) h i = cc
 item_placed f (s ∷ ss) [] h i = cc
@@ -21,22 +21,22 @@ item_placed {S} {X} f (s ∷ ss) (x ∷ xs) h zero = let here : f s ≡ Some x =
 item_placed {S} {X} f (s ∷ ss) (x ∷ xs) h (suc i) =
     let there : map f ss ≡ map Some xs = cc in item_placed f ss xs there i
 
-found_there : {S X : Type 0} (f : S → Option X) (spots : List S) (i : ℕ) (d : S) → i < length spots
-    → option_and_then f (slice_get spots i) ≡ f (get_or spots i d)
+found_there : {S X : Type 0} (f : S → Option X) (doc_places : List S) (i : ℕ) (d : S) → i < length doc_places
+    → option_and_then f (slice_get doc_places i) ≡ f (get_or doc_places i d)
 found_there f [] i d h = absurd (omega (arith, h))
 found_there f (s ∷ ss) zero d h = refl
 found_there f (s ∷ ss) (suc i) d h = found_there f ss i d (omega (arith, h))
 
--- what a walk over the spots meets
-pub item_met : {S X : Type 0} (f : S → Option X) (spots walked : List S) (items : List X) (i : ℕ) (d : S)
-    → map f spots ≡ map Some items → walked ≡ spots → i < length walked → slice_get items i ≡ f (get_or walked i d)
-item_met {S} f spots walked items i d e same h =
-    item_placed f spots items e i ∙ ap (λ (l : List S). option_and_then f (slice_get l i)) (sym same)
+-- what a walk over the places meets
+pub item_met : {S X : Type 0} (f : S → Option X) (doc_places walked : List S) (items : List X) (i : ℕ) (d : S)
+    → map f doc_places ≡ map Some items → walked ≡ doc_places → i < length walked → slice_get items i ≡ f (get_or walked i d)
+item_met {S} f doc_places walked items i d e same h =
+    item_placed f doc_places items e i ∙ ap (λ (l : List S). option_and_then f (slice_get l i)) (sym same)
     ∙ found_there f walked i d h
 
--- as many spots as items
-within : {S X : Type 0} (f : S → Option X) (spots : List S) (items : List X) → map f spots ≡ map Some items → (i : ℕ)
-    (x : X) → slice_get items i ≡ Some x → i < length spots
+-- as many places as items
+within : {S X : Type 0} (f : S → Option X) (doc_places : List S) (items : List X) → map f doc_places ≡ map Some items → (i : ℕ)
+    (x : X) → slice_get items i ≡ Some x → i < length doc_places
 within f [] [] e i x s = cc
 within f [] (y ∷ ys) e i x s = cc
 within f (p ∷ ps) [] e i x s = cc
@@ -74,10 +74,10 @@ module _ {X : Type 0} (group : X → ℕ) (counts : X → Bool) where
       ]
 
   -- all items
-  pub covers_all : {S : Type 0} (f : S → Option X) (spots : List S) (items : List X) (n : ℕ) (codes : List ℕ)
-      → map f spots ≡ map Some items → length spots ≤ n → CoversBelow n group counts items codes
+  pub covers_all : {S : Type 0} (f : S → Option X) (doc_places : List S) (items : List X) (n : ℕ) (codes : List ℕ)
+      → map f doc_places ≡ map Some items → length doc_places ≤ n → CoversBelow n group counts items codes
       → Covers group counts items codes
-  covers_all {S} f spots items n codes e l h i x s t = h i x (omega (arith, l, within f spots items e i x s)) s t
+  covers_all {S} f doc_places items n codes e l h i x s t = h i x (omega (arith, l, within f doc_places items e i x s)) s t
 
   -- an item that is not there, one that does not count, and one that is put in
   pub further_none : (n : ℕ) (item : Option X) (old : List ℕ) → item ≡ None → Further group counts n item old old

@@ -11,19 +11,19 @@ use Rattle.model.specs.History.{list_of, view_of}
 use Rattle.model.specs.Catalogue.{StreamJob, catalogue, docs_in, is_member, job, jobs, jobs_in, members, stream}
 use Rattle.owner_fold.specs.Numbers.{ArePlaces, place_of}
 use Rattle.owner_fold.specs.Plans.{IsPlanOf}
-use Rattle.owner_fold.specs.Spots.{doc_at, first_docs_among, first_jobs_among, job_at}
+use Rattle.owner_fold.specs.DocPlaces.{doc_at, first_docs_among, first_jobs_among, job_at}
 use Rattle.owner_fold.specs.declared.plans.Plan.{Plan}
-use Rattle.owner_fold.specs.declared.spots.JobSpot.{JobSpot}
-use Rattle.owner_fold.specs.declared.spots.StreamSpot.{StreamSpot}
+use Rattle.owner_fold.specs.declared.doc_places.JobPlace.{JobPlace}
+use Rattle.owner_fold.specs.declared.doc_places.StreamPlace.{StreamPlace}
 use Rattle.owner_fold.specs.declared.numbers.Numbers.{Numbers}
 
 number_tells : (a b : ℕ) → eqb a b ≡ true → a ≡ b
 number_tells a b h = elim (eqb_tells a b) [ inl e ↦ e.1 | inr e ↦ absurd (cc) ]
 
 -- what stands at the place of a number is the first with that number
-pub found_at : {S X : Type 0} (item : S → Option X) (number : X → ℕ) (spots : List S) (items : List X)
-    → map item spots ≡ map Some items → (n : ℕ)
-    → option_and_then (λ i. option_and_then item (slice_get spots i)) (place_of (map number items) n)
+pub found_at : {S X : Type 0} (item : S → Option X) (number : X → ℕ) (doc_places : List S) (items : List X)
+    → map item doc_places ≡ map Some items → (n : ℕ)
+    → option_and_then (λ i. option_and_then item (slice_get doc_places i)) (place_of (map number items) n)
     ≡ find (λ x. eqb (number x) n) items
 found_at item number [] [] h n = refl
 found_at item number [] (x ∷ xs) h n = cc
@@ -133,38 +133,38 @@ new_grows xs x place p q e h k put n =
     ∙ sym (place_more xs x n (sym (placed xs x) ∙ ap is_some (sym (h x)) ∙ sym k))
 
 -- what is looked up by its number is the first with it
-looked_up : {S X : Type 0} (item : S → Option X) (number : X → ℕ) (spot_number : S → ℕ) (spots : List S)
-    (items : List X) (place : Option ℕ) (n : ℕ) → map item spots ≡ map Some items
-    → map spot_number spots ≡ map number items → place ≡ place_of (map spot_number spots) n
-    → option_and_then (λ i. option_and_then item (slice_get spots i)) place ≡ find (λ x. eqb (number x) n) items
-looked_up item number spot_number spots items place n h same e =
-    ap (option_and_then (λ i. option_and_then item (slice_get spots i))) (e ∙ ap (λ (l : List ℕ). place_of l n) same)
-    ∙ found_at item number spots items h n
+looked_up : {S X : Type 0} (item : S → Option X) (number : X → ℕ) (place_number : S → ℕ) (doc_places : List S)
+    (items : List X) (place : Option ℕ) (n : ℕ) → map item doc_places ≡ map Some items
+    → map place_number doc_places ≡ map number items → place ≡ place_of (map place_number doc_places) n
+    → option_and_then (λ i. option_and_then item (slice_get doc_places i)) place ≡ find (λ x. eqb (number x) n) items
+looked_up item number place_number doc_places items place n h same e =
+    ap (option_and_then (λ i. option_and_then item (slice_get doc_places i))) (e ∙ ap (λ (l : List ℕ). place_of l n) same)
+    ∙ found_at item number doc_places items h n
 
 pub stream_found : (kept view : List Entry) (plan : Plan) (n : ℕ) (place : Option ℕ) → IsPlanOf kept plan
     → kept ≡ view → ((numbers : List ℕ) → ArePlaces numbers plan.index.streams → place ≡ place_of numbers n)
-    → option_and_then (λ i. option_and_then (doc_at view) (slice_get plan.spots.streams i)) place
+    → option_and_then (λ i. option_and_then (doc_at view) (slice_get plan.doc_places.streams i)) place
     ≡ stream (view_of view) n
 unfolding stream catalogue
 stream_found kept view plan n place p e found =
-    subst (λ (l : List Entry). option_and_then (λ i. option_and_then (doc_at l) (slice_get plan.spots.streams i)) place
+    subst (λ (l : List Entry). option_and_then (λ i. option_and_then (doc_at l) (slice_get plan.doc_places.streams i)) place
     ≡ find (λ (d : StreamDoc). eqb d.no n) (first_docs_among (flat_map docs_in (list_of l (Events 0))))) e
-    (looked_up (doc_at kept) (λ (d : StreamDoc). d.no) (λ (q : StreamSpot). q.number) plan.spots.streams
-    (first_docs_among (flat_map docs_in (list_of kept (Events 0)))) place n p.spots.streams.0 p.spots.streams.1
-    (found (map (λ (q : StreamSpot). q.number) plan.spots.streams) p.index.streams))
+    (looked_up (doc_at kept) (λ (d : StreamDoc). d.no) (λ (q : StreamPlace). q.number) plan.doc_places.streams
+    (first_docs_among (flat_map docs_in (list_of kept (Events 0)))) place n p.doc_places.streams.0 p.doc_places.streams.1
+    (found (map (λ (q : StreamPlace). q.number) plan.doc_places.streams) p.index.streams))
 
 pub job_found : (kept view : List Entry) (plan : Plan) (n : ℕ) (place : Option ℕ) → IsPlanOf kept plan
     → kept ≡ view → ((numbers : List ℕ) → ArePlaces numbers plan.index.jobs → place ≡ place_of numbers n)
-    → option_and_then (λ i. option_and_then (job_at view) (slice_get plan.spots.jobs i)) place
+    → option_and_then (λ i. option_and_then (job_at view) (slice_get plan.doc_places.jobs i)) place
     ≡ job (view_of view) n
 unfolding job jobs catalogue
 job_found kept view plan n place p e found =
-    subst (λ (l : List Entry). option_and_then (λ i. option_and_then (job_at l) (slice_get plan.spots.jobs i)) place
+    subst (λ (l : List Entry). option_and_then (λ i. option_and_then (job_at l) (slice_get plan.doc_places.jobs i)) place
     ≡ find (λ (q : StreamJob). eqb q.doc.no n)
     (first_jobs_among (flat_map jobs_in (first_docs_among (flat_map docs_in (list_of l (Events 0))))))) e
-    (looked_up (job_at kept) (λ (q : StreamJob). q.doc.no) (λ (q : JobSpot). q.number) plan.spots.jobs
+    (looked_up (job_at kept) (λ (q : StreamJob). q.doc.no) (λ (q : JobPlace). q.number) plan.doc_places.jobs
     (first_jobs_among (flat_map jobs_in (first_docs_among (flat_map docs_in (list_of kept (Events 0)))))) place n
-    p.spots.jobs.0 p.spots.jobs.1 (found (map (λ (q : JobSpot). q.number) plan.spots.jobs) p.index.jobs))
+    p.doc_places.jobs.0 p.doc_places.jobs.1 (found (map (λ (q : JobPlace). q.number) plan.doc_places.jobs) p.index.jobs))
 
 pub member_found : (kept view : List Entry) (plan : Plan) (n : ℕ) (place : Option ℕ) → IsPlanOf kept plan
     → kept ≡ view → ((numbers : List ℕ) → ArePlaces numbers plan.index.members → place ≡ place_of numbers n)

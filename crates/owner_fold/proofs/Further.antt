@@ -17,14 +17,14 @@ use Rattle.model.specs.History.{list_of, view_of}
 use Rattle.model.specs.Catalogue.{catalogue, docs_in, members, members_with, named_members, stream}
 use Rattle.owner_fold.specs.Numbers.{IsIndexOf}
 use Rattle.owner_fold.specs.declared.numbers.Index.{Index}
-use Rattle.owner_fold.specs.declared.spots.JobSpot.{JobSpot}
+use Rattle.owner_fold.specs.declared.doc_places.JobPlace.{JobPlace}
 use Rattle.owner_fold.specs.Plans.{IsPlanOf, is_planning, is_planning_body}
-use Rattle.owner_fold.specs.Spots.{AreSpotsOf, first_docs_among}
+use Rattle.owner_fold.specs.DocPlaces.{AreDocPlacesOf, first_docs_among}
 use Rattle.owner_fold.specs.declared.plans.Plan.{Plan}
-use Rattle.owner_fold.specs.declared.spots.Spots.{Spots}
-use Rattle.owner_fold.specs.declared.spots.StreamSpot.{StreamSpot}
+use Rattle.owner_fold.specs.declared.doc_places.DocPlaces.{DocPlaces}
+use Rattle.owner_fold.specs.declared.doc_places.StreamPlace.{StreamPlace}
 use Rattle.owner_fold.proofs.Firsts.{has_found}
-use Rattle.owner_fold.proofs.Standing.{spots_later}
+use Rattle.owner_fold.proofs.Standing.{places_later}
 
 list_of-append : (G H : List Entry) (f : Feed) → list_of (G ++ H) f ≡ list_of G f ++ list_of H f
 unfolding list_of
@@ -167,9 +167,9 @@ pub plan_without : (kept : List Entry) (e : Entry) (plan : Plan) → is_planning
 unfolding members stream catalogue
 plan_without kept e plan h p =
     record {
-      spots =
-          subst (λ (docs : List StreamDoc). AreSpotsOf (kept ++ e ∷ []) docs plan.spots) (sym (docs_without kept e h))
-          (spots_later kept (e ∷ []) (flat_map docs_in (list_of kept (Events 0))) plan.spots p.spots);
+      doc_places =
+          subst (λ (docs : List StreamDoc). AreDocPlacesOf (kept ++ e ∷ []) docs plan.doc_places) (sym (docs_without kept e h))
+          (places_later kept (e ∷ []) (flat_map docs_in (list_of kept (Events 0))) plan.doc_places p.doc_places);
       named = p.named ∙ sym (named_without kept e h);
       members =
           p.members
@@ -183,37 +183,37 @@ plan_without kept e plan h p =
     }
 
 -- the plan after a plan or an added stream
-pub plan_with : (kept : List Entry) (e : Entry) (plan : Plan) (spots : Spots) (named : Option (List ℕ))
+pub plan_with : (kept : List Entry) (e : Entry) (plan : Plan) (doc_places : DocPlaces) (named : Option (List ℕ))
     (numbers : List ℕ) (index : Index) (last_stream last_job : ℕ) → is_planning e ≡ true → IsPlanOf kept plan
-    → AreSpotsOf (kept ++ e ∷ []) (flat_map docs_in (list_of kept (Events 0)) ++ docs_in e.body) spots
+    → AreDocPlacesOf (kept ++ e ∷ []) (flat_map docs_in (list_of kept (Events 0)) ++ docs_in e.body) doc_places
     → named ≡ members_with plan.named e.body
-    → numbers ≡ filter (has (map (λ (p : StreamSpot). p.number) spots.streams)) (unwrap_or named [])
-    → IsIndexOf (map (λ (p : StreamSpot). p.number) spots.streams) (map (λ (p : JobSpot). p.number) spots.jobs) numbers
-    index → last_stream ≡ greatest (map (λ (p : StreamSpot). p.number) spots.streams)
-    → last_job ≡ greatest (map (λ (p : JobSpot). p.number) spots.jobs)
+    → numbers ≡ filter (has (map (λ (p : StreamPlace). p.number) doc_places.streams)) (unwrap_or named [])
+    → IsIndexOf (map (λ (p : StreamPlace). p.number) doc_places.streams) (map (λ (p : JobPlace). p.number) doc_places.jobs) numbers
+    index → last_stream ≡ greatest (map (λ (p : StreamPlace). p.number) doc_places.streams)
+    → last_job ≡ greatest (map (λ (p : JobPlace). p.number) doc_places.jobs)
     → IsPlanOf (kept ++ e ∷ []) (record {
-      spots = spots;
+      doc_places = doc_places;
       named = named;
       members = numbers;
       index = index;
       last_stream = last_stream;
       last_job = last_job;
     })
-plan_with kept e plan spots named numbers index last_stream last_job h p placed names found indexed stream_is job_is =
-    let here : AreSpotsOf (kept ++ e ∷ []) (flat_map docs_in (list_of (kept ++ e ∷ []) (Events 0))) spots =
-    subst (λ (docs : List StreamDoc). AreSpotsOf (kept ++ e ∷ []) docs spots) (sym (docs_with kept e h)) placed
+plan_with kept e plan doc_places named numbers index last_stream last_job h p placed names found indexed stream_is job_is =
+    let here : AreDocPlacesOf (kept ++ e ∷ []) (flat_map docs_in (list_of (kept ++ e ∷ []) (Events 0))) doc_places =
+    subst (λ (docs : List StreamDoc). AreDocPlacesOf (kept ++ e ∷ []) docs doc_places) (sym (docs_with kept e h)) placed
     in
     let same : named ≡ named_members (view_of (kept ++ e ∷ [])) =
     names ∙ ap (λ (m : Option (List ℕ)). members_with m e.body) p.named ∙ sym (named_with kept e h)
     in
     record {
-      spots = here;
+      doc_places = here;
       named = same;
       members =
           found
           ∙ ap (λ (m : Option (List ℕ)).
-          filter (has (map (λ (p : StreamSpot). p.number) spots.streams)) (unwrap_or m [])) same
-          ∙ members_of_docs (kept ++ e ∷ []) (map (λ (p : StreamSpot). p.number) spots.streams)
+          filter (has (map (λ (p : StreamPlace). p.number) doc_places.streams)) (unwrap_or m [])) same
+          ∙ members_of_docs (kept ++ e ∷ []) (map (λ (p : StreamPlace). p.number) doc_places.streams)
           here.streams.1;
       index = indexed;
       last_stream = stream_is;
@@ -226,10 +226,10 @@ pub kept_without : (kept new : List Entry) (e : Entry) (plan : Plan) → IsPlanO
 kept_without kept new e plan h grown other = rw grown (plan_without kept e plan other h)
 
 -- the plan of no entries
-pub plan_of_none : (spots : Spots) (numbers : List ℕ) (index : Index) → spots.streams ≡ [] → spots.jobs ≡ []
+pub plan_of_none : (doc_places : DocPlaces) (numbers : List ℕ) (index : Index) → doc_places.streams ≡ [] → doc_places.jobs ≡ []
     → numbers ≡ [] → IsIndexOf [] [] [] index
     → IsPlanOf [] (record {
-      spots = spots;
+      doc_places = doc_places;
       named = None;
       members = numbers;
       index = index;
@@ -237,9 +237,9 @@ pub plan_of_none : (spots : Spots) (numbers : List ℕ) (index : Index) → spot
       last_job = 0;
     })
 unfolding list_of members named_members stream catalogue
-plan_of_none spots numbers index e f g h =
+plan_of_none doc_places numbers index e f g h =
     record {
-      spots = record { streams = (rw e refl, rw e refl); jobs = (rw f refl, rw f refl) };
+      doc_places = record { streams = (rw e refl, rw e refl); jobs = (rw f refl, rw f refl) };
       named = refl;
       members = g;
       index = rw (e, f, g) h;

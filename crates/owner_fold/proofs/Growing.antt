@@ -131,9 +131,9 @@ grows_both f xs ys old mid new g h = record {
       ];
 }
 
--- as many items as spots
-pub as_many : {S X : Type 0} (f : S → Option X) (spots : List S) (items : List X) → map f spots ≡ map Some items
-    → length items ≡ length spots
+-- as many items as places
+pub as_many : {S X : Type 0} (f : S → Option X) (doc_places : List S) (items : List X) → map f doc_places ≡ map Some items
+    → length items ≡ length doc_places
 as_many f [] [] e = refl
 as_many f [] (x ∷ xs) e = cc
 as_many f (s ∷ ss) [] e = cc

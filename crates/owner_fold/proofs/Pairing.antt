@@ -21,7 +21,7 @@ use Rattle.owner_rows.proofs.Further.{commands_with}
 use Rattle.owner_fold.specs.Pairs.{ArePairsAmong, ArePairsOf, HasAll, dep_pairs, job_pairs, object_pairs, pairs_by, pairs_in}
 use Rattle.owner_fold.specs.Pairs.{stream_pairs}
 use Rattle.owner_fold.specs.Plans.{is_planning, is_planning_body}
-use Rattle.owner_fold.specs.Spots.{first_docs_among, first_jobs_among}
+use Rattle.owner_fold.specs.DocPlaces.{first_docs_among, first_jobs_among}
 use Rattle.owner_fold.proofs.Covering.{first_place}
 use Rattle.owner_fold.proofs.Finding.{found_at}
 use Rattle.owner_fold.proofs.Further.{docs_without}

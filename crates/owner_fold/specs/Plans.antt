@@ -6,9 +6,9 @@ use Rattle.model.specs.Words.{greatest}
 use Rattle.model.specs.History.{list_of, view_of}
 use Rattle.model.specs.Catalogue.{docs_in, members, named_members}
 use Rattle.owner_fold.specs.Numbers.{IsIndexOf}
-use Rattle.owner_fold.specs.Spots.{AreSpotsOf}
-use Rattle.owner_fold.specs.declared.spots.JobSpot.{JobSpot}
-use Rattle.owner_fold.specs.declared.spots.StreamSpot.{StreamSpot}
+use Rattle.owner_fold.specs.DocPlaces.{AreDocPlacesOf}
+use Rattle.owner_fold.specs.declared.doc_places.JobPlace.{JobPlace}
+use Rattle.owner_fold.specs.declared.doc_places.StreamPlace.{StreamPlace}
 use Rattle.owner_fold.specs.declared.plans.Plan.{Plan}
 
 -- a plan, or a stream that is added to it
@@ -23,10 +23,10 @@ is_planning e = feed_eq (Events 0) e.feed && is_planning_body e.body
 
 -- the plan of these entries
 pub record IsPlanOf (kept : List Entry) (plan : Plan) : Type 0 where
-  pub spots : AreSpotsOf kept (flat_map docs_in (list_of kept (Events 0))) plan.spots
+  pub doc_places : AreDocPlacesOf kept (flat_map docs_in (list_of kept (Events 0))) plan.doc_places
   pub named : plan.named ≡ named_members (view_of kept)
   pub members : plan.members ≡ members (view_of kept)
-  pub index : IsIndexOf (map (λ (p : StreamSpot). p.number) plan.spots.streams)
-      (map (λ (p : JobSpot). p.number) plan.spots.jobs) plan.members plan.index
-  pub last_stream : plan.last_stream ≡ greatest (map (λ (p : StreamSpot). p.number) plan.spots.streams)
-  pub last_job : plan.last_job ≡ greatest (map (λ (p : JobSpot). p.number) plan.spots.jobs)
+  pub index : IsIndexOf (map (λ (p : StreamPlace). p.number) plan.doc_places.streams)
+      (map (λ (p : JobPlace). p.number) plan.doc_places.jobs) plan.members plan.index
+  pub last_stream : plan.last_stream ≡ greatest (map (λ (p : StreamPlace). p.number) plan.doc_places.streams)
+  pub last_job : plan.last_job ≡ greatest (map (λ (p : JobPlace). p.number) plan.doc_places.jobs)

@@ -7,18 +7,18 @@ ghost use Rattle.model.specs.History.{view_of};
 ghost use Rattle.model.specs.Catalogue.{StreamJob, catalogue, jobs, jobs_of_stream, members, stream, job};
 ghost use Rattle.model.specs.Catalogue.{is_member, stream_of, owner};
 ghost use Rattle.owner_fold.specs.Sets as spec;
-ghost use Rattle.owner_fold.specs.Spots.{stream_job};
+ghost use Rattle.owner_fold.specs.DocPlaces.{stream_job};
 ghost use Rattle.owner_fold.specs.Left.{jobs_left, stream_jobs_left, streams_left};
 
+use crate::doc_places::{JobPlace, StreamPlace, planned_job_at, stream_at};
 use crate::holdings::Owners;
-use crate::spots::{JobSpot, StreamSpot, planned_job_at, stream_at};
 use base_types::{Entry, JobDoc, JobNo, Obj, StreamDoc, StreamNo, StreamNos, Ws};
 
 /// The streams of the catalogue, in its order.
 #[derive(Drop)]
 pub struct Streams<'a> {
     pub(crate) entries: &'a [Entry],
-    pub(crate) spots: &'a [StreamSpot],
+    pub(crate) doc_places: &'a [StreamPlace],
 }
 
 impl<'a> Iterator for Streams<'a> {
@@ -30,14 +30,14 @@ impl<'a> Iterator for Streams<'a> {
 
     #[tactic(auto, unfolding(crate::specs::Left::streams_left))]
     fn next(&mut self) -> Option<&'a StreamDoc> {
-        let spots = self.spots;
-        for (i, spot) in spots.iter().enumerate() {
-            if let Some(doc) = stream_at(self.entries, spot) {
-                self.spots = &spots[i + 1..];
+        let doc_places = self.doc_places;
+        for (i, doc_place) in doc_places.iter().enumerate() {
+            if let Some(doc) = stream_at(self.entries, doc_place) {
+                self.doc_places = &doc_places[i + 1..];
                 return Some(doc);
             }
         }
-        self.spots = &spots[spots.len()..];
+        self.doc_places = &doc_places[doc_places.len()..];
         None
     }
 }
@@ -46,7 +46,7 @@ impl<'a> Iterator for Streams<'a> {
 #[derive(Drop)]
 pub struct PlannedJobs<'a> {
     pub(crate) entries: &'a [Entry],
-    pub(crate) spots: &'a [JobSpot],
+    pub(crate) doc_places: &'a [JobPlace],
 }
 
 impl<'a> Iterator for PlannedJobs<'a> {
@@ -58,14 +58,14 @@ impl<'a> Iterator for PlannedJobs<'a> {
 
     #[tactic(auto, unfolding(crate::specs::Left::jobs_left))]
     fn next(&mut self) -> Option<(&'a StreamDoc, &'a JobDoc)> {
-        let spots = self.spots;
-        for (i, spot) in spots.iter().enumerate() {
-            if let Some(placed) = planned_job_at(self.entries, spot) {
-                self.spots = &spots[i + 1..];
+        let doc_places = self.doc_places;
+        for (i, doc_place) in doc_places.iter().enumerate() {
+            if let Some(placed) = planned_job_at(self.entries, doc_place) {
+                self.doc_places = &doc_places[i + 1..];
                 return Some(placed);
             }
         }
-        self.spots = &spots[spots.len()..];
+        self.doc_places = &doc_places[doc_places.len()..];
         None
     }
 }
@@ -123,7 +123,7 @@ impl Owners {
     {
         Streams {
             entries: self.entries(),
-            spots: self.stream_spots(),
+            doc_places: self.stream_places(),
         }
     }
 
@@ -134,7 +134,7 @@ impl Owners {
     {
         PlannedJobs {
             entries: self.entries(),
-            spots: self.job_spots(),
+            doc_places: self.job_places(),
         }
     }
 
@@ -154,9 +154,9 @@ impl Owners {
     pub fn stream(&self, s: StreamNo) -> Option<&StreamDoc>
         ensures { option_copied result ≡ stream (view_of self.now) s }
     {
-        match self.stream_spot(s) {
+        match self.stream_place(s) {
             None => None,
-            Some(spot) => stream_at(self.entries(), spot),
+            Some(doc_place) => stream_at(self.entries(), doc_place),
         }
     }
 
@@ -164,9 +164,9 @@ impl Owners {
     pub fn planned_job(&self, j: JobNo) -> Option<(&StreamDoc, &JobDoc)>
         ensures { option_map (λ p. stream_job p.0.now p.1.now) result ≡ job (view_of self.now) j }
     {
-        match self.job_spot(j) {
+        match self.job_place(j) {
             None => None,
-            Some(spot) => planned_job_at(self.entries(), spot),
+            Some(doc_place) => planned_job_at(self.entries(), doc_place),
         }
     }
 

@@ -6,7 +6,7 @@ ghost use Rattle.model.specs.History.{view_of};
 ghost use Rattle.model.specs.Catalogue.{StreamJob};
 ghost use Rattle.model.specs.OwnMembers.{own_jobs, own_streams};
 ghost use Rattle.owner_fold.specs.Given.{is_filed};
-ghost use Rattle.owner_fold.specs.Spots.{stream_job};
+ghost use Rattle.owner_fold.specs.DocPlaces.{stream_job};
 ghost use Rattle.owner_fold.specs.Files.{filed_jobs_left, filed_streams_left};
 
 use crate::given::Kind;

@@ -7,12 +7,12 @@ ghost use Rattle.owner_fold.specs.Given.{given_job_by, given_stream_by, is_of};
 ghost use Rattle.owner_fold.specs.Numbers.{ArePlaces};
 ghost use Rattle.owner_fold.specs.Sets as spec;
 ghost use Rattle.owner_fold.specs.Sets.{Covers, Further};
-ghost use Rattle.owner_fold.specs.Spots.{AreJobSpots, AreStreamSpots, doc_at, job_at, stream_job};
+ghost use Rattle.owner_fold.specs.DocPlaces.{AreJobPlaces, AreStreamPlaces, doc_at, job_at, stream_job};
 
+use crate::doc_places::{DocPlaces, JobPlace, StreamPlace, docs_of};
 use crate::given::{Kind, is_given};
 use crate::numbers::Numbers;
 use crate::sets::{is_begun, is_waiting};
-use crate::spots::{JobSpot, Spots, StreamSpot, docs_of};
 use base_types::{Entry, JobDoc, NoMemory, Obj, StreamDoc};
 use grouped_places::Groups;
 use owner_rows::Kept;
@@ -31,13 +31,13 @@ fn entry_with<'a>(entries: &'a [Entry], e: &'a Entry, place: usize) -> Option<&'
 pub(crate) fn stream_with<'a>(
     entries: &'a [Entry],
     e: &'a Entry,
-    spot: &StreamSpot,
+    doc_place: &StreamPlace,
 ) -> Option<&'a StreamDoc>
-    ensures { option_copied result ≡ doc_at (entries.now ++ e.now ∷ []) spot.now }
+    ensures { option_copied result ≡ doc_at (entries.now ++ e.now ∷ []) doc_place.now }
 {
-    match entry_with(entries, e, spot.entry) {
+    match entry_with(entries, e, doc_place.entry) {
         None => None,
-        Some(entry) => docs_of(&entry.body).get(spot.doc),
+        Some(entry) => docs_of(&entry.body).get(doc_place.doc),
     }
 }
 
@@ -45,31 +45,31 @@ pub(crate) fn stream_with<'a>(
 pub(crate) fn job_with<'a>(
     entries: &'a [Entry],
     e: &'a Entry,
-    spot: &JobSpot,
+    doc_place: &JobPlace,
 ) -> Option<(&'a StreamDoc, &'a JobDoc)>
-    ensures { option_map (λ p. stream_job p.0.now p.1.now) result ≡ job_at (entries.now ++ e.now ∷ []) spot.now }
+    ensures { option_map (λ p. stream_job p.0.now p.1.now) result ≡ job_at (entries.now ++ e.now ∷ []) doc_place.now }
 {
-    match stream_with(entries, e, &spot.stream) {
+    match stream_with(entries, e, &doc_place.stream) {
         None => None,
-        Some(doc) => match doc.jobs.get(spot.job) {
+        Some(doc) => match doc.jobs.get(doc_place.job) {
             None => None,
             Some(job) => Some((doc, job)),
         },
     }
 }
 
-/// Puts in the stream at this spot, where it waits.
+/// Puts in the stream at this place, where it waits.
 fn put_waiting(
     groups: &mut Groups,
     kept: &Kept,
     e: &Entry,
     place: usize,
-    spot: &StreamSpot,
+    doc_place: &StreamPlace,
 ) -> Result<(), NoMemory>
     ensures { OnOk result (Further spec.station_of (spec.waits_by kept.now) place
-        (doc_at (kept.now ++ e.now ∷ []) spot.now) groups.old groups.new) }
+        (doc_at (kept.now ++ e.now ∷ []) doc_place.now) groups.old groups.new) }
 {
-    match stream_with(kept.entries(), e, spot) {
+    match stream_with(kept.entries(), e, doc_place) {
         None => Ok(()),
         Some(doc) => {
             if is_waiting(kept, doc.ws, doc.no) {
@@ -82,18 +82,18 @@ fn put_waiting(
     }
 }
 
-/// Puts in the stream at this spot, where it is begun.
+/// Puts in the stream at this place, where it is begun.
 fn put_begun(
     groups: &mut Groups,
     kept: &Kept,
     e: &Entry,
     place: usize,
-    spot: &StreamSpot,
+    doc_place: &StreamPlace,
 ) -> Result<(), NoMemory>
     ensures { OnOk result (Further spec.station_of (spec.began_by kept.now) place
-        (doc_at (kept.now ++ e.now ∷ []) spot.now) groups.old groups.new) }
+        (doc_at (kept.now ++ e.now ∷ []) doc_place.now) groups.old groups.new) }
 {
-    match stream_with(kept.entries(), e, spot) {
+    match stream_with(kept.entries(), e, doc_place) {
         None => Ok(()),
         Some(doc) => {
             if is_begun(kept, doc.ws, doc.no) {
@@ -106,18 +106,18 @@ fn put_begun(
     }
 }
 
-/// Puts in the job at this spot, where it has an open launch.
+/// Puts in the job at this place, where it has an open launch.
 fn put_opened(
     groups: &mut Groups,
     kept: &Kept,
     e: &Entry,
     place: usize,
-    spot: &JobSpot,
+    doc_place: &JobPlace,
 ) -> Result<(), NoMemory>
     ensures { OnOk result (Further spec.job_station_of (spec.opened_by kept.now) place
-        (job_at (kept.now ++ e.now ∷ []) spot.now) groups.old groups.new) }
+        (job_at (kept.now ++ e.now ∷ []) doc_place.now) groups.old groups.new) }
 {
-    match job_with(kept.entries(), e, spot) {
+    match job_with(kept.entries(), e, doc_place) {
         None => Ok(()),
         Some((_, doc)) => {
             if kept.is_open_at(doc.ws, doc.no) {
@@ -130,18 +130,18 @@ fn put_opened(
     }
 }
 
-/// Puts in the job at this spot.
+/// Puts in the job at this place.
 fn put_by_stream(
     groups: &mut Groups,
     kept: &Kept,
     e: &Entry,
     place: usize,
-    spot: &JobSpot,
+    doc_place: &JobPlace,
 ) -> Result<(), NoMemory>
     ensures { OnOk result (Further spec.job_stream_of (λ p. true) place
-        (job_at (kept.now ++ e.now ∷ []) spot.now) groups.old groups.new) }
+        (job_at (kept.now ++ e.now ∷ []) doc_place.now) groups.old groups.new) }
 {
-    match job_with(kept.entries(), e, spot) {
+    match job_with(kept.entries(), e, doc_place) {
         None => Ok(()),
         Some((parent, _)) => {
             groups.add(parent.no.0, place)?;
@@ -174,7 +174,7 @@ fn is_given_members_job(
     members.has(parent.no.0) && is_given(kind, kept, doc.ws, &o, doc.deps.as_slice())
 }
 
-/// Puts in the stream at this spot, where it is a member that was given a dependency of the kind.
+/// Puts in the stream at this place, where it is a member that was given a dependency of the kind.
 fn put_given_stream(
     kind: Kind,
     groups: &mut Groups,
@@ -182,13 +182,13 @@ fn put_given_stream(
     e: &Entry,
     members: &Numbers,
     place: usize,
-    spot: &StreamSpot,
+    doc_place: &StreamPlace,
 ) -> Result<(), NoMemory>
     ensures { OnOk result ((ms : List ℕ) → ArePlaces ms members.now
         → Further spec.station_of (given_stream_by (is_of kind) ms kept.now) place
-        (doc_at (kept.now ++ e.now ∷ []) spot.now) groups.old groups.new) }
+        (doc_at (kept.now ++ e.now ∷ []) doc_place.now) groups.old groups.new) }
 {
-    match stream_with(kept.entries(), e, spot) {
+    match stream_with(kept.entries(), e, doc_place) {
         None => Ok(()),
         Some(doc) => {
             if is_given_member(kind, kept, members, doc) {
@@ -201,7 +201,7 @@ fn put_given_stream(
     }
 }
 
-/// Puts in the job at this spot, where it is a member's that was given one.
+/// Puts in the job at this place, where it is a member's that was given one.
 fn put_given_job(
     kind: Kind,
     groups: &mut Groups,
@@ -209,13 +209,13 @@ fn put_given_job(
     e: &Entry,
     members: &Numbers,
     place: usize,
-    spot: &JobSpot,
+    doc_place: &JobPlace,
 ) -> Result<(), NoMemory>
     ensures { OnOk result ((ms : List ℕ) → ArePlaces ms members.now
         → Further spec.job_station_of (given_job_by (is_of kind) ms kept.now) place
-        (job_at (kept.now ++ e.now ∷ []) spot.now) groups.old groups.new) }
+        (job_at (kept.now ++ e.now ∷ []) doc_place.now) groups.old groups.new) }
 {
-    match job_with(kept.entries(), e, spot) {
+    match job_with(kept.entries(), e, doc_place) {
         None => Ok(()),
         Some((parent, doc)) => {
             if is_given_members_job(kind, kept, members, parent, doc) {
@@ -233,13 +233,13 @@ pub(crate) fn waiting_of(
     mut groups: Groups,
     kept: &Kept,
     e: &Entry,
-    spots: &Spots,
+    doc_places: &DocPlaces,
 ) -> Result<Groups, NoMemory>
-    ensures { IfOk result (λ codes. (docs : List Doc) → AreStreamSpots (kept.now ++ e.now ∷ []) spots.now.streams docs
+    ensures { IfOk result (λ codes. (docs : List Doc) → AreStreamPlaces (kept.now ++ e.now ∷ []) doc_places.now.streams docs
         → Covers spec.station_of (spec.waits_by kept.now) docs codes) }
 {
-    for (i, spot) in spots.streams.as_slice().iter().enumerate() {
-        put_waiting(&mut groups, kept, e, i, spot)?;
+    for (i, doc_place) in doc_places.streams.as_slice().iter().enumerate() {
+        put_waiting(&mut groups, kept, e, i, doc_place)?;
     }
     Ok(groups)
 }
@@ -249,13 +249,13 @@ pub(crate) fn begun_of(
     mut groups: Groups,
     kept: &Kept,
     e: &Entry,
-    spots: &Spots,
+    doc_places: &DocPlaces,
 ) -> Result<Groups, NoMemory>
-    ensures { IfOk result (λ codes. (docs : List Doc) → AreStreamSpots (kept.now ++ e.now ∷ []) spots.now.streams docs
+    ensures { IfOk result (λ codes. (docs : List Doc) → AreStreamPlaces (kept.now ++ e.now ∷ []) doc_places.now.streams docs
         → Covers spec.station_of (spec.began_by kept.now) docs codes) }
 {
-    for (i, spot) in spots.streams.as_slice().iter().enumerate() {
-        put_begun(&mut groups, kept, e, i, spot)?;
+    for (i, doc_place) in doc_places.streams.as_slice().iter().enumerate() {
+        put_begun(&mut groups, kept, e, i, doc_place)?;
     }
     Ok(groups)
 }
@@ -265,14 +265,14 @@ pub(crate) fn opened_of(
     mut groups: Groups,
     kept: &Kept,
     e: &Entry,
-    spots: &Spots,
+    doc_places: &DocPlaces,
 ) -> Result<Groups, NoMemory>
     ensures { IfOk result (λ codes. (placed : List StreamJob)
-        → AreJobSpots (kept.now ++ e.now ∷ []) spots.now.jobs placed
+        → AreJobPlaces (kept.now ++ e.now ∷ []) doc_places.now.jobs placed
         → Covers spec.job_station_of (spec.opened_by kept.now) placed codes) }
 {
-    for (i, spot) in spots.jobs.as_slice().iter().enumerate() {
-        put_opened(&mut groups, kept, e, i, spot)?;
+    for (i, doc_place) in doc_places.jobs.as_slice().iter().enumerate() {
+        put_opened(&mut groups, kept, e, i, doc_place)?;
     }
     Ok(groups)
 }
@@ -282,14 +282,14 @@ pub(crate) fn by_stream_of(
     mut groups: Groups,
     kept: &Kept,
     e: &Entry,
-    spots: &Spots,
+    doc_places: &DocPlaces,
 ) -> Result<Groups, NoMemory>
     ensures { IfOk result (λ codes. (placed : List StreamJob)
-        → AreJobSpots (kept.now ++ e.now ∷ []) spots.now.jobs placed
+        → AreJobPlaces (kept.now ++ e.now ∷ []) doc_places.now.jobs placed
         → Covers spec.job_stream_of (λ p. true) placed codes) }
 {
-    for (i, spot) in spots.jobs.as_slice().iter().enumerate() {
-        put_by_stream(&mut groups, kept, e, i, spot)?;
+    for (i, doc_place) in doc_places.jobs.as_slice().iter().enumerate() {
+        put_by_stream(&mut groups, kept, e, i, doc_place)?;
     }
     Ok(groups)
 }
@@ -300,15 +300,15 @@ pub(crate) fn given_streams_of(
     mut groups: Groups,
     kept: &Kept,
     e: &Entry,
-    spots: &Spots,
+    doc_places: &DocPlaces,
     members: &Numbers,
 ) -> Result<Groups, NoMemory>
     ensures { IfOk result (λ codes. (ms : List ℕ) (docs : List Doc) → ArePlaces ms members.now
-        → AreStreamSpots (kept.now ++ e.now ∷ []) spots.now.streams docs
+        → AreStreamPlaces (kept.now ++ e.now ∷ []) doc_places.now.streams docs
         → Covers spec.station_of (given_stream_by (is_of kind) ms kept.now) docs codes) }
 {
-    for (i, spot) in spots.streams.as_slice().iter().enumerate() {
-        put_given_stream(kind, &mut groups, kept, e, members, i, spot)?;
+    for (i, doc_place) in doc_places.streams.as_slice().iter().enumerate() {
+        put_given_stream(kind, &mut groups, kept, e, members, i, doc_place)?;
     }
     Ok(groups)
 }
@@ -319,15 +319,15 @@ pub(crate) fn given_jobs_of(
     mut groups: Groups,
     kept: &Kept,
     e: &Entry,
-    spots: &Spots,
+    doc_places: &DocPlaces,
     members: &Numbers,
 ) -> Result<Groups, NoMemory>
     ensures { IfOk result (λ codes. (ms : List ℕ) (placed : List StreamJob) → ArePlaces ms members.now
-        → AreJobSpots (kept.now ++ e.now ∷ []) spots.now.jobs placed
+        → AreJobPlaces (kept.now ++ e.now ∷ []) doc_places.now.jobs placed
         → Covers spec.job_station_of (given_job_by (is_of kind) ms kept.now) placed codes) }
 {
-    for (i, spot) in spots.jobs.as_slice().iter().enumerate() {
-        put_given_job(kind, &mut groups, kept, e, members, i, spot)?;
+    for (i, doc_place) in doc_places.jobs.as_slice().iter().enumerate() {
+        put_given_job(kind, &mut groups, kept, e, members, i, doc_place)?;
     }
     Ok(groups)
 }

@@ -5,13 +5,13 @@ ghost use Rattle.model.specs.Catalogue.{StreamJob};
 ghost use Rattle.owner_fold.specs.Given.{is_of};
 ghost use Rattle.owner_fold.specs.Numbers.{ArePlaces};
 ghost use Rattle.owner_fold.specs.Sets.{AreGivenAmong, HasGiven, KeepsGiven};
-ghost use Rattle.owner_fold.specs.Spots.{AreJobSpots, AreStreamSpots};
+ghost use Rattle.owner_fold.specs.DocPlaces.{AreJobPlaces, AreStreamPlaces};
 
+use crate::doc_places::DocPlaces;
 use crate::fills::{given_jobs_of, given_streams_of};
 use crate::given::Kind;
 use crate::numbers::{Index, Numbers};
 use crate::sets::include;
-use crate::spots::Spots;
 use base_types::{Entry, NoMemory, Obj};
 use grouped_places::Groups;
 use owner_rows::Kept;
@@ -45,23 +45,23 @@ impl GivenObjects {
         }
     }
 
-    /// The places of what stands at these spots, where this entry comes after those, by what was told before it.
+    /// The places of what stands at these places, where this entry comes after those, by what was told before it.
     pub(crate) fn anew(
         &self,
         kind: Kind,
         kept: &Kept,
         e: &Entry,
-        spots: &Spots,
+        doc_places: &DocPlaces,
         members: &Numbers,
     ) -> Result<GivenObjects, NoMemory>
         ensures { IfOk result (λ given. (ms : List ℕ) (streams : List Doc) (placed : List StreamJob)
             → ArePlaces ms members.now
-            → AreStreamSpots (kept.now ++ e.now ∷ []) spots.now.streams streams
-            → AreJobSpots (kept.now ++ e.now ∷ []) spots.now.jobs placed
+            → AreStreamPlaces (kept.now ++ e.now ∷ []) doc_places.now.streams streams
+            → AreJobPlaces (kept.now ++ e.now ∷ []) doc_places.now.jobs placed
             → AreGivenAmong (is_of kind) kept.now ms streams placed given) }
     {
-        let streams = given_streams_of(kind, self.streams.empty(), kept, e, spots, members)?;
-        let jobs = given_jobs_of(kind, self.jobs.empty(), kept, e, spots, members)?;
+        let streams = given_streams_of(kind, self.streams.empty(), kept, e, doc_places, members)?;
+        let jobs = given_jobs_of(kind, self.jobs.empty(), kept, e, doc_places, members)?;
         Ok(GivenObjects { streams, jobs })
     }
 

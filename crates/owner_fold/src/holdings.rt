@@ -17,17 +17,19 @@ ghost use Rattle.owner_fold.specs.Holders.{is_open_here, is_under_way, open_jobs
 ghost use Rattle.owner_fold.specs.Plans.{is_planning};
 ghost use Rattle.owner_fold.specs.Sets as spec;
 ghost use Rattle.owner_fold.specs.Sets.{is_waiting_here, streams_waiting};
-ghost use Rattle.owner_fold.specs.Spots.{doc_at, job_at, stream_job};
+ghost use Rattle.owner_fold.specs.DocPlaces.{doc_at, job_at, stream_job};
 ghost use Rattle.owner_fold.specs.Files.{filed_jobs, filed_streams};
 ghost use Rattle.owner_fold.specs.Given.{has_time, is_given_job_here, is_given_stream_here};
 ghost use Rattle.owner_fold.specs.Times.{timed_jobs, timed_streams};
 ghost use Rattle.model.specs.StepFaults.{is_outside};
 
 use crate::changes::change_of;
+use crate::doc_places::{
+    JobPlace, StreamPlace, job_place_at, planned_job_at, stream_at, stream_place_at,
+};
 use crate::pairs::{pairs_of, put_brought};
 use crate::plans::{Plan, is_planning};
 use crate::sets::Sets;
-use crate::spots::{JobSpot, StreamSpot, job_spot_at, planned_job_at, stream_at, stream_spot_at};
 use base_types::{
     Body, Cmd, Copied, Entry, Feed, JobDoc, JobNo, NoMemory, StreamDoc, StreamNo, StreamNos, Ws,
 };
@@ -113,7 +115,7 @@ impl Owners {
         let plan = self.plan.with(self.kept.entries(), &e)?;
         let sets = self
             .sets
-            .anew(&self.kept, &e, &plan.spots, &plan.index.members)?;
+            .anew(&self.kept, &e, &plan.doc_places, &plan.index.members)?;
         let pairs = pairs_of(self.pairs.empty(), &self.kept, &e, &plan)?;
         self.kept.take_own(e)?;
         self.plan = plan;
@@ -197,29 +199,29 @@ impl Owners {
     }
 
     /// Where the streams of the catalogue stand.
-    pub(crate) fn stream_spots(&self) -> &[StreamSpot]
+    pub(crate) fn stream_places(&self) -> &[StreamPlace]
         ensures { filter_map (doc_at self.now) result.now ≡ catalogue (view_of self.now) }
     {
-        self.plan.spots.streams.as_slice()
+        self.plan.doc_places.streams.as_slice()
     }
 
     /// Where the stream of this number stands.
-    pub(crate) fn stream_spot(&self, s: StreamNo) -> Option<&StreamSpot>
+    pub(crate) fn stream_place(&self, s: StreamNo) -> Option<&StreamPlace>
         ensures { option_and_then (doc_at self.now) (option_copied result) ≡ stream (view_of self.now) s }
     {
         match self.plan.index.streams.place(s.0) {
             None => None,
-            Some(place) => stream_spot_at(self.plan.spots.streams.as_slice(), place),
+            Some(place) => stream_place_at(self.plan.doc_places.streams.as_slice(), place),
         }
     }
 
     /// Where the job of this number stands.
-    pub(crate) fn job_spot(&self, j: JobNo) -> Option<&JobSpot>
+    pub(crate) fn job_place(&self, j: JobNo) -> Option<&JobPlace>
         ensures { option_and_then (job_at self.now) (option_copied result) ≡ job (view_of self.now) j }
     {
         match self.plan.index.jobs.place(j.0) {
             None => None,
-            Some(place) => job_spot_at(self.plan.spots.jobs.as_slice(), place),
+            Some(place) => job_place_at(self.plan.doc_places.jobs.as_slice(), place),
         }
     }
 
@@ -255,19 +257,22 @@ impl Owners {
     }
 
     /// Where the jobs of the catalogue stand.
-    pub(crate) fn job_spots(&self) -> &[JobSpot]
+    pub(crate) fn job_places(&self) -> &[JobPlace]
         ensures { filter_map (job_at self.now) result.now ≡ jobs (view_of self.now) }
     {
-        self.plan.spots.jobs.as_slice()
+        self.plan.doc_places.jobs.as_slice()
     }
 
     /// The stream at the place of a code of a group.
     pub(crate) fn stream_coded(&self, group: u32, code: u64) -> Option<&StreamDoc>
         ensures { option_copied result ≡ spec.stream_coded self.now group code }
     {
-        match stream_spot_at(self.plan.spots.streams.as_slice(), place_in(group, code)) {
+        match stream_place_at(
+            self.plan.doc_places.streams.as_slice(),
+            place_in(group, code),
+        ) {
             None => None,
-            Some(spot) => stream_at(self.entries(), spot),
+            Some(doc_place) => stream_at(self.entries(), doc_place),
         }
     }
 
@@ -275,9 +280,9 @@ impl Owners {
     pub(crate) fn job_coded(&self, group: u32, code: u64) -> Option<(&StreamDoc, &JobDoc)>
         ensures { option_map (λ p. stream_job p.0.now p.1.now) result ≡ spec.job_coded self.now group code }
     {
-        match job_spot_at(self.plan.spots.jobs.as_slice(), place_in(group, code)) {
+        match job_place_at(self.plan.doc_places.jobs.as_slice(), place_in(group, code)) {
             None => None,
-            Some(spot) => planned_job_at(self.entries(), spot),
+            Some(doc_place) => planned_job_at(self.entries(), doc_place),
         }
     }
 

@@ -14,6 +14,7 @@
 mod catalogue;
 mod changes;
 mod dependencies;
+mod doc_places;
 mod events;
 mod facts;
 mod filed;
@@ -25,7 +26,6 @@ mod numbers;
 mod pairs;
 mod plans;
 mod sets;
-mod spots;
 mod stages;
 mod timed;
 mod units;

@@ -3,7 +3,7 @@ ghost use Rattle.std.specs.Prelude.{◌≡◌, ◌++◌, ◌==◌, [], ◌∷◌
 ghost use Rattle.model.specs.Words.{has};
 ghost use Rattle.owner_fold.specs.Numbers.{ArePlaces, IsIndexOf, place_of};
 
-use crate::spots::Spots;
+use crate::doc_places::DocPlaces;
 use base_types::{NoMemory, StreamNos};
 use indexmap::IndexMap;
 use std::alloc::Global;
@@ -67,23 +67,23 @@ impl Numbers {
     }
 
     /// The places of the catalogue's streams.
-    pub(crate) fn of_streams(&self, spots: &Spots) -> Result<Numbers, NoMemory>
-        ensures { IfOk result (λ p. ArePlaces (map (λ s. s.number) spots.now.streams) p) }
+    pub(crate) fn of_streams(&self, doc_places: &DocPlaces) -> Result<Numbers, NoMemory>
+        ensures { IfOk result (λ p. ArePlaces (map (λ s. s.number) doc_places.now.streams) p) }
     {
         let mut numbers = self.empty();
-        for (i, spot) in spots.streams.as_slice().iter().enumerate() {
-            numbers.add(spot.number, i)?;
+        for (i, doc_place) in doc_places.streams.as_slice().iter().enumerate() {
+            numbers.add(doc_place.number, i)?;
         }
         Ok(numbers)
     }
 
     /// The places of its jobs.
-    pub(crate) fn of_jobs(&self, spots: &Spots) -> Result<Numbers, NoMemory>
-        ensures { IfOk result (λ p. ArePlaces (map (λ s. s.number) spots.now.jobs) p) }
+    pub(crate) fn of_jobs(&self, doc_places: &DocPlaces) -> Result<Numbers, NoMemory>
+        ensures { IfOk result (λ p. ArePlaces (map (λ s. s.number) doc_places.now.jobs) p) }
     {
         let mut numbers = self.empty();
-        for (i, spot) in spots.jobs.as_slice().iter().enumerate() {
-            numbers.add(spot.number, i)?;
+        for (i, doc_place) in doc_places.jobs.as_slice().iter().enumerate() {
+            numbers.add(doc_place.number, i)?;
         }
         Ok(numbers)
     }

@@ -11,11 +11,11 @@ ghost use Rattle.model.specs.Dependencies.{dep_cites, deps_added_by};
 ghost use Rattle.model.specs.Facts.{commands};
 ghost use Rattle.owner_fold.specs.Pairs.{ArePairsAmong, Grows, HasAll, dep_pairs, job_pairs, object_pairs, pairs_in, stream_pairs};
 ghost use Rattle.owner_fold.specs.Plans.{IsPlanOf};
-ghost use Rattle.owner_fold.specs.Spots.{doc_at, job_at, stream_job};
+ghost use Rattle.owner_fold.specs.DocPlaces.{doc_at, job_at, stream_job};
 
+use crate::doc_places::{JobPlace, StreamPlace, job_place_at, stream_place_at};
 use crate::fills::{job_with, stream_with};
 use crate::plans::Plan;
-use crate::spots::{JobSpot, StreamSpot, job_spot_at, stream_spot_at};
 use base_types::{
     Body, Cmd, Dep, Entry, Feed, JobDoc, JobNo, NoMemory, Obj, PromptRef, StreamDoc, StreamNo, Ws,
 };
@@ -23,43 +23,43 @@ use grouped_places::Groups;
 use owner_rows::Kept;
 
 /// Where the stream of this number stands.
-fn stream_spot<'a>(plan: &'a Plan, s: StreamNo) -> Option<&'a StreamSpot>
+fn stream_place<'a>(plan: &'a Plan, s: StreamNo) -> Option<&'a StreamPlace>
     ensures { (now : List Taken) → IsPlanOf now plan.now
         → option_and_then (doc_at now) (option_copied result) ≡ stream (view_of now) s }
 {
     match plan.index.streams.place(s.0) {
         None => None,
-        Some(place) => stream_spot_at(plan.spots.streams.as_slice(), place),
+        Some(place) => stream_place_at(plan.doc_places.streams.as_slice(), place),
     }
 }
 
 /// Where the job of this number stands.
-fn job_spot<'a>(plan: &'a Plan, j: JobNo) -> Option<&'a JobSpot>
+fn job_place<'a>(plan: &'a Plan, j: JobNo) -> Option<&'a JobPlace>
     ensures { (now : List Taken) → IsPlanOf now plan.now
         → option_and_then (job_at now) (option_copied result) ≡ job (view_of now) j }
 {
     match plan.index.jobs.place(j.0) {
         None => None,
-        Some(place) => job_spot_at(plan.spots.jobs.as_slice(), place),
+        Some(place) => job_place_at(plan.doc_places.jobs.as_slice(), place),
     }
 }
 
 /// The document that stands there, where `e` comes after the others.
-fn stream_there<'a>(kept: &'a Kept, e: &'a Entry, spot: &StreamSpot) -> Option<&'a StreamDoc>
-    ensures { option_copied result ≡ doc_at (kept.now ++ e.now ∷ []) spot.now }
+fn stream_there<'a>(kept: &'a Kept, e: &'a Entry, doc_place: &StreamPlace) -> Option<&'a StreamDoc>
+    ensures { option_copied result ≡ doc_at (kept.now ++ e.now ∷ []) doc_place.now }
 {
-    stream_with(kept.entries(), e, spot)
+    stream_with(kept.entries(), e, doc_place)
 }
 
 /// The job that stands there then, with its stream.
 fn job_there<'a>(
     kept: &'a Kept,
     e: &'a Entry,
-    spot: &JobSpot,
+    doc_place: &JobPlace,
 ) -> Option<(&'a StreamDoc, &'a JobDoc)>
-    ensures { option_map (λ p. stream_job p.0.now p.1.now) result ≡ job_at (kept.now ++ e.now ∷ []) spot.now }
+    ensures { option_map (λ p. stream_job p.0.now p.1.now) result ≡ job_at (kept.now ++ e.now ∷ []) doc_place.now }
 {
-    job_with(kept.entries(), e, spot)
+    job_with(kept.entries(), e, doc_place)
 }
 
 /// The stream of this number then.
@@ -67,9 +67,9 @@ fn stream_then<'a>(kept: &'a Kept, e: &'a Entry, plan: &Plan, s: StreamNo) -> Op
     requires { IsPlanOf (kept.now ++ e.now ∷ []) plan.now }
     ensures { option_copied result ≡ stream (view_of (kept.now ++ e.now ∷ [])) s }
 {
-    match stream_spot(plan, s) {
+    match stream_place(plan, s) {
         None => None,
-        Some(spot) => stream_there(kept, e, spot),
+        Some(doc_place) => stream_there(kept, e, doc_place),
     }
 }
 
@@ -83,9 +83,9 @@ fn job_then<'a>(
     requires { IsPlanOf (kept.now ++ e.now ∷ []) plan.now }
     ensures { option_map (λ p. stream_job p.0.now p.1.now) result ≡ job (view_of (kept.now ++ e.now ∷ [])) j }
 {
-    match job_spot(plan, j) {
+    match job_place(plan, j) {
         None => None,
-        Some(spot) => job_there(kept, e, spot),
+        Some(doc_place) => job_there(kept, e, doc_place),
     }
 }
 
@@ -247,19 +247,19 @@ fn put_object(
     Ok(())
 }
 
-/// Puts in what the dependencies of the stream at this spot cite.
+/// Puts in what the dependencies of the stream at this place cite.
 fn put_stream(
     pairs: &mut Groups,
     kept: &Kept,
     e: &Entry,
     plan: &Plan,
-    spot: &StreamSpot,
+    doc_place: &StreamPlace,
 ) -> Result<(), NoMemory>
     requires { IsPlanOf (kept.now ++ e.now ∷ []) plan.now }
-    ensures { OnOk result ((HasAll pairs.new pairs.old) × ((d : Doc) → doc_at (kept.now ++ e.now ∷ []) spot.now ≡ Some d
+    ensures { OnOk result ((HasAll pairs.new pairs.old) × ((d : Doc) → doc_at (kept.now ++ e.now ∷ []) doc_place.now ≡ Some d
         → HasAll pairs.new (stream_pairs (dep_cites (view_of (kept.now ++ e.now ∷ []))) kept.now d))) }
 {
-    match stream_there(kept, e, spot) {
+    match stream_there(kept, e, doc_place) {
         None => Ok(()),
         Some(doc) => {
             let o = Obj::Stream(doc.no);
@@ -274,13 +274,13 @@ fn put_job(
     kept: &Kept,
     e: &Entry,
     plan: &Plan,
-    spot: &JobSpot,
+    doc_place: &JobPlace,
 ) -> Result<(), NoMemory>
     requires { IsPlanOf (kept.now ++ e.now ∷ []) plan.now }
-    ensures { OnOk result ((HasAll pairs.new pairs.old) × ((p : StreamJob) → job_at (kept.now ++ e.now ∷ []) spot.now ≡ Some p
+    ensures { OnOk result ((HasAll pairs.new pairs.old) × ((p : StreamJob) → job_at (kept.now ++ e.now ∷ []) doc_place.now ≡ Some p
         → HasAll pairs.new (job_pairs (dep_cites (view_of (kept.now ++ e.now ∷ []))) kept.now p))) }
 {
-    match job_there(kept, e, spot) {
+    match job_there(kept, e, doc_place) {
         None => Ok(()),
         Some((parent, doc)) => {
             put_pair(pairs, parent.ws, doc.ws)?;
@@ -296,8 +296,8 @@ fn put_streams(pairs: &mut Groups, kept: &Kept, e: &Entry, plan: &Plan) -> Resul
     ensures { let V = view_of (kept.now ++ e.now ∷ []) in
         OnOk result (Grows (flat_map (stream_pairs (dep_cites V) kept.now) (catalogue V)) pairs.old pairs.new) }
 {
-    for spot in plan.spots.streams.as_slice() {
-        put_stream(pairs, kept, e, plan, spot)?;
+    for doc_place in plan.doc_places.streams.as_slice() {
+        put_stream(pairs, kept, e, plan, doc_place)?;
     }
     Ok(())
 }
@@ -308,8 +308,8 @@ fn put_jobs(pairs: &mut Groups, kept: &Kept, e: &Entry, plan: &Plan) -> Result<(
     ensures { let V = view_of (kept.now ++ e.now ∷ []) in
         OnOk result (Grows (flat_map (job_pairs (dep_cites V) kept.now) (jobs V)) pairs.old pairs.new) }
 {
-    for spot in plan.spots.jobs.as_slice() {
-        put_job(pairs, kept, e, plan, spot)?;
+    for doc_place in plan.doc_places.jobs.as_slice() {
+        put_job(pairs, kept, e, plan, doc_place)?;
     }
     Ok(())
 }

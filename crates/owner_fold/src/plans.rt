@@ -6,10 +6,10 @@ ghost use Rattle.model.specs.History.{list_of};
 ghost use Rattle.model.specs.Catalogue.{docs_in, members_with};
 ghost use Rattle.owner_fold.specs.Numbers.{ArePlaces};
 ghost use Rattle.owner_fold.specs.Plans.{is_planning, IsPlanOf};
-ghost use Rattle.owner_fold.specs.Spots.{AreSpotsOf};
+ghost use Rattle.owner_fold.specs.DocPlaces.{AreDocPlacesOf};
 
+use crate::doc_places::DocPlaces;
 use crate::numbers::{Index, Numbers};
-use crate::spots::Spots;
 use base_types::{Body, Copied, Entry, Feed, Items, NoMemory, StreamNos};
 use std::alloc::Global;
 
@@ -29,7 +29,7 @@ pub(crate) fn is_planning(e: &Entry) -> bool
 
 /// The plan that a list of entries makes.
 pub(crate) struct Plan {
-    pub(crate) spots: Spots,
+    pub(crate) doc_places: DocPlaces,
     /// What the last plan and the streams added to it name, None before the first plan.
     pub(crate) named: Option<StreamNos>,
     /// Those among them that the catalogue has.
@@ -45,7 +45,7 @@ pub(crate) struct Plan {
 impl Drop for Plan {
     fn drop(self) {
         let Plan {
-            spots: _spots,
+            doc_places: _doc_places,
             named: _named,
             members: _members,
             index: _index,
@@ -61,7 +61,7 @@ impl Plan {
         ensures { IsPlanOf [] result }
     {
         Plan {
-            spots: Spots::new(alloc),
+            doc_places: DocPlaces::new(alloc),
             named: None,
             members: Items::new(alloc),
             index: Index::new(alloc),
@@ -134,14 +134,14 @@ impl Plan {
         requires plan { IsPlanOf entries.now self.now }
         ensures { IfOk result (λ p. IsPlanOf (entries.now ++ e.now ∷ []) p) }
     {
-        let (spots, streams, jobs) = self.spots.with(&self.index.streams, entries, e)?;
+        let (doc_places, streams, jobs) = self.doc_places.with(&self.index.streams, entries, e)?;
         let named = self.named_with(&e.body)?;
         let members = self.members_among(&named, &streams)?;
         let places = self.index.members.of_members(&members)?;
-        let last_stream = spots.last_stream();
-        let last_job = spots.last_job();
+        let last_stream = doc_places.last_stream();
+        let last_job = doc_places.last_job();
         Ok(Plan {
-            spots,
+            doc_places,
             named,
             members,
             index: Index {

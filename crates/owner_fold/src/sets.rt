@@ -7,14 +7,14 @@ ghost use Rattle.model.specs.Catalogue.{StreamJob};
 ghost use Rattle.owner_fold.specs.Numbers.{ArePlaces};
 ghost use Rattle.owner_fold.specs.Sets as spec;
 ghost use Rattle.owner_fold.specs.Sets.{AreSetsAmong, AreSetsOf, Begins, Covers, HasPlace, Prepared};
-ghost use Rattle.owner_fold.specs.Spots.{AreJobSpots, AreStreamSpots};
+ghost use Rattle.owner_fold.specs.DocPlaces.{AreJobPlaces, AreStreamPlaces};
 
 use crate::changes::Change;
+use crate::doc_places::DocPlaces;
 use crate::fills::{begun_of, by_stream_of, opened_of, waiting_of};
 use crate::given::Kind;
 use crate::given_objects::GivenObjects;
 use crate::numbers::{Index, Numbers};
-use crate::spots::Spots;
 use base_types::{Entry, JobNo, NoMemory, Obj, StreamNo, Ws};
 use grouped_places::Groups;
 use owner_rows::Kept;
@@ -132,27 +132,27 @@ impl Sets {
         }
     }
 
-    /// The sets of what stands at these spots, where this entry comes after those, by what was told before it, where the
+    /// The sets of what stands at these places, where this entry comes after those, by what was told before it, where the
     /// plan has these members.
     pub(crate) fn anew(
         &self,
         kept: &Kept,
         e: &Entry,
-        spots: &Spots,
+        doc_places: &DocPlaces,
         members: &Numbers,
     ) -> Result<Sets, NoMemory>
         ensures { IfOk result (λ sets. (ms : List ℕ) (streams : List Doc) (placed : List StreamJob)
             → ArePlaces ms members.now
-            → AreStreamSpots (kept.now ++ e.now ∷ []) spots.now.streams streams
-            → AreJobSpots (kept.now ++ e.now ∷ []) spots.now.jobs placed
+            → AreStreamPlaces (kept.now ++ e.now ∷ []) doc_places.now.streams streams
+            → AreJobPlaces (kept.now ++ e.now ∷ []) doc_places.now.jobs placed
             → AreSetsAmong kept.now ms streams placed sets) }
     {
-        let waiting = waiting_of(self.waiting.empty(), kept, e, spots)?;
-        let begun = begun_of(self.begun.empty(), kept, e, spots)?;
-        let opened = opened_of(self.opened.empty(), kept, e, spots)?;
-        let by_stream = by_stream_of(self.by_stream.empty(), kept, e, spots)?;
-        let timed = self.timed.anew(Kind::Time, kept, e, spots, members)?;
-        let filed = self.filed.anew(Kind::File, kept, e, spots, members)?;
+        let waiting = waiting_of(self.waiting.empty(), kept, e, doc_places)?;
+        let begun = begun_of(self.begun.empty(), kept, e, doc_places)?;
+        let opened = opened_of(self.opened.empty(), kept, e, doc_places)?;
+        let by_stream = by_stream_of(self.by_stream.empty(), kept, e, doc_places)?;
+        let timed = self.timed.anew(Kind::Time, kept, e, doc_places, members)?;
+        let filed = self.filed.anew(Kind::File, kept, e, doc_places, members)?;
         Ok(Sets {
             waiting,
             begun,

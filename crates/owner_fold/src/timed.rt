@@ -8,7 +8,7 @@ ghost use Rattle.model.specs.Catalogue.{StreamJob};
 ghost use Rattle.model.specs.OwnMembers.{own_jobs, own_streams};
 ghost use Rattle.owner_fold.specs.Given.{is_given, is_given_job_here, is_given_stream_here, is_of, is_timed};
 ghost use Rattle.owner_fold.specs.Sets as spec;
-ghost use Rattle.owner_fold.specs.Spots.{stream_job};
+ghost use Rattle.owner_fold.specs.DocPlaces.{stream_job};
 ghost use Rattle.owner_fold.specs.Times.{timed_jobs_left, timed_streams_left};
 
 use crate::given::{Kind, is_given};

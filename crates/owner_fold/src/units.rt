@@ -7,7 +7,7 @@ ghost use Rattle.model.specs.Catalogue.{StreamJob, jobs_of};
 ghost use Rattle.model.specs.Facts.{is_open};
 ghost use Rattle.model.specs.Dependencies.{units, units_in, used};
 ghost use Rattle.owner_fold.specs.Sets as spec;
-ghost use Rattle.owner_fold.specs.Spots.{stream_job};
+ghost use Rattle.owner_fold.specs.DocPlaces.{stream_job};
 ghost use Rattle.owner_fold.specs.Holders.{is_open_here, open_jobs, open_left};
 ghost use Rattle.owner_fold.specs.Holders.{streams_under_way, units_at};
 

@@ -4,7 +4,7 @@ ghost use Rattle.model.specs.History.{view_of};
 ghost use Rattle.model.specs.Readiness as spec;
 ghost use Rattle.model.specs.Words.{insert_once};
 ghost use Rattle.dependencies.specs.Planned.{IsPlannedJob};
-ghost use Rattle.owner_fold.specs.Spots.{stream_job};
+ghost use Rattle.owner_fold.specs.DocPlaces.{stream_job};
 ghost use Rattle.ready_index.specs.Lists.{InOrder, without};
 ghost use Rattle.ready_index.specs.Places.{IsPlaceOf, number_at};
 

@@ -4,7 +4,7 @@ ghost use Rattle.model.specs.Types.{Entry as Taken};
 ghost use Rattle.model.specs.History.{view_of};
 ghost use Rattle.model.specs.Readiness as spec;
 ghost use Rattle.dependencies.specs.Planned.{IsPlannedJob};
-ghost use Rattle.owner_fold.specs.Spots.{stream_job};
+ghost use Rattle.owner_fold.specs.DocPlaces.{stream_job};
 ghost use Rattle.ready_index.specs.Standing.{IsIndexBut, IsIndexOf, IsLookedAt};
 ghost use Rattle.ready_index.specs.Watched.{waiting_for};
 

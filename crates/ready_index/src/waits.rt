@@ -4,7 +4,7 @@ ghost use Rattle.model.specs.History.{view_of};
 ghost use Rattle.model.specs.Types.{Job};
 ghost use Rattle.model.specs.Catalogue.{owner};
 ghost use Rattle.dependencies.specs.Planned.{IsPlannedJob};
-ghost use Rattle.owner_fold.specs.Spots.{stream_job};
+ghost use Rattle.owner_fold.specs.DocPlaces.{stream_job};
 ghost use Rattle.ready_index.specs.Awaited as spec;
 
 use crate::targets::{Target, followed};

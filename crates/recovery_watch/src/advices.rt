@@ -4,7 +4,7 @@ ghost use Rattle.model.specs.Types.{Events};
 ghost use Rattle.model.specs.Words.{least, lesser};
 ghost use Rattle.model.specs.History.{view_of};
 ghost use Rattle.model.specs.OwnMembers.{own_job_numbers};
-ghost use Rattle.owner_fold.specs.Spots.{stream_job};
+ghost use Rattle.owner_fold.specs.DocPlaces.{stream_job};
 ghost use Rattle.recovery_watch.specs.Advice as spec;
 
 use base_types::{Cmd, Feed, JobDoc, JobNo, Obj, Recovery, StreamDoc, Ws};

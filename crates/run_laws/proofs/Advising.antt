@@ -206,7 +206,7 @@ run_advised defs turns =
     (on_gives _ P (λ old trace end new h. kept_is_advised old trace end new
     (reports_gives IsNoTyped K advice_rule (λ s answer. one_marked (OfKept OwnAdvice) s (Event.Reports answer) refl tt) (λ k rc. tt) old trace end new h)))
     (λ old trace end new h. kept_is_advised old.node trace end new.node
-    (probing_gives IsNoTyped K advice_rule (λ s path answer. one_marked (OfKept OwnAdvice) s (Event.Looks path answer) refl tt) (λ spot. tt) old trace end new h))
+    (probing_gives IsNoTyped K advice_rule (λ s path answer. one_marked (OfKept OwnAdvice) s (Event.Looks path answer) refl tt) (λ place. tt) old trace end new h))
     (on_gives Advise P (λ old trace end new h. kept_is_advised old trace end new (advised_keeping old trace end new h)))
     (λ t. on_gives (Take (Input.Local (Turn t))) P
     (λ old trace end new h. kept_is_advised old trace end new (take_gives IsNoTyped K advice_rule (Input.Local (Turn t)) tt old trace end new h))))) turns

@@ -9,7 +9,7 @@ use Rattle.model.specs.Network.{node_count}
 use Rattle.model.specs.NewEntry.{next_entry}
 use Rattle.outside.specs.declared.Failed.{Failed}
 use Rattle.agent_core.specs.Nodes.{NodeState, present_in, session_in, view_in}
-use Rattle.file_watch.specs.Circle.{Spot}
+use Rattle.file_watch.specs.Circle.{DepPlace}
 use Rattle.file_watch.specs.Probes.{next_probe, path_at}
 use Rattle.file_watch.proofs.Due.{probe_may_be_told}
 use Rattle.node_keeping.specs.Traces.{Event, Trace}
@@ -170,8 +170,8 @@ module _ (old : NodeState) (o : Obj) (i : ℕ) (path : List ℕ) (its_path : pat
           FollowsFile.refused o i e why path_before (tells_as e (entry_is new trace end h ∙ is)) split ends
       go (StepTrace.spent e is split ends) = FollowsFile.ended split (inl ends)
 
-  spot_is : (e : Entry) (p : Obj) (k : ℕ) → TellsFile old.me e o i → TellsFile old.me e p k → (o ≡ p) × (i ≡ k)
-  spot_is e p k h t =
+  place_is : (e : Entry) (p : Obj) (k : ℕ) → TellsFile old.me e o i → TellsFile old.me e p k → (o ≡ p) × (i ≡ k)
+  place_is e p k h t =
       let same : Fulfilled o i ≡ Fulfilled p k = sym h.its_body ∙ t.its_body in (first same, second same)
     where
       first : Fulfilled o i ≡ Fulfilled p k → o ≡ p
@@ -203,7 +203,7 @@ module _ (old : NodeState) (o : Obj) (i : ℕ) (path : List ℕ) (its_path : pat
           → OfFiles old (found ∷ middle) event back end
       of_step middle (Event.Keeps d) back (StepEvent.keeps e is none same done) = λ p k tells.
           subst (λ (t : Trace). EndsWithItsProbe old (found ∷ t) p k) (sym none)
-          (its_probe p k (spot_is d p k (tells_as d (entry_is new trace end h ∙ is ∙ ap Some (there d e same))) tells))
+          (its_probe p k (place_is d p k (tells_as d (entry_is new trace end h ∙ is ∙ ap Some (there d e same))) tells))
         where
           there : (d e : Entry) → Event.Keeps d ≡ Event.Keeps e → e ≡ d
           there d e same = cc
@@ -247,7 +247,7 @@ module _ (old : NodeState) (o : Obj) (i : ℕ) (path : List ℕ) (its_path : pat
           (subst (λ (x : Event). OfFiles old [] x back end) only.is
           (λ inside. FollowsFile.ended only.none_behind (ends inside)))
 
-  pub file_marked : (last : Option Spot) → next_probe (view_in old) old.me last ≡ Some (o, i) → (trace : Trace) (end : Option NodeEnd) (new : NodeState)
+  pub file_marked : (last : Option DepPlace) → next_probe (view_in old) old.me last ≡ Some (o, i) → (trace : Trace) (end : Option NodeEnd) (new : NodeState)
       → Take (Input.Local (Fulfil o i)) old trace end new → Marks OfFiles old (Event.Looks path (Ok true) ∷ trace) end new
   file_marked last next trace end new (inl (inl h)) = go (takes_parts (Input.Local (Fulfil o i)) old trace end new h)
     where
@@ -265,10 +265,10 @@ module _ (old : NodeState) (o : Obj) (i : ℕ) (path : List ℕ) (its_path : pat
   file_marked last next trace end new (inr h) = at_once new trace end h.0 h.2 (λ inside. inl h.1)
 
 -- what is looked for
-looking : (spot : Spot) (old : Running) → next_probe (view_in old.node) old.node.me old.asked ≡ Some spot
-    → (trace : Trace) (end : Option NodeEnd) (new : Running) → Looks spot old trace end new
+looking : (place : DepPlace) (old : Running) → next_probe (view_in old.node) old.node.me old.asked ≡ Some place
+    → (trace : Trace) (end : Option NodeEnd) (new : Running) → Looks place old trace end new
     → Lifted (MarksAll OfFiles) old trace end new
-looking spot old next trace end new h = go h.answer h.split h.acts.acts
+looking place old next trace end new h = go h.answer h.split h.acts.acts
   where
     quiet : (answer : Result Bool Failed) → OfFiles old.node [] (Event.Looks h.path answer) [] None
         → trace ≡ Event.Looks h.path answer ∷ h.rest → Nothing old.node h.rest end new.node
@@ -278,22 +278,22 @@ looking spot old next trace end new h = go h.answer h.split h.acts.acts
         split (one_marked OfFiles old.node (Event.Looks h.path answer) refl none)
         (nothing_gives (MarksAll OfFiles) (marks_joined OfFiles files_mark) old.node h.rest end new.node k)
 
-    go : (answer : Result Bool Failed) → trace ≡ Event.Looks h.path answer ∷ h.rest → Found spot answer old.node h.rest end new.node
+    go : (answer : Result Bool Failed) → trace ≡ Event.Looks h.path answer ∷ h.rest → Found place answer old.node h.rest end new.node
         → Marks OfFiles old.node trace end new.node
     go (Ok true) split k =
         subst (λ (t : Trace). Marks OfFiles old.node t end new.node) (sym split)
-        (file_marked old.node spot.0 spot.1 h.path h.its_path old.asked next h.rest end new.node k)
+        (file_marked old.node place.0 place.1 h.path h.its_path old.asked next h.rest end new.node k)
     go (Ok false) split k = quiet (Ok false) tt split k
     go (Err failed) split k = quiet (Err failed) tt split k
 
 probing_files : Gives Probing (Lifted (MarksAll OfFiles))
 probing_files old trace end new h = go (next_probe (view_in old.node) old.node.me old.asked) refl h
   where
-    go : (o : Option Spot) → next_probe (view_in old.node) old.node.me old.asked ≡ o
-        → IfThere o (λ (spot : Spot). λ a b c d. Looks spot a b c d) Nothing old trace end new
+    go : (o : Option DepPlace) → next_probe (view_in old.node) old.node.me old.asked ≡ o
+        → IfThere o (λ (place : DepPlace). λ a b c d. Looks place a b c d) Nothing old trace end new
         → Lifted (MarksAll OfFiles) old trace end new
     go None is k = nothing_gives (Lifted (MarksAll OfFiles)) (lifted_joined (MarksAll OfFiles) (marks_joined OfFiles files_mark)) old trace end new k
-    go (Some spot) is k = looking spot old is trace end new k
+    go (Some place) is k = looking place old is trace end new k
 
 -- each run tells the files that it found, and no other
 pub run_files : (defs : Defs) (turns : ℕ) → Gives (Run defs turns) (Lifted (MarksAll OfFiles))

@@ -5,7 +5,7 @@ use Rattle.std.specs.Prelude.{Err, Ok, Result, is_some}
 use Rattle.composer_parser.specs.declared.Defs.{Defs}
 use Rattle.model.specs.Types.{Cmd, Fulfil, Input, Linked, Local, Turn, Typed, Unlinked}
 use Rattle.agent_core.specs.Nodes.{NodeState, view_in}
-use Rattle.file_watch.specs.Circle.{Spot}
+use Rattle.file_watch.specs.Circle.{DepPlace}
 use Rattle.file_watch.specs.Probes.{next_probe}
 use Rattle.link_streams.specs.Heard.{Completes, Heard, heard_more, nothing_heard}
 use Rattle.mail_frames.specs.declared.frames.Frame.{Frame}
@@ -108,20 +108,20 @@ module _ (Q : Input → Type 0) (P : Action NodeState) (r : IsRule Q P)
 -- what a probe finds
 module _ (Q : Input → Type 0) (P : Action NodeState) (r : IsRule Q P)
     (looks : (s : NodeState) (path : List ℕ) (answer : Result Bool Failed) → P s (Event.Looks path answer ∷ []) None s) where
-  pub found_gives : (spot : Spot) → Q (Input.Local (Fulfil spot.0 spot.1)) → (answer : Result Bool Failed) → Gives (Found spot answer) P
-  found_gives spot q (Ok true) = take_gives Q P r (Input.Local (Fulfil spot.0 spot.1)) q
-  found_gives spot q (Ok false) = nothing_gives P r.joined
-  found_gives spot q (Err failed) = nothing_gives P r.joined
+  pub found_gives : (place : DepPlace) → Q (Input.Local (Fulfil place.0 place.1)) → (answer : Result Bool Failed) → Gives (Found place answer) P
+  found_gives place q (Ok true) = take_gives Q P r (Input.Local (Fulfil place.0 place.1)) q
+  found_gives place q (Ok false) = nothing_gives P r.joined
+  found_gives place q (Err failed) = nothing_gives P r.joined
 
-  pub probing_gives : ((spot : Spot) → Q (Input.Local (Fulfil spot.0 spot.1))) → Gives Probing (Lifted P)
+  pub probing_gives : ((place : DepPlace) → Q (Input.Local (Fulfil place.0 place.1))) → Gives Probing (Lifted P)
   probing_gives told old trace end new h =
       if_there_gives (Lifted P) (lifted_joined P r.joined) (next_probe (view_in old.node) old.node.me old.asked)
-      (λ (spot : Spot). λ o t e n. Looks spot o t e n) Nothing looking (nothing_gives (Lifted P) (lifted_joined P r.joined)) old trace end new h
+      (λ (place : DepPlace). λ o t e n. Looks place o t e n) Nothing looking (nothing_gives (Lifted P) (lifted_joined P r.joined)) old trace end new h
     where
-      looking : (spot : Spot) → Gives (λ o t e n. Looks spot o t e n) (Lifted P)
-      looking spot o t e n k =
+      looking : (place : DepPlace) → Gives (λ o t e n. Looks place o t e n) (Lifted P)
+      looking place o t e n k =
           event_then (Lifted P) (lifted_joined P r.joined) (Event.Looks k.path k.answer) o k.rest t e n k.split
-          (looks o.node k.path k.answer) (found_gives spot (told spot) k.answer o.node k.rest e n.node k.acts.acts)
+          (looks o.node k.path k.answer) (found_gives place (told place) k.answer o.node k.rest e n.node k.acts.acts)
 
 -- the advice
 pub advise_gives : (Q : Input → Type 0) (P : Action NodeState) → IsRule Q P → ((to : ℕ) (c : Cmd) → Q (Input.Local (Typed to c)))
@@ -169,7 +169,7 @@ every_run_gives P r defs turns =
     (come_gives (λ i. Unit {0}) P r.rule (λ i is. tt) r.comes defs)
     (behind_gives (Lifted P) j defs
     (on_gives _ P (reports_gives (λ i. Unit {0}) P r.rule r.reports (λ k rc. tt)))
-    (probing_gives (λ i. Unit {0}) P r.rule r.looks (λ spot. tt))
+    (probing_gives (λ i. Unit {0}) P r.rule r.looks (λ place. tt))
     (on_gives Advise P (advise_gives (λ i. Unit {0}) P r.rule (λ to c. tt)))
     (λ t. on_gives (Take (Input.Local (Turn t))) P (take_gives (λ i. Unit {0}) P r.rule (Input.Local (Turn t)) tt)))) turns
   where

@@ -4,7 +4,7 @@ ghost use Rattle.model.specs.Types.{Events};
 ghost use Rattle.model.specs.History.{view_of};
 ghost use Rattle.model.specs.Facts as facts;
 ghost use Rattle.owner_fold.specs.Outcomes.{told_outcome};
-ghost use Rattle.owner_fold.specs.Spots.{stream_job};
+ghost use Rattle.owner_fold.specs.DocPlaces.{stream_job};
 ghost use Rattle.dependencies.specs.Planned.{IsPlannedJob};
 
 use base_types::{JobDoc, StreamDoc};

@@ -3,7 +3,7 @@ ghost use Rattle.std.specs.Prelude.{◌≡◌, ◌≢◌, None, Some, if◌then�
 ghost use Rattle.model.specs.History.{view_of};
 ghost use Rattle.model.specs.Catalogue.{job, stream};
 ghost use Rattle.model.specs.States as spec;
-ghost use Rattle.owner_fold.specs.Spots.{stream_job};
+ghost use Rattle.owner_fold.specs.DocPlaces.{stream_job};
 ghost use Rattle.dependencies.specs.Planned.{IsPlannedJob, IsPlannedStream};
 ghost use Rattle.symphony_view.specs.Words as words;
 ghost use Rattle.symphony_view.specs.Words.{told_job, told_stream};

@@ -7,7 +7,7 @@ ghost use Rattle.model.specs.History.{view_of};
 ghost use Rattle.model.specs.Catalogue.{members};
 ghost use Rattle.model.specs.Fields.{list_bytes, u32_bytes};
 ghost use Rattle.model.specs.Fit.{AreFitEntries, IsFitStream};
-ghost use Rattle.owner_fold.specs.Spots.{stream_job};
+ghost use Rattle.owner_fold.specs.DocPlaces.{stream_job};
 ghost use Rattle.dependencies.specs.Planned.{IsPlannedJob, IsPlannedStream};
 ghost use Rattle.symphony_view.specs.Symphonies as spec;
 

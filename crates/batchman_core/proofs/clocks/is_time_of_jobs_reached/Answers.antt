@@ -4,7 +4,7 @@ use Rattle.model.specs.Types.{Job}
 use Rattle.model.specs.History.{view_of}
 use Rattle.model.specs.Catalogue.{StreamJob, is_member}
 use Rattle.owner_fold.specs.Times.{timed_jobs_left}
-use Rattle.owner_fold.specs.Spots.{stream_job}
+use Rattle.owner_fold.specs.DocPlaces.{stream_job}
 use Rattle.batchman_core.specs.Reached.{is_any_reached_of}
 use Rattle.batchman_core.proofs.Times.{reached_here, reached_later, objects_of}
 use Rattle.batchman_core.proofs.Timed.{jobs_at_first}

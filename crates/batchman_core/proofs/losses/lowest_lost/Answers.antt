@@ -7,7 +7,7 @@ use Rattle.model.specs.Catalogue.{StreamJob, jobs_of}
 use Rattle.model.specs.Facts.{is_open}
 use Rattle.model.specs.Turn.{lost_jobs}
 use Rattle.owner_fold.specs.Holders.{open_left}
-use Rattle.owner_fold.specs.Spots.{stream_job}
+use Rattle.owner_fold.specs.DocPlaces.{stream_job}
 use Rattle.dependencies.specs.Planned.{ArePlannedJobs}
 use Rattle.dependencies.proofs.Lowest.{lower_of, lowest_with, lowest_without, numbers_of}
 use Rattle.batchman_core.proofs.Lost.{any, is_lost, lost_at_first, open_planned}

@@ -1,5 +1,5 @@
 use Rattle.std.proofs.Common.{sym}
-use Rattle.owner_fold.specs.Spots.{stream_job}
+use Rattle.owner_fold.specs.DocPlaces.{stream_job}
 use Rattle.dependencies.proofs.Found.{job_planned}
 use Rattle.counted_decisions.specs.Sights.{seen_in}
 use Rattle.counted_decisions.proofs.launches.is_ready.Goals as goal

@@ -1,4 +1,4 @@
-use Rattle.owner_fold.specs.Spots.{stream_job}
+use Rattle.owner_fold.specs.DocPlaces.{stream_job}
 use Rattle.counted_decisions.proofs.Sighted.{job_not_yet, job_there, no_job}
 use Rattle.counted_decisions.proofs.sights.planned_job.Goals as goal
 

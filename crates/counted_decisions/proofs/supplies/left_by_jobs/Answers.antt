@@ -6,7 +6,7 @@ use Rattle.model.specs.History.{view_of}
 use Rattle.model.specs.Catalogue.{StreamJob}
 use Rattle.model.specs.Dependencies.{units}
 use Rattle.owner_fold.specs.Holders.{open_left}
-use Rattle.owner_fold.specs.Spots.{stream_job}
+use Rattle.owner_fold.specs.DocPlaces.{stream_job}
 use Rattle.counted_facts.specs.Subjects.{brings}
 use Rattle.counted_decisions.specs.Sights.{seen_in}
 use Rattle.counted_decisions.specs.Units.{holding_jobs, left_of}

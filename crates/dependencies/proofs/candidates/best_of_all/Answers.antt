@@ -2,7 +2,7 @@ use Rattle.std.proofs.Common.{◌≡◌, ◌∙◌, ◌∷◌, List, ap, subst, 
 use Rattle.model.specs.History.{view_of}
 use Rattle.model.specs.Catalogue.{StreamJob, jobs}
 use Rattle.owner_fold.specs.Left.{jobs_left}
-use Rattle.owner_fold.specs.Spots.{stream_job}
+use Rattle.owner_fold.specs.DocPlaces.{stream_job}
 use Rattle.dependencies.specs.Planned.{ArePlannedJobs}
 use Rattle.dependencies.specs.Ranks.{better_rank}
 use Rattle.dependencies.specs.declared.candidates.Rank.{Rank}

@@ -6,7 +6,7 @@ use Rattle.model.specs.History.{view_of}
 use Rattle.model.specs.Catalogue.{StreamJob, is_member}
 use Rattle.model.specs.OwnMembers.{own_job_numbers}
 use Rattle.owner_fold.specs.Times.{timed_jobs, timed_jobs_left}
-use Rattle.owner_fold.specs.Spots.{stream_job}
+use Rattle.owner_fold.specs.DocPlaces.{stream_job}
 use Rattle.dependencies.specs.Dues.{due_at}
 use Rattle.dependencies.specs.Planned.{ArePlannedJobs}
 use Rattle.dependencies.proofs.Lowest.{lower_of, lowest_without, numbers_of}

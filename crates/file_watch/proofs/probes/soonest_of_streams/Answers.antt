@@ -4,7 +4,7 @@ use Rattle.model.specs.Types.{Stream, StreamDoc}
 use Rattle.model.specs.History.{view_of}
 use Rattle.model.specs.OwnMembers.{own_streams}
 use Rattle.owner_fold.specs.Files.{filed_streams, filed_streams_left}
-use Rattle.file_watch.specs.Circle.{Spot, sooner_of, soonest}
+use Rattle.file_watch.specs.Circle.{DepPlace, sooner_of, soonest}
 use Rattle.file_watch.specs.Probes.{due_at}
 use Rattle.file_watch.proofs.Members.{all_streams}
 use Rattle.file_watch.proofs.Soonest.{one_further}
@@ -21,9 +21,9 @@ loop-doc-init c =
 pub loop-doc-preserved : goal.loop-doc-preserved
 loop-doc-preserved c =
     let V = view_of c.args.o.now in
-    let due : StreamDoc → List Spot = λ (d : StreamDoc). due_at V c.args.w (Stream d.no) in
+    let due : StreamDoc → List DepPlace = λ (d : StreamDoc). due_at V c.args.w (Stream d.no) in
     let rest : List StreamDoc = filed_streams_left c.next.new.self in
-    let all : Option Spot =
+    let all : Option DepPlace =
     soonest c.args.last.now (flat_map (due_at V c.args.w) (map (λ (d : StreamDoc). Stream d.no) (own_streams V c.args.w)))
     in
     one_further c.args.last.now due c.in-Some.doc.now rest all c.loop-doc.so_far c.soonest_at-found.result
@@ -32,5 +32,5 @@ loop-doc-preserved c =
     (λ (l : List StreamDoc).
     all ≡ sooner_of c.args.last.now c.loop-doc.so_far (soonest c.args.last.now (flat_map due l)))
     c.in-Some.ensures.steps c.loop-doc.invariant)
-    ∙ ap (λ (a : Option Spot). sooner_of c.args.last.now a (soonest c.args.last.now (flat_map due rest)))
+    ∙ ap (λ (a : Option DepPlace). sooner_of c.args.last.now a (soonest c.args.last.now (flat_map due rest)))
     (sym c.sooner_of-so_far.ensures)

@@ -11,24 +11,24 @@ make_room_at-requires c = omega (arith, c.loop-i-test.true, c.len-i-end.ensures,
 
 pub returns-in_err-make_room_at-clause-same : goal.returns-in_err-make_room_at-clause-same
 returns-in_err-make_room_at-clause-same c =
-    let spot = there_is c.loop-i.lanes c.loop-i.i
+    let place = there_is c.loop-i.lanes c.loop-i.i
     (omega (arith, c.loop-i-test.true, c.len-i-end.ensures, c.loop-i.invariant.count)) in
-    let got = c.in_err-make_room_at.ensures spot.0 spot.1 in
-    room_same c.loop-i.lanes c.make_room_at.new.lanes c.loop-i.i spot.0 got.0 spot.1 got.1 ∙ c.loop-i.invariant.same
+    let got = c.in_err-make_room_at.ensures place.0 place.1 in
+    room_same c.loop-i.lanes c.make_room_at.new.lanes c.loop-i.i place.0 got.0 place.1 got.1 ∙ c.loop-i.invariant.same
 
 pub loop-i-preserved : goal.loop-i-preserved
 loop-i-preserved c =
-    let spot = there_is c.loop-i.lanes c.loop-i.i
+    let place = there_is c.loop-i.lanes c.loop-i.i
     (omega (arith, c.loop-i-test.true, c.len-i-end.ensures, c.loop-i.invariant.count)) in
-    let got = c.in_ok-make_room_at.ensures spot.0 spot.1 in
+    let got = c.in_ok-make_room_at.ensures place.0 place.1 in
     record {
       count =
           ap length got.1.0 ∙ set_length c.loop-i.lanes c.loop-i.i got.0 ∙ c.loop-i.invariant.count;
       same =
-          room_same c.loop-i.lanes c.make_room_at.new.lanes c.loop-i.i spot.0 got.0 spot.1 got.1
+          room_same c.loop-i.lanes c.make_room_at.new.lanes c.loop-i.i place.0 got.0 place.1 got.1
           ∙ c.loop-i.invariant.same;
       room =
-          room_next c.loop-i.lanes c.make_room_at.new.lanes c.loop-i.i spot.0 got.0 c.loop-i.invariant.room got.1 got.2;
+          room_next c.loop-i.lanes c.make_room_at.new.lanes c.loop-i.i place.0 got.0 c.loop-i.invariant.room got.1 got.2;
     }
 
 pub returns : goal.returns

@@ -1,8 +1,8 @@
 use Rattle.std.proofs.Common.{[], ◌++◌, ◌∷◌, ap, arith, get_or, length}
 use Rattle.owner_fold.specs.Given.{given_job_by, is_of}
 use Rattle.owner_fold.specs.Sets.{job_station_of}
-use Rattle.owner_fold.specs.Spots.{job_at}
-use Rattle.owner_fold.specs.declared.spots.JobSpot.{JobSpot}
+use Rattle.owner_fold.specs.DocPlaces.{job_at}
+use Rattle.owner_fold.specs.declared.doc_places.JobPlace.{JobPlace}
 use Rattle.owner_fold.proofs.Covering.{covers_all, covers_further, covers_none, item_met}
 use Rattle.owner_fold.proofs.fills.given_jobs_of.Goals as goal
 
@@ -11,18 +11,18 @@ loop-i-init c = λ ms placed places placed_so. covers_none job_station_of (given
 
 pub loop-i-preserved : goal.loop-i-preserved
 loop-i-preserved c =
-    let none : JobSpot = record { number = 0; stream = record { number = 0; entry = 0; doc = 0 }; job = 0 } in
+    let none : JobPlace = record { number = 0; stream = record { number = 0; entry = 0; doc = 0 }; job = 0 } in
     λ ms placed places placed_so.
     covers_further job_station_of (given_job_by (is_of c.args.kind) ms c.args.kept.now) placed c.loop-i.i
-    (job_at (c.args.kept.now ++ c.args.e.now ∷ []) (get_or c.as_slice-spot-items.result.now c.loop-i.i none))
+    (job_at (c.args.kept.now ++ c.args.e.now ∷ []) (get_or c.as_slice-doc_place-items.result.now c.loop-i.i none))
     c.loop-i.groups c.put_given_job.new.groups
-    (item_met (job_at (c.args.kept.now ++ c.args.e.now ∷ [])) c.args.spots.now.jobs c.as_slice-spot-items.result.now
-    placed c.loop-i.i none placed_so.0 c.as_slice-spot-items.ensures c.loop-i-test.true)
+    (item_met (job_at (c.args.kept.now ++ c.args.e.now ∷ [])) c.args.doc_places.now.jobs c.as_slice-doc_place-items.result.now
+    placed c.loop-i.i none placed_so.0 c.as_slice-doc_place-items.ensures c.loop-i-test.true)
     (c.loop-i.invariant ms placed places placed_so) (c.in_ok-put_given_job.ensures ms places)
 
 pub returns : goal.returns
 returns c =
     λ ms placed places placed_so.
-    covers_all job_station_of (given_job_by (is_of c.args.kind) ms c.args.kept.now) (job_at (c.args.kept.now ++ c.args.e.now ∷ [])) c.args.spots.now.jobs placed c.loop-i.i
-    c.loop-i.groups placed_so.0 (omega (arith, c.loop-i-test.false, ap length c.as_slice-spot-items.ensures))
+    covers_all job_station_of (given_job_by (is_of c.args.kind) ms c.args.kept.now) (job_at (c.args.kept.now ++ c.args.e.now ∷ [])) c.args.doc_places.now.jobs placed c.loop-i.i
+    c.loop-i.groups placed_so.0 (omega (arith, c.loop-i-test.false, ap length c.as_slice-doc_place-items.ensures))
     (c.loop-i.invariant ms placed places placed_so)

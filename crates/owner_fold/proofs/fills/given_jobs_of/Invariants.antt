@@ -3,10 +3,10 @@ use Rattle.model.specs.Catalogue.{StreamJob}
 use Rattle.owner_fold.specs.Given.{given_job_by, is_of}
 use Rattle.owner_fold.specs.Numbers.{ArePlaces}
 use Rattle.owner_fold.specs.Sets.{CoversBelow, job_station_of}
-use Rattle.owner_fold.specs.Spots.{AreJobSpots}
+use Rattle.owner_fold.specs.DocPlaces.{AreJobPlaces}
 use Rattle.owner_fold.proofs.fills.given_jobs_of.Given as goal
 
 abbrev pub invariant-loop-i : goal.invariant-loop-i
 invariant-loop-i l =
     (ms : List ℕ) (placed : List StreamJob) → ArePlaces ms l.members
-    → AreJobSpots (l.kept ++ l.e ∷ []) l.spots.jobs placed → CoversBelow l.i job_station_of (given_job_by (is_of l.kind) ms l.kept) placed l.groups
+    → AreJobPlaces (l.kept ++ l.e ∷ []) l.doc_places.jobs placed → CoversBelow l.i job_station_of (given_job_by (is_of l.kind) ms l.kept) placed l.groups

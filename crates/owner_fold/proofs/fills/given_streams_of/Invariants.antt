@@ -3,10 +3,10 @@ use Rattle.model.specs.Types.{StreamDoc}
 use Rattle.owner_fold.specs.Given.{given_stream_by, is_of}
 use Rattle.owner_fold.specs.Numbers.{ArePlaces}
 use Rattle.owner_fold.specs.Sets.{CoversBelow, station_of}
-use Rattle.owner_fold.specs.Spots.{AreStreamSpots}
+use Rattle.owner_fold.specs.DocPlaces.{AreStreamPlaces}
 use Rattle.owner_fold.proofs.fills.given_streams_of.Given as goal
 
 abbrev pub invariant-loop-i : goal.invariant-loop-i
 invariant-loop-i l =
     (ms : List ℕ) (docs : List StreamDoc) → ArePlaces ms l.members
-    → AreStreamSpots (l.kept ++ l.e ∷ []) l.spots.streams docs → CoversBelow l.i station_of (given_stream_by (is_of l.kind) ms l.kept) docs l.groups
+    → AreStreamPlaces (l.kept ++ l.e ∷ []) l.doc_places.streams docs → CoversBelow l.i station_of (given_stream_by (is_of l.kind) ms l.kept) docs l.groups

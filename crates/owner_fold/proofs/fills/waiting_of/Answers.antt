@@ -1,7 +1,7 @@
 use Rattle.std.proofs.Common.{[], ◌++◌, ◌∷◌, ap, arith, get_or, length}
 use Rattle.owner_fold.specs.Sets.{station_of, waits_by}
-use Rattle.owner_fold.specs.Spots.{doc_at}
-use Rattle.owner_fold.specs.declared.spots.StreamSpot.{StreamSpot}
+use Rattle.owner_fold.specs.DocPlaces.{doc_at}
+use Rattle.owner_fold.specs.declared.doc_places.StreamPlace.{StreamPlace}
 use Rattle.owner_fold.proofs.Covering.{covers_all, covers_further, covers_none, item_met}
 use Rattle.owner_fold.proofs.fills.waiting_of.Goals as goal
 
@@ -10,18 +10,18 @@ loop-i-init c = λ docs placed_so. covers_none station_of (waits_by c.args.kept.
 
 pub loop-i-preserved : goal.loop-i-preserved
 loop-i-preserved c =
-    let none : StreamSpot = record { number = 0; entry = 0; doc = 0 } in
+    let none : StreamPlace = record { number = 0; entry = 0; doc = 0 } in
     λ docs placed_so.
     covers_further station_of (waits_by c.args.kept.now) docs c.loop-i.i
-    (doc_at (c.args.kept.now ++ c.args.e.now ∷ []) (get_or c.as_slice-spot-items.result.now c.loop-i.i none))
+    (doc_at (c.args.kept.now ++ c.args.e.now ∷ []) (get_or c.as_slice-doc_place-items.result.now c.loop-i.i none))
     c.loop-i.groups c.put_waiting.new.groups
-    (item_met (doc_at (c.args.kept.now ++ c.args.e.now ∷ [])) c.args.spots.now.streams c.as_slice-spot-items.result.now
-    docs c.loop-i.i none placed_so.0 c.as_slice-spot-items.ensures c.loop-i-test.true)
+    (item_met (doc_at (c.args.kept.now ++ c.args.e.now ∷ [])) c.args.doc_places.now.streams c.as_slice-doc_place-items.result.now
+    docs c.loop-i.i none placed_so.0 c.as_slice-doc_place-items.ensures c.loop-i-test.true)
     (c.loop-i.invariant docs placed_so) c.in_ok-put_waiting.ensures
 
 pub returns : goal.returns
 returns c =
     λ docs placed_so.
-    covers_all station_of (waits_by c.args.kept.now) (doc_at (c.args.kept.now ++ c.args.e.now ∷ [])) c.args.spots.now.streams docs c.loop-i.i
-    c.loop-i.groups placed_so.0 (omega (arith, c.loop-i-test.false, ap length c.as_slice-spot-items.ensures))
+    covers_all station_of (waits_by c.args.kept.now) (doc_at (c.args.kept.now ++ c.args.e.now ∷ [])) c.args.doc_places.now.streams docs c.loop-i.i
+    c.loop-i.groups placed_so.0 (omega (arith, c.loop-i-test.false, ap length c.as_slice-doc_place-items.ensures))
     (c.loop-i.invariant docs placed_so)

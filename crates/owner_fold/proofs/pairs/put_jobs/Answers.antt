@@ -4,29 +4,29 @@ use Rattle.model.specs.History.{view_of}
 use Rattle.model.specs.Catalogue.{catalogue, jobs}
 use Rattle.model.specs.Dependencies.{dep_cites}
 use Rattle.owner_fold.specs.Pairs.{job_pairs}
-use Rattle.owner_fold.specs.Spots.{job_at}
-use Rattle.owner_fold.specs.declared.spots.JobSpot.{JobSpot}
+use Rattle.owner_fold.specs.DocPlaces.{job_at}
+use Rattle.owner_fold.specs.declared.doc_places.JobPlace.{JobPlace}
 use Rattle.owner_fold.proofs.Covering.{item_met}
 use Rattle.owner_fold.proofs.Growing.{as_many, grows_all, grows_further}
 use Rattle.owner_fold.proofs.pairs.put_jobs.Goals as goal
 
-pub loop-spot-preserved : goal.loop-spot-preserved
+pub loop-doc_place-preserved : goal.loop-doc_place-preserved
 unfolding catalogue jobs
-loop-spot-preserved c =
-    let none : JobSpot = record { number = 0; stream = record { number = 0; entry = 0; doc = 0 }; job = 0 } in
+loop-doc_place-preserved c =
+    let none : JobPlace = record { number = 0; stream = record { number = 0; entry = 0; doc = 0 }; job = 0 } in
     let now : List Entry = c.args.kept.now ++ c.args.e.now ∷ [] in
-    grows_further (job_pairs (dep_cites (view_of now)) c.args.kept.now) (jobs (view_of now)) c.loop-spot.spot-index
-    (job_at now (get_or c.as_slice-spot-items.result.now c.loop-spot.spot-index none)) c.args.pairs.now c.loop-spot.pairs
+    grows_further (job_pairs (dep_cites (view_of now)) c.args.kept.now) (jobs (view_of now)) c.loop-doc_place.doc_place-index
+    (job_at now (get_or c.as_slice-doc_place-items.result.now c.loop-doc_place.doc_place-index none)) c.args.pairs.now c.loop-doc_place.pairs
     c.put_job.new.pairs
-    (item_met (job_at now) c.args.plan.now.spots.jobs c.as_slice-spot-items.result.now (jobs (view_of now))
-    c.loop-spot.spot-index none c.requires.spots.jobs.0 c.as_slice-spot-items.ensures c.loop-spot-test.true)
-    c.loop-spot.invariant c.in_ok-put_job.ensures.0 c.in_ok-put_job.ensures.1
+    (item_met (job_at now) c.args.plan.now.doc_places.jobs c.as_slice-doc_place-items.result.now (jobs (view_of now))
+    c.loop-doc_place.doc_place-index none c.requires.doc_places.jobs.0 c.as_slice-doc_place-items.ensures c.loop-doc_place-test.true)
+    c.loop-doc_place.invariant c.in_ok-put_job.ensures.0 c.in_ok-put_job.ensures.1
 
 pub returns : goal.returns
 unfolding catalogue jobs
 returns c =
     let now : List Entry = c.args.kept.now ++ c.args.e.now ∷ [] in
-    let many = as_many (job_at now) c.args.plan.now.spots.jobs (jobs (view_of now)) c.requires.spots.jobs.0 in
-    grows_all (job_pairs (dep_cites (view_of now)) c.args.kept.now) (jobs (view_of now)) c.loop-spot.spot-index
-    c.args.pairs.now c.loop-spot.pairs
-    (omega (arith, many, c.loop-spot-test.false, ap length c.as_slice-spot-items.ensures)) c.loop-spot.invariant
+    let many = as_many (job_at now) c.args.plan.now.doc_places.jobs (jobs (view_of now)) c.requires.doc_places.jobs.0 in
+    grows_all (job_pairs (dep_cites (view_of now)) c.args.kept.now) (jobs (view_of now)) c.loop-doc_place.doc_place-index
+    c.args.pairs.now c.loop-doc_place.pairs
+    (omega (arith, many, c.loop-doc_place-test.false, ap length c.as_slice-doc_place-items.ensures)) c.loop-doc_place.invariant

@@ -5,7 +5,7 @@ use Rattle.model.specs.History.{view_of}
 use Rattle.model.specs.Catalogue.{StreamJob, is_member, jobs}
 use Rattle.model.specs.OwnMembers.{own_job_numbers}
 use Rattle.owner_fold.specs.Left.{jobs_left}
-use Rattle.owner_fold.specs.Spots.{stream_job}
+use Rattle.owner_fold.specs.DocPlaces.{stream_job}
 use Rattle.dependencies.specs.Planned.{ArePlannedJobs}
 use Rattle.dependencies.proofs.Found.{jobs_left_planned}
 use Rattle.dependencies.proofs.Lowest.{lower_of, lowest_with, lowest_without}

@@ -5,7 +5,7 @@ use Rattle.model.specs.Words.{all_of}
 use Rattle.model.specs.History.{View, view_of}
 use Rattle.model.specs.Catalogue.{StreamJob, is_member}
 use Rattle.model.specs.Facts.{reruns}
-use Rattle.owner_fold.specs.Spots.{stream_job}
+use Rattle.owner_fold.specs.DocPlaces.{stream_job}
 use Rattle.recovery_watch.specs.Advice.{has_ended_badly, is_called_off, needs_advice_in, recovers}
 use Rattle.recovery_watch.proofs.advices.needs_advice.Goals as goal
 

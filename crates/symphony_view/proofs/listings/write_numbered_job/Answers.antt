@@ -1,6 +1,6 @@
 use Rattle.std.proofs.Common.{sym}
 use Rattle.model.specs.History.{view_of}
-use Rattle.owner_fold.specs.Spots.{stream_job}
+use Rattle.owner_fold.specs.DocPlaces.{stream_job}
 use Rattle.dependencies.proofs.Found.{job_planned}
 use Rattle.symphony_view.proofs.listings.write_numbered_job.Goals as goal
 

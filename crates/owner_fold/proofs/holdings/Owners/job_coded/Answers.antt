@@ -1,5 +1,5 @@
 use Rattle.std.proofs.Common.{None, Some, ap, ◌∙◌}
-use Rattle.owner_fold.specs.Spots.{job_at}
+use Rattle.owner_fold.specs.DocPlaces.{job_at}
 use Rattle.owner_fold.proofs.Coded.{job_of_code}
 use Rattle.owner_fold.proofs.holdings.Owners.job_coded.Goals as goal
 
@@ -10,7 +10,7 @@ returns-in-None c =
 
 pub returns-in-Some : goal.returns-in-Some
 returns-in-Some c =
-    c.planned_job_at.ensures ∙ ap (λ l. job_at l c.in-Some.spot.now) c.entries.ensures
+    c.planned_job_at.ensures ∙ ap (λ l. job_at l c.in-Some.doc_place.now) c.entries.ensures
     ∙ job_of_code c.self.inside.kept c.args.self.now c.self.inside.plan c.as_slice.result.now c.place_in.result
-    c.args.group c.args.code (Some c.in-Some.spot.now) c.self.invariant.plan c.self.view_is c.in-Some.ensures
+    c.args.group c.args.code (Some c.in-Some.doc_place.now) c.self.invariant.plan c.self.view_is c.in-Some.ensures
     c.as_slice.ensures c.place_in.ensures

@@ -9,5 +9,5 @@ use Rattle.owner_fold.proofs.holdings.Owners.last_job.Goals as goal
 pub returns : goal.returns
 unfolding catalogue jobs
 returns c =
-    c.greatest_job.ensures ∙ c.self.invariant.plan.last_job ∙ ap greatest c.self.invariant.plan.spots.jobs.1
+    c.greatest_job.ensures ∙ c.self.invariant.plan.last_job ∙ ap greatest c.self.invariant.plan.doc_places.jobs.1
     ∙ ap (λ (l : List Entry). last_job (view_of l)) c.self.view_is

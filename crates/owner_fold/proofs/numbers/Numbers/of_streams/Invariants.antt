@@ -1,7 +1,7 @@
 use Rattle.std.proofs.Common.{map, take}
-use Rattle.owner_fold.specs.declared.spots.StreamSpot.{StreamSpot}
+use Rattle.owner_fold.specs.declared.doc_places.StreamPlace.{StreamPlace}
 use Rattle.owner_fold.specs.Numbers.{ArePlaces}
 use Rattle.owner_fold.proofs.numbers.Numbers.of_streams.Given as goal
 
 abbrev pub invariant-loop-i : goal.invariant-loop-i
-invariant-loop-i l = ArePlaces (map (λ (p : StreamSpot). p.number) (take l.i l.spots.streams)) l.numbers
+invariant-loop-i l = ArePlaces (map (λ (p : StreamPlace). p.number) (take l.i l.doc_places.streams)) l.numbers

@@ -1,6 +1,6 @@
 use Rattle.std.proofs.Common.{◌∙◌, sym}
 use Rattle.model.specs.History.{view_of}
-use Rattle.owner_fold.specs.Spots.{stream_job}
+use Rattle.owner_fold.specs.DocPlaces.{stream_job}
 use Rattle.dependencies.specs.Planned.{IsPlannedJob}
 use Rattle.dependencies.proofs.Found.{job_planned}
 use Rattle.ready_index.proofs.Standings.{candidate_dropped, idle_by_owner}

@@ -3,7 +3,7 @@ use Rattle.std.proofs.lemmas.Bool.{eqb-true}
 use Rattle.model.specs.History.{view_of}
 use Rattle.model.specs.Catalogue.{StreamJob}
 use Rattle.owner_fold.specs.Left.{jobs_left}
-use Rattle.owner_fold.specs.Spots.{stream_job}
+use Rattle.owner_fold.specs.DocPlaces.{stream_job}
 use Rattle.dependencies.specs.Planned.{ArePlannedJobs}
 use Rattle.dependencies.proofs.Found.{jobs_left_planned}
 use Rattle.ready_index.specs.Standing.{IsIndexBut}

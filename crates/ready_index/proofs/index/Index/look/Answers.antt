@@ -1,7 +1,7 @@
 use Rattle.std.proofs.Common.{◌∙◌, subst, sym}
 use Rattle.std.proofs.lemmas.Result.{on_ok_weaker}
 use Rattle.model.specs.History.{view_of}
-use Rattle.owner_fold.specs.Spots.{stream_job}
+use Rattle.owner_fold.specs.DocPlaces.{stream_job}
 use Rattle.ready_index.specs.Watched.{AddsOne}
 use Rattle.ready_index.proofs.Standings.{candidate_added, first_is_awaited, not_in_play, watch_added}
 use Rattle.ready_index.proofs.index.Index.look.Goals as goal

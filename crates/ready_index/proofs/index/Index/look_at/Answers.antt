@@ -1,7 +1,7 @@
 use Rattle.std.proofs.Common.{◌∙◌, sym, subst}
 use Rattle.std.proofs.lemmas.Result.{on_ok_weaker}
 use Rattle.model.specs.History.{view_of}
-use Rattle.owner_fold.specs.Spots.{stream_job}
+use Rattle.owner_fold.specs.DocPlaces.{stream_job}
 use Rattle.dependencies.proofs.Found.{job_number, job_planned}
 use Rattle.ready_index.specs.Standing.{IsLookedAt}
 use Rattle.ready_index.proofs.Standings.{not_owned, not_there}

@@ -264,6 +264,23 @@ sound_here s is law =
     (subst (λ (x : model.World). IsSound s.net x.history x.starts) (sym old.reached.by_them)
     (law s.net old.reached.steps)))
 
+-- and has few entries and starts
+pub few_entries_here : (s : WorldState) → IsWorld s
+    → ((net : Net) (steps : List WorldStep) → length (run net steps empty_world).history ≤ 200000)
+    → length s.journal.history ≤ 200000
+few_entries_here s is law =
+    let old = is.stands in
+    subst (λ (G : List Entry). length G ≤ 200000) (sym old.journal_.history_)
+    (subst (λ (x : model.World). length x.history ≤ 200000) (sym old.reached.by_them) (law s.net old.reached.steps))
+
+pub few_starts_here : (s : WorldState) → IsWorld s
+    → ((net : Net) (steps : List WorldStep) → length (run net steps empty_world).starts ≤ 200000)
+    → length s.journal.starts ≤ 200000
+few_starts_here s is law =
+    let old = is.stands in
+    subst (λ (l : List Start). length l ≤ 200000) (sym old.journal_.starts_)
+    (subst (λ (x : model.World). length x.starts ≤ 200000) (sym old.reached.by_them) (law s.net old.reached.steps))
+
 -- all parts
 pub all_parts : (s : WorldState) (x : model.World) (events : List Entry) (starts : List Start) (packets : List PairCount)
     (nodes : List NodePart) → StandsFor s x → events ≡ s.journal.history → starts ≡ s.journal.starts

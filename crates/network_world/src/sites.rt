@@ -29,7 +29,7 @@ pub(crate) fn take_at(
     journal.make_room()?;
     match stations.get_mut(usize::from(w.0)) {
         Some(station) => station.take(input),
-        None => Err(StepRefused::NoMemory),
+        None => unreachable!(),
     }
 }
 
@@ -55,7 +55,7 @@ pub(crate) fn stop_at(
     journal.make_room()?;
     match stations.get_mut(usize::from(w.0)) {
         Some(station) => station.stop_in(alloc, input, kept),
-        None => Err(StepRefused::NoMemory),
+        None => unreachable!(),
     }
 }
 

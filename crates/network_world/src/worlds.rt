@@ -16,6 +16,7 @@ use crate::laws::counts_are_small;
 use crate::stations::Station;
 use agent_core::Agent;
 use base_types::{Entry, Items, NoMemory, Start, Ws};
+use model_laws::bounds::worlds_make_few_entries;
 use model_laws::every_history_is_sound;
 use network_tree::Network;
 use std::alloc::Global;
@@ -115,6 +116,15 @@ impl World {
     {
         self.stands();
         every_history_is_sound();
+    }
+
+    /// At most 200,000 entries were made, and no more launches started, whatever steps made them. The call does nothing.
+    pub fn is_short(&self)
+        ensures entries { length self.now.journal.history ≤ 200000 }
+        ensures starts { length self.now.journal.starts ≤ 200000 }
+    {
+        self.stands();
+        worlds_make_few_entries();
     }
 
     /// What one workstation sent to another. None where one of them is outside.

@@ -49,7 +49,7 @@ out_then {S} {first} {second} {old} {middle} {new} {told} {between} {now} {end} 
 
 pub out_end : {S : Type 0} {first : Action S} (second : Action S) {old new : S} {told now : Told} {why : NodeEnd}
     → DoesOutside first old new told now (Some why) → DoesOutside (Then first second) old new told now (Some why)
-out_end second {why = why} a = out_as (λ trace h. inr (record { why = why; is_end = refl; ends = h })) a
+out_end second {why = why} a = out_as (λ trace h. inr (record { why = why; for_that_cause = refl; ends = h })) a
 
 pub out_wants : {S : Type 0} {act : Action S} {old new : S} {told now : Told} {end : Option NodeEnd}
     → DoesOutside act old new told now end → DoesOutside (Wants act) old new told now end
@@ -96,7 +96,7 @@ module _ {K : Type 0} {kept_in : K → Option Bodies} {size faults moment : K �
   pub did_end : {S : Type 0} {first : Action S} (second : Action S) {old new : S} {keeper later : K} {told now : Told} {why : NodeEnd}
       → Does kept_in size faults moment may_leave left_since opens_since first old new keeper later told now (Some why)
       → Does kept_in size faults moment may_leave left_since opens_since (Then first second) old new keeper later told now (Some why)
-  did_end second {why = why} a = did_as (λ trace h. inr (record { why = why; is_end = refl; ends = h })) a
+  did_end second {why = why} a = did_as (λ trace h. inr (record { why = why; for_that_cause = refl; ends = h })) a
 
   pub did_wants : {S : Type 0} {act : Action S} {old new : S} {keeper later : K} {told now : Told} {end : Option NodeEnd}
       → Does kept_in size faults moment may_leave left_since opens_since act old new keeper later told now end

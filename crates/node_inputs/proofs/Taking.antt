@@ -27,7 +27,7 @@ pub then_nothing : {S : Type 0} (act : Action S) (old : S) (trace : Trace) (end 
     → act old trace end new → Then act Nothing old trace end new
 then_nothing act old trace None new h =
     inl (record { front = trace; back = []; middle = new; split = sym (append-nil trace); begins = h; goes_on = (refl, refl, refl) })
-then_nothing act old trace (Some why) new h = inr (record { why = why; is_end = refl; ends = h })
+then_nothing act old trace (Some why) new h = inr (record { why = why; for_that_cause = refl; ends = h })
 
 pub on_ok : {A E : Type 0} {P : Type 0} (r : Result A E) → P → OnOk r P
 on_ok (Ok a) p = p
@@ -147,4 +147,4 @@ pub gave_some : {outs : List Out} (node : NodeState) (so_far : Carried) {told no
     → DoesOutside (Carry node outs) nothing_carried so_far told now (Some NoMemory)
     → DoesOutside (Give outs) node node told now (Some NoMemory)
 gave_some node so_far a =
-    out_as (λ trace h. inr (record { carried = so_far; is_end = refl; carries = h; same = refl })) a
+    out_as (λ trace h. inr (record { carried = so_far; for_want_of_memory = refl; carries = h; same = refl })) a

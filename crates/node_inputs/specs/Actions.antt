@@ -35,7 +35,7 @@ pub record Both {S : Type 0} (first second : Action S) (old : S) (trace : Trace)
 -- the first of two ends the run
 pub record EndsBefore {S : Type 0} (first : Action S) (old : S) (trace : Trace) (end : Option NodeEnd) (new : S) : Type 0 where
   pub why : NodeEnd
-  pub is_end : end ≡ Some why
+  pub for_that_cause : end ≡ Some why
   pub ends : first old trace (Some why) new
 
 -- one action and then another, unless the first ends the run

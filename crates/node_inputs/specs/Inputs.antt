@@ -157,7 +157,7 @@ pub record Gives (outs : List Out) (old : NodeState) (trace : Trace) (end : Opti
 -- or memory runs out for one of them, and the run ends
 pub record GivesSome (outs : List Out) (old : NodeState) (trace : Trace) (end : Option NodeEnd) (new : NodeState) : Type 0 where
   pub carried : Carried
-  pub is_end : end ≡ Some NoMemory
+  pub for_want_of_memory : end ≡ Some NoMemory
   pub carries : Carry old outs nothing_carried trace (Some NoMemory) carried
   pub same : new ≡ old
 

@@ -63,7 +63,7 @@ answered fault.NoMemory old trace end new k h = h
 pub served_end : (input : Input) (text : NodeState → List ℕ) (old : NodeState) (trace : Trace) (why : NodeEnd) (new : NodeState)
     → Take input old trace (Some why) new → Serve input text old trace (Some why) new
 served_end input text old trace why new (inl (inl taken)) =
-    inl (inl (inr (record { why = why; is_end = refl; ends = taken })))
+    inl (inl (inr (record { why = why; for_that_cause = refl; ends = taken })))
 served_end input text old trace why new (inl (inr refused)) =
     inl (inr (refused.0, refused.1, refused.2, ends_alone refused.0 old trace why new refused.3))
 served_end input text old trace why new (inr stopped) = inr stopped
@@ -89,7 +89,7 @@ served_refused f input text old trace end new (inl both) =
       both.begins.2,
       answered f old trace end new both.begins.1 (back_alone f input old new both.front both.back trace end both.middle both.split both.begins.3 both.goes_on),
     ))
-served_refused f input text old trace end new (inr ended) = cc
+served_refused f input text old trace end new (inr stopped) = cc
 
 -- an input of a client was taken, and this is said of the node after it
 pub served : {K : Type 0} {kept_in : K → Option Bodies} {size faults moment : K → ℕ} {may_leave : K → Bodies → Type 0} {left_since : K → ℕ → Bodies → Type 0} {opens_since : K → ℕ → ℕ → Type 0}

@@ -99,7 +99,8 @@ fn network_of(alloc: Global, workload: &Workload) -> Result<Network, NoMemory>
     let net = workload.net().copy()?;
     match Network::new(alloc, net) {
         Ok(network) => Ok(network),
-        Err(_) => Err(NoMemory),
+        Err(NetFault::NoMemory) => Err(NoMemory),
+        Err(_) => unreachable!(),
     }
 }
 

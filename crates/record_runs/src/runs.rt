@@ -12,7 +12,7 @@ use crate::days::{DayPlans, NoDays, take_any_line};
 use crate::plans::PlansLeft;
 use crate::stops::{Halt, Stop};
 use base_types::{Net, NoMemory};
-use network_tree::Network;
+use network_tree::{NetFault, Network};
 use network_world::World;
 use record_script::{Script, ScriptStep};
 use std::alloc::Global;
@@ -34,7 +34,8 @@ fn begun(alloc: Global, net: Net) -> Result<World, NoMemory>
 {
     match Network::new(alloc, net) {
         Ok(network) => World::new(alloc, network),
-        Err(_) => Err(NoMemory),
+        Err(NetFault::NoMemory) => Err(NoMemory),
+        Err(_) => unreachable!(),
     }
 }
 

@@ -37,16 +37,16 @@ OfFiles a front (Event.Keeps e) back end = (o : Obj) (i : ℕ) → TellsFile a.m
 OfFiles a front (Event.Looks path (Ok true)) back end = a.me < node_count a.net → FollowsFile a front path back end
 OfFiles a front event back end = Unit {0}
 
-ended : {why : NodeEnd} → None ≡ Some why → ⊥
-ended q = cc
+none_is_no_end : {why : NodeEnd} → None ≡ Some why → ⊥
+none_is_no_end q = cc
 
 more_follows : (a : NodeState) (front : Trace) (path : List ℕ) (rest more : Trace) (end : Option NodeEnd)
     → FollowsFile a front path rest None → FollowsFile a front path (rest ++ more) end
 more_follows a front path rest more end (FollowsFile.told o i e back at tells split) =
     FollowsFile.told o i e (back ++ more) at tells (ap (λ (t : Trace). t ++ more) split)
-more_follows a front path rest more end (FollowsFile.refused o i e why at tells split is) = absurd (ended is)
-more_follows a front path rest more end (FollowsFile.ended nothing (inl is)) = absurd (ended is)
-more_follows a front path rest more end (FollowsFile.ended nothing (inr is)) = absurd (ended is)
+more_follows a front path rest more end (FollowsFile.refused o i e why at tells split is) = absurd (none_is_no_end is)
+more_follows a front path rest more end (FollowsFile.stopped_at_once nothing (inl is)) = absurd (none_is_no_end is)
+more_follows a front path rest more end (FollowsFile.stopped_at_once nothing (inr is)) = absurd (none_is_no_end is)
 
 lower : (a : NodeState) (front : Trace) (event : Event) (rest more : Trace) (end : Option NodeEnd)
     → OfFiles a front event rest None → OfFiles a front event (rest ++ more) end
@@ -68,7 +68,7 @@ follows_there a b front more path back end f (FollowsFile.told o i e rest at tel
     FollowsFile.told o i e rest (path_there a b front more o i path f at) (tells_there b a e o i (sym f.me_) tells) split
 follows_there a b front more path back end f (FollowsFile.refused o i e why at tells split is) =
     FollowsFile.refused o i e why (path_there a b front more o i path f at) (tells_there b a e o i (sym f.me_) tells) split is
-follows_there a b front more path back end f (FollowsFile.ended nothing is) = FollowsFile.ended nothing is
+follows_there a b front more path back end f (FollowsFile.stopped_at_once nothing is) = FollowsFile.stopped_at_once nothing is
 
 upper : (a b : NodeState) (front more : Trace) (event : Event) (back : Trace) (end : Option NodeEnd) → Follows a front b
     → OfFiles b more event back end → OfFiles a (front ++ more) event back end
@@ -168,7 +168,7 @@ module _ (old : NodeState) (o : Obj) (i : ℕ) (path : List ℕ) (its_path : pat
           FollowsFile.told o i e rest path_before (tells_as e (entry_is new trace end h ∙ is)) split
       go (StepTrace.refused e why is r split ends) =
           FollowsFile.refused o i e why path_before (tells_as e (entry_is new trace end h ∙ is)) split ends
-      go (StepTrace.spent e is split ends) = FollowsFile.ended split (inl ends)
+      go (StepTrace.spent e is split ends) = FollowsFile.stopped_at_once split (inl ends)
 
   place_is : (e : Entry) (p : Obj) (k : ℕ) → TellsFile old.me e o i → TellsFile old.me e p k → (o ≡ p) × (i ≡ k)
   place_is e p k h t =
@@ -245,7 +245,7 @@ module _ (old : NodeState) (o : Obj) (i : ℕ) (path : List ℕ) (its_path : pat
           let only : IsOnly found front back event = only_one found front back event split in
           subst (λ (t : Trace). OfFiles old t event back end) (sym only.none_before)
           (subst (λ (x : Event). OfFiles old [] x back end) only.is
-          (λ inside. FollowsFile.ended only.none_behind (ends inside)))
+          (λ inside. FollowsFile.stopped_at_once only.none_behind (ends inside)))
 
   pub file_marked : (last : Option DepPlace) → next_probe (view_in old) old.me last ≡ Some (o, i) → (trace : Trace) (end : Option NodeEnd) (new : NodeState)
       → Take (Input.Local (Fulfil o i)) old trace end new → Marks OfFiles old (Event.Looks path (Ok true) ∷ trace) end new

@@ -75,8 +75,8 @@ done_refuses_none (Event.Kills j n ∷ trace) h = done_refuses_none trace h.1
 done_refuses_none (Event.Sends call ∷ trace) h = done_refuses_none trace h.1
 done_refuses_none (e ∷ trace) h = absurd h.0
 
-ended : {why : NodeEnd} → None ≡ Some why → ⊥
-ended q = cc
+none_is_no_end : {why : NodeEnd} → None ≡ Some why → ⊥
+none_is_no_end q = cc
 
 why_is : {a b : NodeEnd} → Some a ≡ Some b → a ≡ b
 why_is q = cc
@@ -85,13 +85,13 @@ why_is q = cc
 kept_refuses_none : (made : Option Entry) (trace : Trace) → IsKeeping made trace None → refusals trace ≡ []
 kept_refuses_none None trace h = ap refusals h.0
 kept_refuses_none (Some e) trace (inl h) = ap refusals h.0
-kept_refuses_none (Some e) trace (inr (inl h)) = absurd (ended h.3)
-kept_refuses_none (Some e) trace (inr (inr h)) = absurd (ended h.1)
+kept_refuses_none (Some e) trace (inr (inl h)) = absurd (none_is_no_end h.3)
+kept_refuses_none (Some e) trace (inr (inr h)) = absurd (none_is_no_end h.1)
 
 keeping_forced : (made : Option Entry) (old new : NodeState) (trace : Trace) (end : Option NodeEnd) (why : NodeEnd)
     → end ≡ Some why → IsKeeping made trace (Some why) → IsForced old trace end new
-keeping_forced None old new trace end why is h = absurd (ended (sym h.1))
-keeping_forced (Some e) old new trace end why is (inl h) = absurd (ended (sym h.1))
+keeping_forced None old new trace end why is h = absurd (none_is_no_end (sym h.1))
+keeping_forced (Some e) old new trace end why is (inl h) = absurd (none_is_no_end (sym h.1))
 keeping_forced (Some e) old new trace end why is (inr (inl h)) = record {
   quiet = λ free. absurd (free h.0 (is ∙ h.3) h.1);
   forced = λ other also r.
@@ -115,7 +115,7 @@ step_forced input old trace end new h = go h.acts
         unforced old new trace end
         (ap refusals b.split ∙ front_quiet b.front b.back (kept_refuses_none h.step.kept b.front b.begins.0) ∙ behind)
         (carry_free b.middle h.step.outs _ g.carried end g.so_far g.carries)
-    go (inr e) = keeping_forced h.step.kept old new trace end e.why e.is_end e.ends.0
+    go (inr e) = keeping_forced h.step.kept old new trace end e.why e.for_that_cause e.ends.0
 
 pub forced_rule : IsRule (λ i. Unit {0}) (λ o t e n. IsForced o t e n)
 forced_rule = record {

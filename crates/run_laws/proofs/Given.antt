@@ -112,16 +112,16 @@ pub carry_starts : (node : NodeState) (outs : List Out) → LaunchesFirst outs �
 carry_starts node [] h old trace end new a = rw a.0 refl
 carry_starts node (Launch j n work ∷ outs) h old trace end new (inl b) =
     rw (b.split, b.begins.1) (ap (λ (l : List (ℕ × ℕ)). (j, n) ∷ l) (carry_starts node outs h b.middle b.back end new b.goes_on))
-carry_starts node (Launch j n work ∷ outs) h old trace end new (inr e) = absurd (ended e.ends.2)
+carry_starts node (Launch j n work ∷ outs) h old trace end new (inr e) = absurd (no_end_is_none e.ends.2)
   where
-    ended : Some e.why ≡ None → ⊥
-    ended q = cc
+    no_end_is_none : Some e.why ≡ None → ⊥
+    no_end_is_none q = cc
 carry_starts node (Out.Kill j n ∷ outs) h old trace end new (inl b) =
     rw (b.split, b.begins.0) (carry_starts node outs h b.middle b.back end new b.goes_on)
-carry_starts node (Out.Kill j n ∷ outs) h old trace end new (inr e) = absurd (ended e.ends.1)
+carry_starts node (Out.Kill j n ∷ outs) h old trace end new (inr e) = absurd (no_end_is_none e.ends.1)
   where
-    ended : Some e.why ≡ None → ⊥
-    ended q = cc
+    no_end_is_none : Some e.why ≡ None → ⊥
+    no_end_is_none q = cc
 carry_starts node (Send x p ∷ outs) h old trace end new a =
     ap (λ (l : List StartCall). map (λ (call : StartCall). (call.job, call.number)) l) (carry_starts_none node (Send x p ∷ outs) (tt, h) old trace end new a)
     ∙ sym (no_launch_out outs h)

@@ -15,10 +15,10 @@ EndsThere a front event back end = Unit {0}
 
 lower : (a : NodeState) (front : Trace) (event : Event) (rest more : Trace) (end : Option NodeEnd)
     → EndsThere a front event rest None → EndsThere a front event (rest ++ more) end
-lower a front (Event.Refuses e why) rest more end h = absurd (ended h.1)
+lower a front (Event.Refuses e why) rest more end h = absurd (none_is_no_end h.1)
   where
-    ended : None ≡ Some why → ⊥
-    ended q = cc
+    none_is_no_end : None ≡ Some why → ⊥
+    none_is_no_end q = cc
 lower a front event rest more end h = tt
 
 upper : (a b : NodeState) (front more : Trace) (event : Event) (back : Trace) (end : Option NodeEnd) → Follows a front b

@@ -116,8 +116,8 @@ raise_one before now x = go (is_new_neighbour before now x)
     go false old trace end new h =
         record { are_asks = subst (AllByRecursion IsAsk) (sym h.0) tt; goes_on = h.1; same = h.2 }
 
-ended : {why : NodeEnd} → Some why ≡ None → ⊥
-ended q = cc
+no_end_is_none : {why : NodeEnd} → Some why ≡ None → ⊥
+no_end_is_none q = cc
 
 raise_each : (before now : NodeState) (xs : List ℕ) → Gives (Each (RaiseNew before now) xs) (λ o t e n. OnlyAsks o t e n)
 raise_each before now [] old trace end new h =
@@ -131,7 +131,7 @@ raise_each before now (x ∷ xs) old trace end new (inl b) =
       same = rest.same ∙ one.same;
     }
 raise_each before now (x ∷ xs) old trace end new (inr e) =
-    absurd (ended (raise_one before now x old trace (Some e.why) new e.ends).goes_on)
+    absurd (no_end_is_none (raise_one before now x old trace (Some e.why) new e.ends).goes_on)
 
 raise_asks : (before : NodeState) → Gives (Raise before) (λ o t e n. OnlyAsks o t e n)
 raise_asks before old trace end new h =
@@ -168,7 +168,7 @@ kept_ends : (input : Input) (old after new : NodeState) (step : Step) (trace : T
     → IsTaken old input step after → EndsBefore (Keep step.kept) after trace end new → Steps input old trace end new
 kept_ends input old after new step trace end taken e =
     subst (λ (n : NodeState). Steps input old trace end n) (sym e.ends.1)
-    (record { step = step; taken = taken; acts = inr (record { why = e.why; is_end = e.is_end; ends = (e.ends.0, refl) }) })
+    (record { step = step; taken = taken; acts = inr (record { why = e.why; for_that_cause = e.for_that_cause; ends = (e.ends.0, refl) }) })
 
 -- an input that tells of a start or of a lost link gives nothing out
 quiet_steps : (input : Input) → IsTold input
@@ -224,7 +224,7 @@ given input old after middle new step front asks trace end taken kept are_asks s
     })
 given input old after middle new step front asks trace end taken kept are_asks same (inr g) =
     let carries : Carry after step.outs nothing_carried trace end g.carried =
-    subst (λ (e : Option NodeEnd). Carry after step.outs nothing_carried trace e g.carried) (sym g.is_end)
+    subst (λ (e : Option NodeEnd). Carry after step.outs nothing_carried trace e g.carried) (sym g.for_want_of_memory)
     (subst (λ (n : NodeState). Carry n step.outs nothing_carried trace (Some NoMemory) g.carried) same g.carries) in
     inr (subst (λ (n : NodeState). Steps input old (front ++ (asks ++ trace)) end n) (sym (g.same ∙ same))
     (kept_then input old after step front asks trace end g.carried taken kept are_asks carries))
@@ -240,7 +240,7 @@ takes_parts input old trace end new h = go h.acts
         (given input old h.after c.middle new h.step front c.front c.back end h.taken kept asks.are_asks
         (asks.same ∙ same) c.goes_on)
     follow front back middle kept same (inr e) =
-        absurd (ended (raise_asks old middle back (Some e.why) new e.ends).goes_on)
+        absurd (no_end_is_none (raise_asks old middle back (Some e.why) new e.ends).goes_on)
 
     go : Then (Keep h.step.kept) (Follow old h.step) h.after trace end new → StepsOrParts input old trace end new
     go (inl b) =

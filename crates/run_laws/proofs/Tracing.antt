@@ -96,7 +96,7 @@ step_trace input old trace end new h = go h.acts
         let done : AllByRecursion IsDone (g.asks ++ g.carried) = all_done h.step.outs b.middle b.back end new g in
         front_kept h.step.kept b.front (g.asks ++ g.carried) trace end
         (b.split ∙ ap (λ (t : Trace). b.front ++ t) g.split) done b.begins.0
-    go (inr e) = not_kept h.step.kept trace end e.why e.is_end e.ends.0
+    go (inr e) = not_kept h.step.kept trace end e.why e.for_that_cause e.ends.0
 
 -- what was kept, where the run goes on
 pub trace_keeps : (made : Option Entry) (trace : Trace) → StepTrace made trace None → kept trace ≡ option_to_list made

@@ -92,11 +92,11 @@ module _ (Q : Input → Type 0) (P : Action NodeState) (r : IsRule Q P) (heard :
 -- one end of a process
 module _ (Q : Input → Type 0) (P : Action NodeState) (r : IsRule Q P)
     (reports : (s : NodeState) (answer : Result (Option End) Failed) → P s (Event.Reports answer ∷ []) None s)
-    (ended : (j : ℕ) (rc : ℤ) → Q (Input.Local (Local.Ended j rc))) where
+    (job_ended : (j : ℕ) (rc : ℤ) → Q (Input.Local (Local.Ended j rc))) where
   end_gives : (answer : Result (Option End) Failed) → Gives (EndOf answer) P
   end_gives (Ok (Some e)) old trace end new h =
       if_gives P r.joined (is_live old e) (Take (Input.Local (Local.Ended e.job e.rc))) Nothing
-      (take_gives Q P r (Input.Local (Local.Ended e.job e.rc)) (ended e.job e.rc)) (nothing_gives P r.joined) old trace end new h
+      (take_gives Q P r (Input.Local (Local.Ended e.job e.rc)) (job_ended e.job e.rc)) (nothing_gives P r.joined) old trace end new h
   end_gives (Ok None) old trace end new h = nothing_gives P r.joined old trace end new h
   end_gives (Err failed) old trace end new h = nothing_gives P r.joined old trace end new h
 

@@ -28,4 +28,4 @@ pub data FollowsFile (node : NodeState) (front : Trace) (path : List ℕ) (back 
       → TellsFile node.me e o i → back ≡ Event.Keeps e ∷ rest → FollowsFile node front path back end
   refused : (o : Obj) (i : ℕ) (e : Entry) (why : NodeEnd) → path_at (held_after node front) o i ≡ Some path
       → TellsFile node.me e o i → back ≡ Event.Refuses e why ∷ [] → end ≡ Some why → FollowsFile node front path back end
-  ended : back ≡ [] → (end ≡ Some NoMemory) ⊎ (end ≡ Some (Limit Places)) → FollowsFile node front path back end
+  stopped_at_once : back ≡ [] → (end ≡ Some NoMemory) ⊎ (end ≡ Some (Limit Places)) → FollowsFile node front path back end

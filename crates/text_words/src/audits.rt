@@ -13,7 +13,7 @@ use base_types::{Net, NoMemory};
 use definition_texts::line_at;
 use event_audit::{Audit, audit};
 use history_script::{HistoryFault, HistoryKind, HistoryText, read_history};
-use network_tree::Network;
+use network_tree::{NetFault, Network};
 use record_script::ScriptKind;
 use std::alloc::Global;
 use std::str;
@@ -37,7 +37,8 @@ fn network(alloc: Global, net: Net) -> Result<Network, NoMemory>
 {
     match Network::new(alloc, net) {
         Ok(network) => Ok(network),
-        Err(_) => Err(NoMemory),
+        Err(NetFault::NoMemory) => Err(NoMemory),
+        Err(_) => unreachable!(),
     }
 }
 

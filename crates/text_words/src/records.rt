@@ -40,14 +40,12 @@ fn report(alloc: Global, world: &World) -> Result<Bytes, NoMemory>
     print_report(alloc, world.net().net(), &parts)
 }
 
-/// A number of entries or of starts, all of which stand in memory.
-fn counted(count: usize) -> Result<u32, NoMemory>
-    ensures { IfOk result (λ n. n ≡ count) }
+/// A number of entries or of starts of a world, in 32 bits.
+fn counted(count: usize) -> u32
+    requires { count ≤ 200000 }
+    ensures { result ≡ count }
 {
-    match u32::try_from(count) {
-        Ok(count) => Ok(count),
-        Err(_) => Err(NoMemory),
-    }
+    count as u32
 }
 
 /// The summary of a world, by what the master holds.
@@ -58,8 +56,9 @@ fn summary(alloc: Global, world: &World) -> Result<Bytes, NoMemory>
     let net = world.net();
     let _count = net.count();
     let counts = state_counts(alloc, net, world.node(Ws(0)).owners())?;
-    let events = counted(world.history().len())?;
-    let starts = counted(world.starts().len())?;
+    world.is_short();
+    let events = counted(world.history().len());
+    let starts = counted(world.starts().len());
     print_summary(
         alloc,
         net.net(),

@@ -8,5 +8,5 @@ returns c =
     IfOk-weaker c.print_summary.result _ _
     (λ text is x stands. summary_told c.args.world.now x c.net-net.result.now c.node.result.now c.owners.result.now _ _ _ _
     text stands (c.node.ensures.stands x stands) c.net-net.ensures c.owners.ensures c.in_ok-counts.ensures.streams
-    c.in_ok-counts.ensures.jobs (c.in_ok-events.ensures ∙ ap length c.history.ensures)
-    (c.in_ok-starts.ensures ∙ ap length c.starts.ensures) is) c.print_summary.ensures
+    c.in_ok-counts.ensures.jobs (c.counted-events.ensures ∙ ap length c.history.ensures)
+    (c.counted-starts.ensures ∙ ap length c.starts.ensures) is) c.print_summary.ensures

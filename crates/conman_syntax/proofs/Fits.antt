@@ -1,7 +1,7 @@
 -- What is read is as short as its form demands.
-use Rattle.std.proofs.Common.{[], if◌then◌else◌, ℕ, ◌&&◌, ◌+◌, ◌-◌, ◌<◌, ◌==◌, ◌∙◌, ◌∷◌, ◌≡◌, ◌≤◌, Bool, Err, IfOk}
+use Rattle.std.proofs.Common.{if◌then◌else◌, ℕ, ◌-◌, ◌==◌, ◌≡◌, ◌≤◌, Bool, Err, IfOk}
 use Rattle.std.proofs.Common.{IfSome, List, None, Ok, Option, Result, Some, arith, codes, eqb, false}
-use Rattle.std.proofs.Common.{get_or, length, subst, sym, take, true}
+use Rattle.std.proofs.Common.{get_or, length, refl, subst, sym, take, true}
 use Rattle.std.proofs.lemmas.List.{length-drop, length-take}
 use Rattle.std.specs.List.{ends_with, position_or_len}
 use Rattle.std.specs.Str.{bytes_eq}
@@ -10,7 +10,9 @@ use Rattle.syntax.specs.Numbers.{number_of}
 use Rattle.conman_syntax.specs.Answers.{ended, first, within}
 use Rattle.conman_syntax.specs.Arguments.{argument_behind, behind_word, ends_word}
 use Rattle.conman_syntax.specs.Arguments.{left_behind, without_noask, word_of}
+use Rattle.calendars.specs.Dates.{IsDay}
 use Rattle.calendars.specs.Written.{date_of}
+use Rattle.calendars.proofs.Days.{date_there}
 use Rattle.conman_syntax.specs.Dependencies.{dependency_of}
 use Rattle.conman_syntax.specs.Fit.{IsFitDep, IsFitJob, IsFitLine, IsFitName, IsFitObj, IsFitPattern}
 use Rattle.conman_syntax.specs.Heads.{head_of}
@@ -223,11 +225,18 @@ on_pattern_fits : (most : ℕ) (f : Option (List ℕ) → Line)
 on_pattern_fits most f h left k =
     put_within (IsFitChoice most) (IsFitLine most) f (last_pattern left) (last_pattern_fits most left k) h
 
+some_day : (word : List ℕ) → IfSome (date_of word) IsDay
+some_day word = go (date_of word) (date_there word)
+  where
+    go : (o : Option ℕ) → ((day : ℕ) → o ≡ Some day → IsDay day) → IfSome o IsDay
+    go None h = tt
+    go (Some day) h = h day refl
+
 j_next_plan_fits : (most : ℕ) (left : List ℕ) → Fits most (rows.j_next_plan left)
 unfolding rows.j_next_plan
 j_next_plan_fits most left =
-    from_first (λ day. Unit {0}) (IsFitLine most) left date_of _ (λ word. anything (date_of word))
-    (λ day u rest. at_end (IsFitLine most) rest (line.JNextPlan day) tt)
+    from_first IsDay (IsFitLine most) left date_of _ some_day
+    (λ day h rest. at_end (IsFitLine most) rest (line.JNextPlan day) h)
 
 row_fits : (most : ℕ) (c : Command) (what : Option What) (left : List ℕ) → length left ≤ most
     → Fits most (row c what left)

@@ -1,5 +1,6 @@
--- How long the parts of a line may be that was read.
+-- How long the parts of a line may be that was read, and which days it may name.
 use Rattle.std.specs.Prelude.{ℕ, ◌≤◌, IfSome, List, length}
+use Rattle.calendars.specs.Dates.{IsDay}
 use Rattle.conman_syntax.specs.declared.lines.StreamRef.{StreamRef}
 use Rattle.conman_syntax.specs.declared.lines.JobRef.{JobRef}
 use Rattle.conman_syntax.specs.declared.lines.ObjRef.{ObjRef}
@@ -40,7 +41,8 @@ IsFitDep (dep.Until t passed) = Unit {0}
 abbrev pub IsFitPattern : ℕ → List ℕ → Type 0
 IsFitPattern most pattern = length pattern ≤ most
 
--- names, quoted texts and patterns of a line of at most so many bytes are no longer than that
+-- names, quoted texts and patterns of a line of at most so many bytes are no longer than that, and a day is one that
+-- there is
 abbrev pub IsFitLine : ℕ → Line → Type 0
 IsFitLine most (line.AddDep o d) = IsFitObj o × IsFitDep d
 IsFitLine most (line.DelDep o d) = IsFitObj o × IsFitDep d
@@ -68,4 +70,4 @@ IsFitLine most (line.ShowResources pattern) = IfSome pattern (IsFitPattern most)
 IsFitLine most (line.Link ws) = IsFitName ws
 IsFitLine most (line.Unlink ws) = IsFitName ws
 IsFitLine most line.Shutdown = Unit {0}
-IsFitLine most (line.JNextPlan day) = Unit {0}
+IsFitLine most (line.JNextPlan day) = IsDay day

@@ -27,7 +27,7 @@ use std::alloc::Global;
 /// NoMemory.
 ///
 /// The parts are as short as their forms demand: a name has at most 40 bytes and a quoted text at most 4,096. A pattern
-/// has as many as the line has room for.
+/// has as many as the line has room for. The day of `jnextplan` is one from 01/01/1970 to 12/31/9999.
 pub fn parse_command(alloc: Global, text: &str) -> Result<Line, CommandFault>
     ensures answer { HadMemory result → result ≡ due_line text.now }
     ensures line { HadMemory result → (line : lines.Line) → (result ≡ Ok line) ↔ IsLine text.now line }

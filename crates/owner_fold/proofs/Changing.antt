@@ -1,5 +1,5 @@
 -- What one entry changes of whether a stream waits or is begun, and whether a job has an open launch.
-use Rattle.std.proofs.Common.{[], ℕ, ◌&&◌, ◌++◌, ◌<◌, ◌^◌, ◌∙◌, ◌∷◌, ◌≡◌, ◌⊎◌, Bool, List, None, Option, Some, ap, eqb, false}
+use Rattle.std.proofs.Common.{[], ℕ, ◌&&◌, ◌++◌, ◌<◌, ◌^◌, ◌∙◌, ◌∷◌, ◌≡◌, ◌⊎◌, Bool, List, None, Option, Some, ap, false}
 use Rattle.std.proofs.Common.{filter_map, inl, inr, is_none, is_some, map, not, option_and_then, refl, slice_get, subst, sym, true}
 use Rattle.std.proofs.lemmas.Bool.Decides.{eqb_tells}
 use Rattle.std.proofs.lemmas.List.Elements.{filter_map-append}
@@ -8,9 +8,8 @@ use Rattle.std.specs.List.{list_any}
 use Rattle.std.specs.Option.{option_or}
 use Rattle.std.specs.Prelude.{◌||◌, option_map}
 use Rattle.grouped_places.specs.Codes.{code}
-use Rattle.model.specs.Types.{Added, Body, Clock, Declined, Ended, Entry, Events, Failed, Fulfilled, Late}
-use Rattle.model.specs.Types.{Job, Launched, Lost, NewPlan, Obeyed, Obj, Order, Released, Started, Stream, StreamDoc}
-use Rattle.model.specs.Types.{StreamEnded, UntilPassed}
+use Rattle.model.specs.Types.{Added, Body, Entry, Events}
+use Rattle.model.specs.Types.{Launched, NewPlan, Obj, Released, Stream, StreamDoc}
 use Rattle.model.specs.Equalities.{feed_eq}
 use Rattle.model.specs.Words.{firsts, has}
 use Rattle.model.specs.History.{list_of}
@@ -20,7 +19,7 @@ use Rattle.model.specs.Facts.{is_ended, is_launch_of, is_open, is_release_of, is
 use Rattle.model.specs.Facts.{open_launch}
 use Rattle.model.specs.StepFaults.{is_outside}
 use Rattle.owner_rows.proofs.Further.{any_command_with, any_with}
-use Rattle.owner_rows.proofs.JobTelling.{later_with}
+use Rattle.owner_rows.proofs.JobTelling.{last_launch_with, later_with}
 use Rattle.owner_fold.specs.Given.{has_time}
 use Rattle.owner_fold.specs.Numbers.{ArePlaces}
 use Rattle.owner_fold.specs.Plans.{is_planning, is_planning_body}
@@ -108,49 +107,6 @@ begun_before s events b h =
       | inl e ↦ inl (λ j. e j && l j)
       | inr e ↦ inr e
     ]
-
--- the last launch, one body further
-here_with : (j : ℕ) (c : Body) (cs : List Body) (b : Body)
-    → launch_here j c (cs ++ b ∷ []) ≡ option_map (later_with b) (launch_here j c cs)
-here_with j (Launched k n seen) cs b = go (eqb j k)
-  where
-    go : (t : Bool) → then_some t (record { number = n; later = cs ++ b ∷ [] })
-        ≡ option_map (later_with b) (then_some t (record { number = n; later = cs }))
-    go true = refl
-    go false = refl
-here_with j (NewPlan run cut carried docs) cs b = refl
-here_with j (Added a k doc) cs b = refl
-here_with j (Clock t) cs b = refl
-here_with j (Released s seen) cs b = refl
-here_with j (StreamEnded s seen) cs b = refl
-here_with j (UntilPassed p i mark) cs b = refl
-here_with j (Started k n) cs b = refl
-here_with j (Failed k n) cs b = refl
-here_with j (Ended k n rc good) cs b = refl
-here_with j (Lost k n) cs b = refl
-here_with j (Fulfilled p i) cs b = refl
-here_with j (Obeyed a k c) cs b = refl
-here_with j (Declined a k why) cs b = refl
-here_with j (Order c) cs b = refl
-here_with j (Late p i) cs b = refl
-
-merged : {X : Type 0} (f : X → X) (a l h : Option X)
-    → option_or (option_or a (option_map f l)) (option_map f h) ≡ option_or a (option_map f (option_or l h))
-merged f (Some a) l h = refl
-merged f None (Some l) h = refl
-merged f None None h = refl
-
-last_launch_with : (j : ℕ) (events : List Body) (b : Body)
-    → last_launch j (events ++ b ∷ []) ≡ option_or (launch_here j b []) (option_map (later_with b) (last_launch j events))
-unfolding last_launch
-last_launch_with j [] b = go (launch_here j b [])
-  where
-    go : (o : Option LastLaunch) → option_or None o ≡ option_or o None
-    go None = refl
-    go (Some l) = refl
-last_launch_with j (c ∷ cs) b =
-    rw (last_launch_with j cs b, here_with j c cs b)
-    (merged (later_with b) (launch_here j b []) (last_launch j cs) (launch_here j c cs))
 
 first_none : {X Y : Type 0} (f : X → Option Y) (xs : List X) (x : X)
     → is_none (slice_get (filter_map f (xs ++ x ∷ [])) 0) ≡ true → is_none (slice_get (filter_map f xs) 0) ≡ true

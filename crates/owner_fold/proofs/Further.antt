@@ -96,7 +96,7 @@ members_of_docs kept numbers e =
     (first_docs_among (flat_map docs_in (list_of kept (Events 0)))))))
 
 -- what is neither plan nor added stream brings no document, and names nobody
-no_docs : (b : Body) → is_planning_body b ≡ false → docs_in b ≡ []
+pub no_docs : (b : Body) → is_planning_body b ≡ false → docs_in b ≡ []
 no_docs (NewPlan run cut carried docs) h = cc
 no_docs (Added a k doc) h = cc
 no_docs (Clock t) h = refl
@@ -114,7 +114,7 @@ no_docs (Declined a k why) h = refl
 no_docs (Order c) h = refl
 no_docs (Late p i) h = refl
 
-no_names : (so_far : Option (List ℕ)) (b : Body) → is_planning_body b ≡ false → members_with so_far b ≡ so_far
+pub no_names : (so_far : Option (List ℕ)) (b : Body) → is_planning_body b ≡ false → members_with so_far b ≡ so_far
 no_names so_far (NewPlan run cut carried docs) h = cc
 no_names so_far (Added a k doc) h = cc
 no_names so_far (Clock t) h = refl

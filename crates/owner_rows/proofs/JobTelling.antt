@@ -116,7 +116,7 @@ merged f (Some a) l h = refl
 merged f None (Some l) h = refl
 merged f None None h = refl
 
-last_launch_with : (j : ℕ) (events : List Body) (b : Body)
+pub last_launch_with : (j : ℕ) (events : List Body) (b : Body)
     → last_launch j (events ++ b ∷ []) ≡ option_or (launch_here j b []) (option_map (later_with b) (last_launch j events))
 unfolding last_launch
 last_launch_with j [] b = go (launch_here j b [])

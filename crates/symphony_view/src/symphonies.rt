@@ -73,7 +73,7 @@ fn version_of(second: bool) -> u16
     if second { 2 } else { 1 }
 }
 
-/// How many items a list has.
+/// How many items a list has. More than 4,294,967,295, which no plan has, are answered as want of memory.
 fn put_count(out: &mut Bytes, count: usize) -> Result<(), NoMemory>
     ensures { OnOk result (out.new ≡ out.old ++ u32_bytes count) }
 {

@@ -1,5 +1,5 @@
 //! Lists, options and what stands in them.
-ghost use Rattle.std.specs.Prelude.{◌≡◌, ◌++◌, IfSome, OnOk};
+ghost use Rattle.std.specs.Prelude.{◌≡◌, ◌++◌, IfSome, OnErr, OnOk};
 ghost use Rattle.std.specs.List.{All};
 ghost use Rattle.model.specs.Fields.{flag_bytes, list_bytes, option_bytes, u16_bytes};
 ghost use Rattle.model.specs.Fit.{AreFit};
@@ -56,9 +56,10 @@ pub(crate) fn put_list<T: Put>(out: &mut Bytes, items: &Items<T>) -> Result<(), 
     Ok(())
 }
 
-/// Adds 1 for yes, 0 for no.
+/// Adds 1 for yes, 0 for no. Where memory runs out nothing changes.
 pub fn put_flag(out: &mut Bytes, flag: bool) -> Result<(), NoMemory>
-    ensures { OnOk result (out.new ≡ out.old ++ flag_bytes flag) }
+    ensures ok { OnOk result (out.new ≡ out.old ++ flag_bytes flag) }
+    ensures err { OnErr result (out.new ≡ out.old) }
 {
     if flag { put_u8(out, 1) } else { put_u8(out, 0) }
 }

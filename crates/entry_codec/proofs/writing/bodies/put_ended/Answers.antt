@@ -12,4 +12,4 @@ returns-clause-added c =
     let so_far : c.put_i32.new.out ≡ c.args.out.now ++ (front ++ told) =
     second ∙ ap (λ (l : List ℕ). l ++ told) first ∙ append_assoc c.args.out.now front told in
     behind_a_front c.put_flag.result c.args.out.now (front ++ told) (flag_bytes c.args.good) c.put_i32.new.out
-    c.put_flag.new.out so_far c.put_flag.ensures
+    c.put_flag.new.out so_far c.put_flag.ensures.ok

@@ -154,6 +154,8 @@ fn of_feeds(o: &Owners, asked: &Asked) -> Option<Told> {
     let w = asked.ws(0);
     if asked.is("answered", 2) {
         number(o.answered(w, asked.ws(1)))
+    } else if asked.is("may-involve", 2) {
+        truth(o.may_involve(w, asked.ws(1)))
     } else if asked.is("has-issued", 1) {
         truth(o.has_issued(w))
     } else if asked.is("event-count", 1) {

@@ -68,6 +68,20 @@ fn add_timed_jobs(o: &Owners, w: Ws, found: &mut Vec<u32>) -> Result<bool, NoMem
     Ok(true)
 }
 
+fn add_filed_streams(o: &Owners, w: Ws, found: &mut Vec<u32>) -> Result<bool, NoMemory> {
+    for doc in o.filed_streams(w) {
+        found.push(doc.no.0)?;
+    }
+    Ok(true)
+}
+
+fn add_filed_jobs(o: &Owners, w: Ws, found: &mut Vec<u32>) -> Result<bool, NoMemory> {
+    for (_, doc) in o.filed_jobs(w) {
+        found.push(doc.no.0)?;
+    }
+    Ok(true)
+}
+
 fn add_of_plan(o: &Owners, asked: &Asked, found: &mut Vec<u32>) -> Result<bool, NoMemory> {
     if asked.is("members", 0) {
         add_members(o, found)
@@ -77,6 +91,16 @@ fn add_of_plan(o: &Owners, asked: &Asked, found: &mut Vec<u32>) -> Result<bool, 
         add_jobs(o, found)
     } else if asked.is("jobs-of", 1) {
         add_jobs_of(o, asked.stream(0), found)
+    } else {
+        Ok(false)
+    }
+}
+
+fn add_filed(o: &Owners, w: Ws, asked: &Asked, found: &mut Vec<u32>) -> Result<bool, NoMemory> {
+    if asked.is("filed-streams", 1) {
+        add_filed_streams(o, w, found)
+    } else if asked.is("filed-jobs", 1) {
+        add_filed_jobs(o, w, found)
     } else {
         Ok(false)
     }
@@ -95,7 +119,7 @@ fn add_of_station(o: &Owners, asked: &Asked, found: &mut Vec<u32>) -> Result<boo
     } else if asked.is("timed-jobs", 1) {
         add_timed_jobs(o, w, found)
     } else {
-        Ok(false)
+        add_filed(o, w, asked, found)
     }
 }
 

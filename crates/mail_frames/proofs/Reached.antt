@@ -8,66 +8,66 @@ use Rattle.model.specs.Fields.{u32_bytes}
 use Rattle.mail_frames.specs.Spelling.{IsSpelled}
 use Rattle.mail_frames.specs.Streams.{IsFront}
 use Rattle.mail_frames.specs.Nexts.{Follows, due, NextAfter}
-use Rattle.mail_frames.specs.Places.{Completes, IsReached, SeenAfter, Scans}
+use Rattle.mail_frames.specs.Places.{Completes, IsReached, ScannedAfter, Scans}
 use Rattle.mail_frames.specs.Pieces.{IsAt, Breaks}
 use Rattle.mail_frames.specs.declared.nexts.Next.{Next}
 use Rattle.mail_frames.specs.declared.nexts.Next.TheVariants.{Any, Exactly, Lead}
 use Rattle.mail_frames.specs.declared.places.Place.{Place}
 use Rattle.mail_frames.specs.declared.places.Place.TheVariants.{Start, One, Two, Three, Kind, Content}
-use Rattle.mail_frames.specs.declared.places.Seen.{Seen}
-use Rattle.mail_frames.specs.declared.places.Seen.TheVariants.{Open, Whole, Bad}
+use Rattle.mail_frames.specs.declared.places.Scanned.{Scanned}
+use Rattle.mail_frames.specs.declared.places.Scanned.TheVariants.{Open, Whole, Bad}
 use Rattle.mail_frames.proofs.Contents.{can_come, follows_long, zeros}
 use Rattle.mail_frames.proofs.Spelled.{behind_mail, behind_command, behind_reply}
 use Rattle.mail_frames.proofs.Spelled.{behind_events, behind_orders, content_short, frame_length}
 
 -- ---- the same rests have the same places
 
-pub seen_alike : (P Q : List ℕ → Type 0) (seen : Seen) → ((bytes : List ℕ) → P bytes ↔ Q bytes) → SeenAfter Q seen
-    → SeenAfter P seen
+pub seen_alike : (P Q : List ℕ → Type 0) (seen : Scanned) → ((bytes : List ℕ) → P bytes ↔ Q bytes) → ScannedAfter Q seen
+    → ScannedAfter P seen
 seen_alike P Q (Open place) w h = (h.0, λ b. (λ p. (h.1 b).0 ((w b).0 p), λ q. (w b).1 ((h.1 b).1 q)))
 seen_alike P Q Whole w h = λ b. (λ p. (h b).0 ((w b).0 p), λ q. (w b).1 ((h b).1 q))
 seen_alike P Q Bad w h = λ b p. h b ((w b).0 p)
 
 -- ---- behind a kind
 
-pub mail_seen : (n : ℕ) (seen : Seen) → 1 ≤ n → n ≤ 4194305
-    → SeenAfter (λ bytes. Completes (Content (n - 1) Any) bytes) seen
-    → SeenAfter (λ bytes. Completes (Kind n) (1 ∷ bytes)) seen
+pub mail_seen : (n : ℕ) (seen : Scanned) → 1 ≤ n → n ≤ 4194305
+    → ScannedAfter (λ bytes. Completes (Content (n - 1) Any) bytes) seen
+    → ScannedAfter (λ bytes. Completes (Kind n) (1 ∷ bytes)) seen
 mail_seen n seen l m h =
     seen_alike (λ b. Completes (Kind n) (1 ∷ b)) (λ b. Completes (Content (n - 1) Any) b) seen
     (λ b. (let w = behind_mail n b m in
     (λ p. (let q = w.0 p in (omega (arith, q.0), q.1)), λ p. w.1 (omega (arith, p.0), p.1)))) h
 
-pub command_seen : (n : ℕ) (seen : Seen) → 1 ≤ n → n ≤ 4097
-    → SeenAfter (λ bytes. Completes (Content (n - 1) Lead) bytes) seen
-    → SeenAfter (λ bytes. Completes (Kind n) (3 ∷ bytes)) seen
+pub command_seen : (n : ℕ) (seen : Scanned) → 1 ≤ n → n ≤ 4097
+    → ScannedAfter (λ bytes. Completes (Content (n - 1) Lead) bytes) seen
+    → ScannedAfter (λ bytes. Completes (Kind n) (3 ∷ bytes)) seen
 command_seen n seen l m h =
     seen_alike (λ b. Completes (Kind n) (3 ∷ b)) (λ b. Completes (Content (n - 1) Lead) b) seen
     (λ b. (let w = behind_command n b m in
     (λ p. (let q = w.0 p in (omega (arith, q.0), q.1)), λ p. w.1 (omega (arith, p.0), p.1)))) h
 
-pub reply_seen : (n : ℕ) (seen : Seen) → 1 ≤ n → n ≤ 1048577
-    → SeenAfter (λ bytes. Completes (Content (n - 1) Lead) bytes) seen
-    → SeenAfter (λ bytes. Completes (Kind n) (4 ∷ bytes)) seen
+pub reply_seen : (n : ℕ) (seen : Scanned) → 1 ≤ n → n ≤ 1048577
+    → ScannedAfter (λ bytes. Completes (Content (n - 1) Lead) bytes) seen
+    → ScannedAfter (λ bytes. Completes (Kind n) (4 ∷ bytes)) seen
 reply_seen n seen l m h =
     seen_alike (λ b. Completes (Kind n) (4 ∷ b)) (λ b. Completes (Content (n - 1) Lead) b) seen
     (λ b. (let w = behind_reply n b m in
     (λ p. (let q = w.0 p in (omega (arith, q.0), q.1)), λ p. w.1 (omega (arith, p.0), p.1)))) h
 
-pub events_seen : (n : ℕ) (seen : Seen) → n ≡ 8
-    → SeenAfter (λ bytes. Completes (Content (n - 1) (Exactly 0)) bytes) seen
-    → SeenAfter (λ bytes. Completes (Kind n) (2 ∷ bytes)) seen
+pub events_seen : (n : ℕ) (seen : Scanned) → n ≡ 8
+    → ScannedAfter (λ bytes. Completes (Content (n - 1) (Exactly 0)) bytes) seen
+    → ScannedAfter (λ bytes. Completes (Kind n) (2 ∷ bytes)) seen
 events_seen n seen e =
-    let P : ℕ → Type 0 = λ k. SeenAfter (λ b. Completes (Content (k - 1) (Exactly 0)) b) seen → SeenAfter
+    let P : ℕ → Type 0 = λ k. ScannedAfter (λ b. Completes (Content (k - 1) (Exactly 0)) b) seen → ScannedAfter
     (λ b. Completes (Kind k) (2 ∷ b)) seen in
     subst P (sym e) (λ h. seen_alike (λ b. Completes (Kind 8) (2 ∷ b)) (λ b. Completes (Content 7 (Exactly 0)) b)
     seen behind_events h)
 
-pub orders_seen : (n : ℕ) (seen : Seen) → n ≡ 10
-    → SeenAfter (λ bytes. Completes (Content (n - 1) (Exactly 1)) bytes) seen
-    → SeenAfter (λ bytes. Completes (Kind n) (2 ∷ bytes)) seen
+pub orders_seen : (n : ℕ) (seen : Scanned) → n ≡ 10
+    → ScannedAfter (λ bytes. Completes (Content (n - 1) (Exactly 1)) bytes) seen
+    → ScannedAfter (λ bytes. Completes (Kind n) (2 ∷ bytes)) seen
 orders_seen n seen e =
-    let P : ℕ → Type 0 = λ k. SeenAfter (λ b. Completes (Content (k - 1) (Exactly 1)) b) seen → SeenAfter
+    let P : ℕ → Type 0 = λ k. ScannedAfter (λ b. Completes (Content (k - 1) (Exactly 1)) b) seen → ScannedAfter
     (λ b. Completes (Kind k) (2 ∷ b)) seen in
     subst P (sym e) (λ h. seen_alike (λ b. Completes (Kind 10) (2 ∷ b)) (λ b. Completes (Content 9 (Exactly 1)) b)
     seen behind_orders h)
@@ -76,7 +76,7 @@ orders_seen n seen e =
 
 pub no_room : (left b : ℕ) (now next : Next) → left - 1 < due next
     → NextAfter (λ bytes. Follows now (b ∷ bytes)) (Some next)
-    → SeenAfter (λ bytes. Completes (Content left now) (b ∷ bytes)) Bad
+    → ScannedAfter (λ bytes. Completes (Content left now) (b ∷ bytes)) Bad
 no_room left b now next l h = λ s p. (let q = follows_long next s ((h.1 s).0 p.1) in omega (arith, p.0, q))
 
 module _ (n : ℕ) (low : 1 ≤ n) (high : n ≤ 4194305) where
@@ -131,9 +131,9 @@ start_at = (tt, λ b. (λ p. p, λ p. p))
 
 -- ---- one byte further, and so many
 
-pub carry : (place : Place) (kept bytes : List ℕ) (seen : Seen) → IsAt place kept
-    → SeenAfter (λ rest. Completes place (bytes ++ rest)) seen
-    → SeenAfter (λ rest. IsSpelled ((kept ++ bytes) ++ rest)) seen
+pub carry : (place : Place) (kept bytes : List ℕ) (seen : Scanned) → IsAt place kept
+    → ScannedAfter (λ rest. Completes place (bytes ++ rest)) seen
+    → ScannedAfter (λ rest. IsSpelled ((kept ++ bytes) ++ rest)) seen
 carry place kept bytes seen h k =
     seen_alike (λ rest. IsSpelled ((kept ++ bytes) ++ rest)) (λ rest. Completes place (bytes ++ rest)) seen
     (λ rest. (
@@ -141,7 +141,7 @@ carry place kept bytes seen h k =
       λ p. subst IsSpelled (sym (append_assoc kept bytes rest)) ((h.1 (bytes ++ rest)).1 p),
     )) k
 
-pub is_whole : (bytes : List ℕ) → SeenAfter (λ rest. IsSpelled (bytes ++ rest)) Whole → IsSpelled bytes
+pub is_whole : (bytes : List ℕ) → ScannedAfter (λ rest. IsSpelled (bytes ++ rest)) Whole → IsSpelled bytes
 is_whole bytes h = subst IsSpelled (append-nil bytes) ((h []).1 refl)
 
 pub take_past : (xs ys : List ℕ) (n : ℕ) → take (length xs + n) (xs ++ ys) ≡ xs ++ take n ys
@@ -168,17 +168,17 @@ scan_breaks place kept piece count h s =
 
 -- ---- a frame from its beginning on
 
-pub scan_open : (bytes : List ℕ) (count : ℕ) (seen : Seen) (place : Place) → Scans Start bytes count seen
+pub scan_open : (bytes : List ℕ) (count : ℕ) (seen : Scanned) (place : Place) → Scans Start bytes count seen
     → seen ≡ Open place → IsAt place bytes
 scan_open bytes count seen place h e =
     (let s : Scans Start bytes count (Open place) = subst (Scans Start bytes count) e h in s.1)
 
-pub scan_whole : (bytes : List ℕ) (count : ℕ) (seen : Seen) → Scans Start bytes count seen → seen ≡ Whole
+pub scan_whole : (bytes : List ℕ) (count : ℕ) (seen : Scanned) → Scans Start bytes count seen → seen ≡ Whole
     → IsSpelled (take count bytes)
 scan_whole bytes count seen h e =
     (let s : Scans Start bytes count Whole = subst (Scans Start bytes count) e h in is_whole (take count bytes) s.2)
 
-pub scan_broken : (bytes : List ℕ) (count : ℕ) (seen : Seen) → Scans Start bytes count seen → seen ≡ Bad
+pub scan_broken : (bytes : List ℕ) (count : ℕ) (seen : Scanned) → Scans Start bytes count seen → seen ≡ Bad
     → Breaks bytes count
 scan_broken bytes count seen h e =
     let none : length (let xs : List ℕ = [] in xs) + count ≡ count = omega arith in
@@ -186,7 +186,7 @@ scan_broken bytes count seen h e =
 
 -- ---- a piece behind an unfinished frame
 
-pub piece_whole : (place : Place) (kept piece : List ℕ) (count : ℕ) (seen : Seen) → IsAt place kept
+pub piece_whole : (place : Place) (kept piece : List ℕ) (count : ℕ) (seen : Scanned) → IsAt place kept
     → Scans place piece count seen → seen ≡ Whole → IsSpelled (kept ++ take count piece)
 piece_whole place kept piece count seen h s e =
     (
@@ -194,7 +194,7 @@ piece_whole place kept piece count seen h s e =
     is_whole (kept ++ take count piece) (carry place kept (take count piece) Whole h t.2)
     )
 
-pub piece_broken : (place : Place) (kept piece : List ℕ) (count : ℕ) (seen : Seen) → IsAt place kept
+pub piece_broken : (place : Place) (kept piece : List ℕ) (count : ℕ) (seen : Scanned) → IsAt place kept
     → Scans place piece count seen → seen ≡ Bad → Breaks (kept ++ piece) (length kept + count)
 piece_broken place kept piece count seen h s e = scan_breaks place kept piece count h
     (subst (Scans place piece count) e s)

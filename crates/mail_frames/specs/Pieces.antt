@@ -3,15 +3,15 @@ use Rattle.std.specs.Prelude.{◌≡◌, ◌+◌, ◌<◌, ℕ, List, [], ◌++�
 use Rattle.mail_frames.specs.declared.frames.Frame.{Frame}
 use Rattle.mail_frames.specs.declared.places.Place.{Place}
 use Rattle.mail_frames.specs.declared.places.Place.TheVariants.{Start}
-use Rattle.mail_frames.specs.declared.places.Seen.TheVariants.{Open}
+use Rattle.mail_frames.specs.declared.places.Scanned.TheVariants.{Open}
 use Rattle.mail_frames.specs.Spelling.{IsSpelled}
 use Rattle.mail_frames.specs.Streams.{AreFrames, spelling, told, IsFront}
-use Rattle.mail_frames.specs.Places.{SeenAfter}
+use Rattle.mail_frames.specs.Places.{ScannedAfter}
 use Rattle.mail_frames.specs.Decoding.{Decoding}
 
 -- what the decoder keeps of a frame brings it to this place
 abbrev pub IsAt : Place → List ℕ → Type 0
-IsAt place kept = SeenAfter (λ bytes. IsSpelled (kept ++ bytes)) (Open place)
+IsAt place kept = ScannedAfter (λ bytes. IsSpelled (kept ++ bytes)) (Open place)
 
 -- so many bytes are less than a frame, and with the next one no frame begins so
 pub record Breaks (bytes : List ℕ) (count : ℕ) : Type 0 where

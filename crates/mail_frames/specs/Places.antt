@@ -3,8 +3,8 @@ use Rattle.std.specs.Prelude.{◌≡◌, ◌↔◌, ◌+◌, ◌*◌, ◌<◌, �
 use Rattle.model.specs.Fields.{u32_bytes}
 use Rattle.mail_frames.specs.declared.places.Place.{Place}
 use Rattle.mail_frames.specs.declared.places.Place.TheVariants.{Start, One, Two, Three, Kind, Content}
-use Rattle.mail_frames.specs.declared.places.Seen.{Seen}
-use Rattle.mail_frames.specs.declared.places.Seen.TheVariants.{Open, Whole, Bad}
+use Rattle.mail_frames.specs.declared.places.Scanned.{Scanned}
+use Rattle.mail_frames.specs.declared.places.Scanned.TheVariants.{Open, Whole, Bad}
 use Rattle.mail_frames.specs.Spelling.{IsSpelled}
 use Rattle.mail_frames.specs.Nexts.{Follows, due, IsOpen}
 
@@ -27,19 +27,19 @@ IsReached (Kind n) = (1 ≤ n) × (n ≤ 4194305)
 IsReached (Content left next) = (0 < left) × (due next ≤ left) × IsOpen next
 
 -- where the stream stands behind bytes that leave open, complete or break a frame
-abbrev pub SeenAfter : (List ℕ → Type 0) → Seen → Type 0
-SeenAfter Rests (Open place) = IsReached place × ((bytes : List ℕ) → Rests bytes ↔ Completes place bytes)
-SeenAfter Rests Whole = (bytes : List ℕ) → Rests bytes ↔ (bytes ≡ [])
-SeenAfter Rests Bad = (bytes : List ℕ) → Rests bytes → ⊥
+abbrev pub ScannedAfter : (List ℕ → Type 0) → Scanned → Type 0
+ScannedAfter Rests (Open place) = IsReached place × ((bytes : List ℕ) → Rests bytes ↔ Completes place bytes)
+ScannedAfter Rests Whole = (bytes : List ℕ) → Rests bytes ↔ (bytes ≡ [])
+ScannedAfter Rests Bad = (bytes : List ℕ) → Rests bytes → ⊥
 
 -- the first so many bytes, from that place of a frame on: all of them leave the frame open, or they complete it, or the
 -- one behind them breaks it
-abbrev pub Scans : Place → List ℕ → ℕ → Seen → Type 0
+abbrev pub Scans : Place → List ℕ → ℕ → Scanned → Type 0
 Scans place bytes count (Open next) =
-    (count ≡ length bytes) × SeenAfter (λ rest. Completes place (bytes ++ rest)) (Open next)
+    (count ≡ length bytes) × ScannedAfter (λ rest. Completes place (bytes ++ rest)) (Open next)
 Scans place bytes count Whole =
-    (0 < count) × (count ≤ length bytes) × SeenAfter (λ rest. Completes place (take count bytes ++ rest)) Whole
+    (0 < count) × (count ≤ length bytes) × ScannedAfter (λ rest. Completes place (take count bytes ++ rest)) Whole
 Scans place bytes count Bad =
     (count < length bytes)
-    × ((next : Place) × SeenAfter (λ rest. Completes place (take count bytes ++ rest)) (Open next))
-    × SeenAfter (λ rest. Completes place (take (count + 1) bytes ++ rest)) Bad
+    × ((next : Place) × ScannedAfter (λ rest. Completes place (take count bytes ++ rest)) (Open next))
+    × ScannedAfter (λ rest. Completes place (take (count + 1) bytes ++ rest)) Bad

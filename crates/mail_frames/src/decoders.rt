@@ -2,16 +2,16 @@
 ghost use Rattle.std.specs.Prelude.{◌≡◌, ◌+◌, ◌≤◌, ℕ, List, [], ◌++◌, length, take, IfOk, IfErr, OnOk, OnErr, IsOk};
 ghost use Rattle.std.specs.Prelude.{None, Some};
 ghost use Rattle.mail_frames.specs.declared.frames.Frame.{Frame as AFrame};
-ghost use Rattle.mail_frames.specs.declared.places.Seen.TheVariants.{Open};
+ghost use Rattle.mail_frames.specs.declared.places.Scanned.TheVariants.{Open};
 ghost use Rattle.mail_frames.specs.Spelling.{IsSpelled};
 ghost use Rattle.mail_frames.specs.Streams.{AreFramesOf, IsBadAt};
-ghost use Rattle.mail_frames.specs.Places.{SeenAfter};
+ghost use Rattle.mail_frames.specs.Places.{ScannedAfter};
 ghost use Rattle.mail_frames.specs.Decoding.{Took};
 ghost use Rattle.mail_frames.specs.Pieces.{Feeds, Reads, Breaks, told_behind};
 
 use crate::builds::frame_of;
 use crate::frames::Frames;
-use crate::places::{Place, Seen};
+use crate::places::{Place, Scanned};
 use crate::scans::scan;
 use crate::writes::fill;
 use base_types::{Growing, Items, NoMemory};
@@ -97,16 +97,16 @@ impl Decoder {
         }
         let found = scan(self.place, piece);
         match found.seen {
-            Seen::Open(place) => self.go_on(place, piece),
-            Seen::Whole => self.finish(found.count, piece),
-            Seen::Bad => Ok(self.stop(found.count, piece)),
+            Scanned::Open(place) => self.go_on(place, piece),
+            Scanned::Whole => self.finish(found.count, piece),
+            Scanned::Bad => Ok(self.stop(found.count, piece)),
         }
     }
 
     /// Keeps the piece, which leaves the frame unfinished.
     fn go_on(&mut self, place: Place, piece: &[u8]) -> Result<Fed, NoMemory>
         requires good { self.old.bad ≡ None }
-        requires open { SeenAfter (λ bytes. IsSpelled ((self.old.rest ++ piece.now) ++ bytes)) (Open place) }
+        requires open { ScannedAfter (λ bytes. IsSpelled ((self.old.rest ++ piece.now) ++ bytes)) (Open place) }
         ensures ok { IfOk result (λ fed. Feeds self.old piece.now fed.frames fed.bad self.new) }
         ensures err { OnErr result (self.new ≡ self.old) }
     {
@@ -189,7 +189,7 @@ fn read_on(alloc: Global, frames: &mut Frames, bytes: &[u8]) -> Result<Tail, NoM
     'frames: loop {
         let found = scan(Place::Start, rest);
         match found.seen {
-            Seen::Open(place) => {
+            Scanned::Open(place) => {
                 let mut kept = Growing::new(alloc);
                 keep(&mut kept, rest)?;
                 return Ok(Tail {
@@ -198,12 +198,12 @@ fn read_on(alloc: Global, frames: &mut Frames, bytes: &[u8]) -> Result<Tail, NoM
                     bad: None,
                 });
             }
-            Seen::Whole => {
+            Scanned::Whole => {
                 let (whole, more) = rest.split_at(found.count);
                 frames.push(frame_of(alloc, &[], whole)?)?;
                 rest = more;
             }
-            Seen::Bad => {
+            Scanned::Bad => {
                 return Ok(Tail {
                     kept: Growing::new(alloc),
                     place: Place::Start,

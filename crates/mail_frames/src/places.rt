@@ -1,7 +1,7 @@
 // Where in a frame a stream stands, one byte at a time.
 ghost use Rattle.std.specs.Prelude.{◌≤◌, ◌∷◌, ◌≡◌, ◌<◌};
 ghost use Rattle.mail_frames.specs.Nexts.{due, IsOpen};
-ghost use Rattle.mail_frames.specs.Places.{IsReached, Completes, SeenAfter};
+ghost use Rattle.mail_frames.specs.Places.{IsReached, Completes, ScannedAfter};
 ghost use Rattle.mail_frames.specs.declared.places.Place.TheVariants.{Start, One, Two, Three, Kind, Content};
 
 use crate::nexts::Next;
@@ -26,7 +26,7 @@ pub enum Place {
 
 /// What bytes have come to.
 #[derive(Clone, Copy, Debug, PartialEq, Eq)]
-pub enum Seen {
+pub enum Scanned {
     /// The frame is unfinished.
     Open(Place),
     /// The frame is whole.
@@ -40,9 +40,9 @@ const GREATEST: u8 = 0x40;
 
 impl Place {
     /// Where the stream stands after this byte.
-    pub fn after(self, byte: u8) -> Seen
+    pub fn after(self, byte: u8) -> Scanned
         requires { IsReached self }
-        ensures { SeenAfter (λ bytes. Completes self (byte ∷ bytes)) result }
+        ensures { ScannedAfter (λ bytes. Completes self (byte ∷ bytes)) result }
     {
         match self {
             Place::Start => after_none(byte),
@@ -55,99 +55,99 @@ impl Place {
     }
 }
 
-fn after_none(byte: u8) -> Seen
-    ensures { SeenAfter (λ bytes. Completes Start (byte ∷ bytes)) result }
+fn after_none(byte: u8) -> Scanned
+    ensures { ScannedAfter (λ bytes. Completes Start (byte ∷ bytes)) result }
 {
     if byte == 0 {
-        Seen::Open(Place::One)
+        Scanned::Open(Place::One)
     } else {
-        Seen::Bad
+        Scanned::Bad
     }
 }
 
-fn after_one(byte: u8) -> Seen
-    ensures { SeenAfter (λ bytes. Completes One (byte ∷ bytes)) result }
+fn after_one(byte: u8) -> Scanned
+    ensures { ScannedAfter (λ bytes. Completes One (byte ∷ bytes)) result }
 {
     if byte <= GREATEST {
-        Seen::Open(Place::Two(byte))
+        Scanned::Open(Place::Two(byte))
     } else {
-        Seen::Bad
+        Scanned::Bad
     }
 }
 
-fn after_two(high: u8, byte: u8) -> Seen
+fn after_two(high: u8, byte: u8) -> Scanned
     requires { high ≤ 64 }
-    ensures { SeenAfter (λ bytes. Completes (Two high) (byte ∷ bytes)) result }
+    ensures { ScannedAfter (λ bytes. Completes (Two high) (byte ∷ bytes)) result }
 {
     if high < GREATEST || byte == 0 {
-        Seen::Open(Place::Three(high, byte))
+        Scanned::Open(Place::Three(high, byte))
     } else {
-        Seen::Bad
+        Scanned::Bad
     }
 }
 
-fn after_three(high: u8, middle: u8, byte: u8) -> Seen
+fn after_three(high: u8, middle: u8, byte: u8) -> Scanned
     requires { IsReached (Three high middle) }
-    ensures { SeenAfter (λ bytes. Completes (Three high middle) (byte ∷ bytes)) result }
+    ensures { ScannedAfter (λ bytes. Completes (Three high middle) (byte ∷ bytes)) result }
 {
     let length = u32::from_be_bytes([0, high, middle, byte]);
     if length == 0 || length > LONGEST_MAIL {
-        Seen::Bad
+        Scanned::Bad
     } else {
-        Seen::Open(Place::Kind(length))
+        Scanned::Open(Place::Kind(length))
     }
 }
 
 /// Whether there is a frame of this kind and length, and what its content is.
-fn after_length(length: u32, kind: u8) -> Seen
+fn after_length(length: u32, kind: u8) -> Scanned
     requires { IsReached (Kind length) }
-    ensures { SeenAfter (λ bytes. Completes (Kind length) (kind ∷ bytes)) result }
+    ensures { ScannedAfter (λ bytes. Completes (Kind length) (kind ∷ bytes)) result }
 {
     match kind {
         MAIL => still_to_come(length - 1, Next::Any),
         ACK => after_ack(length),
         COMMAND if length <= LONGEST_COMMAND => still_to_come(length - 1, Next::Lead),
         REPLY if length <= LONGEST_REPLY => still_to_come(length - 1, Next::Lead),
-        _ => Seen::Bad,
+        _ => Scanned::Bad,
     }
 }
 
 /// An acknowledgement of events has 8 bytes behind the length, and one of orders 10.
-fn after_ack(length: u32) -> Seen
+fn after_ack(length: u32) -> Scanned
     requires { IsReached (Kind length) }
-    ensures { SeenAfter (λ bytes. Completes (Kind length) (2 ∷ bytes)) result }
+    ensures { ScannedAfter (λ bytes. Completes (Kind length) (2 ∷ bytes)) result }
 {
     match length {
         8 => still_to_come(length - 1, Next::Exactly(0)),
         10 => still_to_come(length - 1, Next::Exactly(1)),
-        _ => Seen::Bad,
+        _ => Scanned::Bad,
     }
 }
 
 /// A character whose later bytes have no room in the content is bad at its first byte.
-fn in_content(left: u32, next: Next, byte: u8) -> Seen
+fn in_content(left: u32, next: Next, byte: u8) -> Scanned
     requires { IsReached (Content left next) }
-    ensures { SeenAfter (λ bytes. Completes (Content left next) (byte ∷ bytes)) result }
+    ensures { ScannedAfter (λ bytes. Completes (Content left next) (byte ∷ bytes)) result }
 {
     let Some(next) = next.after(byte) else {
-        return Seen::Bad;
+        return Scanned::Bad;
     };
     if left - 1 < next.due() {
-        Seen::Bad
+        Scanned::Bad
     } else {
         still_to_come(left - 1, next)
     }
 }
 
 /// Before so many bytes of a content, and such ones.
-fn still_to_come(left: u32, next: Next) -> Seen
+fn still_to_come(left: u32, next: Next) -> Scanned
     requires room { due next ≤ left }
     requires next { IsOpen next }
-    ensures { SeenAfter (λ bytes. Completes (Content left next) bytes) result }
+    ensures { ScannedAfter (λ bytes. Completes (Content left next) bytes) result }
 {
     if left == 0 {
-        Seen::Whole
+        Scanned::Whole
     } else {
-        Seen::Open(Place::Content(left, next))
+        Scanned::Open(Place::Content(left, next))
     }
 }

@@ -1,13 +1,13 @@
 // How far a frame goes in some bytes.
 ghost use Rattle.mail_frames.specs.Places.{IsReached, Scans};
 
-use crate::places::{Place, Seen};
+use crate::places::{Place, Scanned};
 
 /// The first so many bytes, and what they come to.
 #[derive(Clone, Copy, Debug, PartialEq, Eq)]
 pub struct Found {
     pub count: usize,
-    pub seen: Seen,
+    pub seen: Scanned,
 }
 
 /// Goes on from a place of a frame to the frame's end, to a byte that breaks it, or to the end of the bytes.
@@ -18,23 +18,23 @@ pub fn scan(start: Place, bytes: &[u8]) -> Found
     let mut place = start;
     for (i, byte) in bytes.iter().enumerate() {
         match place.after(*byte) {
-            Seen::Open(next) => place = next,
-            Seen::Whole => {
+            Scanned::Open(next) => place = next,
+            Scanned::Whole => {
                 return Found {
                     count: i + 1,
-                    seen: Seen::Whole,
+                    seen: Scanned::Whole,
                 };
             }
-            Seen::Bad => {
+            Scanned::Bad => {
                 return Found {
                     count: i,
-                    seen: Seen::Bad,
+                    seen: Scanned::Bad,
                 };
             }
         }
     }
     Found {
         count: bytes.len(),
-        seen: Seen::Open(place),
+        seen: Scanned::Open(place),
     }
 }

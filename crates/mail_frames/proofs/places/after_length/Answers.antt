@@ -1,13 +1,13 @@
 use Rattle.std.proofs.Common.{ℕ, ◌≡◌, ◌∷◌, sym, subst}
-use Rattle.mail_frames.specs.Places.{SeenAfter, Completes}
+use Rattle.mail_frames.specs.Places.{ScannedAfter, Completes}
 use Rattle.mail_frames.specs.declared.places.Place.TheVariants.{Kind}
-use Rattle.mail_frames.specs.declared.places.Seen.{Seen}
+use Rattle.mail_frames.specs.declared.places.Scanned.{Scanned}
 use Rattle.mail_frames.proofs.Reached.{mail_seen, command_seen, reply_seen}
 use Rattle.mail_frames.proofs.places.after_length.Goals as goal
 
-at_kind : (n k j : ℕ) (seen : Seen) → k ≡ j → SeenAfter (λ bytes. Completes (Kind n) (j ∷ bytes)) seen
-    → SeenAfter (λ bytes. Completes (Kind n) (k ∷ bytes)) seen
-at_kind n k j seen e h = subst (λ (i : ℕ). SeenAfter (λ bytes. Completes (Kind n) (i ∷ bytes)) seen) (sym e) h
+at_kind : (n k j : ℕ) (seen : Scanned) → k ≡ j → ScannedAfter (λ bytes. Completes (Kind n) (j ∷ bytes)) seen
+    → ScannedAfter (λ bytes. Completes (Kind n) (k ∷ bytes)) seen
+at_kind n k j seen e h = subst (λ (i : ℕ). ScannedAfter (λ bytes. Completes (Kind n) (i ∷ bytes)) seen) (sym e) h
 
 pub returns-in-1 : goal.returns-in-1
 returns-in-1 c =

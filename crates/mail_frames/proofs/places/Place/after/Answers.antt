@@ -1,12 +1,12 @@
 use Rattle.std.proofs.Common.{ℕ, ◌≡◌, ◌∷◌, sym, subst}
-use Rattle.mail_frames.specs.Places.{SeenAfter, Completes}
+use Rattle.mail_frames.specs.Places.{ScannedAfter, Completes}
 use Rattle.mail_frames.specs.declared.places.Place.{Place}
-use Rattle.mail_frames.specs.declared.places.Seen.{Seen}
+use Rattle.mail_frames.specs.declared.places.Scanned.{Scanned}
 use Rattle.mail_frames.proofs.places.Place.after.Goals as goal
 
-at_place : (p q : Place) (b : ℕ) (seen : Seen) → p ≡ q → SeenAfter (λ bytes. Completes q (b ∷ bytes)) seen
-    → SeenAfter (λ bytes. Completes p (b ∷ bytes)) seen
-at_place p q b seen e h = subst (λ (r : Place). SeenAfter (λ bytes. Completes r (b ∷ bytes)) seen) (sym e) h
+at_place : (p q : Place) (b : ℕ) (seen : Scanned) → p ≡ q → ScannedAfter (λ bytes. Completes q (b ∷ bytes)) seen
+    → ScannedAfter (λ bytes. Completes p (b ∷ bytes)) seen
+at_place p q b seen e h = subst (λ (r : Place). ScannedAfter (λ bytes. Completes r (b ∷ bytes)) seen) (sym e) h
 
 pub returns-in-Start : goal.returns-in-Start
 returns-in-Start c = at_place c.args.self _ c.args.byte c.after_none.result c.in-Start.is c.after_none.ensures

@@ -1,5 +1,6 @@
 //! Questions as words and numbers.
-use base_types::{JobNo, NoMemory, Obj, StreamNo, Ws};
+use crate::outs::Out;
+use base_types::{Items, JobNo, Obj, StreamNo, Ws};
 use syntax::{first_word, number_u64};
 
 /// A question: its word, the numbers behind it, and the text behind these.
@@ -22,16 +23,17 @@ fn number(word: &str) -> Option<u64> {
 }
 
 /// Adds the numbers at the front of a text, and gives what follows them.
-pub fn add_numbers<'a>(found: &mut Vec<u64>, text: &'a str) -> Result<&'a str, NoMemory> {
+pub fn add_numbers<'a>(out: &mut Out, found: &mut Items<u64>, text: &'a str) -> &'a str {
     let mut left = text;
     for word in text.split(' ') {
         let Some(n) = number(word) else {
-            return Ok(left);
+            return left;
         };
-        found.push(n)?;
+        let done = found.push(n);
+        out.done(done);
         left = first_word(left).1;
     }
-    Ok(left)
+    left
 }
 
 impl Asked<'_> {

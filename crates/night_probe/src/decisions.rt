@@ -1,8 +1,9 @@
 //! What a workstation may do.
 use crate::asked::Asked;
 use crate::nights::Night;
+use crate::outs::Out;
 use crate::told::{Told, job_number, maybe_dep_place, truth};
-use base_types::{Feed, NoMemory, Ws};
+use base_types::{Feed, Ws};
 use dependencies::{Readiness, Scan, late_due, may_end, may_release, ready, sat, until_due};
 use file_watch::next_probe;
 use mailman_routes::forwards;
@@ -103,49 +104,48 @@ fn by_walk(night: &Night, w: Ws) -> u32 {
 }
 
 /// By an index that is made anew.
-fn by_index_anew(night: &Night, w: Ws) -> Result<u32, NoMemory> {
+fn by_index_anew(night: &Night, out: &mut Out, w: Ws) -> u32 {
     if w.0 >= night.net.count() {
-        return Ok(0);
+        return 0;
     }
-    let index = Index::of(night.alloc, &night.net, &night.owners, w)?;
-    Ok(job_number(index.best(&night.net, &night.owners, w)))
-}
-
-fn put_found(out: &mut String, number: u32) -> Result<bool, NoMemory> {
-    write!(out, "{number}")?;
-    Ok(true)
+    let index = Index::of(out.alloc, &night.net, &night.owners, w);
+    match out.kept(index) {
+        Some(index) => job_number(index.best(&night.net, &night.owners, w)),
+        None => 0,
+    }
 }
 
 /// Writes the number of the best job where all three find the same.
-fn put_best(night: &Night, out: &mut String, w: Ws) -> Result<bool, NoMemory> {
+fn put_best(night: &Night, out: &mut Out, w: Ws) {
     let walk = by_walk(night, w);
     let index = by_index(night, w);
-    let anew = by_index_anew(night, w)?;
+    let anew = by_index_anew(night, out, w);
     if walk == index && walk == anew {
-        return put_found(out, walk);
+        out.show("", &walk)
+    } else {
+        out.word("they differ")
     }
-    out.push_str("they differ")?;
-    Ok(true)
 }
 
 /// Writes how often the index finds a job when it is asked so often.
-fn put_often(night: &Night, out: &mut String, asked: &Asked) -> Result<bool, NoMemory> {
+fn put_often(night: &Night, out: &mut Out, asked: &Asked) {
     let mut found: u32 = 0;
     for _ in 0..asked.count(1) {
         if by_index(night, asked.ws(0)) == asked.count(2) {
             found = found.saturating_add(1);
         }
     }
-    put_found(out, found)
+    out.show("", &found)
 }
 
 /// Writes the best job that is asked for, and tells whether one is.
-pub fn ask_best(night: &Night, out: &mut String, asked: &Asked) -> Result<bool, NoMemory> {
+pub fn ask_best(night: &Night, out: &mut Out, asked: &Asked) -> bool {
     if asked.is("best", 1) {
-        put_best(night, out, asked.ws(0))
+        put_best(night, out, asked.ws(0));
     } else if asked.is("often", 3) {
-        put_often(night, out, asked)
+        put_often(night, out, asked);
     } else {
-        Ok(false)
+        return false;
     }
+    true
 }

@@ -1,10 +1,10 @@
 //! Entries, commands and drafts that questions bring, as digits in base 16.
-ghost use Rattle.std.specs.Prelude.{IfOk, IfSome};
+ghost use Rattle.std.specs.Prelude.{IfSome};
 ghost use Rattle.model.specs.Fit.{IsFit};
 
-use base_types::{Body, Cmd, Copied, Entries, Entry, Items, NoMemory, StreamDrafts};
+use crate::outs::Out;
+use base_types::{Body, Bytes, Cmd, Copied, Entries, Entry, Items, StreamDraft, StreamDrafts};
 use entry_codec::{EntryFault, read_entry};
-use std::alloc::Global;
 
 /// What a digit stands for.
 fn value_of(digit: u8) -> Option<u8> {
@@ -15,110 +15,145 @@ fn value_of(digit: u8) -> Option<u8> {
     }
 }
 
+fn are_digits(text: &[u8]) -> bool {
+    text.iter().all(|digit| value_of(*digit).is_some())
+}
+
 fn joined(high: u8, low: u8) -> u8 {
+    let (high, low) = (value_of(high).unwrap_or(0), value_of(low).unwrap_or(0));
     high.wrapping_mul(16).wrapping_add(low)
 }
 
-/// The bytes of digits. None where they are none.
-fn bytes_of(alloc: Global, digits: &[u8]) -> Result<Option<Vec<u8>>, NoMemory> {
-    let mut bytes = Vec::new(alloc);
-    let mut high: Option<u8> = None;
-    for digit in digits {
-        let Some(value) = value_of(*digit) else {
-            return Ok(None);
-        };
-        match high {
-            None => high = Some(value),
-            Some(first) => {
-                bytes.push(joined(first, value))?;
-                high = None;
-            }
-        }
+fn add_byte(out: &mut Out, bytes: &mut Bytes, digits: &[u8]) {
+    if let [high, low] = digits {
+        let done = bytes.push(joined(*high, *low));
+        out.done(done);
     }
-    Ok(Some(bytes))
 }
 
-fn entry_in(alloc: Global, bytes: &[u8]) -> Result<Option<Entry>, NoMemory>
-    ensures { IfOk result (λ o. IfSome o IsFit) }
+/// The bytes of digits, two for each.
+fn bytes_of(out: &mut Out, digits: &[u8]) -> Bytes {
+    let mut bytes = Items::new(out.alloc);
+    for pair in digits.chunks(2) {
+        add_byte(out, &mut bytes, pair);
+    }
+    bytes
+}
+
+fn entry_in(out: &mut Out, bytes: &[u8]) -> Option<Entry>
+    ensures { IfSome result IsFit }
 {
     if bytes.len() > 4_294_967_295 {
-        return Ok(None);
+        return None;
     }
-    match read_entry(alloc, bytes) {
-        Ok(entry) => Ok(Some(entry)),
-        Err(EntryFault::NoMemory) => Err(NoMemory),
-        Err(_) => Ok(None),
+    match read_entry(out.alloc, bytes) {
+        Ok(entry) => Some(entry),
+        Err(EntryFault::NoMemory) => {
+            out.no_memory();
+            None
+        }
+        Err(_) => None,
     }
 }
 
 /// The entry of a word of digits. None where it is none.
-pub fn entry(alloc: Global, word: &str) -> Result<Option<Entry>, NoMemory>
-    ensures { IfOk result (λ o. IfSome o IsFit) }
+pub fn entry(out: &mut Out, word: &str) -> Option<Entry>
+    ensures { IfSome result IsFit }
 {
-    match bytes_of(alloc, word.as_bytes())? {
-        Some(bytes) => entry_in(alloc, bytes.as_slice()),
-        None => Ok(None),
+    let digits = word.as_bytes();
+    if !are_digits(digits) {
+        return None;
     }
+    let bytes = bytes_of(out, digits);
+    entry_in(out, bytes.as_slice())
+}
+
+/// Adds the entry of a word of digits, and tells whether it is one.
+fn add_entry(out: &mut Out, list: &mut Entries, word: &str) -> bool {
+    match entry(out, word) {
+        Some(entry) => {
+            let done = list.push(entry);
+            out.done(done);
+            true
+        }
+        None => false,
+    }
+}
+
+fn add_entries(out: &mut Out, list: &mut Entries, text: &str) -> bool {
+    for word in text.split(' ') {
+        if !add_entry(out, list, word) {
+            return false;
+        }
+    }
+    true
 }
 
 /// The entries of words of digits. None where one of them is none.
-pub fn entries(alloc: Global, text: &str) -> Result<Option<Entries>, NoMemory> {
-    let mut list = Items::new(alloc);
-    if text.is_empty() {
-        return Ok(Some(list));
+pub fn entries(out: &mut Out, text: &str) -> Option<Entries> {
+    let mut list = Items::new(out.alloc);
+    if text.is_empty() || add_entries(out, &mut list, text) {
+        Some(list)
+    } else {
+        None
     }
-    for word in text.split(' ') {
-        match entry(alloc, word)? {
-            Some(entry) => list.push(entry)?,
-            None => return Ok(None),
-        }
+}
+
+fn ordered(out: &mut Out, entry: &Entry) -> Option<Cmd> {
+    match &entry.body {
+        Body::Order(cmd) => out.kept(cmd.copy()),
+        _ => None,
     }
-    Ok(Some(list))
 }
 
 /// The command of the order that is a word of digits. None where it is none.
-pub fn command(alloc: Global, word: &str) -> Result<Option<Cmd>, NoMemory> {
-    match entry(alloc, word)? {
-        Some(entry) => ordered(&entry),
-        None => Ok(None),
+pub fn command(out: &mut Out, word: &str) -> Option<Cmd> {
+    match entry(out, word) {
+        Some(entry) => ordered(out, &entry),
+        None => None,
     }
 }
 
-fn ordered(entry: &Entry) -> Result<Option<Cmd>, NoMemory> {
-    match &entry.body {
-        Body::Order(cmd) => Ok(Some(cmd.copy()?)),
-        _ => Ok(None),
+fn add_copy(out: &mut Out, drafts: &mut StreamDrafts, draft: &StreamDraft) {
+    if let Some(copy) = out.kept(draft.copy()) {
+        let done = drafts.push(copy);
+        out.done(done);
     }
 }
 
 /// Adds the draft of a command that submits one, and tells whether it does.
-fn add_draft(drafts: &mut StreamDrafts, cmd: &Cmd) -> Result<bool, NoMemory> {
+fn add_draft(out: &mut Out, drafts: &mut StreamDrafts, cmd: &Cmd) -> bool {
     match cmd {
         Cmd::Submit(draft) => {
-            drafts.push(draft.copy()?)?;
-            Ok(true)
+            add_copy(out, drafts, draft);
+            true
         }
-        _ => Ok(false),
+        _ => false,
     }
 }
 
-fn add_draft_of(alloc: Global, drafts: &mut StreamDrafts, word: &str) -> Result<bool, NoMemory> {
-    match command(alloc, word)? {
-        Some(cmd) => add_draft(drafts, &cmd),
-        None => Ok(false),
+fn add_draft_of(out: &mut Out, drafts: &mut StreamDrafts, word: &str) -> bool {
+    match command(out, word) {
+        Some(cmd) => add_draft(out, drafts, &cmd),
+        None => false,
     }
+}
+
+fn add_drafts(out: &mut Out, drafts: &mut StreamDrafts, text: &str) -> bool {
+    for word in text.split(' ') {
+        if !add_draft_of(out, drafts, word) {
+            return false;
+        }
+    }
+    true
 }
 
 /// The drafts of orders that submit them, as words of digits. None where one of them is none.
-pub fn drafts(alloc: Global, text: &str) -> Result<Option<StreamDrafts>, NoMemory> {
-    let mut drafts = Items::new(alloc);
-    if text.is_empty() {
-        return Ok(Some(drafts));
+pub fn drafts(out: &mut Out, text: &str) -> Option<StreamDrafts> {
+    let mut drafts = Items::new(out.alloc);
+    if text.is_empty() || add_drafts(out, &mut drafts, text) {
+        Some(drafts)
+    } else {
+        None
     }
-    for word in text.split(' ') {
-        if !add_draft_of(alloc, &mut drafts, word)? {
-            return Ok(None);
-        }
-    }
-    Ok(Some(drafts))
 }

@@ -2,8 +2,10 @@
 ghost use Rattle.std.specs.Prelude.{◌<◌};
 ghost use Rattle.model.specs.Network.{node_count};
 
+use crate::nights::take;
+use crate::outs::Out;
 use crate::told::job_number;
-use base_types::{Body, Entry, Feed, NoMemory, Ws};
+use base_types::{Body, Entry, Feed, Ws};
 use dependencies::{Readiness, Scan};
 use network_tree::Network;
 use owner_fold::Owners;
@@ -53,73 +55,88 @@ impl Follower {
     }
 
     /// Takes an entry, where it is the next of its feed, and tells whether it is.
-    fn take(&mut self, net: &Network, w: Ws, entry: &Entry) -> Result<bool, NoMemory>
+    fn take(&mut self, out: &mut Out, net: &Network, w: Ws, entry: &Entry) -> bool
         requires { w < node_count net.now }
     {
-        let taken = self.owners.count(entry.feed);
-        if taken < u32::MAX && entry.place == taken + 1 {
-            self.owners.take(entry)?;
-            self.index.took(net, &self.owners, w, entry)?;
-            return Ok(true);
+        if !take(out, &mut self.owners, entry) {
+            return false;
         }
-        Ok(false)
+        let done = self.index.took(net, &self.owners, w, entry);
+        out.done(done);
+        true
+    }
+
+    /// The number of the best job by an index that is made anew, 0 for none.
+    fn found_anew(&self, out: &mut Out, net: &Network, w: Ws) -> u32
+        requires { w < node_count net.now }
+    {
+        let anew = Index::of(out.alloc, net, &self.owners, w);
+        match out.kept(anew) {
+            Some(anew) => job_number(anew.best(net, &self.owners, w)),
+            None => 0,
+        }
     }
 
     /// The number of the best job, 0 for none. None where the ways find others.
-    fn found(&self, alloc: Global, net: &Network, w: Ws) -> Result<Option<u32>, NoMemory>
+    fn found(&self, out: &mut Out, net: &Network, w: Ws) -> Option<u32>
         requires { w < node_count net.now }
     {
         let scanned = job_number(Scan.best(net, &self.owners, w));
         let indexed = job_number(self.index.best(net, &self.owners, w));
-        let anew = Index::of(alloc, net, &self.owners, w)?;
-        let anew = job_number(anew.best(net, &self.owners, w));
-        if indexed != scanned || anew != scanned {
-            return Ok(None);
+        let anew = self.found_anew(out, net, w);
+        if indexed == scanned && anew == scanned {
+            Some(scanned)
+        } else {
+            None
         }
-        Ok(Some(scanned))
+    }
+
+    /// Finds the best job, and tells whether all ways find the same.
+    fn find(&mut self, out: &mut Out, net: &Network, w: Ws) -> bool
+        requires { w < node_count net.now }
+    {
+        match self.found(out, net, w) {
+            Some(best) => {
+                self.best = best;
+                true
+            }
+            None => false,
+        }
     }
 
     /// Counts a launch of the best job, takes the entry, and tells whether all ways find the same best job then.
-    fn follow(
-        &mut self,
-        alloc: Global,
-        net: &Network,
-        w: Ws,
-        entry: &Entry,
-    ) -> Result<bool, NoMemory>
+    fn follow(&mut self, out: &mut Out, net: &Network, w: Ws, entry: &Entry) -> bool
         requires { w < node_count net.now }
     {
         let launched = launched_by(entry, w);
         if launched > 0 && launched == self.best {
             self.launches = self.launches.saturating_add(1);
         }
-        if !self.take(net, w, entry)? {
-            return Ok(false);
+        self.take(out, net, w, entry) && self.find(out, net, w)
+    }
+
+    fn follow_all(&mut self, out: &mut Out, net: &Network, w: Ws, entries: &[Entry]) -> bool
+        requires { w < node_count net.now }
+    {
+        for entry in entries {
+            if !self.follow(out, net, w, entry) {
+                return false;
+            }
         }
-        match self.found(alloc, net, w)? {
-            Some(best) => self.best = best,
-            None => return Ok(false),
-        }
-        Ok(true)
+        true
     }
 }
 
 /// How many jobs w launched of which each was the best by the entries before. None where the ways find others, or an
 /// entry is not the next of its feed.
-pub fn best_launches(
-    alloc: Global,
-    net: &Network,
-    w: Ws,
-    entries: &[Entry],
-) -> Result<Option<u32>, NoMemory> {
+pub fn best_launches(out: &mut Out, net: &Network, w: Ws, entries: &[Entry]) -> Option<u32> {
     if w.0 >= net.count() {
-        return Ok(None);
+        return None;
     }
-    let mut follower = Follower::begin(alloc);
-    for entry in entries {
-        if !follower.follow(alloc, net, w, entry)? {
-            return Ok(None);
-        }
+    let mut follower = Follower::begin(out.alloc);
+    if follower.follow_all(out, net, w, entries) {
+        Some(follower.launches)
+    } else {
+        None
     }
-    Ok(Some(follower.launches))
 }

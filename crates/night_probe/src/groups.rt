@@ -1,5 +1,6 @@
 //! Places in groups.
 use crate::asked::Asked;
+use crate::outs::Out;
 use base_types::NoMemory;
 use grouped_places::{Groups, place_in};
 
@@ -7,37 +8,35 @@ fn place(asked: &Asked) -> usize {
     usize::try_from(asked.number(1)).unwrap_or(usize::MAX)
 }
 
-fn add(groups: &mut Groups, out: &mut String, asked: &Asked) -> Result<bool, NoMemory> {
+fn add(groups: &mut Groups, out: &mut Out, asked: &Asked) {
     match groups.add(asked.count(0), place(asked)) {
-        Ok(()) => out.push_str("added")?,
-        Err(NoMemory) => out.push_str("refused")?,
+        Ok(()) => out.word("added"),
+        Err(NoMemory) => out.word("refused"),
     }
-    Ok(true)
 }
 
-fn remove(groups: &mut Groups, out: &mut String, asked: &Asked) -> Result<bool, NoMemory> {
+fn remove(groups: &mut Groups, out: &mut Out, asked: &Asked) {
     groups.remove(asked.count(0), place(asked));
-    out.push_str("removed")?;
-    Ok(true)
+    out.word("removed")
 }
 
-fn put_places(groups: &Groups, out: &mut String, group: u32) -> Result<bool, NoMemory> {
-    out.push_str("places")?;
+fn put_places(groups: &Groups, out: &mut Out, group: u32) {
+    out.word("places");
     for code in groups.of(group) {
-        write!(out, " {}", place_in(group, *code))?;
+        out.show(" ", &place_in(group, *code));
     }
-    Ok(true)
 }
 
 /// Answers what is asked of groups, and tells whether something is.
-pub fn ask_groups(groups: &mut Groups, out: &mut String, asked: &Asked) -> Result<bool, NoMemory> {
+pub fn ask_groups(groups: &mut Groups, out: &mut Out, asked: &Asked) -> bool {
     if asked.is("add-place", 2) {
-        add(groups, out, asked)
+        add(groups, out, asked);
     } else if asked.is("remove-place", 2) {
-        remove(groups, out, asked)
+        remove(groups, out, asked);
     } else if asked.is("places", 1) {
-        put_places(groups, out, asked.count(0))
+        put_places(groups, out, asked.count(0));
     } else {
-        Ok(false)
+        return false;
     }
+    true
 }

@@ -1,8 +1,8 @@
 //! What a node is given.
 use crate::asked::{Asked, add_numbers};
 use crate::entries::{command, drafts, entry};
-use base_types::{Cmd, Dep, Feed, Input, JobNo, Local, Moment, NoMemory, Obj, Text, Ws};
-use std::alloc::Global;
+use crate::outs::Out;
+use base_types::{Cmd, Dep, Feed, Input, Items, JobNo, Local, Moment, Obj, Text, Ws};
 use syntax::first_word;
 
 fn of_links(asked: &Asked) -> Option<Local> {
@@ -33,104 +33,107 @@ fn of_jobs(asked: &Asked) -> Option<Local> {
     }
 }
 
-fn next(alloc: Global, text: &str) -> Result<Option<Local>, NoMemory> {
-    match drafts(alloc, text)? {
-        Some(drafts) => Ok(Some(Local::Next(drafts))),
-        None => Ok(None),
+fn next(out: &mut Out, text: &str) -> Option<Local> {
+    match drafts(out, text) {
+        Some(drafts) => Some(Local::Next(drafts)),
+        None => None,
     }
 }
 
-fn typed(alloc: Global, asked: &Asked) -> Result<Option<Local>, NoMemory> {
-    match command(alloc, asked.text)? {
-        Some(cmd) => Ok(Some(Local::Typed(asked.ws(0), cmd))),
-        None => Ok(None),
+fn typed(out: &mut Out, asked: &Asked) -> Option<Local> {
+    match command(out, asked.text) {
+        Some(cmd) => Some(Local::Typed(asked.ws(0), cmd)),
+        None => None,
     }
 }
 
 /// A path of so many times 64 bytes.
-fn path(alloc: Global, pieces: u32) -> Result<Text, NoMemory> {
-    let mut path = String::new(alloc);
+fn path(out: &mut Out, pieces: u32) -> Text {
+    let mut path = String::new(out.alloc);
     for _ in 0..pieces {
-        path.push_str("aaaaaaaaaaaaaaaaaaaaaaaaaaaaaaaaaaaaaaaaaaaaaaaaaaaaaaaaaaaaaaaa")?;
+        let done = path.push_str(
+            "aaaaaaaaaaaaaaaaaaaaaaaaaaaaaaaaaaaaaaaaaaaaaaaaaaaaaaaaaaaaaaaa",
+        );
+        out.note(done);
     }
-    Ok(Text::from_string(path))
+    Text::from_string(path)
 }
 
 /// A command to wait for a file of such a path.
-fn typed_long(alloc: Global, asked: &Asked) -> Result<Option<Local>, NoMemory> {
-    let waits = Dep::Outside(path(alloc, asked.count(1))?);
+fn typed_long(out: &mut Out, asked: &Asked) -> Local {
+    let waits = Dep::Outside(path(out, asked.count(1)));
     let cmd = Cmd::AddDep(Obj::Job(JobNo(1)), waits);
-    Ok(Some(Local::Typed(asked.ws(0), cmd)))
+    Local::Typed(asked.ws(0), cmd)
 }
 
 /// What happens at a node by itself. None where the words have no form.
-pub fn local(alloc: Global, asked: &Asked) -> Result<Option<Local>, NoMemory> {
+pub fn local(out: &mut Out, asked: &Asked) -> Option<Local> {
     if asked.is_with_text("next", 0) {
-        next(alloc, asked.text)
+        next(out, asked.text)
     } else if asked.is_with_text("typed", 1) {
-        typed(alloc, asked)
+        typed(out, asked)
     } else if asked.is("typed-long", 2) {
-        typed_long(alloc, asked)
+        Some(typed_long(out, asked))
     } else {
         match of_links(asked) {
-            Some(local) => Ok(Some(local)),
-            None => Ok(of_jobs(asked)),
+            Some(local) => Some(local),
+            None => of_jobs(asked),
         }
     }
 }
 
-fn mail(alloc: Global, from: Ws, text: &str) -> Result<Option<Input>, NoMemory> {
-    match entry(alloc, text)? {
-        Some(entry) => Ok(Some(Input::Mail(from, entry))),
-        None => Ok(None),
+fn mail(out: &mut Out, from: Ws, text: &str) -> Option<Input> {
+    match entry(out, text) {
+        Some(entry) => Some(Input::Mail(from, entry)),
+        None => None,
     }
 }
 
-fn here(alloc: Global, asked: &Asked) -> Result<Option<Input>, NoMemory> {
-    match local(alloc, asked)? {
-        Some(local) => Ok(Some(Input::Local(local))),
-        None => Ok(None),
+fn here(out: &mut Out, asked: &Asked) -> Option<Input> {
+    match local(out, asked) {
+        Some(local) => Some(Input::Local(local)),
+        None => None,
     }
 }
 
 /// What a node is given. None where the words have no form.
-pub fn input(alloc: Global, asked: &Asked) -> Result<Option<Input>, NoMemory> {
+pub fn input(out: &mut Out, asked: &Asked) -> Option<Input> {
     let from = asked.ws(0);
     if asked.is_with_text("mail", 1) {
-        mail(alloc, from, asked.text)
+        mail(out, from, asked.text)
     } else if asked.is("ack", 3) {
         let feed = Feed::Events(asked.ws(1));
-        Ok(Some(Input::Ack(from, feed, asked.count(2))))
+        Some(Input::Ack(from, feed, asked.count(2)))
     } else if asked.is("ack-orders", 4) {
         let feed = Feed::Orders(asked.ws(1), asked.ws(2));
-        Ok(Some(Input::Ack(from, feed, asked.count(3))))
+        Some(Input::Ack(from, feed, asked.count(3)))
     } else {
-        here(alloc, asked)
+        here(out, asked)
     }
 }
 
 /// What a node is given by a line of its own.
-pub fn input_of(alloc: Global, line: &str) -> Result<Option<Input>, NoMemory> {
+pub fn input_of(out: &mut Out, line: &str) -> Option<Input> {
     let (word, rest) = first_word(line);
-    let mut numbers = Vec::new(alloc);
-    let text = add_numbers(&mut numbers, rest)?;
+    let mut numbers = Items::new(out.alloc);
+    let text = add_numbers(out, &mut numbers, rest);
     let asked = Asked {
         word,
         numbers: numbers.as_slice(),
         text,
     };
-    input(alloc, &asked)
+    input(out, &asked)
 }
 
 /// What happens at a node by a line of its own.
-pub fn local_of(alloc: Global, line: &str) -> Result<Option<Local>, NoMemory> {
+pub fn local_of(out: &mut Out, line: &str) -> Option<Local> {
     let (word, rest) = first_word(line);
-    let mut numbers = Vec::new(alloc);
-    let text = add_numbers(&mut numbers, rest)?;
+    let mut numbers = Items::new(out.alloc);
+    let text = add_numbers(out, &mut numbers, rest);
     let asked = Asked {
         word,
         numbers: numbers.as_slice(),
         text,
     };
-    local(alloc, &asked)
+    local(out, &asked)
 }

@@ -20,6 +20,7 @@ mod nets;
 mod nights;
 mod nodes;
 mod orders;
+mod outs;
 mod probes;
 mod questions;
 mod symphonies;
@@ -29,25 +30,23 @@ mod views;
 mod walks;
 mod worlds;
 
-use base_types::NoMemory;
+use outs::Out;
 use probes::Probe;
 use std::alloc::Global;
 use std::io;
 
 /// What is answered to a whole input.
-fn answers(alloc: Global, text: &str) -> Result<String, NoMemory> {
-    let mut out = String::new(alloc);
+fn answers(alloc: Global, text: &str) -> Out {
+    let mut out = Out::new(alloc);
     let mut probe = Probe::new(alloc);
     for line in text.split('\n') {
-        probe.read(&mut out, line)?;
+        probe.read(&mut out, line);
     }
-    Ok(out)
+    out
 }
 
 fn main(rt: HostRuntime) -> io::Result<()> {
     let text = io::read_to_string(rt.alloc(), rt.reader())?;
-    match answers(rt.alloc(), text.as_str()) {
-        Ok(out) => rt.print(out.as_str()),
-        Err(NoMemory) => rt.print("no memory\n"),
-    }
+    let out = answers(rt.alloc(), text.as_str());
+    rt.print(out.text())
 }

@@ -1,7 +1,8 @@
 //! Networks, read and asked.
 use crate::asked::Asked;
+use crate::outs::Out;
 use crate::told::{Told, maybe_ws, small, truth};
-use base_types::{Carry, Items, Net, NoMemory, Node, PromptDef, Resource, Text, Ws};
+use base_types::{Carry, Items, Net, Node, PromptDef, Resource, Text, Ws};
 use network_tree::Network;
 use std::alloc::Global;
 use syntax::{first_word, number_u32, words};
@@ -30,40 +31,69 @@ fn hop(word: &str) -> Option<Ws> {
     }
 }
 
-fn add_node(alloc: Global, net: &mut Net, words: &[&str]) -> Result<bool, NoMemory> {
+/// A text of its own.
+fn owned(out: &mut Out, text: &str) -> Text {
+    let made = Text::of(out.alloc, text);
+    match out.kept(made) {
+        Some(text) => text,
+        None => Text::new(out.alloc),
+    }
+}
+
+fn add_node(out: &mut Out, net: &mut Net, words: &[&str]) -> bool {
     let [name, at, manager, full] = words else {
-        return Ok(false);
+        return false;
     };
-    net.nodes.push(Node {
-        name: Text::of(alloc, *name)?,
+    let done = net.nodes.push(Node {
+        name: owned(out, *name),
         hop: hop(*at),
         manager: *manager == "manager",
         full: *full == "full",
-    })?;
-    Ok(true)
+    });
+    out.done(done);
+    true
 }
 
-fn add_resource(alloc: Global, net: &mut Net, words: &[&str]) -> Result<bool, NoMemory> {
+fn add_resource(out: &mut Out, net: &mut Net, words: &[&str]) -> bool {
     let [ws, name, total] = words else {
-        return Ok(false);
+        return false;
     };
-    net.resources.push(Resource {
+    let done = net.resources.push(Resource {
         ws: Ws(number(*ws).unwrap_or(u16::MAX)),
-        name: Text::of(alloc, *name)?,
+        name: owned(out, *name),
         total: number(*total).unwrap_or(u16::MAX),
-    })?;
-    Ok(true)
+    });
+    out.done(done);
+    true
 }
 
-fn add_prompt(alloc: Global, net: &mut Net, rest: &str) -> Result<bool, NoMemory> {
+/// Adds a workstation or a resource, and tells whether it has as many words as one.
+fn add_named(out: &mut Out, net: &mut Net, word: &str, words: &[&str]) -> bool {
+    if word == "ws" {
+        add_node(out, net, words)
+    } else {
+        add_resource(out, net, words)
+    }
+}
+
+fn add_words(out: &mut Out, net: &mut Net, word: &str, rest: &str) -> bool {
+    let words = words(out.alloc, rest);
+    match out.kept(words) {
+        Some(words) => add_named(out, net, word, words.as_slice()),
+        None => false,
+    }
+}
+
+fn add_prompt(out: &mut Out, net: &mut Net, rest: &str) {
     let (name, text) = first_word(rest);
-    let name = Text::of(alloc, name)?;
-    let text = Text::of(alloc, text)?;
-    net.prompts.push(PromptDef { name, text })?;
-    Ok(true)
+    let done = net.prompts.push(PromptDef {
+        name: owned(out, name),
+        text: owned(out, text),
+    });
+    out.done(done)
 }
 
-fn set_carry(net: &mut Net, word: &str) -> Result<bool, NoMemory> {
+fn set_carry(net: &mut Net, word: &str) {
     net.carry = if word == "all" {
         Carry::All
     } else if word == "no" {
@@ -71,25 +101,22 @@ fn set_carry(net: &mut Net, word: &str) -> Result<bool, NoMemory> {
     } else {
         Carry::Yes
     };
-    Ok(true)
 }
 
 /// Adds what a line says to a network, and tells whether it is a line of one.
-pub fn read_line(alloc: Global, net: &mut Net, line: &str) -> Result<bool, NoMemory> {
+pub fn read_line(out: &mut Out, net: &mut Net, line: &str) -> bool {
     let (word, rest) = first_word(line);
-    if word == "ws" {
-        let words = words(alloc, rest)?;
-        add_node(alloc, net, words.as_slice())
-    } else if word == "res" {
-        let words = words(alloc, rest)?;
-        add_resource(alloc, net, words.as_slice())
-    } else if word == "prompt" {
-        add_prompt(alloc, net, rest)
-    } else if word == "carry" {
-        set_carry(net, rest)
-    } else {
-        Ok(false)
+    if word == "ws" || word == "res" {
+        return add_words(out, net, word, rest);
     }
+    if word == "prompt" {
+        add_prompt(out, net, rest);
+    } else if word == "carry" {
+        set_carry(net, rest);
+    } else {
+        return false;
+    }
+    true
 }
 
 fn of_one(net: &Network, asked: &Asked) -> Option<Told> {

@@ -1,6 +1,7 @@
 //! What is asked about: a network, what was taken in it, and what was made of that.
+use crate::outs::Out;
 use agent_core::Agent;
-use base_types::{Bytes, Entry, Items, NoMemory, Ws};
+use base_types::{Bytes, Entry, Items, Ws};
 use dependencies::Readiness;
 use grouped_places::Groups;
 use mailman_core::Mail;
@@ -8,11 +9,9 @@ use network_tree::Network;
 use network_world::World;
 use owner_fold::Owners;
 use ready_index::Index;
-use std::alloc::Global;
 
 /// A network with the entries that were taken, and what questions made.
 pub struct Night {
-    pub alloc: Global,
     pub net: Network,
     pub owners: Owners,
     /// For each workstation one, which took each entry.
@@ -28,7 +27,6 @@ pub struct Night {
 impl Drop for Night {
     fn drop(self) {
         let Night {
-            alloc: _alloc,
             net: _net,
             owners: _owners,
             indices: _indices,
@@ -41,54 +39,56 @@ impl Drop for Night {
     }
 }
 
-fn new_indices(alloc: Global, net: &Network) -> Result<Items<Index>, NoMemory> {
-    let mut indices = Items::new(alloc);
+fn new_indices(out: &mut Out, net: &Network) -> Items<Index> {
+    let mut indices = Items::new(out.alloc);
     for _ in 0..net.count() {
-        indices.push(Index::new(alloc))?;
+        let done = indices.push(Index::new(out.alloc));
+        out.done(done);
     }
-    Ok(indices)
+    indices
 }
 
 /// Each index takes the entry that was taken last.
 fn follow(
+    out: &mut Out,
     indices: &mut Items<Index>,
     net: &Network,
     owners: &Owners,
     entry: &Entry,
-) -> Result<(), NoMemory> {
+) {
     for w in 0..net.count() {
         if let Some(index) = indices.get_mut(usize::from(w)) {
-            index.took(net, owners, Ws(w), entry)?;
+            let done = index.took(net, owners, Ws(w), entry);
+            out.done(done);
         }
     }
-    Ok(())
 }
 
 /// Takes an entry, where it is the next of its feed, and tells whether it is.
-fn take(owners: &mut Owners, entry: &Entry) -> Result<bool, NoMemory> {
+pub fn take(out: &mut Out, owners: &mut Owners, entry: &Entry) -> bool {
     let taken = owners.count(entry.feed);
     if taken < u32::MAX && entry.place == taken + 1 {
-        owners.take(entry)?;
-        return Ok(true);
+        let done = owners.take(entry);
+        out.done(done);
+        return true;
     }
-    Ok(false)
+    false
 }
 
 impl Night {
     /// Nothing was taken yet.
-    pub fn begin(alloc: Global, net: Network) -> Result<Night, NoMemory> {
-        let indices = new_indices(alloc, &net)?;
-        Ok(Night {
-            alloc,
+    pub fn begin(out: &mut Out, net: Network) -> Night {
+        let indices = new_indices(out, &net);
+        Night {
             net,
-            owners: Owners::new(alloc),
+            owners: Owners::new(out.alloc),
             indices,
-            mail: Mail::new(alloc),
-            groups: Groups::new(alloc),
+            mail: Mail::new(out.alloc),
+            groups: Groups::new(out.alloc),
             agent: None,
             world: None,
-            report: Items::new(alloc),
-        })
+            report: Items::new(out.alloc),
+        }
     }
 
     /// What the node holds, where there is one, and else what was taken.
@@ -100,11 +100,11 @@ impl Night {
     }
 
     /// Takes an entry, where it is the next of its feed, and tells whether it is.
-    pub fn take(&mut self, entry: &Entry) -> Result<bool, NoMemory> {
-        if !take(&mut self.owners, entry)? {
-            return Ok(false);
+    pub fn take(&mut self, out: &mut Out, entry: &Entry) -> bool {
+        if !take(out, &mut self.owners, entry) {
+            return false;
         }
-        follow(&mut self.indices, &self.net, &self.owners, entry)?;
-        Ok(true)
+        follow(out, &mut self.indices, &self.net, &self.owners, entry);
+        true
     }
 }

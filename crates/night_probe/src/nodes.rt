@@ -3,119 +3,123 @@ use crate::asked::Asked;
 use crate::entries::entries;
 use crate::locals::input_of;
 use crate::nights::Night;
-use crate::texts::{put_entry, put_nodes};
+use crate::outs::Out;
+use crate::texts::{put_entry, put_nodes, put_printed};
 use agent_core::{Agent, Step};
-use base_types::{Copied, Entries, Feed, Input, Moment, Net, NoMemory, Out, Packet, Work, Ws};
+use base_types::{Copied, Entries, Feed, Input, Moment, Net, Out as Given, Packet, Work, Ws};
 use batchman_core::turn_choice;
 use dependencies::Scan;
+use network_tree::Network;
 use report_text::name;
-use std::alloc::Global;
-use std::str;
 
 /// Makes the node of a workstation, or says why not.
-fn make(night: &mut Night, out: &mut String, me: Ws, kept: &Entries) -> Result<bool, NoMemory> {
-    match Agent::restore(night.alloc, night.net.copy()?, me, kept) {
+fn make(night: &mut Night, out: &mut Out, net: Network, me: Ws, kept: &Entries) {
+    match Agent::restore(out.alloc, net, me, kept) {
         Ok(agent) => {
             night.agent = Some(agent);
-            out.push_str("restored")?;
+            out.word("restored")
         }
-        Err(fault) => write!(out, "{fault:?}")?,
-    }
-    Ok(true)
-}
-
-fn make_of(night: &mut Night, out: &mut String, asked: &Asked) -> Result<bool, NoMemory> {
-    match entries(night.alloc, asked.text)? {
-        Some(kept) => make(night, out, asked.ws(0), &kept),
-        None => Ok(false),
+        Err(fault) => out.debug("", &fault),
     }
 }
 
-fn put_feed(out: &mut String, net: &Net, feed: &Feed) -> Result<(), NoMemory> {
+fn make_over(night: &mut Night, out: &mut Out, me: Ws, kept: &Entries) {
+    if let Some(net) = out.kept(night.net.copy()) {
+        make(night, out, net, me, kept)
+    }
+}
+
+fn make_of(night: &mut Night, out: &mut Out, asked: &Asked) -> bool {
+    match entries(out, asked.text) {
+        Some(kept) => {
+            make_over(night, out, asked.ws(0), &kept);
+            true
+        }
+        None => false,
+    }
+}
+
+fn put_feed(out: &mut Out, net: &Net, feed: &Feed) {
     match feed {
-        Feed::Events(w) => out.push_str(name(net, w))?,
-        Feed::Orders(a, w) => write!(out, "{}>{}", name(net, a), name(net, w))?,
+        Feed::Events(w) => out.word(name(net, w)),
+        Feed::Orders(a, w) => out.two("", &name(net, a), ">", &name(net, w)),
     }
-    Ok(())
 }
 
-fn put_packet(out: &mut String, net: &Net, packet: &Packet) -> Result<(), NoMemory> {
+fn put_packet(out: &mut Out, net: &Net, packet: &Packet) {
     let (word, feed, number) = match packet {
         Packet::Mail(feed, place) => (" mail ", feed, *place),
         Packet::Ack(feed, count) => (" ack ", feed, *count),
     };
-    out.push_str(word)?;
-    put_feed(out, net, feed)?;
-    write!(out, " {number}")?;
-    Ok(())
+    out.word(word);
+    put_feed(out, net, feed);
+    out.show(" ", &number)
 }
 
-fn put_launch(out: &mut String, job: u32, number: u32, work: &Work) -> Result<(), NoMemory> {
+fn put_launch(out: &mut Out, job: u32, number: u32, work: &Work) {
+    out.two("; launch ", &job, " ", &number);
     match work {
-        Work::Command(text) => write!(out, "; launch {job} {number} do {text:?}")?,
-        Work::Script(text) => write!(out, "; launch {job} {number} script {text:?}")?,
+        Work::Command(text) => out.debug(" do ", text),
+        Work::Script(text) => out.debug(" script ", text),
     }
-    Ok(())
 }
 
-fn put_kill(out: &mut String, job: u32, number: u32) -> Result<(), NoMemory> {
-    write!(out, "; kill {job} {number}")?;
-    Ok(())
+fn put_kill(out: &mut Out, job: u32, number: u32) {
+    out.two("; kill ", &job, " ", &number)
 }
 
-fn put_send(out: &mut String, net: &Net, to: Ws, packet: &Packet) -> Result<(), NoMemory> {
-    write!(out, "; {}", name(net, &to))?;
+fn put_send(out: &mut Out, net: &Net, to: Ws, packet: &Packet) {
+    out.show("; ", &name(net, &to));
     put_packet(out, net, packet)
 }
 
-fn put_out(out: &mut String, net: &Net, given: &Out) -> Result<(), NoMemory> {
+fn put_given(out: &mut Out, net: &Net, given: &Given) {
     match given {
-        Out::Launch(j, number, work) => put_launch(out, j.0, *number, work),
-        Out::Kill(j, number) => put_kill(out, j.0, *number),
-        Out::Send(to, packet) => put_send(out, net, *to, packet),
+        Given::Launch(j, number, work) => put_launch(out, j.0, *number, work),
+        Given::Kill(j, number) => put_kill(out, j.0, *number),
+        Given::Send(to, packet) => put_send(out, net, *to, packet),
     }
 }
 
-fn put_step(alloc: Global, out: &mut String, net: &Net, step: &Step) -> Result<(), NoMemory> {
+fn put_step(out: &mut Out, net: &Net, step: &Step) {
     match &step.kept {
-        Some(entry) => put_entry(alloc, out, net, entry)?,
-        None => out.push_str("nothing")?,
+        Some(entry) => put_entry(out, net, entry),
+        None => out.word("nothing"),
     }
     for given in step.outs.as_slice() {
-        put_out(out, net, given)?;
+        put_given(out, net, given);
     }
-    Ok(())
 }
 
-fn step(night: &mut Night, out: &mut String, input: &Input) -> Result<bool, NoMemory> {
+fn step(night: &mut Night, out: &mut Out, input: &Input) -> bool {
     let Some(agent) = &mut night.agent else {
-        return Ok(false);
+        return false;
     };
     match agent.step(input) {
-        Ok(step) => put_step(night.alloc, out, night.net.net(), &step)?,
-        Err(fault) => write!(out, "refused {fault:?}")?,
+        Ok(step) => put_step(out, night.net.net(), &step),
+        Err(fault) => out.debug("refused ", &fault),
     }
-    Ok(true)
+    true
 }
 
-fn step_of(night: &mut Night, out: &mut String, text: &str) -> Result<bool, NoMemory> {
-    match input_of(night.alloc, text)? {
+fn step_of(night: &mut Night, out: &mut Out, text: &str) -> bool {
+    match input_of(out, text) {
         Some(input) => step(night, out, &input),
-        None => Ok(false),
+        None => false,
     }
 }
 
-fn restart(night: &mut Night, out: &mut String) -> Result<bool, NoMemory> {
+fn restart(night: &mut Night, out: &mut Out) -> bool {
     let Some(agent) = &mut night.agent else {
-        return Ok(false);
+        return false;
     };
     agent.restart();
-    out.push_str("restarted")?;
-    Ok(true)
+    out.word("restarted");
+    true
 }
 
 /// Makes, moves or stops the node that is asked for, and tells whether one is.
-pub fn ask_deeds(night: &mut Night, out: &mut String, asked: &Asked) -> Result<bool, NoMemory> {
+pub fn ask_deeds(night: &mut Night, out: &mut Out, asked: &Asked) -> bool {
     if asked.is_with_text("node", 1) {
         make_of(night, out, asked)
     } else if asked.is_with_text("step", 0) {
@@ -123,11 +127,11 @@ pub fn ask_deeds(night: &mut Night, out: &mut String, asked: &Asked) -> Result<b
     } else if asked.is("restart", 0) {
         restart(night, out)
     } else {
-        Ok(false)
+        false
     }
 }
 
-fn put_choice(agent: &Agent, out: &mut String, t: u64) -> Result<bool, NoMemory> {
+fn put_choice(agent: &Agent, out: &mut Out, t: u64) {
     let choice = turn_choice(
         agent.net(),
         agent.owners(),
@@ -136,46 +140,30 @@ fn put_choice(agent: &Agent, out: &mut String, t: u64) -> Result<bool, NoMemory>
         agent.live(),
         Moment(t),
     );
-    write!(out, "{choice:?}")?;
-    Ok(true)
+    out.debug("", &choice)
 }
 
-fn put_present(agent: &Agent, out: &mut String) -> Result<bool, NoMemory> {
-    put_nodes(out, agent.net().net())?;
-    Ok(true)
-}
-
-fn put_count(out: &mut String, count: usize) -> Result<bool, NoMemory> {
-    write!(out, "{count}")?;
-    Ok(true)
-}
-
-fn put_listing(agent: &Agent, out: &mut String) -> Result<bool, NoMemory> {
-    let listing = agent.listing()?;
-    out.push_str(str::from_utf8(listing.as_slice()).unwrap_or(""))?;
-    Ok(true)
-}
-
-fn tell(agent: &Agent, out: &mut String, asked: &Asked) -> Result<bool, NoMemory> {
+fn tell(agent: &Agent, out: &mut Out, asked: &Asked) -> bool {
     if asked.is("choice", 1) {
-        put_choice(agent, out, asked.number(0))
+        put_choice(agent, out, asked.number(0));
     } else if asked.is("node-present", 0) {
-        put_present(agent, out)
+        put_nodes(out, agent.net().net());
     } else if asked.is("live", 0) {
-        put_count(out, agent.live().len())
+        out.show("", &agent.live().len());
     } else if asked.is("holds", 1) {
-        put_count(out, agent.holds(Feed::Events(asked.ws(0))) as usize)
+        out.show("", &agent.holds(Feed::Events(asked.ws(0))));
     } else if asked.is("node-listing", 0) {
-        put_listing(agent, out)
+        put_printed(out, agent.listing());
     } else {
-        Ok(false)
+        return false;
     }
+    true
 }
 
 /// Writes what is asked of the node, and tells whether something is.
-pub fn ask_node(night: &Night, out: &mut String, asked: &Asked) -> Result<bool, NoMemory> {
+pub fn ask_node(night: &Night, out: &mut Out, asked: &Asked) -> bool {
     match &night.agent {
         Some(agent) => tell(agent, out, asked),
-        None => Ok(false),
+        None => false,
     }
 }

@@ -3,15 +3,15 @@ use crate::asked::{Asked, add_numbers};
 use crate::entries::entry;
 use crate::nets::{blank, read_line};
 use crate::nights::Night;
+use crate::outs::Out;
 use crate::questions::ask;
-use base_types::{Copied, Net, NoMemory};
+use base_types::{Copied, Items, Net};
 use network_tree::Network;
 use std::alloc::Global;
 use syntax::first_word;
 
 /// The network of the lines so far, and the night behind `$QUESTIONS`.
 pub struct Probe {
-    alloc: Global,
     net: Net,
     night: Option<Night>,
 }
@@ -19,89 +19,87 @@ pub struct Probe {
 impl Drop for Probe {
     fn drop(self) {
         let Probe {
-            alloc: _alloc,
             net: _net,
             night: _night,
         } = self;
     }
 }
 
-/// Takes an entry, and says so where it is none, or not the next of its feed.
-fn take(night: &mut Night, out: &mut String, word: &str) -> Result<(), NoMemory> {
-    let taken = match entry(night.alloc, word)? {
-        Some(entry) => night.take(&entry)?,
+/// Takes the entry of a word, and tells whether it is one, and the next of its feed.
+fn take(night: &mut Night, out: &mut Out, word: &str) -> bool {
+    match entry(out, word) {
+        Some(entry) => night.take(out, &entry),
         None => false,
-    };
-    if !taken {
-        out.push_str("no such entry\n")?;
     }
-    Ok(())
 }
 
 /// Answers a question with a line or more.
-fn answer(night: &mut Night, out: &mut String, word: &str, rest: &str) -> Result<(), NoMemory> {
-    let mut numbers = Vec::new(night.alloc);
-    let text = add_numbers(&mut numbers, rest)?;
+fn answer(night: &mut Night, out: &mut Out, word: &str, rest: &str) {
+    let mut numbers = Items::new(out.alloc);
+    let text = add_numbers(out, &mut numbers, rest);
     let asked = Asked {
         word,
         numbers: numbers.as_slice(),
         text,
     };
-    if !ask(night, out, &asked)? {
-        out.push_str("no such question")?;
+    if !ask(night, out, &asked) {
+        out.word("no such question");
     }
-    out.push_str("\n")?;
-    Ok(())
+    out.word("\n")
 }
 
-fn read_question(night: &mut Night, out: &mut String, line: &str) -> Result<(), NoMemory> {
+fn read_question(night: &mut Night, out: &mut Out, line: &str) {
     let (word, rest) = first_word(line);
-    if word == "entry" {
-        take(night, out, rest)
-    } else {
+    if word != "entry" {
         answer(night, out, word, rest)
+    } else if !take(night, out, rest) {
+        out.word("no such entry\n")
     }
 }
 
 impl Probe {
     pub fn new(alloc: Global) -> Probe {
         Probe {
-            alloc,
             net: blank(alloc),
             night: None,
         }
     }
 
-    /// Begins the night of the network, or says why there is none.
-    fn open(&mut self, out: &mut String) -> Result<(), NoMemory> {
-        match Network::new(self.alloc, self.net.copy()?) {
-            Ok(net) => {
-                self.night = Some(Night::begin(self.alloc, net)?);
+    /// Begins the night of a network, or says why there is none.
+    fn begin(&mut self, out: &mut Out, net: Net) {
+        match Network::new(out.alloc, net) {
+            Ok(net) => self.night = Some(Night::begin(out, net)),
+            Err(fault) => {
+                out.debug("", &fault);
+                out.word("\n")
             }
-            Err(fault) => write!(out, "{fault:?}\n")?,
         }
-        Ok(())
     }
 
-    fn read_net(&mut self, out: &mut String, line: &str) -> Result<(), NoMemory> {
+    /// Begins the night of the network of the lines so far.
+    fn open(&mut self, out: &mut Out) {
+        if let Some(net) = out.kept(self.net.copy()) {
+            self.begin(out, net)
+        }
+    }
+
+    fn read_net(&mut self, out: &mut Out, line: &str) {
         if line == "$QUESTIONS" {
-            return self.open(out);
+            self.open(out)
+        } else if !read_line(out, &mut self.net, line) {
+            out.word("no such line\n")
         }
-        if !read_line(self.alloc, &mut self.net, line)? {
-            out.push_str("no such line\n")?;
-        }
-        Ok(())
     }
 
     /// Reads a line, and writes what it is answered with.
-    pub fn read(&mut self, out: &mut String, line: &str) -> Result<(), NoMemory> {
+    pub fn read(&mut self, out: &mut Out, line: &str) {
         if line.is_empty() {
-            return Ok(());
+            return;
         }
         if line == "$NIGHT" {
-            self.net = blank(self.alloc);
+            self.net = blank(out.alloc);
             self.night = None;
-            return Ok(());
+            return;
         }
         if let Some(night) = &mut self.night {
             return read_question(night, out, line);

@@ -1,23 +1,32 @@
 //! Entries, commands, documents and networks as texts.
+use crate::outs::Out;
 use base_types::{
     Body, Bytes, Cmd, Copied, Dep, Entry, Feed, Items, JobDoc, JobDraft, Net, NoMemory, Node, Obj,
-    ReportParts, StreamDoc, StreamDraft, Work, Ws,
+    Recovery, ReportParts, StreamDoc, StreamDraft, Text, Work, Ws,
 };
 use report_text::{name, print_report};
-use std::alloc::Global;
 use std::str;
 
+/// Writes what was printed.
+pub fn put_printed(out: &mut Out, printed: Result<Bytes, NoMemory>) {
+    if let Some(bytes) = out.kept(printed) {
+        out.word(str::from_utf8(bytes.as_slice()).unwrap_or(""))
+    }
+}
+
 /// The report of an entry alone.
-fn report_of(alloc: Global, net: &Net, entry: &Entry) -> Result<Bytes, NoMemory> {
-    let mut events = Items::new(alloc);
-    events.push(entry.copy()?)?;
+fn report_of(out: &mut Out, net: &Net, entry: Entry) -> Option<Bytes> {
+    let mut events = Items::new(out.alloc);
+    let done = events.push(entry);
+    out.done(done);
     let parts = ReportParts {
         events,
-        starts: Items::new(alloc),
-        packets: Items::new(alloc),
-        nodes: Items::new(alloc),
+        starts: Items::new(out.alloc),
+        packets: Items::new(out.alloc),
+        nodes: Items::new(out.alloc),
     };
-    print_report(alloc, net, &parts)
+    let report = print_report(out.alloc, net, &parts);
+    out.kept(report)
 }
 
 /// The line of the entry in such a report.
@@ -27,136 +36,136 @@ fn line_in(report: &[u8]) -> &str {
     text.strip_suffix("\nstarts 0\n").unwrap_or("")
 }
 
-/// Writes an entry as a report has it.
-pub fn put_entry(
-    alloc: Global,
-    out: &mut String,
-    net: &Net,
-    entry: &Entry,
-) -> Result<(), NoMemory> {
-    let report = report_of(alloc, net, entry)?;
-    out.push_str(line_in(report.as_slice()))?;
-    Ok(())
+/// What stands behind the place in such a report.
+fn body_in(report: &[u8]) -> &str {
+    line_in(report).split_once(" 1 ").unwrap_or(("", "")).1
 }
 
-/// Writes a body as a report has it in an entry of the master.
-pub fn put_body(alloc: Global, out: &mut String, net: &Net, body: &Body) -> Result<(), NoMemory> {
+fn put_line(out: &mut Out, net: &Net, entry: Entry) {
+    if let Some(report) = report_of(out, net, entry) {
+        out.word(line_in(report.as_slice()))
+    }
+}
+
+/// Writes an entry as a report has it.
+pub fn put_entry(out: &mut Out, net: &Net, entry: &Entry) {
+    if let Some(entry) = out.kept(entry.copy()) {
+        put_line(out, net, entry)
+    }
+}
+
+/// Writes a body as a report has it in an entry of the master, without the front that it has there.
+fn put_behind(out: &mut Out, net: &Net, front: &str, body: Body) {
     let entry = Entry {
         feed: Feed::Events(Ws(0)),
         place: 1,
-        body: body.copy()?,
+        body,
     };
-    let report = report_of(alloc, net, &entry)?;
-    let line = line_in(report.as_slice());
-    out.push_str(line.split_once(" 1 ").unwrap_or(("", "")).1)?;
-    Ok(())
+    if let Some(report) = report_of(out, net, entry) {
+        let body = body_in(report.as_slice());
+        out.word(body.strip_prefix(front).unwrap_or(""))
+    }
+}
+
+/// Writes a body as a report has it in an entry of the master.
+pub fn put_body(out: &mut Out, net: &Net, body: &Body) {
+    if let Some(body) = out.kept(body.copy()) {
+        put_behind(out, net, "", body)
+    }
+}
+
+fn put_own_command(out: &mut Out, net: &Net, cmd: Cmd) {
+    put_behind(out, net, "order ", Body::Order(cmd))
 }
 
 /// Writes a command as a report has it.
-pub fn put_command(alloc: Global, out: &mut String, net: &Net, cmd: &Cmd) -> Result<(), NoMemory> {
-    let mut text = String::new(alloc);
-    put_body(alloc, &mut text, net, &Body::Order(cmd.copy()?))?;
-    out.push_str(text.as_str().strip_prefix("order ").unwrap_or(""))?;
-    Ok(())
+pub fn put_command(out: &mut Out, net: &Net, cmd: &Cmd) {
+    if let Some(cmd) = out.kept(cmd.copy()) {
+        put_own_command(out, net, cmd)
+    }
 }
 
 /// Writes a dependency of an object as the command that adds it.
-pub fn put_dependency(
-    alloc: Global,
-    out: &mut String,
-    net: &Net,
-    object: &Obj,
-    dep: &Dep,
-) -> Result<(), NoMemory> {
-    let cmd = Cmd::AddDep(*object, dep.copy()?);
-    put_command(alloc, out, net, &cmd)
+pub fn put_dependency(out: &mut Out, net: &Net, object: &Obj, dep: &Dep) {
+    if let Some(dep) = out.kept(dep.copy()) {
+        put_own_command(out, net, Cmd::AddDep(*object, dep))
+    }
 }
 
 fn flag(set: bool, word: &'static str) -> &'static str {
     if set { word } else { "-" }
 }
 
-fn put_node(out: &mut String, node: &Node) -> Result<(), NoMemory> {
-    write!(out, "; {} ", node.name)?;
+fn put_node(out: &mut Out, node: &Node) {
+    out.show("; ", &node.name);
     match node.hop {
-        Some(w) => write!(out, "{}", w.0)?,
-        None => out.push_str("-")?,
+        Some(w) => out.show(" ", &w.0),
+        None => out.word(" -"),
     }
-    out.push_str(" ")?;
-    out.push_str(flag(node.manager, "manager"))?;
-    out.push_str(" ")?;
-    out.push_str(flag(node.full, "full"))?;
-    Ok(())
+    out.show(" ", &flag(node.manager, "manager"));
+    out.show(" ", &flag(node.full, "full"))
 }
 
 /// Writes the workstations of a network.
-pub fn put_nodes(out: &mut String, net: &Net) -> Result<(), NoMemory> {
-    out.push_str("nodes")?;
+pub fn put_nodes(out: &mut Out, net: &Net) {
+    out.word("nodes");
     for node in net.nodes.as_slice() {
-        put_node(out, node)?;
+        put_node(out, node);
     }
-    Ok(())
 }
 
-fn put_work(out: &mut String, work: &Work) -> Result<(), NoMemory> {
+/// Writes the name of a document and of its workstation, and its priority.
+fn put_named(out: &mut Out, ws: &str, name: &Text, priority: u8) {
+    out.two("", &ws, " ", name);
+    out.show(" prio ", &priority)
+}
+
+fn put_work(out: &mut Out, work: &Work) {
     match work {
-        Work::Command(text) => write!(out, "do {text:?}")?,
-        Work::Script(text) => write!(out, "script {text:?}")?,
+        Work::Command(text) => out.debug(" do ", text),
+        Work::Script(text) => out.debug(" script ", text),
     }
-    Ok(())
 }
 
 /// Writes a document of a stream, but for its jobs and dependencies, which are counted.
-pub fn put_stream(out: &mut String, net: &Net, doc: &StreamDoc) -> Result<(), NoMemory> {
-    let (ws, limit, carry) = (name(net, &doc.ws), doc.limit, doc.carry);
-    write!(
-        out,
-        "{ws} {} prio {} limit {limit:?} ",
-        doc.name, doc.priority
-    )?;
-    let (deps, jobs) = (doc.deps.len(), doc.jobs.len());
-    write!(out, "carry {carry} deps {deps} jobs {jobs}")?;
-    Ok(())
+pub fn put_stream(out: &mut Out, net: &Net, doc: &StreamDoc) {
+    put_named(out, name(net, &doc.ws), &doc.name, doc.priority);
+    out.debug(" limit ", &doc.limit);
+    out.two(" carry ", &doc.carry, " deps ", &doc.deps.len());
+    out.show(" jobs ", &doc.jobs.len())
+}
+
+/// Writes what else a job has: how many operations its condition has and how many dependencies there are, and the rest.
+fn put_rest(out: &mut Out, logon: &Text, operations: usize, recovery: Recovery, deps: usize) {
+    out.debug(" logon ", logon);
+    out.show(" succ ", &operations);
+    out.debug(" recovery ", &recovery);
+    out.show(" deps ", &deps)
 }
 
 /// Writes a document of a job, but for its dependencies, which are counted.
-pub fn put_job(out: &mut String, net: &Net, doc: &JobDoc) -> Result<(), NoMemory> {
-    let ws = name(net, &doc.ws);
-    write!(out, "{ws} {} prio {} ", doc.name, doc.priority)?;
-    put_work(out, &doc.work)?;
-    let (logon, recovery) = (doc.logon.as_str(), doc.recovery);
-    let (cond, deps) = (doc.cond.len(), doc.deps.len());
-    write!(
-        out,
-        " logon {logon:?} succ {cond} recovery {recovery:?} deps {deps}"
-    )?;
-    Ok(())
+pub fn put_job(out: &mut Out, net: &Net, doc: &JobDoc) {
+    put_named(out, name(net, &doc.ws), &doc.name, doc.priority);
+    put_work(out, &doc.work);
+    let (operations, deps) = (doc.cond.len(), doc.deps.len());
+    put_rest(out, &doc.logon, operations, doc.recovery, deps)
 }
 
-fn put_job_draft(out: &mut String, net: &Net, draft: &JobDraft) -> Result<(), NoMemory> {
-    let ws = name(net, &draft.ws);
-    write!(out, "; job {ws} {} prio {} ", draft.name, draft.priority)?;
-    put_work(out, &draft.work)?;
-    let (logon, recovery) = (draft.logon.as_str(), draft.recovery);
-    let (cond, deps) = (draft.cond.len(), draft.deps.len());
-    write!(
-        out,
-        " logon {logon:?} succ {cond} recovery {recovery:?} deps {deps}"
-    )?;
-    Ok(())
+fn put_job_draft(out: &mut Out, net: &Net, draft: &JobDraft) {
+    out.word("; job ");
+    put_named(out, name(net, &draft.ws), &draft.name, draft.priority);
+    put_work(out, &draft.work);
+    let (operations, deps) = (draft.cond.len(), draft.deps.len());
+    put_rest(out, &draft.logon, operations, draft.recovery, deps)
 }
 
 /// Writes a draft, but for its dependencies, which are counted.
-pub fn put_draft(out: &mut String, net: &Net, draft: &StreamDraft) -> Result<(), NoMemory> {
-    let (ws, limit, carry) = (name(net, &draft.ws), draft.limit, draft.carry);
-    write!(out, "; {ws} {} prio {} ", draft.name, draft.priority)?;
-    write!(
-        out,
-        "limit {limit:?} carry {carry} deps {}",
-        draft.deps.len()
-    )?;
+pub fn put_draft(out: &mut Out, net: &Net, draft: &StreamDraft) {
+    out.word("; ");
+    put_named(out, name(net, &draft.ws), &draft.name, draft.priority);
+    out.debug(" limit ", &draft.limit);
+    out.two(" carry ", &draft.carry, " deps ", &draft.deps.len());
     for job in draft.jobs.as_slice() {
-        put_job_draft(out, net, job)?;
+        put_job_draft(out, net, job);
     }
-    Ok(())
 }

@@ -1,5 +1,6 @@
 //! Short answers.
-use base_types::{JobNo, NoMemory, Obj, StreamNo, Ws};
+use crate::outs::{Numbers, Out};
+use base_types::{JobNo, Obj, StreamNo, Ws};
 use owner_fold::Outcome;
 use symphony_view::{JobState, StreamState};
 
@@ -79,57 +80,46 @@ pub fn job_number(j: Option<JobNo>) -> u32 {
     }
 }
 
-fn put_dep_place(out: &mut String, object: &Obj, i: u16) -> Result<(), NoMemory> {
+fn put_dep_place(out: &mut Out, object: &Obj, i: u16) {
     match object {
-        Obj::Job(j) => write!(out, "job {} dep {i}", j.0)?,
-        Obj::Stream(s) => write!(out, "stream {} dep {i}", s.0)?,
+        Obj::Job(j) => out.two("job ", &j.0, " dep ", &i),
+        Obj::Stream(s) => out.two("stream ", &s.0, " dep ", &i),
     }
-    Ok(())
 }
 
-fn put_truth(out: &mut String, holds: bool) -> Result<(), NoMemory> {
-    out.push_str(if holds { "yes" } else { "no" })?;
-    Ok(())
+fn put_truth(out: &mut Out, holds: bool) {
+    out.word(if holds { "yes" } else { "no" })
 }
 
-fn put_state(out: &mut String, told: &Told) -> Result<(), NoMemory> {
+fn put_state(out: &mut Out, told: &Told) {
     match told {
-        Told::Ended(outcome) => write!(out, "{outcome:?}")?,
-        Told::OfJob(state) => write!(out, "{state:?}")?,
-        Told::OfStream(state) => write!(out, "{state:?}")?,
-        _ => out.push_str("none")?,
+        Told::Ended(outcome) => out.debug("", outcome),
+        Told::OfJob(state) => out.debug("", state),
+        Told::OfStream(state) => out.debug("", state),
+        _ => out.word("none"),
     }
-    Ok(())
 }
 
 /// Writes a short answer.
-pub fn put_told(out: &mut String, told: &Told) -> Result<(), NoMemory> {
+pub fn put_told(out: &mut Out, told: &Told) {
     match told {
         Told::Yes(holds) => put_truth(out, *holds),
-        Told::Number(n) => put_number(out, *n),
-        Told::Code(code) => put_code(out, *code),
+        Told::Number(n) => out.show("", n),
+        Told::Code(code) => out.show("", code),
         Told::DepPlace(object, i) => put_dep_place(out, object, *i),
         _ => put_state(out, told),
     }
 }
 
-fn put_number(out: &mut String, n: u64) -> Result<(), NoMemory> {
-    write!(out, "{n}")?;
-    Ok(())
-}
-
-fn put_code(out: &mut String, code: i32) -> Result<(), NoMemory> {
-    write!(out, "{code}")?;
-    Ok(())
-}
-
 /// Writes numbers with a space before each, and a dash where there is none.
-pub fn put_numbers(out: &mut String, numbers: &[u32]) -> Result<(), NoMemory> {
-    if numbers.is_empty() {
-        out.push_str(" -")?;
+pub fn put_numbers(out: &mut Out, numbers: &Numbers) {
+    if numbers.as_slice().is_empty() {
+        out.word(" -");
     }
-    for n in numbers {
-        write!(out, " {n}")?;
+    for n in numbers.as_slice() {
+        out.show(" ", n);
     }
-    Ok(())
+    if !numbers.is_whole() {
+        out.no_memory();
+    }
 }

@@ -2,14 +2,16 @@
 use crate::asked::Asked;
 use crate::entries::entry;
 use crate::nights::Night;
-use crate::texts::{put_body, put_command, put_dependency, put_job, put_nodes, put_stream};
+use crate::outs::Out;
+use crate::texts::{
+    put_body, put_command, put_dependency, put_job, put_nodes, put_printed, put_stream,
+};
 use crate::told::Told;
-use base_types::{Feed, JobNo, NoMemory, StreamNo};
+use base_types::{Entry, Feed, JobNo, StreamNo};
 use file_watch::path_at;
 use manager_switch::{present_after, present_net, switched};
 use network_tree::Network;
 use owner_fold::Owners;
-use std::str;
 use symphony_view::{job_state, listing, stream_state};
 
 fn of_job(net: &Network, o: &Owners, j: JobNo) -> Option<Told> {
@@ -37,142 +39,138 @@ pub fn state(net: &Network, o: &Owners, asked: &Asked) -> Option<Told> {
     }
 }
 
-fn put_listing(night: &Night, out: &mut String) -> Result<bool, NoMemory> {
-    let listing = listing(night.alloc, &night.net, night.held())?;
-    out.push_str(str::from_utf8(listing.as_slice()).unwrap_or(""))?;
-    Ok(true)
+fn put_listing(night: &Night, out: &mut Out) {
+    let listing = listing(out.alloc, &night.net, night.held());
+    put_printed(out, listing)
 }
 
-fn put_none(out: &mut String) -> Result<bool, NoMemory> {
-    out.push_str("none")?;
-    Ok(true)
-}
-
-fn put_event(night: &Night, out: &mut String, asked: &Asked) -> Result<bool, NoMemory> {
+fn put_event(night: &Night, out: &mut Out, asked: &Asked) {
     let feed = Feed::Events(asked.ws(0));
     match night.held().entry(feed, asked.count(1)) {
-        Some(body) => put_body(night.alloc, out, night.net.net(), body)?,
-        None => out.push_str("none")?,
+        Some(body) => put_body(out, night.net.net(), body),
+        None => out.word("none"),
     }
-    Ok(true)
 }
 
-fn put_ordered(night: &Night, out: &mut String, asked: &Asked) -> Result<bool, NoMemory> {
+fn put_ordered(night: &Night, out: &mut Out, asked: &Asked) {
     let (a, w) = (asked.ws(0), asked.ws(1));
     match night.held().order(a, w, asked.count(2)) {
-        Some(cmd) => put_command(night.alloc, out, night.net.net(), cmd)?,
-        None => out.push_str("none")?,
+        Some(cmd) => put_command(out, night.net.net(), cmd),
+        None => out.word("none"),
     }
-    Ok(true)
 }
 
-fn put_dep(night: &Night, out: &mut String, asked: &Asked) -> Result<bool, NoMemory> {
+fn put_dep(night: &Night, out: &mut Out, asked: &Asked) {
     let object = asked.object(0);
     match night.held().dep(object, asked.small(2)) {
-        Some(dep) => put_dependency(night.alloc, out, night.net.net(), &object, dep)?,
-        None => out.push_str("none")?,
+        Some(dep) => put_dependency(out, night.net.net(), &object, dep),
+        None => out.word("none"),
     }
-    Ok(true)
 }
 
-fn put_path(night: &Night, out: &mut String, asked: &Asked) -> Result<bool, NoMemory> {
+fn put_path(night: &Night, out: &mut Out, asked: &Asked) {
     match path_at(night.held(), &asked.object(0), asked.small(2)) {
-        Some(path) => out.push_str(path.as_str())?,
-        None => out.push_str("none")?,
+        Some(path) => out.word(path.as_str()),
+        None => out.word("none"),
     }
-    Ok(true)
 }
 
-fn put_stream_doc(night: &Night, out: &mut String, asked: &Asked) -> Result<bool, NoMemory> {
+fn put_stream_doc(night: &Night, out: &mut Out, asked: &Asked) {
     match night.held().stream(asked.stream(0)) {
-        Some(doc) => put_stream(out, night.net.net(), doc)?,
-        None => out.push_str("none")?,
+        Some(doc) => put_stream(out, night.net.net(), doc),
+        None => out.word("none"),
     }
-    Ok(true)
 }
 
-fn put_job_doc(night: &Night, out: &mut String, asked: &Asked) -> Result<bool, NoMemory> {
+fn put_job_doc(night: &Night, out: &mut Out, asked: &Asked) {
     match night.held().job(asked.job(0)) {
-        Some(doc) => put_job(out, night.net.net(), doc)?,
-        None => out.push_str("none")?,
+        Some(doc) => put_job(out, night.net.net(), doc),
+        None => out.word("none"),
     }
-    Ok(true)
 }
 
 /// Writes what of the plan is asked for, and tells whether something is.
-pub fn ask_plan(night: &Night, out: &mut String, asked: &Asked) -> Result<bool, NoMemory> {
+pub fn ask_plan(night: &Night, out: &mut Out, asked: &Asked) -> bool {
     if asked.is("event", 2) {
-        put_event(night, out, asked)
+        put_event(night, out, asked);
     } else if asked.is("order", 3) {
-        put_ordered(night, out, asked)
+        put_ordered(night, out, asked);
     } else if asked.is("dep", 3) {
-        put_dep(night, out, asked)
+        put_dep(night, out, asked);
     } else if asked.is("path", 3) {
-        put_path(night, out, asked)
+        put_path(night, out, asked);
     } else if asked.is("stream-document", 1) {
-        put_stream_doc(night, out, asked)
+        put_stream_doc(night, out, asked);
     } else if asked.is("job-document", 1) {
-        put_job_doc(night, out, asked)
+        put_job_doc(night, out, asked);
     } else if asked.is("listing", 0) {
-        put_listing(night, out)
+        put_listing(night, out);
     } else {
-        Ok(false)
+        return false;
     }
+    true
 }
 
-fn put_own_nodes(net: &Network, out: &mut String) -> Result<bool, NoMemory> {
-    put_nodes(out, net.net())?;
-    Ok(true)
-}
-
-fn put_parts(net: &Network, out: &mut String) -> Result<bool, NoMemory> {
+fn put_parts(net: &Network, out: &mut Out) {
     let net = net.net();
-    let (resources, prompts) = (net.resources.len(), net.prompts.len());
-    let (nodes, carry) = (net.nodes.len(), net.carry);
-    write!(
-        out,
-        "nodes {nodes} resources {resources} prompts {prompts} carry {carry:?}"
-    )?;
-    Ok(true)
+    out.two(
+        "nodes ",
+        &net.nodes.len(),
+        " resources ",
+        &net.resources.len(),
+    );
+    out.show(" prompts ", &net.prompts.len());
+    out.debug(" carry ", &net.carry)
 }
 
-fn put_switched(night: &Night, out: &mut String, asked: &Asked) -> Result<bool, NoMemory> {
-    match switched(night.alloc, &night.net, asked.ws(0)) {
-        Ok(net) => put_nodes(out, net.net())?,
-        Err(fault) => write!(out, "{fault:?}")?,
+fn put_switched(night: &Night, out: &mut Out, asked: &Asked) {
+    match switched(out.alloc, &night.net, asked.ws(0)) {
+        Ok(net) => put_nodes(out, net.net()),
+        Err(fault) => out.debug("", &fault),
     }
-    Ok(true)
 }
 
-fn put_present(night: &Night, out: &mut String) -> Result<bool, NoMemory> {
+fn put_present(night: &Night, out: &mut Out) {
     let entries = night.held().kept().entries();
-    let net = present_net(night.alloc, &night.net, entries)?;
-    put_own_nodes(&net, out)
+    let present = present_net(out.alloc, &night.net, entries);
+    if let Some(net) = out.kept(present) {
+        put_nodes(out, net.net())
+    }
 }
 
-fn put_present_after(night: &Night, out: &mut String, asked: &Asked) -> Result<bool, NoMemory> {
-    let Some(entry) = entry(night.alloc, asked.text)? else {
-        return Ok(false);
-    };
-    match present_after(night.alloc, &night.net, &entry)? {
-        Some(net) => put_own_nodes(&net, out),
-        None => put_none(out),
+fn put_after(night: &Night, out: &mut Out, entry: &Entry) {
+    let after = present_after(out.alloc, &night.net, entry);
+    match out.kept(after) {
+        Some(Some(net)) => put_nodes(out, net.net()),
+        _ => out.word("none"),
+    }
+}
+
+fn put_present_after(night: &Night, out: &mut Out, asked: &Asked) -> bool {
+    match entry(out, asked.text) {
+        Some(entry) => {
+            put_after(night, out, &entry);
+            true
+        }
+        None => false,
     }
 }
 
 /// Writes which network is asked for, and tells whether one is.
-pub fn ask_net(night: &Night, out: &mut String, asked: &Asked) -> Result<bool, NoMemory> {
-    if asked.is("nodes", 0) {
-        put_own_nodes(&night.net, out)
-    } else if asked.is("parts", 0) {
-        put_parts(&night.net, out)
-    } else if asked.is("switch", 1) {
-        put_switched(night, out, asked)
-    } else if asked.is("present", 0) {
-        put_present(night, out)
-    } else if asked.is_with_text("present-after", 0) {
-        put_present_after(night, out, asked)
-    } else {
-        Ok(false)
+pub fn ask_net(night: &Night, out: &mut Out, asked: &Asked) -> bool {
+    if asked.is_with_text("present-after", 0) {
+        return put_present_after(night, out, asked);
     }
+    if asked.is("nodes", 0) {
+        put_nodes(out, night.net.net());
+    } else if asked.is("parts", 0) {
+        put_parts(&night.net, out);
+    } else if asked.is("switch", 1) {
+        put_switched(night, out, asked);
+    } else if asked.is("present", 0) {
+        put_present(night, out);
+    } else {
+        return false;
+    }
+    true
 }

@@ -7,10 +7,10 @@ use crate::asked::Asked;
 use crate::follows::best_launches;
 use crate::locals::local_of;
 use crate::nights::Night;
-use base_types::{Bytes, Copied, Entry, JobNo, Local, NoMemory, WorldStep, Ws};
+use crate::outs::Out;
+use base_types::{Bytes, Copied, Entry, JobNo, Local, WorldStep, Ws};
 use network_world::{StepRefused, World};
 use report_text::print_report;
-use std::alloc::Global;
 
 /// Whether the workstations of a step are below a count.
 fn is_inside(count: u16, step: &WorldStep) -> bool
@@ -35,13 +35,12 @@ fn answer(world: &mut World, step: &WorldStep) -> Option<Result<(), StepRefused>
 }
 
 /// Takes a step, and writes where it is refused.
-fn take(world: &mut World, out: &mut String, step: &WorldStep) -> Result<bool, NoMemory> {
+fn take(world: &mut World, out: &mut Out, step: &WorldStep) {
     match answer(world, step) {
         Some(Ok(())) => {}
-        Some(Err(refused)) => write!(out, "refused {refused:?}")?,
-        None => out.push_str("outside")?,
+        Some(Err(refused)) => out.debug("refused ", &refused),
+        None => out.word("outside"),
     }
-    Ok(true)
 }
 
 /// How many packets were sent, and the greatest number delivered.
@@ -53,13 +52,12 @@ fn sent_and_reached(world: &World, a: Ws, b: Ws) -> (u32, u32) {
     (world.packets(a, b), world.reached(a, b))
 }
 
-fn flow(world: &mut World, out: &mut String, a: Ws, b: Ws) -> Result<bool, NoMemory> {
+fn flow(world: &mut World, out: &mut Out, a: Ws, b: Ws) {
     let (sent, reached) = sent_and_reached(world, a, b);
     for k in reached..sent {
         let step = WorldStep::Deliver(a, b, k + 1);
-        take(world, out, &step)?;
+        take(world, out, &step);
     }
-    Ok(true)
 }
 
 /// The lowest job beyond this one with a launch that is live at a node.
@@ -85,58 +83,64 @@ fn live_count(world: &World, w: Ws) -> usize {
 }
 
 /// Each launch that is live at a node ends well, the lowest job first.
-fn reap(world: &mut World, out: &mut String, w: Ws) -> Result<bool, NoMemory> {
+fn reap(world: &mut World, out: &mut Out, w: Ws) {
     let mut beyond = 0;
     for _ in 0..live_count(world, w) {
         if let Some(number) = next_live(world, w, beyond) {
             let step = WorldStep::Take(w, Local::Ended(JobNo(number), 0));
-            take(world, out, &step)?;
+            take(world, out, &step);
             beyond = number;
         }
     }
-    Ok(true)
 }
 
 /// The step that is asked for at one workstation.
-fn step_at(alloc: Global, asked: &Asked) -> Result<Option<WorldStep>, NoMemory> {
+fn step_at(out: &mut Out, asked: &Asked) -> Option<WorldStep> {
     let w = asked.ws(0);
-    match local_of(alloc, asked.text)? {
+    match local_of(out, asked.text) {
         Some(local) => {
             if asked.word == "at" {
-                Ok(Some(WorldStep::Take(w, local)))
+                Some(WorldStep::Take(w, local))
             } else {
-                Ok(Some(WorldStep::CrashTake(w, local, asked.word == "stop-kept")))
+                Some(WorldStep::CrashTake(w, local, asked.word == "stop-kept"))
             }
         }
-        None => Ok(None),
+        None => None,
     }
 }
 
 /// The step that is asked for.
-fn step_of(alloc: Global, asked: &Asked) -> Result<Option<WorldStep>, NoMemory> {
+fn step_of(out: &mut Out, asked: &Asked) -> Option<WorldStep> {
     let (a, b, k) = (asked.ws(0), asked.ws(1), asked.count(2));
     if asked.is("deliver", 3) {
-        Ok(Some(WorldStep::Deliver(a, b, k)))
+        Some(WorldStep::Deliver(a, b, k))
     } else if asked.is("stop-deliver", 3) {
-        Ok(Some(WorldStep::CrashDeliver(a, b, k, true)))
+        Some(WorldStep::CrashDeliver(a, b, k, true))
     } else if asked.is_with_text("at", 1)
         || asked.is_with_text("stop-kept", 1)
         || asked.is_with_text("stop-lost", 1)
     {
-        step_at(alloc, asked)
+        step_at(out, asked)
     } else {
-        Ok(None)
+        None
     }
 }
 
-fn report(alloc: Global, world: &World) -> Result<Bytes, NoMemory> {
-    let parts = world.parts()?;
-    print_report(alloc, world.net().net(), &parts)
+fn report(out: &mut Out, world: &World) -> Option<Bytes> {
+    match out.kept(world.parts()) {
+        Some(parts) => {
+            let report = print_report(out.alloc, world.net().net(), &parts);
+            out.kept(report)
+        }
+        None => None,
+    }
 }
 
-fn is_reported(alloc: Global, world: &World, remembered: &[u8]) -> Result<bool, NoMemory> {
-    let now = report(alloc, world)?;
-    Ok(now.as_slice() == remembered)
+fn is_reported(out: &mut Out, world: &World, remembered: &[u8]) -> bool {
+    match report(out, world) {
+        Some(now) => now.as_slice() == remembered,
+        None => false,
+    }
 }
 
 /// What a node holds, in the order in which it took it.
@@ -148,117 +152,118 @@ fn held(world: &World, node: Ws) -> &[Entry] {
 }
 
 /// Writes whether all ways find the same best job of w after each of these entries.
-fn put_followed(
-    alloc: Global,
-    world: &World,
-    out: &mut String,
-    w: Ws,
-    entries: &[Entry],
-) -> Result<bool, NoMemory> {
-    let launches = best_launches(alloc, world.net(), w, entries)?;
-    out.push_str(if launches.is_some() {
-        "they agree"
-    } else {
-        "they differ"
-    })?;
-    Ok(true)
+fn put_followed(world: &World, out: &mut Out, w: Ws, entries: &[Entry]) {
+    match best_launches(out, world.net(), w, entries) {
+        Some(_) => out.word("they agree"),
+        None => out.word("they differ"),
+    }
 }
 
 /// Writes how many jobs a node launched of which each was the best by all that the node held then.
-fn put_launches(alloc: Global, world: &World, out: &mut String, w: Ws) -> Result<bool, NoMemory> {
-    match best_launches(alloc, world.net(), w, held(world, w))? {
-        Some(launches) => write!(out, "{launches}")?,
-        None => out.push_str("they differ")?,
+fn put_launches(world: &World, out: &mut Out, w: Ws) {
+    match best_launches(out, world.net(), w, held(world, w)) {
+        Some(launches) => out.show("", &launches),
+        None => out.word("they differ"),
     }
-    Ok(true)
 }
 
-fn put_counts(world: &World, out: &mut String) -> Result<bool, NoMemory> {
+fn put_counts(world: &World, out: &mut Out) {
     let (entries, starts) = (world.history().len(), world.starts().len());
-    write!(out, "events {entries} starts {starts}")?;
-    Ok(true)
+    out.two("events ", &entries, " starts ", &starts)
+}
+
+fn take_asked(world: &mut World, out: &mut Out, asked: &Asked) -> bool {
+    match step_of(out, asked) {
+        Some(step) => {
+            take(world, out, &step);
+            true
+        }
+        None => false,
+    }
 }
 
 /// Does with a world what is asked, and tells whether something is.
-fn go(alloc: Global, world: &mut World, out: &mut String, asked: &Asked) -> Result<bool, NoMemory> {
+fn go(world: &mut World, out: &mut Out, asked: &Asked) -> bool {
     if asked.is("flow", 2) {
-        return flow(world, out, asked.ws(0), asked.ws(1));
-    }
-    if asked.is("reap", 1) {
-        return reap(world, out, asked.ws(0));
-    }
-    match step_of(alloc, asked)? {
-        Some(step) => take(world, out, &step),
-        None => Ok(false),
+        flow(world, out, asked.ws(0), asked.ws(1));
+        true
+    } else if asked.is("reap", 1) {
+        reap(world, out, asked.ws(0));
+        true
+    } else {
+        take_asked(world, out, asked)
     }
 }
 
 /// Writes what is asked of a world, and tells whether something is.
-fn tell(alloc: Global, world: &World, out: &mut String, asked: &Asked) -> Result<bool, NoMemory> {
+fn tell(world: &World, out: &mut Out, asked: &Asked) -> bool {
     if asked.is("follow", 2) {
-        put_followed(alloc, world, out, asked.ws(1), held(world, asked.ws(0)))
+        put_followed(world, out, asked.ws(1), held(world, asked.ws(0)));
     } else if asked.is("follow-history", 1) {
-        put_followed(alloc, world, out, asked.ws(0), world.history())
+        put_followed(world, out, asked.ws(0), world.history());
     } else if asked.is("best-launches", 1) {
-        put_launches(alloc, world, out, asked.ws(0))
+        put_launches(world, out, asked.ws(0));
     } else if asked.is("counts", 0) {
-        put_counts(world, out)
+        put_counts(world, out);
     } else {
-        Ok(false)
+        return false;
     }
+    true
 }
 
-fn remember(night: &mut Night) -> Result<bool, NoMemory> {
-    if let Some(world) = &night.world {
-        night.report = report(night.alloc, world)?;
-    }
-    Ok(true)
-}
-
-fn put_unchanged(night: &Night, out: &mut String) -> Result<bool, NoMemory> {
-    let same = match &night.world {
-        Some(world) => is_reported(night.alloc, world, night.report.as_slice())?,
+fn in_world(night: &mut Night, out: &mut Out, asked: &Asked) -> bool {
+    match &mut night.world {
+        Some(world) => tell(world, out, asked) || go(world, out, asked),
         None => false,
-    };
-    out.push_str(if same { "yes" } else { "no" })?;
-    Ok(true)
-}
-
-fn in_world(night: &mut Night, out: &mut String, asked: &Asked) -> Result<bool, NoMemory> {
-    let Some(world) = &mut night.world else {
-        return Ok(false);
-    };
-    if tell(night.alloc, world, out, asked)? {
-        return Ok(true);
     }
-    go(night.alloc, world, out, asked)
 }
 
-fn begin(night: &mut Night) -> Result<bool, NoMemory> {
-    night.world = Some(World::new(night.alloc, night.net.copy()?)?);
-    Ok(true)
+fn begin(night: &mut Night, out: &mut Out) {
+    if let Some(net) = out.kept(night.net.copy()) {
+        let world = World::new(out.alloc, net);
+        night.world = out.kept(world);
+    }
 }
 
-fn ask(night: &mut Night, out: &mut String, asked: &Asked) -> Result<bool, NoMemory> {
+fn remember(night: &mut Night, out: &mut Out) {
+    if let Some(world) = &night.world {
+        if let Some(report) = report(out, world) {
+            night.report = report;
+        }
+    }
+}
+
+fn is_unchanged(night: &Night, out: &mut Out) -> bool {
+    match &night.world {
+        Some(world) => is_reported(out, world, night.report.as_slice()),
+        None => false,
+    }
+}
+
+fn put_unchanged(night: &Night, out: &mut Out) {
+    let same = is_unchanged(night, out);
+    out.word(if same { "yes" } else { "no" })
+}
+
+fn ask(night: &mut Night, out: &mut Out, asked: &Asked) -> bool {
     if asked.is("world", 0) {
-        begin(night)
+        begin(night, out);
     } else if asked.is("remember", 0) {
-        remember(night)
+        remember(night, out);
     } else if asked.is("is-unchanged", 0) {
-        put_unchanged(night, out)
+        put_unchanged(night, out);
     } else {
-        in_world(night, out, asked)
+        return in_world(night, out, asked);
     }
+    true
 }
 
 /// Begins, moves or tells of a world, and tells whether that is asked for.
-pub fn ask_world(night: &mut Night, out: &mut String, asked: &Asked) -> Result<bool, NoMemory> {
+pub fn ask_world(night: &mut Night, out: &mut Out, asked: &Asked) -> bool {
     let before = out.len();
-    if !ask(night, out, asked)? {
-        return Ok(false);
+    let is_asked = ask(night, out, asked);
+    if is_asked && out.len() == before {
+        out.word("done");
     }
-    if out.len() == before {
-        out.push_str("done")?;
-    }
-    Ok(true)
+    is_asked
 }

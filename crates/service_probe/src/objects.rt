@@ -120,21 +120,33 @@ fn new_files(alloc: Global, comes: &mut Comes) -> Option<MemProber> {
     MemProber::new(alloc, taken(alloc, &mut comes.answers), ROOM).ok()
 }
 
+/// Both, where both are there.
+fn both<A: Drop, B: Drop>(a: Option<A>, b: Option<B>) -> Option<(A, B)> {
+    match a {
+        Some(a) => match b {
+            Some(b) => Some((a, b)),
+            None => None,
+        },
+        None => None,
+    }
+}
+
 impl Objects {
     /// The objects of a call with this input, to which this comes.
     pub fn new(alloc: Global, input: Bytes, comes: &mut Comes) -> Option<Self> {
-        let link = new_link(alloc, comes)?;
-        let jobs = new_jobs(alloc, comes)?;
-        let files = new_files(alloc, comes)?;
-        let sink = new_sink(alloc, comes)?;
-        Some(Objects {
-            source: MemSource::new(input, taken(alloc, &mut comes.source)),
-            sink,
-            link,
-            jobs,
-            clock: MemClock::new(taken(alloc, &mut comes.readings)),
-            files,
-        })
+        let ends = both(new_link(alloc, comes), new_sink(alloc, comes));
+        let works = both(new_jobs(alloc, comes), new_files(alloc, comes));
+        match both(ends, works) {
+            Some(((link, sink), (jobs, files))) => Some(Objects {
+                source: MemSource::new(input, taken(alloc, &mut comes.source)),
+                sink,
+                link,
+                jobs,
+                clock: MemClock::new(taken(alloc, &mut comes.readings)),
+                files,
+            }),
+            None => None,
+        }
     }
 }
 
@@ -166,6 +178,17 @@ pub struct Ended {
     pub syncs: bool,
 }
 
+/// Leaves the bytes of a disk in their place.
+fn left(alloc: Global, file: &mut Bytes, bytes: &[u8], ended: Ended) -> Option<Ended> {
+    match copied(alloc, bytes) {
+        Some(bytes) => {
+            *file = bytes;
+            Some(ended)
+        }
+        None => None,
+    }
+}
+
 /// Makes the call over a disk with these bytes, and leaves its bytes in their place.
 pub fn called(
     alloc: Global,
@@ -174,12 +197,14 @@ pub fn called(
     file: &mut Bytes,
     fails: Items<u32>,
 ) -> Option<Ended> {
-    let bytes = taken(alloc, file);
-    let disk = MemDisk::new(alloc, bytes, fails, DISK_ROOM).ok()?;
-    let (status, mut disk) = answered(alloc, words, objects, disk);
-    let syncs = disk.sync().is_ok();
-    *file = copied(alloc, disk.bytes())?;
-    Some(Ended { status, syncs })
+    match MemDisk::new(alloc, taken(alloc, file), fails, DISK_ROOM) {
+        Ok(disk) => {
+            let (status, mut disk) = answered(alloc, words, objects, disk);
+            let syncs = disk.sync().is_ok();
+            left(alloc, file, disk.bytes(), Ended { status, syncs })
+        }
+        Err(_) => None,
+    }
 }
 
 /// The same, where a write that fails leaves half of its piece.
@@ -190,12 +215,14 @@ pub fn called_over_torn(
     file: &mut Bytes,
     fails: Items<u32>,
 ) -> Option<Ended> {
-    let bytes = taken(alloc, file);
-    let disk = CrashDisk::new(alloc, bytes, fails, ROOM).ok()?;
-    let (status, mut disk) = answered(alloc, words, objects, disk);
-    let syncs = disk.sync().is_ok();
-    *file = copied(alloc, disk.bytes())?;
-    Some(Ended { status, syncs })
+    match CrashDisk::new(alloc, taken(alloc, file), fails, ROOM) {
+        Ok(disk) => {
+            let (status, mut disk) = answered(alloc, words, objects, disk);
+            let syncs = disk.sync().is_ok();
+            left(alloc, file, disk.bytes(), Ended { status, syncs })
+        }
+        Err(_) => None,
+    }
 }
 
 /// The calls of the disk that fail.

@@ -60,11 +60,19 @@ pub fn follow(stage: &mut Stage, alloc: Global, script: &str, out: &mut Told) ->
     true
 }
 
+/// What stands before the first blank and behind it. Where there is none, that is all and nothing.
+fn halves(text: &str) -> (&str, &str) {
+    text.split_once(' ').unwrap_or((text, ""))
+}
+
 /// The first and the last round of a block, and its lines.
 fn rounds_of(block: &str) -> Option<(u32, u32, &str)> {
     let (bounds, lines) = block.split_once('\n')?;
-    let (first, last) = bounds.split_once(' ')?;
-    Some((number(first)?, number(last)?, lines))
+    let (first, last) = halves(bounds);
+    match (number(first), number(last)) {
+        (Some(first), Some(last)) => Some((first, last, lines)),
+        _ => None,
+    }
 }
 
 fn follow_rounds(stage: &mut Stage, alloc: Global, block: &str, out: &mut Told) -> bool {
@@ -119,7 +127,7 @@ fn extend(bytes: &mut Bytes, more: &[u8]) -> bool {
 
 /// Obeys a line. Whether it is understood.
 fn obey(stage: &mut Stage, alloc: Global, line: &str, out: &mut Told) -> bool {
-    let (word, rest) = line.split_once(' ').unwrap_or((line, ""));
+    let (word, rest) = halves(line);
     match word {
         "" | "#" => true,
         "==" => {
@@ -213,13 +221,22 @@ fn set_bytes(bytes: &mut Bytes, with: Option<Bytes>) -> bool {
 
 fn filled(alloc: Global, text: &str) -> Option<Bytes> {
     let (count, piece) = text.split_once(' ')?;
+    let count = number(count)?;
     let mut bytes = Items::new(alloc);
-    for _ in 0..number(count)? {
-        if !extend(&mut bytes, piece.as_bytes()) {
-            return None;
+    if repeat(&mut bytes, count, piece) {
+        Some(bytes)
+    } else {
+        None
+    }
+}
+
+fn repeat(bytes: &mut Bytes, count: u32, piece: &str) -> bool {
+    for _ in 0..count {
+        if !extend(bytes, piece.as_bytes()) {
+            return false;
         }
     }
-    Some(bytes)
+    true
 }
 
 fn set_words(stage: &mut Stage, alloc: Global, words: &str) -> bool {
@@ -281,21 +298,45 @@ fn come(comes: &mut Comes, alloc: Global, word: &str, rest: &str) -> bool {
 
 fn arrival(alloc: Global, word: &str, rest: &str) -> Option<Arrival> {
     match word {
-        "asks" => Some(Arrival::Client(framed(alloc, 3, rest)?)),
-        "client" => Some(Arrival::Client(bytes_of(alloc, rest)?)),
+        "asks" => client(framed(alloc, 3, rest)),
+        "client" => client(bytes_of(alloc, rest)),
         "idle" => Some(Arrival::Client(Items::new(alloc))),
         "no" => Some(Arrival::NoMemory),
-        "up" => Some(Arrival::Up(workstation(rest)?)),
-        "down" => Some(Arrival::Down(workstation(rest)?)),
+        "up" | "down" => change(word, rest),
         "from" => bytes_from(alloc, rest),
         _ => None,
     }
 }
 
+fn client(bytes: Option<Bytes>) -> Option<Arrival> {
+    match bytes {
+        Some(bytes) => Some(Arrival::Client(bytes)),
+        None => None,
+    }
+}
+
+/// A link that began or ended.
+fn change(word: &str, ws: &str) -> Option<Arrival> {
+    match workstation(ws) {
+        Some(ws) if word == "up" => Some(Arrival::Up(ws)),
+        Some(ws) => Some(Arrival::Down(ws)),
+        None => None,
+    }
+}
+
 fn bytes_from(alloc: Global, text: &str) -> Option<Arrival> {
     let (from, hex) = text.split_once(' ')?;
-    let from = workstation(from)?;
-    Some(Arrival::Bytes(from, bytes_of(alloc, hex)?))
+    match workstation(from) {
+        Some(from) => sent(from, bytes_of(alloc, hex)),
+        None => None,
+    }
+}
+
+fn sent(from: Ws, bytes: Option<Bytes>) -> Option<Arrival> {
+    match bytes {
+        Some(bytes) => Some(Arrival::Bytes(from, bytes)),
+        None => None,
+    }
 }
 
 /// A frame of a kind.
@@ -321,10 +362,21 @@ fn digit(byte: u8) -> Option<u8> {
 /// The bytes of digits in base 16. Blanks are passed over.
 fn bytes_of(alloc: Global, text: &str) -> Option<Bytes> {
     let mut bytes = Items::new(alloc);
+    if add_bytes(&mut bytes, text) {
+        Some(bytes)
+    } else {
+        None
+    }
+}
+
+/// Adds these bytes, and tells whether they are whole.
+fn add_bytes(bytes: &mut Bytes, text: &str) -> bool {
     let mut high = None;
     for byte in text.as_bytes() {
         if *byte != b' ' {
-            let low = digit(*byte)?;
+            let Some(low) = digit(*byte) else {
+                return false;
+            };
             high = match high {
                 None => Some(low),
                 Some(high) => {
@@ -332,17 +384,14 @@ fn bytes_of(alloc: Global, text: &str) -> Option<Bytes> {
                         .push(u8::wrapping_mul(high, 16).wrapping_add(low))
                         .is_err()
                     {
-                        return None;
+                        return false;
                     }
                     None
                 }
             };
         }
     }
-    if high.is_some() {
-        return None;
-    }
-    Some(bytes)
+    high.is_none()
 }
 
 fn number(text: &str) -> Option<u32> {
@@ -364,13 +413,16 @@ fn workstation(text: &str) -> Option<Ws> {
 }
 
 fn end(text: &str) -> Option<Option<End>> {
-    let (job, rest) = text.split_once(' ')?;
-    let (launch, rc) = rest.split_once(' ')?;
-    Some(Some(End {
-        job: JobNo(number(job)?),
-        number: number(launch)?,
-        rc: rc.parse::<i32>().ok()?,
-    }))
+    let (job, rest) = halves(text);
+    let (launch, rc) = halves(rest);
+    match (number(job), number(launch), rc.parse::<i32>().ok()) {
+        (Some(job), Some(number), Some(rc)) => Some(Some(End {
+            job: JobNo(job),
+            number,
+            rc,
+        })),
+        _ => None,
+    }
 }
 
 fn answer(text: &str) -> Option<Result<bool, Failed>> {

@@ -65,11 +65,35 @@ impl Stage {
 
     /// Calls `tws` over new objects, to which this comes, and over the disk. None where there is no memory for them.
     pub fn call(&mut self, alloc: Global) -> Option<u8> {
-        let input = copied(alloc, self.input.as_slice())?;
-        self.objects = Objects::new(alloc, input, &mut self.comes)?;
-        self.ended = self.call_over_disk(alloc)?;
-        put_history_starts(&mut self.starts, &self.objects.jobs);
-        Some(self.ended.status)
+        if !self.renew(alloc) {
+            return None;
+        }
+        match self.call_over_disk(alloc) {
+            Some(ended) => {
+                self.ended = ended;
+                put_history_starts(&mut self.starts, &self.objects.jobs);
+                Some(ended.status)
+            }
+            None => None,
+        }
+    }
+
+    /// Makes the objects anew, to which this comes, and tells whether there is memory for them.
+    fn renew(&mut self, alloc: Global) -> bool {
+        match copied(alloc, self.input.as_slice()) {
+            Some(input) => self.renew_with(alloc, input),
+            None => false,
+        }
+    }
+
+    fn renew_with(&mut self, alloc: Global, input: Bytes) -> bool {
+        match Objects::new(alloc, input, &mut self.comes) {
+            Some(objects) => {
+                self.objects = objects;
+                true
+            }
+            None => false,
+        }
     }
 
     fn call_over_disk(&mut self, alloc: Global) -> Option<Ended> {

@@ -8,22 +8,24 @@ use Rattle.std.proofs.lemmas.List.{append-nil, map-append}
 use Rattle.std.proofs.lemmas.List.Elements.{filter-append}
 use Rattle.std.proofs.lemmas.List.Sums.{fold-append}
 use Rattle.std.proofs.lemmas.Grind.{flat_map-append}
-use Rattle.model.specs.Types.{Late}
-use Rattle.model.specs.Types.{Added, Body, Clock, Declined, Ended, Entry, Events, Failed, Feed, Fulfilled, Launched}
-use Rattle.model.specs.Types.{Lost, NewPlan, Obeyed, Order, Released, Started, StreamDoc, StreamEnded, UntilPassed}
+use Rattle.model.specs.Types.{Body, Entry, Events, Feed}
+use Rattle.model.specs.Types.{StreamDoc}
 use Rattle.model.specs.Equalities.{feed_eq}
 use Rattle.model.specs.Words.{greatest, has}
 use Rattle.model.specs.History.{list_of, view_of}
-use Rattle.model.specs.Catalogue.{catalogue, docs_in, members, members_with, named_members, stream}
+use Rattle.model.specs.Catalogue.{StreamJob, catalogue, docs_in, jobs_in, members, members_with, named_members, stream}
 use Rattle.owner_fold.specs.Numbers.{IsIndexOf}
 use Rattle.owner_fold.specs.declared.numbers.Index.{Index}
 use Rattle.owner_fold.specs.declared.doc_places.JobPlace.{JobPlace}
 use Rattle.owner_fold.specs.Plans.{IsPlanOf, is_planning, is_planning_body}
-use Rattle.owner_fold.specs.DocPlaces.{AreDocPlacesOf, first_docs_among}
+use Rattle.owner_fold.specs.DocPlaces.{AreDocPlacesOf, AreJobPlaces, AreStreamPlaces, first_docs_among, first_jobs_among}
 use Rattle.owner_fold.specs.declared.plans.Plan.{Plan}
 use Rattle.owner_fold.specs.declared.doc_places.DocPlaces.{DocPlaces}
+use Rattle.owner_fold.specs.declared.stations.Stations.{Stations}
+use Rattle.owner_fold.specs.Stations.{AreStationsOf}
 use Rattle.owner_fold.specs.declared.doc_places.StreamPlace.{StreamPlace}
 use Rattle.owner_fold.proofs.Firsts.{has_found}
+use Rattle.owner_fold.proofs.Planless.{no_docs, no_names}
 use Rattle.owner_fold.proofs.Standing.{places_later}
 
 list_of-append : (G H : List Entry) (f : Feed) → list_of (G ++ H) f ≡ list_of G f ++ list_of H f
@@ -95,43 +97,6 @@ members_of_docs kept numbers e =
     (λ s. rw e (sym (has_found (λ (d : StreamDoc). d.no) s
     (first_docs_among (flat_map docs_in (list_of kept (Events 0)))))))
 
--- what is neither plan nor added stream brings no document, and names nobody
-pub no_docs : (b : Body) → is_planning_body b ≡ false → docs_in b ≡ []
-no_docs (NewPlan run cut carried docs) h = cc
-no_docs (Added a k doc) h = cc
-no_docs (Clock t) h = refl
-no_docs (Released s seen) h = refl
-no_docs (StreamEnded s seen) h = refl
-no_docs (UntilPassed p i mark) h = refl
-no_docs (Launched j n seen) h = refl
-no_docs (Started j n) h = refl
-no_docs (Failed j n) h = refl
-no_docs (Ended j n rc good) h = refl
-no_docs (Lost j n) h = refl
-no_docs (Fulfilled p i) h = refl
-no_docs (Obeyed a k c) h = refl
-no_docs (Declined a k why) h = refl
-no_docs (Order c) h = refl
-no_docs (Late p i) h = refl
-
-pub no_names : (so_far : Option (List ℕ)) (b : Body) → is_planning_body b ≡ false → members_with so_far b ≡ so_far
-no_names so_far (NewPlan run cut carried docs) h = cc
-no_names so_far (Added a k doc) h = cc
-no_names so_far (Clock t) h = refl
-no_names so_far (Released s seen) h = refl
-no_names so_far (StreamEnded s seen) h = refl
-no_names so_far (UntilPassed p i mark) h = refl
-no_names so_far (Launched j n seen) h = refl
-no_names so_far (Started j n) h = refl
-no_names so_far (Failed j n) h = refl
-no_names so_far (Ended j n rc good) h = refl
-no_names so_far (Lost j n) h = refl
-no_names so_far (Fulfilled p i) h = refl
-no_names so_far (Obeyed a k c) h = refl
-no_names so_far (Declined a k why) h = refl
-no_names so_far (Order c) h = refl
-no_names so_far (Late p i) h = refl
-
 -- so the documents stay
 pub docs_without : (kept : List Entry) (e : Entry) → is_planning e ≡ false
     → flat_map docs_in (list_of (kept ++ e ∷ []) (Events 0)) ≡ flat_map docs_in (list_of kept (Events 0))
@@ -170,6 +135,10 @@ plan_without kept e plan h p =
       doc_places =
           subst (λ (docs : List StreamDoc). AreDocPlacesOf (kept ++ e ∷ []) docs plan.doc_places) (sym (docs_without kept e h))
           (places_later kept (e ∷ []) (flat_map docs_in (list_of kept (Events 0))) plan.doc_places p.doc_places);
+      stations =
+          subst (λ (docs : List StreamDoc). AreStationsOf (first_docs_among docs)
+          (first_jobs_among (flat_map jobs_in (first_docs_among docs))) plan.stations) (sym (docs_without kept e h))
+          p.stations;
       named = p.named ∙ sym (named_without kept e h);
       members =
           p.members
@@ -183,9 +152,11 @@ plan_without kept e plan h p =
     }
 
 -- the plan after a plan or an added stream
-pub plan_with : (kept : List Entry) (e : Entry) (plan : Plan) (doc_places : DocPlaces) (named : Option (List ℕ))
-    (numbers : List ℕ) (index : Index) (last_stream last_job : ℕ) → is_planning e ≡ true → IsPlanOf kept plan
+pub plan_with : (kept : List Entry) (e : Entry) (plan : Plan) (doc_places : DocPlaces) (stations : Stations)
+    (named : Option (List ℕ)) (numbers : List ℕ) (index : Index) (last_stream last_job : ℕ) → is_planning e ≡ true → IsPlanOf kept plan
     → AreDocPlacesOf (kept ++ e ∷ []) (flat_map docs_in (list_of kept (Events 0)) ++ docs_in e.body) doc_places
+    → ((docs : List StreamDoc) (placed : List StreamJob) → AreStreamPlaces (kept ++ e ∷ []) doc_places.streams docs
+    → AreJobPlaces (kept ++ e ∷ []) doc_places.jobs placed → AreStationsOf docs placed stations)
     → named ≡ members_with plan.named e.body
     → numbers ≡ filter (has (map (λ (p : StreamPlace). p.number) doc_places.streams)) (unwrap_or named [])
     → IsIndexOf (map (λ (p : StreamPlace). p.number) doc_places.streams) (map (λ (p : JobPlace). p.number) doc_places.jobs) numbers
@@ -193,13 +164,15 @@ pub plan_with : (kept : List Entry) (e : Entry) (plan : Plan) (doc_places : DocP
     → last_job ≡ greatest (map (λ (p : JobPlace). p.number) doc_places.jobs)
     → IsPlanOf (kept ++ e ∷ []) (record {
       doc_places = doc_places;
+      stations = stations;
       named = named;
       members = numbers;
       index = index;
       last_stream = last_stream;
       last_job = last_job;
     })
-plan_with kept e plan doc_places named numbers index last_stream last_job h p placed names found indexed stream_is job_is =
+plan_with kept e plan doc_places stations named numbers index last_stream last_job h p placed owned names found indexed
+    stream_is job_is =
     let here : AreDocPlacesOf (kept ++ e ∷ []) (flat_map docs_in (list_of (kept ++ e ∷ []) (Events 0))) doc_places =
     subst (λ (docs : List StreamDoc). AreDocPlacesOf (kept ++ e ∷ []) docs doc_places) (sym (docs_with kept e h)) placed
     in
@@ -208,6 +181,10 @@ plan_with kept e plan doc_places named numbers index last_stream last_job h p pl
     in
     record {
       doc_places = here;
+      stations =
+          owned (first_docs_among (flat_map docs_in (list_of (kept ++ e ∷ []) (Events 0))))
+          (first_jobs_among (flat_map jobs_in (first_docs_among (flat_map docs_in (list_of (kept ++ e ∷ []) (Events 0))))))
+          here.streams here.jobs;
       named = same;
       members =
           found
@@ -226,10 +203,11 @@ pub kept_without : (kept new : List Entry) (e : Entry) (plan : Plan) → IsPlanO
 kept_without kept new e plan h grown other = rw grown (plan_without kept e plan other h)
 
 -- the plan of no entries
-pub plan_of_none : (doc_places : DocPlaces) (numbers : List ℕ) (index : Index) → doc_places.streams ≡ [] → doc_places.jobs ≡ []
-    → numbers ≡ [] → IsIndexOf [] [] [] index
+pub plan_of_none : (doc_places : DocPlaces) (stations : Stations) (numbers : List ℕ) (index : Index) → doc_places.streams ≡ [] → doc_places.jobs ≡ []
+    → AreStationsOf [] [] stations → numbers ≡ [] → IsIndexOf [] [] [] index
     → IsPlanOf [] (record {
       doc_places = doc_places;
+      stations = stations;
       named = None;
       members = numbers;
       index = index;
@@ -237,9 +215,10 @@ pub plan_of_none : (doc_places : DocPlaces) (numbers : List ℕ) (index : Index)
       last_job = 0;
     })
 unfolding list_of members named_members stream catalogue
-plan_of_none doc_places numbers index e f g h =
+plan_of_none doc_places stations numbers index e f owned g h =
     record {
       doc_places = record { streams = (rw e refl, rw e refl); jobs = (rw f refl, rw f refl) };
+      stations = owned;
       named = refl;
       members = g;
       index = rw (e, f, g) h;

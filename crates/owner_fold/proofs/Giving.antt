@@ -19,7 +19,6 @@ use Rattle.owner_fold.specs.Given.{adds, given_job_by, given_stream_by, has_time
 use Rattle.owner_fold.specs.Numbers.{ArePlaces}
 use Rattle.owner_fold.specs.Plans.{is_planning_body}
 use Rattle.owner_fold.specs.Sets.{AreGivenAmong, HasGiven, KeepsGiven, change_by, job_station_of, station_of}
-use Rattle.owner_fold.specs.declared.changes.Change.{Change}
 use Rattle.owner_fold.specs.declared.changes.Change.TheVariants.{FileGiven, NoChange, TimeGiven}
 use Rattle.owner_fold.specs.declared.given_objects.GivenObjects.{GivenObjects}
 use Rattle.owner_fold.specs.declared.numbers.Index.{Index}

@@ -1,6 +1,8 @@
 mod Finding
 mod Firsts
 mod Standing
+mod Owning
+pub mod Planless
 mod Further
 mod Counted
 mod Asked

@@ -4,6 +4,7 @@ pub use Rattle.owner_rows.specs.Outcomes
 pub use Rattle.owner_rows.specs.Standing
 pub mod DocPlaces
 pub mod Numbers
+pub mod Stations
 pub mod Plans
 pub mod Holders
 pub mod Sets

@@ -4,9 +4,10 @@ use Rattle.model.specs.Types.{Added, Body, Entry, Events, NewPlan}
 use Rattle.model.specs.Equalities.{feed_eq}
 use Rattle.model.specs.Words.{greatest}
 use Rattle.model.specs.History.{list_of, view_of}
-use Rattle.model.specs.Catalogue.{docs_in, members, named_members}
+use Rattle.model.specs.Catalogue.{docs_in, jobs_in, members, named_members}
 use Rattle.owner_fold.specs.Numbers.{IsIndexOf}
-use Rattle.owner_fold.specs.DocPlaces.{AreDocPlacesOf}
+use Rattle.owner_fold.specs.DocPlaces.{AreDocPlacesOf, first_docs_among, first_jobs_among}
+use Rattle.owner_fold.specs.Stations.{AreStationsOf}
 use Rattle.owner_fold.specs.declared.doc_places.JobPlace.{JobPlace}
 use Rattle.owner_fold.specs.declared.doc_places.StreamPlace.{StreamPlace}
 use Rattle.owner_fold.specs.declared.plans.Plan.{Plan}
@@ -24,6 +25,8 @@ is_planning e = feed_eq (Events 0) e.feed && is_planning_body e.body
 -- the plan of these entries
 pub record IsPlanOf (kept : List Entry) (plan : Plan) : Type 0 where
   pub doc_places : AreDocPlacesOf kept (flat_map docs_in (list_of kept (Events 0))) plan.doc_places
+  pub stations : AreStationsOf (first_docs_among (flat_map docs_in (list_of kept (Events 0))))
+      (first_jobs_among (flat_map jobs_in (first_docs_among (flat_map docs_in (list_of kept (Events 0)))))) plan.stations
   pub named : plan.named ≡ named_members (view_of kept)
   pub members : plan.members ≡ members (view_of kept)
   pub index : IsIndexOf (map (λ (p : StreamPlace). p.number) plan.doc_places.streams)

@@ -197,20 +197,4 @@ impl Owners {
     {
         self.owner_of(&o)
     }
-
-    #[tactic(auto, unfolding(model::specs::Catalogue::owner))]
-    pub(crate) fn owner_of(&self, o: &Obj) -> Option<Ws>
-        ensures { result ≡ owner (view_of self.now) o.now }
-    {
-        match o {
-            Obj::Job(j) => match self.job(*j) {
-                None => None,
-                Some(doc) => Some(doc.ws),
-            },
-            Obj::Stream(s) => match self.stream(*s) {
-                None => None,
-                Some(doc) => Some(doc.ws),
-            },
-        }
-    }
 }

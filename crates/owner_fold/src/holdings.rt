@@ -8,7 +8,7 @@ ghost use Rattle.model.specs.Words.{has, nth};
 ghost use Rattle.model.specs.History.{list_of, view_of};
 ghost use Rattle.model.specs.Turn.{ordered_command};
 ghost use Rattle.model.specs.Catalogue.{StreamJob, catalogue, has_plan, is_member, job, jobs, jobs_of_stream, members};
-ghost use Rattle.model.specs.Catalogue.{stream};
+ghost use Rattle.model.specs.Catalogue.{owner, stream};
 ghost use Rattle.model.specs.Dependencies.{cites};
 ghost use Rattle.model.specs.Forwarding.{objects_of, works_on};
 ghost use Rattle.model.specs.NewPlan.{last_job, last_stream};
@@ -31,7 +31,8 @@ use crate::pairs::{pairs_of, put_brought};
 use crate::plans::{Plan, is_planning};
 use crate::sets::Sets;
 use base_types::{
-    Body, Cmd, Copied, Entry, Feed, JobDoc, JobNo, NoMemory, StreamDoc, StreamNo, StreamNos, Ws,
+    Body, Cmd, Copied, Entry, Feed, JobDoc, JobNo, NoMemory, Obj, StreamDoc, StreamNo, StreamNos,
+    Ws,
 };
 use grouped_places::{Groups, place_in};
 use owner_rows::Kept;
@@ -222,6 +223,16 @@ impl Owners {
         match self.plan.index.jobs.place(j.0) {
             None => None,
             Some(place) => job_place_at(self.plan.doc_places.jobs.as_slice(), place),
+        }
+    }
+
+    /// The workstation of a job or stream. None outside the catalogue.
+    pub(crate) fn owner_of(&self, o: &Obj) -> Option<Ws>
+        ensures { result ≡ owner (view_of self.now) o.now }
+    {
+        match o {
+            Obj::Job(j) => self.plan.job_owner(*j),
+            Obj::Stream(s) => self.plan.stream_owner(*s),
         }
     }
 

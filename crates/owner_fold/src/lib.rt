@@ -27,6 +27,7 @@ mod pairs;
 mod plans;
 mod sets;
 mod stages;
+mod stations;
 mod timed;
 mod units;
 

@@ -1,16 +1,17 @@
 //! The plan beside the entries: where its documents stand, and its members.
 ghost use Rattle.std.specs.Prelude.{◌≡◌, ◌++◌, [], ◌∷◌, List, None, ℕ, filter, flat_map, map, true, unwrap_or, IfOk};
-ghost use Rattle.model.specs.Types.{Events};
+ghost use Rattle.model.specs.Types.{Entry as Taken, Events, Job, Stream};
 ghost use Rattle.model.specs.Words.{has};
-ghost use Rattle.model.specs.History.{list_of};
-ghost use Rattle.model.specs.Catalogue.{docs_in, members_with};
+ghost use Rattle.model.specs.History.{list_of, view_of};
+ghost use Rattle.model.specs.Catalogue.{docs_in, members_with, owner};
 ghost use Rattle.owner_fold.specs.Numbers.{ArePlaces};
 ghost use Rattle.owner_fold.specs.Plans.{is_planning, IsPlanOf};
 ghost use Rattle.owner_fold.specs.DocPlaces.{AreDocPlacesOf};
 
 use crate::doc_places::DocPlaces;
 use crate::numbers::{Index, Numbers};
-use base_types::{Body, Copied, Entry, Feed, Items, NoMemory, StreamNos};
+use crate::stations::Stations;
+use base_types::{Body, Copied, Entry, Feed, Items, JobNo, NoMemory, StreamNo, StreamNos, Ws};
 use std::alloc::Global;
 
 /// The entry is the master's plan, or a stream that it added.
@@ -30,6 +31,7 @@ pub(crate) fn is_planning(e: &Entry) -> bool
 /// The plan that a list of entries makes.
 pub(crate) struct Plan {
     pub(crate) doc_places: DocPlaces,
+    pub(crate) stations: Stations,
     /// What the last plan and the streams added to it name, None before the first plan.
     pub(crate) named: Option<StreamNos>,
     /// Those among them that the catalogue has.
@@ -46,6 +48,7 @@ impl Drop for Plan {
     fn drop(self) {
         let Plan {
             doc_places: _doc_places,
+            stations: _stations,
             named: _named,
             members: _members,
             index: _index,
@@ -62,6 +65,7 @@ impl Plan {
     {
         Plan {
             doc_places: DocPlaces::new(alloc),
+            stations: Stations::new(alloc),
             named: None,
             members: Items::new(alloc),
             index: Index::new(alloc),
@@ -82,6 +86,26 @@ impl Plan {
         ensures { result ≡ self.now.last_job }
     {
         self.last_job
+    }
+
+    /// The workstation of a stream. None outside the catalogue.
+    pub(crate) fn stream_owner(&self, s: StreamNo) -> Option<Ws>
+        ensures { (kept : List Taken) → IsPlanOf kept self.now → result ≡ owner (view_of kept) (Stream s) }
+    {
+        match self.index.streams.place(s.0) {
+            None => None,
+            Some(place) => self.stations.streams.get(place).copied(),
+        }
+    }
+
+    /// The workstation of a job. None outside the catalogue.
+    pub(crate) fn job_owner(&self, j: JobNo) -> Option<Ws>
+        ensures { (kept : List Taken) → IsPlanOf kept self.now → result ≡ owner (view_of kept) (Job j) }
+    {
+        match self.index.jobs.place(j.0) {
+            None => None,
+            Some(place) => self.stations.jobs.get(place).copied(),
+        }
     }
 
     /// What a plan and the streams added to it name after one more body.
@@ -135,6 +159,7 @@ impl Plan {
         ensures { IfOk result (λ p. IsPlanOf (entries.now ++ e.now ∷ []) p) }
     {
         let (doc_places, streams, jobs) = self.doc_places.with(&self.index.streams, entries, e)?;
+        let stations = self.stations.with(entries, e, &doc_places)?;
         let named = self.named_with(&e.body)?;
         let members = self.members_among(&named, &streams)?;
         let places = self.index.members.of_members(&members)?;
@@ -142,6 +167,7 @@ impl Plan {
         let last_job = doc_places.last_job();
         Ok(Plan {
             doc_places,
+            stations,
             named,
             members,
             index: Index {

@@ -17,6 +17,8 @@ use Rattle.model.specs.Types.{Added, Body, Canc, Clock, Cont, Declined, Ended, F
 use Rattle.model.specs.Types.{Fulfilled, Late, Launched, Lost, NewPlan, Obeyed, Obj, Order, Released, Started}
 use Rattle.model.specs.Types.{StreamDoc, StreamEnded, Suppr, UntilPassed}
 use Rattle.model.specs.Catalogue.{docs_in, members_with}
+use Rattle.owner_fold.specs.Plans.{is_planning_body}
+use Rattle.owner_fold.proofs.Planless.{no_docs, no_names}
 use Rattle.model.specs.Outcomes.{Outcome}
 use Rattle.model.specs.Facts.{LastLaunch, commands, end_of, first_end, is_cancel_of, is_cancelled, is_cancelling}
 use Rattle.model.specs.Facts.{is_confirm_of, is_due, is_end_of, is_ended, is_good, is_good_end, is_launch_of, is_open, is_rerun_of}
@@ -30,43 +32,24 @@ use Rattle.ready_index.specs.Changes.{change_by}
 abbrev pub IsSmall : Body → Type 0
 IsSmall b = change_by b ≢ Everything
 
--- it brings no document
-no_docs : (b : Body) → IsSmall b → docs_in b ≡ []
-no_docs (NewPlan run cut carried docs) h = absurd (h refl)
-no_docs (Added a k doc) h = absurd (h refl)
-no_docs (Clock t) h = refl
-no_docs (Released s seen) h = refl
-no_docs (StreamEnded s seen) h = refl
-no_docs (UntilPassed p i mark) h = refl
-no_docs (Launched j n seen) h = refl
-no_docs (Started j n) h = refl
-no_docs (Failed j n) h = refl
-no_docs (Ended j n rc good) h = refl
-no_docs (Lost j n) h = refl
-no_docs (Fulfilled p i) h = refl
-no_docs (Obeyed a k c) h = refl
-no_docs (Declined a k why) h = refl
-no_docs (Order c) h = refl
-no_docs (Late p i) h = refl
-
--- it names no member
-no_names : (so_far : Option (List ℕ)) (b : Body) → IsSmall b → members_with so_far b ≡ so_far
-no_names so_far (NewPlan run cut carried docs) h = absurd (h refl)
-no_names so_far (Added a k doc) h = absurd (h refl)
-no_names so_far (Clock t) h = refl
-no_names so_far (Released s seen) h = refl
-no_names so_far (StreamEnded s seen) h = refl
-no_names so_far (UntilPassed p i mark) h = refl
-no_names so_far (Launched j n seen) h = refl
-no_names so_far (Started j n) h = refl
-no_names so_far (Failed j n) h = refl
-no_names so_far (Ended j n rc good) h = refl
-no_names so_far (Lost j n) h = refl
-no_names so_far (Fulfilled p i) h = refl
-no_names so_far (Obeyed a k c) h = refl
-no_names so_far (Declined a k why) h = refl
-no_names so_far (Order c) h = refl
-no_names so_far (Late p i) h = refl
+-- it is no plan, and no stream that is added
+no_plan : (b : Body) → IsSmall b → is_planning_body b ≡ false
+no_plan (NewPlan run cut carried docs) h = absurd (h refl)
+no_plan (Added a k doc) h = absurd (h refl)
+no_plan (Clock t) h = refl
+no_plan (Released s seen) h = refl
+no_plan (StreamEnded s seen) h = refl
+no_plan (UntilPassed p i mark) h = refl
+no_plan (Launched j n seen) h = refl
+no_plan (Started j n) h = refl
+no_plan (Failed j n) h = refl
+no_plan (Ended j n rc good) h = refl
+no_plan (Lost j n) h = refl
+no_plan (Fulfilled p i) h = refl
+no_plan (Obeyed a k c) h = refl
+no_plan (Declined a k why) h = refl
+no_plan (Order c) h = refl
+no_plan (Late p i) h = refl
 
 -- it obeys no command
 no_command : (b : Body) → IsSmall b → obeyed_command b ≡ None
@@ -111,11 +94,11 @@ no_cancelling o (Late p i) h = refl
 pub docs_same : (b : Body) → IsSmall b → (l : List Body) → flat_map docs_in (l ++ b ∷ []) ≡ flat_map docs_in l
 docs_same b h l =
     flat_map-append docs_in l (b ∷ [])
-    ∙ ap (λ (ds : List StreamDoc). flat_map docs_in l ++ (ds ++ [])) (no_docs b h) ∙ append-nil (flat_map docs_in l)
+    ∙ ap (λ (ds : List StreamDoc). flat_map docs_in l ++ (ds ++ [])) (no_docs b (no_plan b h)) ∙ append-nil (flat_map docs_in l)
 
 pub names_same : (b : Body) → IsSmall b → (l : List Body)
     → fold members_with None (l ++ b ∷ []) ≡ fold members_with None l
-names_same b h l = fold-append members_with None l (b ∷ []) ∙ no_names (fold members_with None l) b h
+names_same b h l = fold-append members_with None l (b ∷ []) ∙ no_names (fold members_with None l) b (no_plan b h)
 
 pub commands_same : (b : Body) → IsSmall b → (l : List Body) → commands (l ++ b ∷ []) ≡ commands l
 unfolding commands

@@ -130,3 +130,28 @@ heard_fed streams x i old new bytes fed first there frames bad takes heard are =
       heard_at streams x i (record { ws = old.ws; decoder = new }) (heard_more (heard x) bytes fed.frames) heard first its
           (takes (heard x).bytes (heard x).frames took) are,
     )
+
+-- and where it took nothing, all is as it was
+pub heard_still : (streams : List Stream) (x i : ℕ) (old : Stream) (new : Decoding) (heard : ℕ → Heard)
+    → IsFirst streams x i → old ≡ get_or streams i old → new ≡ old.decoder → AreHeard streams heard
+    → AreHeard (slice_set streams i (record { ws = old.ws; decoder = new })) heard
+heard_still streams x i old new heard first there still are v =
+    subst (IsHeardBy (stream_of (slice_set streams i (record { ws = old.ws; decoder = new })) v)) (kept v)
+    (heard_at streams x i (record { ws = old.ws; decoder = new }) (heard x) heard first its took are v)
+  where
+    same : first.stream ≡ old
+    same = sym (there ∙ get_or_from_slice_get streams i first.stream old first.there)
+
+    its : old.ws ≡ x
+    its = ap (λ (s : Stream). s.ws) (sym same) ∙ first.its
+
+    took : Took new (heard x).bytes (heard x).frames
+    took =
+        subst (λ (d : Decoding). Took d (heard x).bytes (heard x).frames)
+        (ap (λ (s : Stream). s.decoder) same ∙ sym still) (took_at streams x i heard first are)
+
+    kept : (v : ℕ) → with_at x (heard x) heard v ≡ heard v
+    kept v = elim (eqb_tells v x) [
+      | inl e ↦ ap (λ (b : Bool). cond b (heard x) (heard v)) e.0 ∙ ap heard (sym e.1)
+      | inr e ↦ ap (λ (b : Bool). cond b (heard x) (heard v)) e.0
+    ]

@@ -1,5 +1,5 @@
 //! What came over each link since it began.
-ghost use Rattle.std.specs.Prelude.{ℕ, IfOk, OnOk, Some};
+ghost use Rattle.std.specs.Prelude.{ℕ, IfOk, OnErr, Some};
 ghost use Rattle.model.specs.Words.{with_at};
 ghost use Rattle.link_streams.specs.Heard.{AreHeard, Completes, Heard, heard_more, nothing_heard};
 ghost use Rattle.link_streams.specs.Placed.{IsPlace};
@@ -58,7 +58,7 @@ impl Streams {
     /// The place of a workstation's stream, which is begun where there is none.
     fn place_or_new(&mut self, x: Ws) -> Result<usize, NoMemory>
         ensures place { IfOk result (λ i. IsPlace self.new x (Some i)) }
-        ensures heard { OnOk result ((heard : ℕ → Heard) → AreHeard self.old heard → AreHeard self.new heard) }
+        ensures heard { (heard : ℕ → Heard) → AreHeard self.old heard → AreHeard self.new heard }
     {
         if let Some(i) = self.place(x) {
             return Ok(i);
@@ -86,9 +86,10 @@ impl Streams {
 
     /// Takes bytes of a workstation. Where memory runs out none of them is taken, and they can be fed again.
     pub fn feed(&mut self, x: Ws, bytes: &[u8]) -> Result<Fed, NoMemory>
-        ensures { IfOk result (λ fed. (heard : ℕ → Heard) → AreHeard self.old heard →
+        ensures taken { IfOk result (λ fed. (heard : ℕ → Heard) → AreHeard self.old heard →
             Completes (heard x) bytes.now fed.frames fed.bad
             × AreHeard self.new (with_at x (heard_more (heard x) bytes.now fed.frames) heard)) }
+        ensures err { OnErr result ((heard : ℕ → Heard) → AreHeard self.old heard → AreHeard self.new heard) }
     {
         let i = self.place_or_new(x)?;
         match self.list.get_mut(i) {

@@ -32,12 +32,12 @@ take_frames-requires-clause-frames g c =
     let fed = c.in_ok-fed.fed in
     let same : c.as_slice.result.now ≡ fed.frames = search rules in
     subst (λ (l : List Frame). All IsFrame l) (sym same)
-    (frames_complete (heard c.args.x) c.args.bytes.now fed.frames fed.bad (c.in_ok-fed.ensures heard c.requires.heard.1).0)
+    (frames_complete (heard c.args.x) c.args.bytes.now fed.frames fed.bad (c.in_ok-fed.ensures.taken heard c.requires.heard.1).0)
 
 pub returns-clause-does : goal.returns-clause-does
 returns-clause-does g c = λ heard asked clock files h.
     let fed = c.in_ok-fed.fed in
-    let both = c.in_ok-fed.ensures heard h in
+    let both = c.in_ok-fed.ensures.taken heard h in
     let wrong : c.is_some.result ≡ is_some fed.bad = search rules in
     let same : c.as_slice.result.now ≡ fed.frames = search rules in (
       with_at c.args.x (heard_more (heard c.args.x) c.args.bytes.now fed.frames) heard,
@@ -51,4 +51,4 @@ returns-clause-heard g c =
     let heard = c.requires.heard.0 in
     let fed = c.in_ok-fed.fed in
     on_ok c.take_frames.result
-    (with_at c.args.x (heard_more (heard c.args.x) c.args.bytes.now fed.frames) heard, (c.in_ok-fed.ensures heard c.requires.heard.1).1)
+    (with_at c.args.x (heard_more (heard c.args.x) c.args.bytes.now fed.frames) heard, (c.in_ok-fed.ensures.taken heard c.requires.heard.1).1)

@@ -4,12 +4,12 @@ use Rattle.std.proofs.Common.{ap, arith, bytes_eq, cond, drop, eqb, false, find,
 use Rattle.std.proofs.Common.{option_and_then, option_map, subst, sym, take, true}
 use Rattle.std.proofs.lemmas.Bool.Decides.{eqb_tells}
 use Rattle.std.proofs.lemmas.List.{drop_more, map-append, reverse-append, take_more}
-use Rattle.std.specs.Cmp.Lexicographic.{bytes_decides}
 use Rattle.std.specs.List.{enumerate_from}
 use Rattle.std.specs.Prelude.{reverse}
 use Rattle.std.specs.Map.{lookup}
 use Rattle.std.specs.Option.{option_copied, option_or}
 use Rattle.indexmap.specs.IndexMap.{insert_entry}
+use Rattle.name_keys.proofs.Inserted.{are_one_key, key_inserted, key_of, name_inserted}
 use Rattle.model.specs.Types.{JobDoc, JobDraft, StreamDoc}
 use Rattle.model.specs.Equalities.{text_eq}
 use Rattle.model.specs.NewPlan.{Fresh, Named, NamedJob, is_named, named_doc, named_fresh, resolve_job, resolve_stream}
@@ -31,94 +31,13 @@ text_bytes [] (y ∷ ys) = refl
 text_bytes (x ∷ xs) [] = refl
 text_bytes (x ∷ xs) (y ∷ ys) = λ j. eqb_flip x y j && text_bytes xs ys j
 
--- a query finds what is inserted at its key, and all else that it found before
-module _ {K X A : Type 0} (f : K → A) (same : A → A → Bool) (tells : (a b : A) → same a b ≡ true → a ≡ b)
-    (itself : (a : A) → same a a ≡ true) where
-  collapse : (c : Bool) (x y z : Option X) → cond c z y ≡ cond c z (cond c x y)
-  collapse true x y z = refl
-  collapse false x y z = refl
-
-  swapped : (a : A) (k l : K) (x y z : Option X) → same (f k) (f l) ≡ false
-      → cond (same a (f l)) x (cond (same a (f k)) y z) ≡ cond (same a (f k)) y (cond (same a (f l)) x z)
-  swapped a k l x y z apart = go (same a (f k)) (same a (f l)) refl refl
-    where
-      go : (b c : Bool) → same a (f k) ≡ b → same a (f l) ≡ c → cond c x (cond b y z) ≡ cond b y (cond c x z)
-      go true true p q =
-          let one : f k ≡ f l = sym (tells a (f k) p) ∙ tells a (f l) q in
-          let both : same (f k) (f l) ≡ true = ap (same (f k)) (sym one) ∙ itself (f k) in
-          absurd (cc)
-      go true false p q = refl
-      go false true p q = refl
-      go false false p q = refl
-
-  pub inserted : (a : A) (es : List (K × X)) (k : K) (v : X)
-      → lookup (λ (l : K). same a (f l)) (insert_entry (λ (p q : K). same (f p) (f q)) es k v)
-      ≡ cond (same a (f k)) (Some v) (lookup (λ (l : K). same a (f l)) es)
-  inserted a [] k v = refl
-  inserted a (e ∷ es) k v = go (same (f k) (f e.0)) refl (inserted a es k v)
-    where
-      go : (b : Bool) → same (f k) (f e.0) ≡ b
-          → lookup (λ (l : K). same a (f l)) (insert_entry (λ (p q : K). same (f p) (f q)) es k v)
-          ≡ cond (same a (f k)) (Some v) (lookup (λ (l : K). same a (f l)) es)
-          → lookup (λ (l : K). same a (f l))
-          (cond b ((e.0, v) ∷ es) (e ∷ insert_entry (λ (p q : K). same (f p) (f q)) es k v))
-          ≡ cond (same a (f k)) (Some v)
-          (cond (same a (f e.0)) (Some e.1) (lookup (λ (l : K). same a (f l)) es))
-      go true q h =
-          collapse (same a (f e.0)) (Some e.1) (lookup (λ (l : K). same a (f l)) es) (Some v)
-          ∙ ap (λ (t : A). cond (same a t) (Some v)
-          (cond (same a (f e.0)) (Some e.1) (lookup (λ (l : K). same a (f l)) es)))
-          (sym (tells (f k) (f e.0) q))
-      go false q h =
-          ap (cond (same a (f e.0)) (Some e.1)) h
-          ∙ swapped a k e.0 (Some e.1) (Some v) (lookup (λ (l : K). same a (f l)) es) q
-
--- texts
-text_tells : (a b : List ℕ) → bytes_eq a b ≡ true → a ≡ b
-text_tells a b h = (bytes_decides a b).0 h
-
-text_itself : (a : List ℕ) → bytes_eq a a ≡ true
-text_itself a = (bytes_decides a a).1 refl
-
-abbrev pub text_of : Bor (List ℕ) → List ℕ
-text_of k = k.now
-
--- workstations with names
-abbrev pub key_of : ℕ × Bor (List ℕ) → ℕ × List ℕ
-key_of k = (k.0, k.1.now)
-
-abbrev pub are_one_key : ℕ × List ℕ → ℕ × List ℕ → Bool
-are_one_key a b = eqb a.0 b.0 && bytes_eq a.1 b.1
-
-key_tells : (a b : ℕ × List ℕ) → are_one_key a b ≡ true → a ≡ b
-key_tells a b h = go (eqb_tells a.0 b.0)
-  where
-    first : (p q : Bool) → (p && q) ≡ true → p ≡ true
-    first true q h = refl
-    first false q h = cc
-
-    second : (p q : Bool) → (p && q) ≡ true → q ≡ true
-    second true q h = h
-    second false q h = cc
-
-    go : ((eqb a.0 b.0 ≡ true) × (a.0 ≡ b.0)) ⊎ ((eqb a.0 b.0 ≡ false) × (a.0 ≢ b.0)) → a ≡ b
-    go (inl e) = λ j. (e.1 j, text_tells a.1 b.1 (second (eqb a.0 b.0) (bytes_eq a.1 b.1) h) j)
-    go (inr e) = absurd (let t : eqb a.0 b.0 ≡ true = first (eqb a.0 b.0) (bytes_eq a.1 b.1) h in cc)
-
-key_itself : (a : ℕ × List ℕ) → are_one_key a a ≡ true
-key_itself a = go (eqb_tells a.0 a.0)
-  where
-    go : ((eqb a.0 a.0 ≡ true) × (a.0 ≡ a.0)) ⊎ ((eqb a.0 a.0 ≡ false) × (a.0 ≢ a.0)) → are_one_key a a ≡ true
-    go (inl e) = λ j. e.0 j && text_itself a.1 j
-    go (inr e) = absurd (e.1 refl)
-
 -- one more job, which comes before the others
 pub jobs_more : (es new : List (Bor (List ℕ) × ℕ)) (k : Bor (List ℕ)) (number : ℕ)
     → new ≡ insert_entry (λ (p q : Bor (List ℕ)). bytes_eq p.now q.now) es k number
     → (jobs : List NamedJob) → AreJobsOf es jobs → AreJobsOf new (named_job k.now number ∷ jobs)
 jobs_more es new k number grown jobs h name =
     ap (λ (l : List (Bor (List ℕ) × ℕ)). job_at l name) grown
-    ∙ (inserted text_of bytes_eq text_tells text_itself name es k number
+    ∙ (name_inserted es k number name
     ∙ (ap (λ (b : Bool). cond b (Some number) (job_at es name)) (sym (text_bytes k.now name))
     ∙ go (text_eq k.now name) (h name)))
   where
@@ -156,19 +75,16 @@ drafts_at es new drafts first i n job j next low at is more h =
     (sym (drop_more drafts i job low ∙ (λ p. sym at p ∷ drop (next p) drafts))))
     (more rest (subst (λ (m : ℕ). AreJobsOf es (numbered_jobs (enumerate_from m (drop n drafts)))) on h))
 
-abbrev are_one : ℕ × Bor (List ℕ) → ℕ × Bor (List ℕ) → Bool
-are_one p q = are_one_key (key_of p) (key_of q)
-
 -- the index after one more stream at its key
 module _ (es new : List ((ℕ × Bor (List ℕ)) × Target)) (k : ℕ × Bor (List ℕ)) (t : Target)
-    (grown : new ≡ insert_entry are_one es k t) where
+    (grown : new ≡ insert_entry (λ (p q : ℕ × Bor (List ℕ)). are_one_key (key_of p) (key_of q)) es k t) where
   put : (s : Named) → k.0 ≡ s.ws → k.1.now ≡ s.name → (w : ℕ) (name : List ℕ)
       → told_at new w name
       ≡ option_map told_target
       (cond (is_named w name s) (Some t) (lookup (λ (l : ℕ × Bor (List ℕ)). are_one_key (w, name) (key_of l)) es))
   put s ws named w name =
       ap (λ (l : List ((ℕ × Bor (List ℕ)) × Target)). told_at l w name) grown
-      ∙ (ap (option_map told_target) (inserted key_of are_one_key key_tells key_itself (w, name) es k t)
+      ∙ (ap (option_map told_target) (key_inserted es k t (w, name))
       ∙ ap (λ (b : Bool). option_map told_target
       (cond b (Some t) (lookup (λ (l : ℕ × Bor (List ℕ)). are_one_key (w, name) (key_of l)) es)))
       (λ j. (eqb_flip w k.0 ∙ ap (λ (v : ℕ). eqb v w) ws) j

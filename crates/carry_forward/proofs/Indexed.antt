@@ -1,5 +1,5 @@
 -- An index of names, one job or stream further.
-use Rattle.std.proofs.Common.{[], ℕ, ◌&&◌, ◌+◌, ◌++◌, ◌<◌, ◌∙◌, ◌∷◌, ◌≡◌, ◌≢◌, ◌⊎◌, Bool, Bor, List, None, Option, Some}
+use Rattle.std.proofs.Common.{[], ℕ, ◌&&◌, ◌+◌, ◌++◌, ◌<◌, ◌∙◌, ◌∷◌, ◌≡◌, Bool, Bor, List, None, Option, Some}
 use Rattle.std.proofs.Common.{ap, arith, bytes_eq, cond, drop, eqb, false, find, get_or, inl, inr, length, map, refl}
 use Rattle.std.proofs.Common.{option_and_then, option_map, subst, sym, take, true}
 use Rattle.std.proofs.lemmas.Bool.Decides.{eqb_tells}

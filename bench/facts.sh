@@ -19,7 +19,8 @@ echo 'facts_bench: base_types owner_fold' >> "$copy/crates.txt"
 
 cat > "$copy/crates/facts_bench/src/main.rt" <<'PROGRAM'
 //! Takes a plan of 4,096 streams with four jobs each. One word makes it take 100,000 starts of its jobs too, two words
-//! ask a million facts of jobs, and three as many memberships.
+//! ask a million facts of jobs, and three as many memberships. Four
+//! words take 100,000 launches, and five ask a million facts behind them.
 #![tactic(auto)]
 
 use base_types::{
@@ -93,6 +94,14 @@ fn takes(owners: &mut Owners) -> Result<(), NoMemory> {
     Ok(())
 }
 
+fn launches(alloc: Global, owners: &mut Owners) -> Result<(), NoMemory> {
+    for i in 0..100_000u32 {
+        let seen = Seen::new(alloc);
+        take(owners, Body::Launched(JobNo(i % 16384), i, seen))?;
+    }
+    Ok(())
+}
+
 fn facts(owners: &Owners) -> u64 {
     let mut due: u64 = 0;
     for i in 0..1_000_000u32 {
@@ -120,7 +129,10 @@ fn run(alloc: Global, words: usize) -> Result<u64, NoMemory> {
     if words == 2 {
         takes(&mut owners)?;
     }
-    if words == 3 {
+    if words >= 5 {
+        launches(alloc, &mut owners)?;
+    }
+    if words == 3 || words == 6 {
         return Ok(facts(&owners));
     }
     if words == 4 {
@@ -160,3 +172,5 @@ measure 'a plan alone, entries'
 measure 'and 100,000 takes, entries' takes
 measure 'and a million facts, due jobs' ask facts
 measure 'and a million memberships, members' ask for members
+measure 'and 100,000 launches, entries' take launches of jobs
+measure 'and 100,000 launches and a million facts, due jobs' ask facts of launched jobs

@@ -9,6 +9,7 @@
 #![tactic(auto)]
 
 mod asked;
+mod audits;
 mod decisions;
 mod entries;
 mod facts;

@@ -1,5 +1,6 @@
 //! Which question it is.
 use crate::asked::Asked;
+use crate::audits::ask_audit;
 use crate::decisions::{ask_best, decision};
 use crate::facts::fact;
 use crate::groups::ask_groups;
@@ -53,6 +54,7 @@ fn ask_worked(night: &Night, out: &mut Out, asked: &Asked) -> bool {
     ask_best(night, out, asked)
         || ask_orders(night, out, asked)
         || ask_symphony(night, out, asked)
+        || ask_audit(night, out, asked)
         || ask_entry(night, out, asked)
 }
 

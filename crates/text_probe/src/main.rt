@@ -18,6 +18,7 @@ mod entry_words;
 mod escapes;
 mod field_words;
 mod frame_words;
+mod history_words;
 mod outs;
 mod record_words;
 mod reply_words;
@@ -61,6 +62,7 @@ fn tell_of_records(out: &mut Out, word: &str, text: &str) {
         "are_in_range" => record_words::put_ranges(out, text),
         "record_fault" => record_words::put_record_fault(out, text),
         "read_script" => record_words::put_read(out, text),
+        "print_history" => history_words::put_history(out, text),
         "dates" | "runs_on" | "workload" => workload_words::put_of_definitions(out, text),
         _ => tell_more(out, word, text),
     }

@@ -1,4 +1,5 @@
-//! Asks public functions of the layers of languages, bytes, plans and records, for the cases of the repository.
+//! Asks public functions of the layers of languages, bytes, plans, records and histories, for the cases of the
+//! repository.
 //!
 //! Each line of the input is a word, a space, and an argument up to the end of the line. The word names a function, and
 //! the argument is what it is asked of; `\n`, `\r`, `\t`, `\\` and `\xNN` stand in it for a byte each. What the function

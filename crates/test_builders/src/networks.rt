@@ -23,13 +23,6 @@ pub const TWO_AGENTS: [NodeRow; 3] = [
     ("Q", Some(0), false, true),
 ];
 
-/// The master M, the manager D below it, and its agent L.
-pub const DOMAIN: [NodeRow; 3] = [
-    ("M", None, true, true),
-    ("D", Some(0), true, false),
-    ("L", Some(1), false, false),
-];
-
 /// A workstation.
 pub fn node(alloc: Global, row: &NodeRow) -> Result<Node, NoMemory> {
     let hop = match row.1 {

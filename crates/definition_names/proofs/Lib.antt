@@ -1,4 +1,4 @@
 pub mod Masters
-pub mod Inserted
+mod Inserted
 pub mod Steps
 pub mod StreamsPut

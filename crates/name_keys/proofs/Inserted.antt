@@ -26,7 +26,7 @@ module _ {K X A : Type 0} (f : K → A) (same : A → A → Bool) (tells : (a b 
       go false true p q = refl
       go false false p q = refl
 
-  inserted : (a : A) (es : List (K × X)) (k : K) (v : X)
+  pub inserted : (a : A) (es : List (K × X)) (k : K) (v : X)
       → lookup (λ (l : K). same a (f l)) (insert_entry (λ (p q : K). same (f p) (f q)) es k v)
       ≡ cond (same a (f k)) (Some v) (lookup (λ (l : K). same a (f l)) es)
   inserted a [] k v = refl
@@ -49,10 +49,10 @@ module _ {K X A : Type 0} (f : K → A) (same : A → A → Bool) (tells : (a b 
           ∙ swapped a k e.0 (Some e.1) (Some v) (lookup (λ (l : K). same a (f l)) es) q
 
 -- names
-text_tells : (a b : List ℕ) → bytes_eq a b ≡ true → a ≡ b
+pub text_tells : (a b : List ℕ) → bytes_eq a b ≡ true → a ≡ b
 text_tells a b h = (bytes_decides a b).0 h
 
-text_itself : (a : List ℕ) → bytes_eq a a ≡ true
+pub text_itself : (a : List ℕ) → bytes_eq a a ≡ true
 text_itself a = (bytes_decides a a).1 refl
 
 abbrev pub text_of : Bor (List ℕ) → List ℕ

@@ -5,21 +5,14 @@ use Rattle.std.proofs.lemmas.Bool.Decides.{eqb_tells}
 use Rattle.std.proofs.Common.{All}
 use Rattle.std.proofs.Math.ListN.{get_or-map}
 use Rattle.std.proofs.lemmas.List.{append-nil, append_assoc, drop_more, length-map, length-take-le, map-append, take-map, take_more}
-use Rattle.std.specs.Cmp.Lexicographic.{bytes_decides}
 use Rattle.std.specs.List.{enumerate_from, position_from}
 use Rattle.indexmap.specs.IndexMap.{insert_entry}
 use Rattle.composer_parser.specs.declared.CpuDef.{CpuDef}
 use Rattle.composer_parser.specs.declared.Defs.{Defs}
 use Rattle.composer_parser.specs.declared.Lined.{Lined}
-use Rattle.definition_names.proofs.Inserted.{inserted}
+use Rattle.name_keys.proofs.Inserted.{inserted, text_itself, text_tells}
 use Rattle.workload_defs.specs.Stations.{is_that, one_of, those}
 use Rattle.workload_defs.specs.Tables.{cpus_seen, name_of, number_at, number_in}
-
-text_tells : (a b : List ℕ) → bytes_eq a b ≡ true → a ≡ b
-text_tells a b h = (bytes_decides a b).0 h
-
-text_itself : (a : List ℕ) → bytes_eq a a ≡ true
-text_itself a = (bytes_decides a a).1 refl
 
 -- a name
 pub name_put : (es new : List (List ℕ × ℕ)) (k : List ℕ) (n : ℕ)

@@ -5,6 +5,7 @@ use base_types::{NoMemory, Text};
 use real_outside::{ChildSpawner, FileDisk, FileProber, SystemClock, TcpLink};
 use standard_streams::{StdSink, StdSource};
 use std::alloc::{AllocError, Global};
+use std::io::ErrorKind;
 use std::process::ExitCode;
 use std::rt::Env;
 use std::{env, io};
@@ -16,8 +17,10 @@ const NO_MEMORY: u8 = 9;
 fn words(rt: &(impl Env + AllocGlobal)) -> Result<Vec<Text>, AllocError> {
     let alloc = rt.alloc();
     let mut words = Vec::new(alloc);
-    let Ok(args) = env::args(rt) else {
-        return Ok(words);
+    let args = match env::args(rt) {
+        Ok(args) => args,
+        Err(fault) if fault.kind() == ErrorKind::OutOfMemory => return Err(AllocError),
+        Err(_) => return Ok(words),
     };
     for word in args.skip(1) {
         words.push(Text::from_string(word))?;

@@ -1,5 +1,5 @@
 //! Short lists.
-use base_types::{Items, NoMemory, StreamNo, StreamNos};
+use base_types::{Items, NoMemory};
 use std::alloc::Global;
 
 /// A list of one item.
@@ -14,15 +14,6 @@ pub fn listed<T: Copy + Drop>(alloc: Global, items: &[T]) -> Result<Items<T>, No
     let mut list = Items::new(alloc);
     for item in items {
         list.push(*item)?;
-    }
-    Ok(list)
-}
-
-/// Streams by their numbers.
-pub fn stream_nos(alloc: Global, numbers: &[u32]) -> Result<StreamNos, NoMemory> {
-    let mut list = Items::new(alloc);
-    for number in numbers {
-        list.push(StreamNo(*number))?;
     }
     Ok(list)
 }

@@ -1,34 +1,12 @@
-//! Each public function of `base_types` on its happy path, and copies of what has many kinds.
+//! Each public function of `base_types` on its happy path, and copies. Those of entries are told by the cases
+//! `text_entries_*`.
 use base_types::{
-    Carry, Copied, Feed, Growing, Items, JobNo, Local, Moment, Obj, OnUntil, Out, Packet, Peer,
-    Seen, Text, Why, WorldStep, Ws, is_name,
+    Carry, Copied, Feed, Growing, Items, JobNo, Local, Moment, Obj, Out, Packet, Peer, Seen, Text,
+    WorldStep, Ws, is_name,
 };
 use std::alloc::Global;
 use std::test::Fail;
-use test_builders::{
-    Asks, DraftWaits, JobRow, NodeRow, ObjRow, Says, StreamDraftRow, StreamRow, Waits, body,
-    drafts, net,
-};
-
-const JOB: JobRow = (
-    7,
-    1,
-    "PAYROLL",
-    10,
-    &[
-        Waits::Job(3),
-        Waits::Stream(4),
-        Waits::Units(1, 2),
-        Waits::Global(1),
-        Waits::Own("ready?"),
-        Waits::At(5),
-        Waits::Until(6, OnUntil::Canc),
-        Waits::File("/in/day"),
-        Waits::Deadline(9),
-    ],
-);
-
-const STREAM: StreamRow = (2, 0, "NIGHT", true, &[Waits::At(1)], &[JOB]);
+use test_builders::{DraftWaits, NodeRow, StreamDraftRow, Waits, drafts, net};
 
 const DRAFT: StreamDraftRow = (
     0,
@@ -44,74 +22,6 @@ const DRAFT: StreamDraftRow = (
         ],
     )],
 );
-
-const JOB_1: ObjRow = ObjRow::Job(1);
-
-const STREAM_2: ObjRow = ObjRow::Stream(2);
-
-/// What a workstation decides and sees.
-static EVENTS: [Says; 15] = [
-    Says::NewPlan(2, &[(0, 5), (1, 3)], &[1, 4], &[STREAM]),
-    Says::Added(1, 2, &STREAM),
-    Says::Clock(100),
-    Says::Released(2, &[(0, 1)]),
-    Says::StreamEnded(2, &[(0, 9)]),
-    Says::UntilPassed(JOB_1, 1, OnUntil::Suppr),
-    Says::Launched(7, 1, &[(0, 6)]),
-    Says::Started(7, 1),
-    Says::Failed(7, 1),
-    Says::Ended(7, 1, 0),
-    Says::EndedAs(7, 2, -4, true),
-    Says::Lost(7, 1),
-    Says::Fulfilled(STREAM_2, 3),
-    Says::Declined(1, 2, Why::NotBuilt),
-    Says::Late(JOB_1, 9),
-];
-
-/// Orders of every command.
-static ORDERS: [Says; 18] = [
-    Says::Order(Asks::AddDep(JOB_1, Waits::Own("go?"))),
-    Says::Order(Asks::DelDep(STREAM_2, 1)),
-    Says::Order(Asks::Release(JOB_1)),
-    Says::Order(Asks::AltPri(STREAM_2, 101)),
-    Says::Order(Asks::Cancel(JOB_1)),
-    Says::Order(Asks::Confirm(1)),
-    Says::Order(Asks::Kill(1)),
-    Says::Order(Asks::Rerun(1)),
-    Says::Obeyed(1, 2, Asks::Fence(100)),
-    Says::Obeyed(1, 2, Asks::Limit(3)),
-    Says::Obeyed(1, 2, Asks::StreamLimit(2, 3)),
-    Says::Obeyed(1, 2, Asks::Total(1, 1024)),
-    Says::Obeyed(1, 2, Asks::ReplyGlobal(1, true)),
-    Says::Obeyed(1, 2, Asks::ReplyOwn(JOB_1, 1, false)),
-    Says::Order(Asks::Start),
-    Says::Order(Asks::Stop),
-    Says::Order(Asks::Submit(&DRAFT)),
-    Says::Order(Asks::SwitchMgr(1)),
-];
-
-/// Whether the body can be copied. That the copy is equal is proved.
-fn is_copied(alloc: Global, says: &Says) -> Result<bool, Fail> {
-    let body = body(alloc, says)?;
-    Ok(body.copy().is_ok())
-}
-
-/// How many of the bodies can be copied, up to the first that cannot.
-fn copied(alloc: Global, rows: &[Says]) -> Result<usize, Fail> {
-    for (i, says) in rows.iter().enumerate() {
-        if !is_copied(alloc, says)? {
-            return Ok(i);
-        }
-    }
-    Ok(rows.len())
-}
-
-#[test]
-fn copies_of_bodies(rt: HostRuntime) -> Result<(), Fail> {
-    assert_eq!(rt; copied(rt.alloc(), &EVENTS)?, 15);
-    assert_eq!(rt; copied(rt.alloc(), &ORDERS)?, 18);
-    Ok(())
-}
 
 fn equals_its_copy(text: &Text) -> Result<bool, Fail> {
     Ok(text.copy()? == *text)

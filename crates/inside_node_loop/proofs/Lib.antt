@@ -1,0 +1,4 @@
+pub mod Turning
+pub mod Parts
+pub mod Inputs
+pub mod Advising

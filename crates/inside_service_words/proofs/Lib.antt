@@ -1,0 +1,3 @@
+mod Telling
+mod Stations
+mod Coming

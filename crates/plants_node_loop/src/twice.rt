@@ -1,0 +1,312 @@
+//! Bodies of a run.
+ghost use Rattle.std.specs.Prelude.{◌≡◌, Some};
+ghost use Rattle.model.specs.Sessions.{restarted};
+ghost use Rattle.agent_core.specs.Nodes.{session_in};
+ghost use Rattle.node_keeping.specs.Keeping.{IsReady};
+ghost use Rattle.node_inputs.specs.Doings.{Does};
+ghost use Rattle.node_lines.specs.Lines.{HasFitPlans};
+ghost use Rattle.node_loop.specs.Runs.{Run, Running, running};
+ghost use Rattle.node_inputs.specs.Stepping.{AreKeepable};
+ghost use Rattle.node_inputs.specs.Tellings.{told_by};
+
+use agent_core::Agent;
+use base_types::{Input, Local};
+use file_watch::Prober;
+use node_inputs::take;
+use node_loop::{NodeEnd, run_node};
+use outside::{Clock, Keeper, Link, Spawner};
+use std::alloc::Global;
+use workload_defs::Workload;
+
+pub fn run_bug_twice<K: Keeper, L: Link, J: Spawner, C: Clock, F: Prober>(
+    alloc: Global,
+    agent: &mut Agent,
+    workload: &Workload,
+    keeper: &mut K,
+    link: &mut L,
+    jobs: &mut J,
+    clock: &mut C,
+    turns: u32,
+    files: &mut F,
+) -> NodeEnd
+    requires fresh { session_in agent.old ≡ restarted }
+    requires keepable { AreKeepable agent.old.kept }
+    requires ready { IsReady K.kept K.spent K.may_leave keeper.old }
+    requires plans { HasFitPlans workload.now }
+    ensures run { (after : Running) × (after.node ≡ agent.new)
+        × Does K.kept K.size K.faults K.moment K.may_leave K.left_since K.opens_since (Run workload.now turns)
+        (running agent.old) after keeper.old keeper.new
+        (told_by (L.calls link.old) (J.calls jobs.old) (C.readings clock.old) (F.asked files.old))
+        (told_by (L.calls link.new) (J.calls jobs.new) (C.readings clock.new) (F.asked files.new)) (Some result) }
+{
+    let _end = run_node(
+        alloc, agent, workload, keeper, link, jobs, clock, turns, files,
+    );
+    run_node(
+        alloc, agent, workload, keeper, link, jobs, clock, turns, files,
+    )
+}
+
+pub fn run_bug_twice_with_a_restart<K: Keeper, L: Link, J: Spawner, C: Clock, F: Prober>(
+    alloc: Global,
+    agent: &mut Agent,
+    workload: &Workload,
+    keeper: &mut K,
+    link: &mut L,
+    jobs: &mut J,
+    clock: &mut C,
+    turns: u32,
+    files: &mut F,
+) -> NodeEnd
+    requires fresh { session_in agent.old ≡ restarted }
+    requires keepable { AreKeepable agent.old.kept }
+    requires ready { IsReady K.kept K.spent K.may_leave keeper.old }
+    requires plans { HasFitPlans workload.now }
+    ensures run { (after : Running) × (after.node ≡ agent.new)
+        × Does K.kept K.size K.faults K.moment K.may_leave K.left_since K.opens_since (Run workload.now turns)
+        (running agent.old) after keeper.old keeper.new
+        (told_by (L.calls link.old) (J.calls jobs.old) (C.readings clock.old) (F.asked files.old))
+        (told_by (L.calls link.new) (J.calls jobs.new) (C.readings clock.new) (F.asked files.new)) (Some result) }
+{
+    let _end = run_node(
+        alloc, agent, workload, keeper, link, jobs, clock, turns, files,
+    );
+    agent.restart();
+    run_node(
+        alloc, agent, workload, keeper, link, jobs, clock, turns, files,
+    )
+}
+
+pub fn run_bug_in_halves<K: Keeper, L: Link, J: Spawner, C: Clock, F: Prober>(
+    alloc: Global,
+    agent: &mut Agent,
+    workload: &Workload,
+    keeper: &mut K,
+    link: &mut L,
+    jobs: &mut J,
+    clock: &mut C,
+    turns: u32,
+    files: &mut F,
+) -> NodeEnd
+    requires fresh { session_in agent.old ≡ restarted }
+    requires keepable { AreKeepable agent.old.kept }
+    requires ready { IsReady K.kept K.spent K.may_leave keeper.old }
+    requires plans { HasFitPlans workload.now }
+    ensures run { (after : Running) × (after.node ≡ agent.new)
+        × Does K.kept K.size K.faults K.moment K.may_leave K.left_since K.opens_since (Run workload.now turns)
+        (running agent.old) after keeper.old keeper.new
+        (told_by (L.calls link.old) (J.calls jobs.old) (C.readings clock.old) (F.asked files.old))
+        (told_by (L.calls link.new) (J.calls jobs.new) (C.readings clock.new) (F.asked files.new)) (Some result) }
+{
+    match run_node(
+        alloc,
+        agent,
+        workload,
+        keeper,
+        link,
+        jobs,
+        clock,
+        turns / 2,
+        files,
+    ) {
+        NodeEnd::TurnsSpent => {}
+        end => return end,
+    }
+    agent.restart();
+    run_node(
+        alloc,
+        agent,
+        workload,
+        keeper,
+        link,
+        jobs,
+        clock,
+        turns - turns / 2,
+        files,
+    )
+}
+
+pub fn run_bug_goes_on_after_a_shutdown<K: Keeper, L: Link, J: Spawner, C: Clock, F: Prober>(
+    alloc: Global,
+    agent: &mut Agent,
+    workload: &Workload,
+    keeper: &mut K,
+    link: &mut L,
+    jobs: &mut J,
+    clock: &mut C,
+    turns: u32,
+    files: &mut F,
+) -> NodeEnd
+    requires fresh { session_in agent.old ≡ restarted }
+    requires keepable { AreKeepable agent.old.kept }
+    requires ready { IsReady K.kept K.spent K.may_leave keeper.old }
+    requires plans { HasFitPlans workload.now }
+    ensures run { (after : Running) × (after.node ≡ agent.new)
+        × Does K.kept K.size K.faults K.moment K.may_leave K.left_since K.opens_since (Run workload.now turns)
+        (running agent.old) after keeper.old keeper.new
+        (told_by (L.calls link.old) (J.calls jobs.old) (C.readings clock.old) (F.asked files.old))
+        (told_by (L.calls link.new) (J.calls jobs.new) (C.readings clock.new) (F.asked files.new)) (Some result) }
+{
+    match run_node(
+        alloc, agent, workload, keeper, link, jobs, clock, turns, files,
+    ) {
+        NodeEnd::Shutdown => {}
+        end => return end,
+    }
+    agent.restart();
+    run_node(
+        alloc, agent, workload, keeper, link, jobs, clock, turns, files,
+    )
+}
+
+pub fn run_bug_goes_on_after_a_disk_fault<K: Keeper, L: Link, J: Spawner, C: Clock, F: Prober>(
+    alloc: Global,
+    agent: &mut Agent,
+    workload: &Workload,
+    keeper: &mut K,
+    link: &mut L,
+    jobs: &mut J,
+    clock: &mut C,
+    turns: u32,
+    files: &mut F,
+) -> NodeEnd
+    requires fresh { session_in agent.old ≡ restarted }
+    requires keepable { AreKeepable agent.old.kept }
+    requires ready { IsReady K.kept K.spent K.may_leave keeper.old }
+    requires plans { HasFitPlans workload.now }
+    ensures run { (after : Running) × (after.node ≡ agent.new)
+        × Does K.kept K.size K.faults K.moment K.may_leave K.left_since K.opens_since (Run workload.now turns)
+        (running agent.old) after keeper.old keeper.new
+        (told_by (L.calls link.old) (J.calls jobs.old) (C.readings clock.old) (F.asked files.old))
+        (told_by (L.calls link.new) (J.calls jobs.new) (C.readings clock.new) (F.asked files.new)) (Some result) }
+{
+    match run_node(
+        alloc, agent, workload, keeper, link, jobs, clock, turns, files,
+    ) {
+        NodeEnd::DiskFault => {}
+        end => return end,
+    }
+    agent.restart();
+    run_node(
+        alloc, agent, workload, keeper, link, jobs, clock, turns, files,
+    )
+}
+
+pub fn run_bug_hears_nothing<K: Keeper, L: Link, J: Spawner, C: Clock, F: Prober>(
+    alloc: Global,
+    agent: &mut Agent,
+    workload: &Workload,
+    keeper: &mut K,
+    link: &mut L,
+    jobs: &mut J,
+    clock: &mut C,
+    turns: u32,
+    files: &mut F,
+) -> NodeEnd
+    requires fresh { session_in agent.old ≡ restarted }
+    requires keepable { AreKeepable agent.old.kept }
+    requires ready { IsReady K.kept K.spent K.may_leave keeper.old }
+    requires plans { HasFitPlans workload.now }
+    ensures run { (after : Running) × (after.node ≡ agent.new)
+        × Does K.kept K.size K.faults K.moment K.may_leave K.left_since K.opens_since (Run workload.now turns)
+        (running agent.old) after keeper.old keeper.new
+        (told_by (L.calls link.old) (J.calls jobs.old) (C.readings clock.old) (F.asked files.old))
+        (told_by (L.calls link.new) (J.calls jobs.new) (C.readings clock.new) (F.asked files.new)) (Some result) }
+{
+    if turns == 0 {
+        return NodeEnd::TurnsSpent;
+    }
+    let reading = clock.now();
+    match take(
+        alloc,
+        agent,
+        keeper,
+        link,
+        jobs,
+        &Input::Local(Local::Turn(reading)),
+    ) {
+        Ok(()) => NodeEnd::TurnsSpent,
+        Err(end) => end,
+    }
+}
+
+pub fn run_bug_turn_before_what_came<K: Keeper, L: Link, J: Spawner, C: Clock, F: Prober>(
+    alloc: Global,
+    agent: &mut Agent,
+    workload: &Workload,
+    keeper: &mut K,
+    link: &mut L,
+    jobs: &mut J,
+    clock: &mut C,
+    turns: u32,
+    files: &mut F,
+) -> NodeEnd
+    requires fresh { session_in agent.old ≡ restarted }
+    requires keepable { AreKeepable agent.old.kept }
+    requires ready { IsReady K.kept K.spent K.may_leave keeper.old }
+    requires plans { HasFitPlans workload.now }
+    ensures run { (after : Running) × (after.node ≡ agent.new)
+        × Does K.kept K.size K.faults K.moment K.may_leave K.left_since K.opens_since (Run workload.now turns)
+        (running agent.old) after keeper.old keeper.new
+        (told_by (L.calls link.old) (J.calls jobs.old) (C.readings clock.old) (F.asked files.old))
+        (told_by (L.calls link.new) (J.calls jobs.new) (C.readings clock.new) (F.asked files.new)) (Some result) }
+{
+    if turns == 0 {
+        return NodeEnd::TurnsSpent;
+    }
+    let reading = clock.now();
+    match take(
+        alloc,
+        agent,
+        keeper,
+        link,
+        jobs,
+        &Input::Local(Local::Turn(reading)),
+    ) {
+        Ok(()) => {}
+        Err(end) => return end,
+    }
+    let _came = link.poll();
+    let _ended = jobs.poll();
+    NodeEnd::TurnsSpent
+}
+
+pub fn run_bug_passes_over_what_came<K: Keeper, L: Link, J: Spawner, C: Clock, F: Prober>(
+    alloc: Global,
+    agent: &mut Agent,
+    workload: &Workload,
+    keeper: &mut K,
+    link: &mut L,
+    jobs: &mut J,
+    clock: &mut C,
+    turns: u32,
+    files: &mut F,
+) -> NodeEnd
+    requires fresh { session_in agent.old ≡ restarted }
+    requires keepable { AreKeepable agent.old.kept }
+    requires ready { IsReady K.kept K.spent K.may_leave keeper.old }
+    requires plans { HasFitPlans workload.now }
+    ensures run { (after : Running) × (after.node ≡ agent.new)
+        × Does K.kept K.size K.faults K.moment K.may_leave K.left_since K.opens_since (Run workload.now turns)
+        (running agent.old) after keeper.old keeper.new
+        (told_by (L.calls link.old) (J.calls jobs.old) (C.readings clock.old) (F.asked files.old))
+        (told_by (L.calls link.new) (J.calls jobs.new) (C.readings clock.new) (F.asked files.new)) (Some result) }
+{
+    if turns == 0 {
+        return NodeEnd::TurnsSpent;
+    }
+    let reading = clock.now();
+    let _came = link.poll();
+    let _ended = jobs.poll();
+    match take(
+        alloc,
+        agent,
+        keeper,
+        link,
+        jobs,
+        &Input::Local(Local::Turn(reading)),
+    ) {
+        Ok(()) => NodeEnd::TurnsSpent,
+        Err(end) => end,
+    }
+}

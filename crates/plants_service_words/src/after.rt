@@ -1,0 +1,545 @@
+//! Bodies of a service.
+ghost use Rattle.std.specs.Prelude.{◌≡◌, ◌≢◌, Some};
+ghost use Rattle.node_inputs.specs.Tellings.{told_by};
+ghost use Rattle.service_words.specs.Forms.{Request, request_of, service_in};
+ghost use Rattle.service_words.specs.Services.{AskedBy, IsService, ServedBy};
+
+use base_types::{Items, JobNo, Text, Work, Ws};
+use file_watch::Prober;
+use outside::{Clock, Disk, Link, Sink, Source, Spawner};
+use service_words::{Ended, Service, serve};
+use std::alloc::Global;
+
+pub fn serve_bug_byte_is_read_after<
+    I: Source,
+    O: Sink,
+    D: Disk,
+    L: Link,
+    J: Spawner,
+    C: Clock,
+    F: Prober,
+>(
+    alloc: Global,
+    service: Service,
+    words: &[Text],
+    input: &mut I,
+    out: &mut O,
+    disk: D,
+    link: &mut L,
+    jobs: &mut J,
+    clock: &mut C,
+    files: &mut F,
+) -> Ended<D>
+    requires { service_in words.now ≡ Some service }
+    ensures service { (request : Request) → request_of words.now ≡ Some request
+        → IsService (ServedBy D.seen D.faults D.moment D.may_leave D.left_since disk result.disk
+        (told_by (L.calls link.old) (J.calls jobs.old) (C.readings clock.old) (F.asked files.old))
+        (told_by (L.calls link.new) (J.calls jobs.new) (C.readings clock.new) (F.asked files.new)))
+        (AskedBy (L.calls link.old) (L.calls link.new) (L.faults link.old) (L.faults link.new))
+        ((result.disk ≡ disk) × (link.new ≡ link.old) × (jobs.new ≡ jobs.old) × (clock.new ≡ clock.old)
+        × (files.new ≡ files.old))
+        ((result.disk ≡ disk) × (jobs.new ≡ jobs.old) × (clock.new ≡ clock.old) × (files.new ≡ files.old))
+        request (I.stream input.old) (I.stream input.new) (I.faults input.old) (I.faults input.new) result.status
+        (O.written out.old) (O.written out.new) (O.faults out.old) (O.faults out.new) }
+    ensures source_count { result.status ≢ 4 → I.faults input.new ≡ I.faults input.old }
+    ensures sink_count { result.status ≢ 5 → O.faults out.new ≡ O.faults out.old }
+{
+    let ended = serve(
+        alloc, service, words, input, out, disk, link, jobs, clock, files,
+    );
+    let mut piece = [0u8; 1];
+    let _count = input.read(&mut piece);
+    ended
+}
+
+pub fn serve_bug_byte_is_written_after<
+    I: Source,
+    O: Sink,
+    D: Disk,
+    L: Link,
+    J: Spawner,
+    C: Clock,
+    F: Prober,
+>(
+    alloc: Global,
+    service: Service,
+    words: &[Text],
+    input: &mut I,
+    out: &mut O,
+    disk: D,
+    link: &mut L,
+    jobs: &mut J,
+    clock: &mut C,
+    files: &mut F,
+) -> Ended<D>
+    requires { service_in words.now ≡ Some service }
+    ensures service { (request : Request) → request_of words.now ≡ Some request
+        → IsService (ServedBy D.seen D.faults D.moment D.may_leave D.left_since disk result.disk
+        (told_by (L.calls link.old) (J.calls jobs.old) (C.readings clock.old) (F.asked files.old))
+        (told_by (L.calls link.new) (J.calls jobs.new) (C.readings clock.new) (F.asked files.new)))
+        (AskedBy (L.calls link.old) (L.calls link.new) (L.faults link.old) (L.faults link.new))
+        ((result.disk ≡ disk) × (link.new ≡ link.old) × (jobs.new ≡ jobs.old) × (clock.new ≡ clock.old)
+        × (files.new ≡ files.old))
+        ((result.disk ≡ disk) × (jobs.new ≡ jobs.old) × (clock.new ≡ clock.old) × (files.new ≡ files.old))
+        request (I.stream input.old) (I.stream input.new) (I.faults input.old) (I.faults input.new) result.status
+        (O.written out.old) (O.written out.new) (O.faults out.old) (O.faults out.new) }
+    ensures source_count { result.status ≢ 4 → I.faults input.new ≡ I.faults input.old }
+    ensures sink_count { result.status ≢ 5 → O.faults out.new ≡ O.faults out.old }
+{
+    let ended = serve(
+        alloc, service, words, input, out, disk, link, jobs, clock, files,
+    );
+    let _count = out.write(b"x");
+    ended
+}
+
+pub fn serve_bug_arrival_is_lost_after<
+    I: Source,
+    O: Sink,
+    D: Disk,
+    L: Link,
+    J: Spawner,
+    C: Clock,
+    F: Prober,
+>(
+    alloc: Global,
+    service: Service,
+    words: &[Text],
+    input: &mut I,
+    out: &mut O,
+    disk: D,
+    link: &mut L,
+    jobs: &mut J,
+    clock: &mut C,
+    files: &mut F,
+) -> Ended<D>
+    requires { service_in words.now ≡ Some service }
+    ensures service { (request : Request) → request_of words.now ≡ Some request
+        → IsService (ServedBy D.seen D.faults D.moment D.may_leave D.left_since disk result.disk
+        (told_by (L.calls link.old) (J.calls jobs.old) (C.readings clock.old) (F.asked files.old))
+        (told_by (L.calls link.new) (J.calls jobs.new) (C.readings clock.new) (F.asked files.new)))
+        (AskedBy (L.calls link.old) (L.calls link.new) (L.faults link.old) (L.faults link.new))
+        ((result.disk ≡ disk) × (link.new ≡ link.old) × (jobs.new ≡ jobs.old) × (clock.new ≡ clock.old)
+        × (files.new ≡ files.old))
+        ((result.disk ≡ disk) × (jobs.new ≡ jobs.old) × (clock.new ≡ clock.old) × (files.new ≡ files.old))
+        request (I.stream input.old) (I.stream input.new) (I.faults input.old) (I.faults input.new) result.status
+        (O.written out.old) (O.written out.new) (O.faults out.old) (O.faults out.new) }
+    ensures source_count { result.status ≢ 4 → I.faults input.new ≡ I.faults input.old }
+    ensures sink_count { result.status ≢ 5 → O.faults out.new ≡ O.faults out.old }
+{
+    let ended = serve(
+        alloc, service, words, input, out, disk, link, jobs, clock, files,
+    );
+    let _lost = link.poll();
+    ended
+}
+
+pub fn serve_bug_links_begin_after<
+    I: Source,
+    O: Sink,
+    D: Disk,
+    L: Link,
+    J: Spawner,
+    C: Clock,
+    F: Prober,
+>(
+    alloc: Global,
+    service: Service,
+    words: &[Text],
+    input: &mut I,
+    out: &mut O,
+    disk: D,
+    link: &mut L,
+    jobs: &mut J,
+    clock: &mut C,
+    files: &mut F,
+) -> Ended<D>
+    requires { service_in words.now ≡ Some service }
+    ensures service { (request : Request) → request_of words.now ≡ Some request
+        → IsService (ServedBy D.seen D.faults D.moment D.may_leave D.left_since disk result.disk
+        (told_by (L.calls link.old) (J.calls jobs.old) (C.readings clock.old) (F.asked files.old))
+        (told_by (L.calls link.new) (J.calls jobs.new) (C.readings clock.new) (F.asked files.new)))
+        (AskedBy (L.calls link.old) (L.calls link.new) (L.faults link.old) (L.faults link.new))
+        ((result.disk ≡ disk) × (link.new ≡ link.old) × (jobs.new ≡ jobs.old) × (clock.new ≡ clock.old)
+        × (files.new ≡ files.old))
+        ((result.disk ≡ disk) × (jobs.new ≡ jobs.old) × (clock.new ≡ clock.old) × (files.new ≡ files.old))
+        request (I.stream input.old) (I.stream input.new) (I.faults input.old) (I.faults input.new) result.status
+        (O.written out.old) (O.written out.new) (O.faults out.old) (O.faults out.new) }
+    ensures source_count { result.status ≢ 4 → I.faults input.new ≡ I.faults input.old }
+    ensures sink_count { result.status ≢ 5 → O.faults out.new ≡ O.faults out.old }
+{
+    let ended = serve(
+        alloc, service, words, input, out, disk, link, jobs, clock, files,
+    );
+    let _begun = link.begin(None, None, &Items::new(alloc));
+    ended
+}
+
+pub fn serve_bug_bytes_are_sent_after<
+    I: Source,
+    O: Sink,
+    D: Disk,
+    L: Link,
+    J: Spawner,
+    C: Clock,
+    F: Prober,
+>(
+    alloc: Global,
+    service: Service,
+    words: &[Text],
+    input: &mut I,
+    out: &mut O,
+    disk: D,
+    link: &mut L,
+    jobs: &mut J,
+    clock: &mut C,
+    files: &mut F,
+) -> Ended<D>
+    requires { service_in words.now ≡ Some service }
+    ensures service { (request : Request) → request_of words.now ≡ Some request
+        → IsService (ServedBy D.seen D.faults D.moment D.may_leave D.left_since disk result.disk
+        (told_by (L.calls link.old) (J.calls jobs.old) (C.readings clock.old) (F.asked files.old))
+        (told_by (L.calls link.new) (J.calls jobs.new) (C.readings clock.new) (F.asked files.new)))
+        (AskedBy (L.calls link.old) (L.calls link.new) (L.faults link.old) (L.faults link.new))
+        ((result.disk ≡ disk) × (link.new ≡ link.old) × (jobs.new ≡ jobs.old) × (clock.new ≡ clock.old)
+        × (files.new ≡ files.old))
+        ((result.disk ≡ disk) × (jobs.new ≡ jobs.old) × (clock.new ≡ clock.old) × (files.new ≡ files.old))
+        request (I.stream input.old) (I.stream input.new) (I.faults input.old) (I.faults input.new) result.status
+        (O.written out.old) (O.written out.new) (O.faults out.old) (O.faults out.new) }
+    ensures source_count { result.status ≢ 4 → I.faults input.new ≡ I.faults input.old }
+    ensures sink_count { result.status ≢ 5 → O.faults out.new ≡ O.faults out.old }
+{
+    let ended = serve(
+        alloc, service, words, input, out, disk, link, jobs, clock, files,
+    );
+    let _sent = link.send(Ws(0), b"x");
+    ended
+}
+
+pub fn serve_bug_reply_is_sent_after<
+    I: Source,
+    O: Sink,
+    D: Disk,
+    L: Link,
+    J: Spawner,
+    C: Clock,
+    F: Prober,
+>(
+    alloc: Global,
+    service: Service,
+    words: &[Text],
+    input: &mut I,
+    out: &mut O,
+    disk: D,
+    link: &mut L,
+    jobs: &mut J,
+    clock: &mut C,
+    files: &mut F,
+) -> Ended<D>
+    requires { service_in words.now ≡ Some service }
+    ensures service { (request : Request) → request_of words.now ≡ Some request
+        → IsService (ServedBy D.seen D.faults D.moment D.may_leave D.left_since disk result.disk
+        (told_by (L.calls link.old) (J.calls jobs.old) (C.readings clock.old) (F.asked files.old))
+        (told_by (L.calls link.new) (J.calls jobs.new) (C.readings clock.new) (F.asked files.new)))
+        (AskedBy (L.calls link.old) (L.calls link.new) (L.faults link.old) (L.faults link.new))
+        ((result.disk ≡ disk) × (link.new ≡ link.old) × (jobs.new ≡ jobs.old) × (clock.new ≡ clock.old)
+        × (files.new ≡ files.old))
+        ((result.disk ≡ disk) × (jobs.new ≡ jobs.old) × (clock.new ≡ clock.old) × (files.new ≡ files.old))
+        request (I.stream input.old) (I.stream input.new) (I.faults input.old) (I.faults input.new) result.status
+        (O.written out.old) (O.written out.new) (O.faults out.old) (O.faults out.new) }
+    ensures source_count { result.status ≢ 4 → I.faults input.new ≡ I.faults input.old }
+    ensures sink_count { result.status ≢ 5 → O.faults out.new ≡ O.faults out.old }
+{
+    let ended = serve(
+        alloc, service, words, input, out, disk, link, jobs, clock, files,
+    );
+    let _sent = link.reply(b"bye");
+    ended
+}
+
+pub fn serve_bug_link_is_raised_after<
+    I: Source,
+    O: Sink,
+    D: Disk,
+    L: Link,
+    J: Spawner,
+    C: Clock,
+    F: Prober,
+>(
+    alloc: Global,
+    service: Service,
+    words: &[Text],
+    input: &mut I,
+    out: &mut O,
+    disk: D,
+    link: &mut L,
+    jobs: &mut J,
+    clock: &mut C,
+    files: &mut F,
+) -> Ended<D>
+    requires { service_in words.now ≡ Some service }
+    ensures service { (request : Request) → request_of words.now ≡ Some request
+        → IsService (ServedBy D.seen D.faults D.moment D.may_leave D.left_since disk result.disk
+        (told_by (L.calls link.old) (J.calls jobs.old) (C.readings clock.old) (F.asked files.old))
+        (told_by (L.calls link.new) (J.calls jobs.new) (C.readings clock.new) (F.asked files.new)))
+        (AskedBy (L.calls link.old) (L.calls link.new) (L.faults link.old) (L.faults link.new))
+        ((result.disk ≡ disk) × (link.new ≡ link.old) × (jobs.new ≡ jobs.old) × (clock.new ≡ clock.old)
+        × (files.new ≡ files.old))
+        ((result.disk ≡ disk) × (jobs.new ≡ jobs.old) × (clock.new ≡ clock.old) × (files.new ≡ files.old))
+        request (I.stream input.old) (I.stream input.new) (I.faults input.old) (I.faults input.new) result.status
+        (O.written out.old) (O.written out.new) (O.faults out.old) (O.faults out.new) }
+    ensures source_count { result.status ≢ 4 → I.faults input.new ≡ I.faults input.old }
+    ensures sink_count { result.status ≢ 5 → O.faults out.new ≡ O.faults out.old }
+{
+    let ended = serve(
+        alloc, service, words, input, out, disk, link, jobs, clock, files,
+    );
+    link.raise(Ws(0));
+    ended
+}
+
+pub fn serve_bug_link_is_closed_after<
+    I: Source,
+    O: Sink,
+    D: Disk,
+    L: Link,
+    J: Spawner,
+    C: Clock,
+    F: Prober,
+>(
+    alloc: Global,
+    service: Service,
+    words: &[Text],
+    input: &mut I,
+    out: &mut O,
+    disk: D,
+    link: &mut L,
+    jobs: &mut J,
+    clock: &mut C,
+    files: &mut F,
+) -> Ended<D>
+    requires { service_in words.now ≡ Some service }
+    ensures service { (request : Request) → request_of words.now ≡ Some request
+        → IsService (ServedBy D.seen D.faults D.moment D.may_leave D.left_since disk result.disk
+        (told_by (L.calls link.old) (J.calls jobs.old) (C.readings clock.old) (F.asked files.old))
+        (told_by (L.calls link.new) (J.calls jobs.new) (C.readings clock.new) (F.asked files.new)))
+        (AskedBy (L.calls link.old) (L.calls link.new) (L.faults link.old) (L.faults link.new))
+        ((result.disk ≡ disk) × (link.new ≡ link.old) × (jobs.new ≡ jobs.old) × (clock.new ≡ clock.old)
+        × (files.new ≡ files.old))
+        ((result.disk ≡ disk) × (jobs.new ≡ jobs.old) × (clock.new ≡ clock.old) × (files.new ≡ files.old))
+        request (I.stream input.old) (I.stream input.new) (I.faults input.old) (I.faults input.new) result.status
+        (O.written out.old) (O.written out.new) (O.faults out.old) (O.faults out.new) }
+    ensures source_count { result.status ≢ 4 → I.faults input.new ≡ I.faults input.old }
+    ensures sink_count { result.status ≢ 5 → O.faults out.new ≡ O.faults out.old }
+{
+    let ended = serve(
+        alloc, service, words, input, out, disk, link, jobs, clock, files,
+    );
+    link.close(Ws(0));
+    ended
+}
+
+pub fn serve_bug_job_is_started_after<
+    I: Source,
+    O: Sink,
+    D: Disk,
+    L: Link,
+    J: Spawner,
+    C: Clock,
+    F: Prober,
+>(
+    alloc: Global,
+    service: Service,
+    words: &[Text],
+    input: &mut I,
+    out: &mut O,
+    disk: D,
+    link: &mut L,
+    jobs: &mut J,
+    clock: &mut C,
+    files: &mut F,
+) -> Ended<D>
+    requires { service_in words.now ≡ Some service }
+    ensures service { (request : Request) → request_of words.now ≡ Some request
+        → IsService (ServedBy D.seen D.faults D.moment D.may_leave D.left_since disk result.disk
+        (told_by (L.calls link.old) (J.calls jobs.old) (C.readings clock.old) (F.asked files.old))
+        (told_by (L.calls link.new) (J.calls jobs.new) (C.readings clock.new) (F.asked files.new)))
+        (AskedBy (L.calls link.old) (L.calls link.new) (L.faults link.old) (L.faults link.new))
+        ((result.disk ≡ disk) × (link.new ≡ link.old) × (jobs.new ≡ jobs.old) × (clock.new ≡ clock.old)
+        × (files.new ≡ files.old))
+        ((result.disk ≡ disk) × (jobs.new ≡ jobs.old) × (clock.new ≡ clock.old) × (files.new ≡ files.old))
+        request (I.stream input.old) (I.stream input.new) (I.faults input.old) (I.faults input.new) result.status
+        (O.written out.old) (O.written out.new) (O.faults out.old) (O.faults out.new) }
+    ensures source_count { result.status ≢ 4 → I.faults input.new ≡ I.faults input.old }
+    ensures sink_count { result.status ≢ 5 → O.faults out.new ≡ O.faults out.old }
+{
+    let ended = serve(
+        alloc, service, words, input, out, disk, link, jobs, clock, files,
+    );
+    let _started = jobs.start(JobNo(1), 1, &Work::Command(Text::new(alloc)));
+    ended
+}
+
+pub fn serve_bug_job_is_killed_after<
+    I: Source,
+    O: Sink,
+    D: Disk,
+    L: Link,
+    J: Spawner,
+    C: Clock,
+    F: Prober,
+>(
+    alloc: Global,
+    service: Service,
+    words: &[Text],
+    input: &mut I,
+    out: &mut O,
+    disk: D,
+    link: &mut L,
+    jobs: &mut J,
+    clock: &mut C,
+    files: &mut F,
+) -> Ended<D>
+    requires { service_in words.now ≡ Some service }
+    ensures service { (request : Request) → request_of words.now ≡ Some request
+        → IsService (ServedBy D.seen D.faults D.moment D.may_leave D.left_since disk result.disk
+        (told_by (L.calls link.old) (J.calls jobs.old) (C.readings clock.old) (F.asked files.old))
+        (told_by (L.calls link.new) (J.calls jobs.new) (C.readings clock.new) (F.asked files.new)))
+        (AskedBy (L.calls link.old) (L.calls link.new) (L.faults link.old) (L.faults link.new))
+        ((result.disk ≡ disk) × (link.new ≡ link.old) × (jobs.new ≡ jobs.old) × (clock.new ≡ clock.old)
+        × (files.new ≡ files.old))
+        ((result.disk ≡ disk) × (jobs.new ≡ jobs.old) × (clock.new ≡ clock.old) × (files.new ≡ files.old))
+        request (I.stream input.old) (I.stream input.new) (I.faults input.old) (I.faults input.new) result.status
+        (O.written out.old) (O.written out.new) (O.faults out.old) (O.faults out.new) }
+    ensures source_count { result.status ≢ 4 → I.faults input.new ≡ I.faults input.old }
+    ensures sink_count { result.status ≢ 5 → O.faults out.new ≡ O.faults out.old }
+{
+    let ended = serve(
+        alloc, service, words, input, out, disk, link, jobs, clock, files,
+    );
+    jobs.kill(JobNo(1), 1);
+    ended
+}
+
+pub fn serve_bug_end_of_a_process_is_lost_after<
+    I: Source,
+    O: Sink,
+    D: Disk,
+    L: Link,
+    J: Spawner,
+    C: Clock,
+    F: Prober,
+>(
+    alloc: Global,
+    service: Service,
+    words: &[Text],
+    input: &mut I,
+    out: &mut O,
+    disk: D,
+    link: &mut L,
+    jobs: &mut J,
+    clock: &mut C,
+    files: &mut F,
+) -> Ended<D>
+    requires { service_in words.now ≡ Some service }
+    ensures service { (request : Request) → request_of words.now ≡ Some request
+        → IsService (ServedBy D.seen D.faults D.moment D.may_leave D.left_since disk result.disk
+        (told_by (L.calls link.old) (J.calls jobs.old) (C.readings clock.old) (F.asked files.old))
+        (told_by (L.calls link.new) (J.calls jobs.new) (C.readings clock.new) (F.asked files.new)))
+        (AskedBy (L.calls link.old) (L.calls link.new) (L.faults link.old) (L.faults link.new))
+        ((result.disk ≡ disk) × (link.new ≡ link.old) × (jobs.new ≡ jobs.old) × (clock.new ≡ clock.old)
+        × (files.new ≡ files.old))
+        ((result.disk ≡ disk) × (jobs.new ≡ jobs.old) × (clock.new ≡ clock.old) × (files.new ≡ files.old))
+        request (I.stream input.old) (I.stream input.new) (I.faults input.old) (I.faults input.new) result.status
+        (O.written out.old) (O.written out.new) (O.faults out.old) (O.faults out.new) }
+    ensures source_count { result.status ≢ 4 → I.faults input.new ≡ I.faults input.old }
+    ensures sink_count { result.status ≢ 5 → O.faults out.new ≡ O.faults out.old }
+{
+    let ended = serve(
+        alloc, service, words, input, out, disk, link, jobs, clock, files,
+    );
+    let _lost = jobs.poll();
+    ended
+}
+
+pub fn serve_bug_clock_is_read_after<
+    I: Source,
+    O: Sink,
+    D: Disk,
+    L: Link,
+    J: Spawner,
+    C: Clock,
+    F: Prober,
+>(
+    alloc: Global,
+    service: Service,
+    words: &[Text],
+    input: &mut I,
+    out: &mut O,
+    disk: D,
+    link: &mut L,
+    jobs: &mut J,
+    clock: &mut C,
+    files: &mut F,
+) -> Ended<D>
+    requires { service_in words.now ≡ Some service }
+    ensures service { (request : Request) → request_of words.now ≡ Some request
+        → IsService (ServedBy D.seen D.faults D.moment D.may_leave D.left_since disk result.disk
+        (told_by (L.calls link.old) (J.calls jobs.old) (C.readings clock.old) (F.asked files.old))
+        (told_by (L.calls link.new) (J.calls jobs.new) (C.readings clock.new) (F.asked files.new)))
+        (AskedBy (L.calls link.old) (L.calls link.new) (L.faults link.old) (L.faults link.new))
+        ((result.disk ≡ disk) × (link.new ≡ link.old) × (jobs.new ≡ jobs.old) × (clock.new ≡ clock.old)
+        × (files.new ≡ files.old))
+        ((result.disk ≡ disk) × (jobs.new ≡ jobs.old) × (clock.new ≡ clock.old) × (files.new ≡ files.old))
+        request (I.stream input.old) (I.stream input.new) (I.faults input.old) (I.faults input.new) result.status
+        (O.written out.old) (O.written out.new) (O.faults out.old) (O.faults out.new) }
+    ensures source_count { result.status ≢ 4 → I.faults input.new ≡ I.faults input.old }
+    ensures sink_count { result.status ≢ 5 → O.faults out.new ≡ O.faults out.old }
+{
+    let ended = serve(
+        alloc, service, words, input, out, disk, link, jobs, clock, files,
+    );
+    let _reading = clock.now();
+    ended
+}
+
+pub fn serve_bug_file_is_looked_for_after<
+    I: Source,
+    O: Sink,
+    D: Disk,
+    L: Link,
+    J: Spawner,
+    C: Clock,
+    F: Prober,
+>(
+    alloc: Global,
+    service: Service,
+    words: &[Text],
+    input: &mut I,
+    out: &mut O,
+    disk: D,
+    link: &mut L,
+    jobs: &mut J,
+    clock: &mut C,
+    files: &mut F,
+) -> Ended<D>
+    requires { service_in words.now ≡ Some service }
+    ensures service { (request : Request) → request_of words.now ≡ Some request
+        → IsService (ServedBy D.seen D.faults D.moment D.may_leave D.left_since disk result.disk
+        (told_by (L.calls link.old) (J.calls jobs.old) (C.readings clock.old) (F.asked files.old))
+        (told_by (L.calls link.new) (J.calls jobs.new) (C.readings clock.new) (F.asked files.new)))
+        (AskedBy (L.calls link.old) (L.calls link.new) (L.faults link.old) (L.faults link.new))
+        ((result.disk ≡ disk) × (link.new ≡ link.old) × (jobs.new ≡ jobs.old) × (clock.new ≡ clock.old)
+        × (files.new ≡ files.old))
+        ((result.disk ≡ disk) × (jobs.new ≡ jobs.old) × (clock.new ≡ clock.old) × (files.new ≡ files.old))
+        request (I.stream input.old) (I.stream input.new) (I.faults input.old) (I.faults input.new) result.status
+        (O.written out.old) (O.written out.new) (O.faults out.old) (O.faults out.new) }
+    ensures source_count { result.status ≢ 4 → I.faults input.new ≡ I.faults input.old }
+    ensures sink_count { result.status ≢ 5 → O.faults out.new ≡ O.faults out.old }
+{
+    let ended = serve(
+        alloc, service, words, input, out, disk, link, jobs, clock, files,
+    );
+    let _found = files.seen(&Text::new(alloc));
+    ended
+}

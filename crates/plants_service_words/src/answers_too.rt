@@ -1,0 +1,568 @@
+//! Bodies of a service.
+ghost use Rattle.std.specs.Prelude.{◌≡◌, ◌≢◌, Some};
+ghost use Rattle.node_inputs.specs.Tellings.{told_by};
+ghost use Rattle.service_words.specs.Forms.{Request, request_of, service_in};
+ghost use Rattle.service_words.specs.Services.{AskedBy, IsService, ServedBy};
+
+use base_types::Text;
+use file_watch::Prober;
+use outside::{Clock, Disk, Link, Sink, Source, Spawner};
+use service_words::{Ended, Service, serve};
+use std::alloc::Global;
+
+pub fn serve_bug_10_told_as_8<
+    I: Source,
+    O: Sink,
+    D: Disk,
+    L: Link,
+    J: Spawner,
+    C: Clock,
+    F: Prober,
+>(
+    alloc: Global,
+    service: Service,
+    words: &[Text],
+    input: &mut I,
+    out: &mut O,
+    disk: D,
+    link: &mut L,
+    jobs: &mut J,
+    clock: &mut C,
+    files: &mut F,
+) -> Ended<D>
+    requires { service_in words.now ≡ Some service }
+    ensures service { (request : Request) → request_of words.now ≡ Some request
+        → IsService (ServedBy D.seen D.faults D.moment D.may_leave D.left_since disk result.disk
+        (told_by (L.calls link.old) (J.calls jobs.old) (C.readings clock.old) (F.asked files.old))
+        (told_by (L.calls link.new) (J.calls jobs.new) (C.readings clock.new) (F.asked files.new)))
+        (AskedBy (L.calls link.old) (L.calls link.new) (L.faults link.old) (L.faults link.new))
+        ((result.disk ≡ disk) × (link.new ≡ link.old) × (jobs.new ≡ jobs.old) × (clock.new ≡ clock.old)
+        × (files.new ≡ files.old))
+        ((result.disk ≡ disk) × (jobs.new ≡ jobs.old) × (clock.new ≡ clock.old) × (files.new ≡ files.old))
+        request (I.stream input.old) (I.stream input.new) (I.faults input.old) (I.faults input.new) result.status
+        (O.written out.old) (O.written out.new) (O.faults out.old) (O.faults out.new) }
+    ensures source_count { result.status ≢ 4 → I.faults input.new ≡ I.faults input.old }
+    ensures sink_count { result.status ≢ 5 → O.faults out.new ≡ O.faults out.old }
+{
+    let Ended { status, disk } = serve(
+        alloc, service, words, input, out, disk, link, jobs, clock, files,
+    );
+    match status {
+        10 => Ended { status: 8, disk },
+        _ => Ended { status, disk },
+    }
+}
+
+pub fn serve_bug_9_told_as_0<I: Source, O: Sink, D: Disk, L: Link, J: Spawner, C: Clock, F: Prober>(
+    alloc: Global,
+    service: Service,
+    words: &[Text],
+    input: &mut I,
+    out: &mut O,
+    disk: D,
+    link: &mut L,
+    jobs: &mut J,
+    clock: &mut C,
+    files: &mut F,
+) -> Ended<D>
+    requires { service_in words.now ≡ Some service }
+    ensures service { (request : Request) → request_of words.now ≡ Some request
+        → IsService (ServedBy D.seen D.faults D.moment D.may_leave D.left_since disk result.disk
+        (told_by (L.calls link.old) (J.calls jobs.old) (C.readings clock.old) (F.asked files.old))
+        (told_by (L.calls link.new) (J.calls jobs.new) (C.readings clock.new) (F.asked files.new)))
+        (AskedBy (L.calls link.old) (L.calls link.new) (L.faults link.old) (L.faults link.new))
+        ((result.disk ≡ disk) × (link.new ≡ link.old) × (jobs.new ≡ jobs.old) × (clock.new ≡ clock.old)
+        × (files.new ≡ files.old))
+        ((result.disk ≡ disk) × (jobs.new ≡ jobs.old) × (clock.new ≡ clock.old) × (files.new ≡ files.old))
+        request (I.stream input.old) (I.stream input.new) (I.faults input.old) (I.faults input.new) result.status
+        (O.written out.old) (O.written out.new) (O.faults out.old) (O.faults out.new) }
+    ensures source_count { result.status ≢ 4 → I.faults input.new ≡ I.faults input.old }
+    ensures sink_count { result.status ≢ 5 → O.faults out.new ≡ O.faults out.old }
+{
+    let Ended { status, disk } = serve(
+        alloc, service, words, input, out, disk, link, jobs, clock, files,
+    );
+    match status {
+        9 => Ended { status: 0, disk },
+        _ => Ended { status, disk },
+    }
+}
+
+pub fn serve_bug_4_told_as_9<I: Source, O: Sink, D: Disk, L: Link, J: Spawner, C: Clock, F: Prober>(
+    alloc: Global,
+    service: Service,
+    words: &[Text],
+    input: &mut I,
+    out: &mut O,
+    disk: D,
+    link: &mut L,
+    jobs: &mut J,
+    clock: &mut C,
+    files: &mut F,
+) -> Ended<D>
+    requires { service_in words.now ≡ Some service }
+    ensures service { (request : Request) → request_of words.now ≡ Some request
+        → IsService (ServedBy D.seen D.faults D.moment D.may_leave D.left_since disk result.disk
+        (told_by (L.calls link.old) (J.calls jobs.old) (C.readings clock.old) (F.asked files.old))
+        (told_by (L.calls link.new) (J.calls jobs.new) (C.readings clock.new) (F.asked files.new)))
+        (AskedBy (L.calls link.old) (L.calls link.new) (L.faults link.old) (L.faults link.new))
+        ((result.disk ≡ disk) × (link.new ≡ link.old) × (jobs.new ≡ jobs.old) × (clock.new ≡ clock.old)
+        × (files.new ≡ files.old))
+        ((result.disk ≡ disk) × (jobs.new ≡ jobs.old) × (clock.new ≡ clock.old) × (files.new ≡ files.old))
+        request (I.stream input.old) (I.stream input.new) (I.faults input.old) (I.faults input.new) result.status
+        (O.written out.old) (O.written out.new) (O.faults out.old) (O.faults out.new) }
+    ensures source_count { result.status ≢ 4 → I.faults input.new ≡ I.faults input.old }
+    ensures sink_count { result.status ≢ 5 → O.faults out.new ≡ O.faults out.old }
+{
+    let Ended { status, disk } = serve(
+        alloc, service, words, input, out, disk, link, jobs, clock, files,
+    );
+    match status {
+        4 => Ended { status: 9, disk },
+        _ => Ended { status, disk },
+    }
+}
+
+pub fn serve_bug_9_told_as_4<I: Source, O: Sink, D: Disk, L: Link, J: Spawner, C: Clock, F: Prober>(
+    alloc: Global,
+    service: Service,
+    words: &[Text],
+    input: &mut I,
+    out: &mut O,
+    disk: D,
+    link: &mut L,
+    jobs: &mut J,
+    clock: &mut C,
+    files: &mut F,
+) -> Ended<D>
+    requires { service_in words.now ≡ Some service }
+    ensures service { (request : Request) → request_of words.now ≡ Some request
+        → IsService (ServedBy D.seen D.faults D.moment D.may_leave D.left_since disk result.disk
+        (told_by (L.calls link.old) (J.calls jobs.old) (C.readings clock.old) (F.asked files.old))
+        (told_by (L.calls link.new) (J.calls jobs.new) (C.readings clock.new) (F.asked files.new)))
+        (AskedBy (L.calls link.old) (L.calls link.new) (L.faults link.old) (L.faults link.new))
+        ((result.disk ≡ disk) × (link.new ≡ link.old) × (jobs.new ≡ jobs.old) × (clock.new ≡ clock.old)
+        × (files.new ≡ files.old))
+        ((result.disk ≡ disk) × (jobs.new ≡ jobs.old) × (clock.new ≡ clock.old) × (files.new ≡ files.old))
+        request (I.stream input.old) (I.stream input.new) (I.faults input.old) (I.faults input.new) result.status
+        (O.written out.old) (O.written out.new) (O.faults out.old) (O.faults out.new) }
+    ensures source_count { result.status ≢ 4 → I.faults input.new ≡ I.faults input.old }
+    ensures sink_count { result.status ≢ 5 → O.faults out.new ≡ O.faults out.old }
+{
+    let Ended { status, disk } = serve(
+        alloc, service, words, input, out, disk, link, jobs, clock, files,
+    );
+    match status {
+        9 => Ended { status: 4, disk },
+        _ => Ended { status, disk },
+    }
+}
+
+pub fn serve_bug_5_told_as_0<I: Source, O: Sink, D: Disk, L: Link, J: Spawner, C: Clock, F: Prober>(
+    alloc: Global,
+    service: Service,
+    words: &[Text],
+    input: &mut I,
+    out: &mut O,
+    disk: D,
+    link: &mut L,
+    jobs: &mut J,
+    clock: &mut C,
+    files: &mut F,
+) -> Ended<D>
+    requires { service_in words.now ≡ Some service }
+    ensures service { (request : Request) → request_of words.now ≡ Some request
+        → IsService (ServedBy D.seen D.faults D.moment D.may_leave D.left_since disk result.disk
+        (told_by (L.calls link.old) (J.calls jobs.old) (C.readings clock.old) (F.asked files.old))
+        (told_by (L.calls link.new) (J.calls jobs.new) (C.readings clock.new) (F.asked files.new)))
+        (AskedBy (L.calls link.old) (L.calls link.new) (L.faults link.old) (L.faults link.new))
+        ((result.disk ≡ disk) × (link.new ≡ link.old) × (jobs.new ≡ jobs.old) × (clock.new ≡ clock.old)
+        × (files.new ≡ files.old))
+        ((result.disk ≡ disk) × (jobs.new ≡ jobs.old) × (clock.new ≡ clock.old) × (files.new ≡ files.old))
+        request (I.stream input.old) (I.stream input.new) (I.faults input.old) (I.faults input.new) result.status
+        (O.written out.old) (O.written out.new) (O.faults out.old) (O.faults out.new) }
+    ensures source_count { result.status ≢ 4 → I.faults input.new ≡ I.faults input.old }
+    ensures sink_count { result.status ≢ 5 → O.faults out.new ≡ O.faults out.old }
+{
+    let Ended { status, disk } = serve(
+        alloc, service, words, input, out, disk, link, jobs, clock, files,
+    );
+    match status {
+        5 => Ended { status: 0, disk },
+        _ => Ended { status, disk },
+    }
+}
+
+pub fn serve_bug_5_told_as_9<I: Source, O: Sink, D: Disk, L: Link, J: Spawner, C: Clock, F: Prober>(
+    alloc: Global,
+    service: Service,
+    words: &[Text],
+    input: &mut I,
+    out: &mut O,
+    disk: D,
+    link: &mut L,
+    jobs: &mut J,
+    clock: &mut C,
+    files: &mut F,
+) -> Ended<D>
+    requires { service_in words.now ≡ Some service }
+    ensures service { (request : Request) → request_of words.now ≡ Some request
+        → IsService (ServedBy D.seen D.faults D.moment D.may_leave D.left_since disk result.disk
+        (told_by (L.calls link.old) (J.calls jobs.old) (C.readings clock.old) (F.asked files.old))
+        (told_by (L.calls link.new) (J.calls jobs.new) (C.readings clock.new) (F.asked files.new)))
+        (AskedBy (L.calls link.old) (L.calls link.new) (L.faults link.old) (L.faults link.new))
+        ((result.disk ≡ disk) × (link.new ≡ link.old) × (jobs.new ≡ jobs.old) × (clock.new ≡ clock.old)
+        × (files.new ≡ files.old))
+        ((result.disk ≡ disk) × (jobs.new ≡ jobs.old) × (clock.new ≡ clock.old) × (files.new ≡ files.old))
+        request (I.stream input.old) (I.stream input.new) (I.faults input.old) (I.faults input.new) result.status
+        (O.written out.old) (O.written out.new) (O.faults out.old) (O.faults out.new) }
+    ensures source_count { result.status ≢ 4 → I.faults input.new ≡ I.faults input.old }
+    ensures sink_count { result.status ≢ 5 → O.faults out.new ≡ O.faults out.old }
+{
+    let Ended { status, disk } = serve(
+        alloc, service, words, input, out, disk, link, jobs, clock, files,
+    );
+    match status {
+        5 => Ended { status: 9, disk },
+        _ => Ended { status, disk },
+    }
+}
+
+pub fn serve_bug_8_told_as_9<I: Source, O: Sink, D: Disk, L: Link, J: Spawner, C: Clock, F: Prober>(
+    alloc: Global,
+    service: Service,
+    words: &[Text],
+    input: &mut I,
+    out: &mut O,
+    disk: D,
+    link: &mut L,
+    jobs: &mut J,
+    clock: &mut C,
+    files: &mut F,
+) -> Ended<D>
+    requires { service_in words.now ≡ Some service }
+    ensures service { (request : Request) → request_of words.now ≡ Some request
+        → IsService (ServedBy D.seen D.faults D.moment D.may_leave D.left_since disk result.disk
+        (told_by (L.calls link.old) (J.calls jobs.old) (C.readings clock.old) (F.asked files.old))
+        (told_by (L.calls link.new) (J.calls jobs.new) (C.readings clock.new) (F.asked files.new)))
+        (AskedBy (L.calls link.old) (L.calls link.new) (L.faults link.old) (L.faults link.new))
+        ((result.disk ≡ disk) × (link.new ≡ link.old) × (jobs.new ≡ jobs.old) × (clock.new ≡ clock.old)
+        × (files.new ≡ files.old))
+        ((result.disk ≡ disk) × (jobs.new ≡ jobs.old) × (clock.new ≡ clock.old) × (files.new ≡ files.old))
+        request (I.stream input.old) (I.stream input.new) (I.faults input.old) (I.faults input.new) result.status
+        (O.written out.old) (O.written out.new) (O.faults out.old) (O.faults out.new) }
+    ensures source_count { result.status ≢ 4 → I.faults input.new ≡ I.faults input.old }
+    ensures sink_count { result.status ≢ 5 → O.faults out.new ≡ O.faults out.old }
+{
+    let Ended { status, disk } = serve(
+        alloc, service, words, input, out, disk, link, jobs, clock, files,
+    );
+    match status {
+        8 => Ended { status: 9, disk },
+        _ => Ended { status, disk },
+    }
+}
+
+pub fn serve_bug_7_told_as_9<I: Source, O: Sink, D: Disk, L: Link, J: Spawner, C: Clock, F: Prober>(
+    alloc: Global,
+    service: Service,
+    words: &[Text],
+    input: &mut I,
+    out: &mut O,
+    disk: D,
+    link: &mut L,
+    jobs: &mut J,
+    clock: &mut C,
+    files: &mut F,
+) -> Ended<D>
+    requires { service_in words.now ≡ Some service }
+    ensures service { (request : Request) → request_of words.now ≡ Some request
+        → IsService (ServedBy D.seen D.faults D.moment D.may_leave D.left_since disk result.disk
+        (told_by (L.calls link.old) (J.calls jobs.old) (C.readings clock.old) (F.asked files.old))
+        (told_by (L.calls link.new) (J.calls jobs.new) (C.readings clock.new) (F.asked files.new)))
+        (AskedBy (L.calls link.old) (L.calls link.new) (L.faults link.old) (L.faults link.new))
+        ((result.disk ≡ disk) × (link.new ≡ link.old) × (jobs.new ≡ jobs.old) × (clock.new ≡ clock.old)
+        × (files.new ≡ files.old))
+        ((result.disk ≡ disk) × (jobs.new ≡ jobs.old) × (clock.new ≡ clock.old) × (files.new ≡ files.old))
+        request (I.stream input.old) (I.stream input.new) (I.faults input.old) (I.faults input.new) result.status
+        (O.written out.old) (O.written out.new) (O.faults out.old) (O.faults out.new) }
+    ensures source_count { result.status ≢ 4 → I.faults input.new ≡ I.faults input.old }
+    ensures sink_count { result.status ≢ 5 → O.faults out.new ≡ O.faults out.old }
+{
+    let Ended { status, disk } = serve(
+        alloc, service, words, input, out, disk, link, jobs, clock, files,
+    );
+    match status {
+        7 => Ended { status: 9, disk },
+        _ => Ended { status, disk },
+    }
+}
+
+pub fn serve_bug_12_told_as_9<
+    I: Source,
+    O: Sink,
+    D: Disk,
+    L: Link,
+    J: Spawner,
+    C: Clock,
+    F: Prober,
+>(
+    alloc: Global,
+    service: Service,
+    words: &[Text],
+    input: &mut I,
+    out: &mut O,
+    disk: D,
+    link: &mut L,
+    jobs: &mut J,
+    clock: &mut C,
+    files: &mut F,
+) -> Ended<D>
+    requires { service_in words.now ≡ Some service }
+    ensures service { (request : Request) → request_of words.now ≡ Some request
+        → IsService (ServedBy D.seen D.faults D.moment D.may_leave D.left_since disk result.disk
+        (told_by (L.calls link.old) (J.calls jobs.old) (C.readings clock.old) (F.asked files.old))
+        (told_by (L.calls link.new) (J.calls jobs.new) (C.readings clock.new) (F.asked files.new)))
+        (AskedBy (L.calls link.old) (L.calls link.new) (L.faults link.old) (L.faults link.new))
+        ((result.disk ≡ disk) × (link.new ≡ link.old) × (jobs.new ≡ jobs.old) × (clock.new ≡ clock.old)
+        × (files.new ≡ files.old))
+        ((result.disk ≡ disk) × (jobs.new ≡ jobs.old) × (clock.new ≡ clock.old) × (files.new ≡ files.old))
+        request (I.stream input.old) (I.stream input.new) (I.faults input.old) (I.faults input.new) result.status
+        (O.written out.old) (O.written out.new) (O.faults out.old) (O.faults out.new) }
+    ensures source_count { result.status ≢ 4 → I.faults input.new ≡ I.faults input.old }
+    ensures sink_count { result.status ≢ 5 → O.faults out.new ≡ O.faults out.old }
+{
+    let Ended { status, disk } = serve(
+        alloc, service, words, input, out, disk, link, jobs, clock, files,
+    );
+    match status {
+        12 => Ended { status: 9, disk },
+        _ => Ended { status, disk },
+    }
+}
+
+pub fn serve_bug_2_told_as_9<I: Source, O: Sink, D: Disk, L: Link, J: Spawner, C: Clock, F: Prober>(
+    alloc: Global,
+    service: Service,
+    words: &[Text],
+    input: &mut I,
+    out: &mut O,
+    disk: D,
+    link: &mut L,
+    jobs: &mut J,
+    clock: &mut C,
+    files: &mut F,
+) -> Ended<D>
+    requires { service_in words.now ≡ Some service }
+    ensures service { (request : Request) → request_of words.now ≡ Some request
+        → IsService (ServedBy D.seen D.faults D.moment D.may_leave D.left_since disk result.disk
+        (told_by (L.calls link.old) (J.calls jobs.old) (C.readings clock.old) (F.asked files.old))
+        (told_by (L.calls link.new) (J.calls jobs.new) (C.readings clock.new) (F.asked files.new)))
+        (AskedBy (L.calls link.old) (L.calls link.new) (L.faults link.old) (L.faults link.new))
+        ((result.disk ≡ disk) × (link.new ≡ link.old) × (jobs.new ≡ jobs.old) × (clock.new ≡ clock.old)
+        × (files.new ≡ files.old))
+        ((result.disk ≡ disk) × (jobs.new ≡ jobs.old) × (clock.new ≡ clock.old) × (files.new ≡ files.old))
+        request (I.stream input.old) (I.stream input.new) (I.faults input.old) (I.faults input.new) result.status
+        (O.written out.old) (O.written out.new) (O.faults out.old) (O.faults out.new) }
+    ensures source_count { result.status ≢ 4 → I.faults input.new ≡ I.faults input.old }
+    ensures sink_count { result.status ≢ 5 → O.faults out.new ≡ O.faults out.old }
+{
+    let Ended { status, disk } = serve(
+        alloc, service, words, input, out, disk, link, jobs, clock, files,
+    );
+    match status {
+        2 => Ended { status: 9, disk },
+        _ => Ended { status, disk },
+    }
+}
+
+pub fn serve_bug_1_told_as_9<I: Source, O: Sink, D: Disk, L: Link, J: Spawner, C: Clock, F: Prober>(
+    alloc: Global,
+    service: Service,
+    words: &[Text],
+    input: &mut I,
+    out: &mut O,
+    disk: D,
+    link: &mut L,
+    jobs: &mut J,
+    clock: &mut C,
+    files: &mut F,
+) -> Ended<D>
+    requires { service_in words.now ≡ Some service }
+    ensures service { (request : Request) → request_of words.now ≡ Some request
+        → IsService (ServedBy D.seen D.faults D.moment D.may_leave D.left_since disk result.disk
+        (told_by (L.calls link.old) (J.calls jobs.old) (C.readings clock.old) (F.asked files.old))
+        (told_by (L.calls link.new) (J.calls jobs.new) (C.readings clock.new) (F.asked files.new)))
+        (AskedBy (L.calls link.old) (L.calls link.new) (L.faults link.old) (L.faults link.new))
+        ((result.disk ≡ disk) × (link.new ≡ link.old) × (jobs.new ≡ jobs.old) × (clock.new ≡ clock.old)
+        × (files.new ≡ files.old))
+        ((result.disk ≡ disk) × (jobs.new ≡ jobs.old) × (clock.new ≡ clock.old) × (files.new ≡ files.old))
+        request (I.stream input.old) (I.stream input.new) (I.faults input.old) (I.faults input.new) result.status
+        (O.written out.old) (O.written out.new) (O.faults out.old) (O.faults out.new) }
+    ensures source_count { result.status ≢ 4 → I.faults input.new ≡ I.faults input.old }
+    ensures sink_count { result.status ≢ 5 → O.faults out.new ≡ O.faults out.old }
+{
+    let Ended { status, disk } = serve(
+        alloc, service, words, input, out, disk, link, jobs, clock, files,
+    );
+    match status {
+        1 => Ended { status: 9, disk },
+        _ => Ended { status, disk },
+    }
+}
+
+pub fn serve_bug_4_told_as_0<I: Source, O: Sink, D: Disk, L: Link, J: Spawner, C: Clock, F: Prober>(
+    alloc: Global,
+    service: Service,
+    words: &[Text],
+    input: &mut I,
+    out: &mut O,
+    disk: D,
+    link: &mut L,
+    jobs: &mut J,
+    clock: &mut C,
+    files: &mut F,
+) -> Ended<D>
+    requires { service_in words.now ≡ Some service }
+    ensures service { (request : Request) → request_of words.now ≡ Some request
+        → IsService (ServedBy D.seen D.faults D.moment D.may_leave D.left_since disk result.disk
+        (told_by (L.calls link.old) (J.calls jobs.old) (C.readings clock.old) (F.asked files.old))
+        (told_by (L.calls link.new) (J.calls jobs.new) (C.readings clock.new) (F.asked files.new)))
+        (AskedBy (L.calls link.old) (L.calls link.new) (L.faults link.old) (L.faults link.new))
+        ((result.disk ≡ disk) × (link.new ≡ link.old) × (jobs.new ≡ jobs.old) × (clock.new ≡ clock.old)
+        × (files.new ≡ files.old))
+        ((result.disk ≡ disk) × (jobs.new ≡ jobs.old) × (clock.new ≡ clock.old) × (files.new ≡ files.old))
+        request (I.stream input.old) (I.stream input.new) (I.faults input.old) (I.faults input.new) result.status
+        (O.written out.old) (O.written out.new) (O.faults out.old) (O.faults out.new) }
+    ensures source_count { result.status ≢ 4 → I.faults input.new ≡ I.faults input.old }
+    ensures sink_count { result.status ≢ 5 → O.faults out.new ≡ O.faults out.old }
+{
+    let Ended { status, disk } = serve(
+        alloc, service, words, input, out, disk, link, jobs, clock, files,
+    );
+    match status {
+        4 => Ended { status: 0, disk },
+        _ => Ended { status, disk },
+    }
+}
+
+pub fn serve_bug_6_told_as_8<I: Source, O: Sink, D: Disk, L: Link, J: Spawner, C: Clock, F: Prober>(
+    alloc: Global,
+    service: Service,
+    words: &[Text],
+    input: &mut I,
+    out: &mut O,
+    disk: D,
+    link: &mut L,
+    jobs: &mut J,
+    clock: &mut C,
+    files: &mut F,
+) -> Ended<D>
+    requires { service_in words.now ≡ Some service }
+    ensures service { (request : Request) → request_of words.now ≡ Some request
+        → IsService (ServedBy D.seen D.faults D.moment D.may_leave D.left_since disk result.disk
+        (told_by (L.calls link.old) (J.calls jobs.old) (C.readings clock.old) (F.asked files.old))
+        (told_by (L.calls link.new) (J.calls jobs.new) (C.readings clock.new) (F.asked files.new)))
+        (AskedBy (L.calls link.old) (L.calls link.new) (L.faults link.old) (L.faults link.new))
+        ((result.disk ≡ disk) × (link.new ≡ link.old) × (jobs.new ≡ jobs.old) × (clock.new ≡ clock.old)
+        × (files.new ≡ files.old))
+        ((result.disk ≡ disk) × (jobs.new ≡ jobs.old) × (clock.new ≡ clock.old) × (files.new ≡ files.old))
+        request (I.stream input.old) (I.stream input.new) (I.faults input.old) (I.faults input.new) result.status
+        (O.written out.old) (O.written out.new) (O.faults out.old) (O.faults out.new) }
+    ensures source_count { result.status ≢ 4 → I.faults input.new ≡ I.faults input.old }
+    ensures sink_count { result.status ≢ 5 → O.faults out.new ≡ O.faults out.old }
+{
+    let Ended { status, disk } = serve(
+        alloc, service, words, input, out, disk, link, jobs, clock, files,
+    );
+    match status {
+        6 => Ended { status: 8, disk },
+        _ => Ended { status, disk },
+    }
+}
+
+pub fn serve_bug_every_end_is_0<
+    I: Source,
+    O: Sink,
+    D: Disk,
+    L: Link,
+    J: Spawner,
+    C: Clock,
+    F: Prober,
+>(
+    alloc: Global,
+    service: Service,
+    words: &[Text],
+    input: &mut I,
+    out: &mut O,
+    disk: D,
+    link: &mut L,
+    jobs: &mut J,
+    clock: &mut C,
+    files: &mut F,
+) -> Ended<D>
+    requires { service_in words.now ≡ Some service }
+    ensures service { (request : Request) → request_of words.now ≡ Some request
+        → IsService (ServedBy D.seen D.faults D.moment D.may_leave D.left_since disk result.disk
+        (told_by (L.calls link.old) (J.calls jobs.old) (C.readings clock.old) (F.asked files.old))
+        (told_by (L.calls link.new) (J.calls jobs.new) (C.readings clock.new) (F.asked files.new)))
+        (AskedBy (L.calls link.old) (L.calls link.new) (L.faults link.old) (L.faults link.new))
+        ((result.disk ≡ disk) × (link.new ≡ link.old) × (jobs.new ≡ jobs.old) × (clock.new ≡ clock.old)
+        × (files.new ≡ files.old))
+        ((result.disk ≡ disk) × (jobs.new ≡ jobs.old) × (clock.new ≡ clock.old) × (files.new ≡ files.old))
+        request (I.stream input.old) (I.stream input.new) (I.faults input.old) (I.faults input.new) result.status
+        (O.written out.old) (O.written out.new) (O.faults out.old) (O.faults out.new) }
+    ensures source_count { result.status ≢ 4 → I.faults input.new ≡ I.faults input.old }
+    ensures sink_count { result.status ≢ 5 → O.faults out.new ≡ O.faults out.old }
+{
+    let Ended {
+        status: _status,
+        disk,
+    } = serve(
+        alloc, service, words, input, out, disk, link, jobs, clock, files,
+    );
+    Ended { status: 0, disk }
+}
+
+pub fn serve_bug_every_end_is_9<
+    I: Source,
+    O: Sink,
+    D: Disk,
+    L: Link,
+    J: Spawner,
+    C: Clock,
+    F: Prober,
+>(
+    alloc: Global,
+    service: Service,
+    words: &[Text],
+    input: &mut I,
+    out: &mut O,
+    disk: D,
+    link: &mut L,
+    jobs: &mut J,
+    clock: &mut C,
+    files: &mut F,
+) -> Ended<D>
+    requires { service_in words.now ≡ Some service }
+    ensures service { (request : Request) → request_of words.now ≡ Some request
+        → IsService (ServedBy D.seen D.faults D.moment D.may_leave D.left_since disk result.disk
+        (told_by (L.calls link.old) (J.calls jobs.old) (C.readings clock.old) (F.asked files.old))
+        (told_by (L.calls link.new) (J.calls jobs.new) (C.readings clock.new) (F.asked files.new)))
+        (AskedBy (L.calls link.old) (L.calls link.new) (L.faults link.old) (L.faults link.new))
+        ((result.disk ≡ disk) × (link.new ≡ link.old) × (jobs.new ≡ jobs.old) × (clock.new ≡ clock.old)
+        × (files.new ≡ files.old))
+        ((result.disk ≡ disk) × (jobs.new ≡ jobs.old) × (clock.new ≡ clock.old) × (files.new ≡ files.old))
+        request (I.stream input.old) (I.stream input.new) (I.faults input.old) (I.faults input.new) result.status
+        (O.written out.old) (O.written out.new) (O.faults out.old) (O.faults out.new) }
+    ensures source_count { result.status ≢ 4 → I.faults input.new ≡ I.faults input.old }
+    ensures sink_count { result.status ≢ 5 → O.faults out.new ≡ O.faults out.old }
+{
+    let Ended {
+        status: _status,
+        disk,
+    } = serve(
+        alloc, service, words, input, out, disk, link, jobs, clock, files,
+    );
+    Ended { status: 9, disk }
+}

@@ -1,0 +1,17 @@
+//! Wrong bodies of the call.
+#![tactic(auto)]
+
+pub mod after;
+pub mod answers;
+pub mod answers_too;
+pub mod arguments;
+pub mod before;
+pub mod constants;
+pub mod controls;
+pub mod disks;
+pub mod early;
+pub mod free;
+pub mod parts;
+pub mod twice;
+pub mod words;
+pub mod worlds;

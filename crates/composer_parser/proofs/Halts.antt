@@ -128,57 +128,39 @@ both_good {A = A} {C = C} f g h ts some (stuck w rest) (xs, split, can, near) se
         let s = sentence_of h some in
         inr (more ++ s.0, f a s.1, (xs ++ more, s.0, a, s.1, sym (append_assoc xs more s.0), left, s.2, refl))
 
-left_good : {C : Type 0} (g h : Grammar C) (ts : List Spelled) → begins (tries g) ts ≡ true → (o : Outcome C)
-    → Good (Spells g) (read g) ts o → Good (Spells (either g h)) (read (either g h)) ts o
-left_good g h ts here (done c rest) (xs, split, s, near) = (
+-- reading one of two, where it is that one which is read from tokens that begin so
+one_way_good : {C : Type 0} (g h way : Grammar C) (ts : List Spelled) (b : Bool) → begins (tries g) ts ≡ b
+    → ((us : List Spelled) → begins (tries g) us ≡ b → read (either g h) us ≡ read way us)
+    → ((us : List Spelled) (c : C) → Spells way us c → Spells (either g h) us c) → (o : Outcome C)
+    → Good (Spells way) (read way) ts o → Good (Spells (either g h)) (read (either g h)) ts o
+one_way_good g h way ts b here reads is_one (done c rest) (xs, split, s, near) = (
   xs,
   split,
-  inl s,
+  is_one xs c s,
   λ more alike.
-      rw (begins_alike (tries g) (xs ++ more) ts
-      (sym (next_behind xs rest more alike) ∙ sym (ap next split)) ∙ here) (near more alike),
+      reads (xs ++ more) (begins_alike (tries g) (xs ++ more) ts
+      (sym (next_behind xs rest more alike) ∙ sym (ap next split)) ∙ here) ∙ near more alike,
 )
-left_good {C = C} g h ts here (stuck w rest) (xs, split, can, near) = (
-  xs,
-  split,
-  going_on can,
-  λ more alike.
-      rw (begins_alike (tries g) (xs ++ more) ts
-      (sym (next_behind xs rest more alike) ∙ sym (ap next split)) ∙ here) (near more alike),
-)
-  where
-    going_on : CanGoOn (Spells g) xs → CanGoOn (Spells (either g h)) xs
-    going_on (inl none) = inl none
-    going_on (inr (more, c, s)) = inr (more, c, inl s)
-
-right_good : {C : Type 0} (g h : Grammar C) (ts : List Spelled) → begins (tries g) ts ≡ false → (o : Outcome C)
-    → Good (Spells h) (read h) ts o → Good (Spells (either g h)) (read (either g h)) ts o
-right_good g h ts here (done c rest) (xs, split, s, near) = (
-  xs,
-  split,
-  inr s,
-  λ more alike.
-      rw (begins_alike (tries g) (xs ++ more) ts
-      (sym (next_behind xs rest more alike) ∙ sym (ap next split)) ∙ here) (near more alike),
-)
-right_good {C = C} g h ts here (stuck w rest) (xs, split, can, near) = (
+one_way_good g h way ts b here reads is_one (stuck w rest) (xs, split, can, near) = (
   xs,
   split,
   going_on can,
   λ more alike.
-      rw (begins_alike (tries g) (xs ++ more) ts
-      (sym (next_behind xs rest more alike) ∙ sym (ap next split)) ∙ here) (near more alike),
+      reads (xs ++ more) (begins_alike (tries g) (xs ++ more) ts
+      (sym (next_behind xs rest more alike) ∙ sym (ap next split)) ∙ here) ∙ near more alike,
 )
   where
-    going_on : CanGoOn (Spells h) xs → CanGoOn (Spells (either g h)) xs
+    going_on : CanGoOn (Spells way) xs → CanGoOn (Spells (either g h)) xs
     going_on (inl none) = inl none
-    going_on (inr (more, c, s)) = inr (more, c, inr s)
+    going_on (inr (more, c, s)) = inr (more, c, is_one (xs ++ more) c s)
 
 either_good : {C : Type 0} (g h : Grammar C) (ts : List Spelled) (b : Bool) → begins (tries g) ts ≡ b
     → Good (Spells g) (read g) ts (read g ts) → Good (Spells h) (read h) ts (read h ts)
     → Good (Spells (either g h)) (read (either g h)) ts (cond b (read g ts) (read h ts))
-either_good g h ts true e left right = left_good g h ts e (read g ts) left
-either_good g h ts false e left right = right_good g h ts e (read h ts) right
+either_good g h ts true e left right =
+    one_way_good g h g ts true e (λ us first. rw first refl) (λ us c s. inl s) (read g ts) left
+either_good g h ts false e left right =
+    one_way_good g h h ts false e (λ us first. rw first refl) (λ us c s. inr s) (read h ts) right
 
 -- further pieces, with any number of them that is enough
 abbrev pub GoodPieces : {S A : Type 0} → (S → A → S) → (S → Spelled → Bool) → (S → Spelled → Bool) → Grammar A → S

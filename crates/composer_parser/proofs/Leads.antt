@@ -12,11 +12,11 @@ use Rattle.std.proofs.Common.{Option, Some, None}
 use Rattle.std.specs.Option.{is_some}
 use Rattle.calendars.specs.Written.{date_of, digits_of, before_slash}
 use Rattle.composer_parser.specs.Words.{lower, holds, before, behind}
-use Rattle.composer_parser.specs.Kinds.{mark, word, is_reserved, reserved_words, is}
+use Rattle.composer_parser.specs.Kinds.{is_reserved, reserved_words, is}
 use Rattle.composer_parser.specs.Kinds.{is_date}
 use Rattle.composer_parser.specs.Kinds.{is_free_name, is_placed, is_scoped, is_pred, is_time}
 use Rattle.composer_parser.specs.Kinds.{is_plus, is_minus, is_offset}
-use Rattle.composer_parser.specs.Groups.{letter, digit, sign, other, lead, lead_of, same_lead}
+use Rattle.composer_parser.specs.Groups.{letter, digit, sign, lead, lead_of, same_lead}
 use Rattle.composer_parser.specs.Groups.{names, word_in}
 use Rattle.composer_parser.proofs.Fronts.{both_true}
 

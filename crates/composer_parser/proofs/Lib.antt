@@ -9,5 +9,6 @@ pub mod Halts
 pub mod Leads
 pub mod Leaves
 pub mod Loops
+pub mod Once
 pub mod Parsings
 pub mod Sound

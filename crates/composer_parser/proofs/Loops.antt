@@ -57,7 +57,7 @@ enough after may g d some s ts n small =
     (pieces_good after may (λ x t. is_any (tries g) t && may x t) g some
     (λ x t h. (both_true (is_any (tries g) t) (may x t) h).1) (λ us. good g us d) (length ts) s ts (omega arith))
 
-pub turn_more : {S A : Type 0} (after : S → A → S) (may : S → Spelled → Bool) (g : Grammar A) → decided g ≡ true
+turn_more : {S A : Type 0} (after : S → A → S) (may : S → Spelled → Bool) (g : Grammar A) → decided g ≡ true
     → empty g ≡ false → (s : S) (ts : List Spelled) (a : A) (rest : List Spelled)
     → begins_piece may g s ts ≡ true → read g ts ≡ done a rest
     → turns after may g s ts ≡ turns after may g (after s a) rest
@@ -70,7 +70,13 @@ turn_more after may g d some s (t ∷ ts) a rest h e =
     ∙ enough after may g d some (after s a) rest step.0
     (omega (arith, step.1, piece_shortens g (t ∷ ts) a rest d some e))
 
-pub turn_stops : {S A : Type 0} (after : S → A → S) (may : S → Spelled → Bool) (g : Grammar A) (s : S)
+pub turns_further : {S A : Type 0} (after : S → A → S) (may : S → Spelled → Bool) (g : Grammar A) → decided g ≡ true
+    → empty g ≡ false → (start s : S) (all ts : List Spelled) (a : A) (rest : List Spelled)
+    → turns after may g s ts ≡ turns after may g start all → begins_piece may g s ts ≡ true → read g ts ≡ done a rest
+    → turns after may g (after s a) rest ≡ turns after may g start all
+turns_further after may g d some start s all ts a rest same here e = sym (turn_more after may g d some s ts a rest here e) ∙ same
+
+turn_stops : {S A : Type 0} (after : S → A → S) (may : S → Spelled → Bool) (g : Grammar A) (s : S)
     (ts : List Spelled) (w : Why) (rest : List Spelled) → begins_piece may g s ts ≡ true → read g ts ≡ stuck w rest
     → turns after may g s ts ≡ stuck w rest
 turn_stops after may g s [] w rest h e = cc
@@ -80,7 +86,7 @@ turn_stops after may g s (t ∷ ts) w rest h e =
     step.2
     ∙ ap (λ o. and_then o (λ b more. repeat after (λ x u. is_any (tries g) u && may x u) (λ us. read g us) step.0 (after s b) more)) e
 
-pub turns_end : {S A : Type 0} (after : S → A → S) (may : S → Spelled → Bool) (g : Grammar A) (s : S)
+turns_end : {S A : Type 0} (after : S → A → S) (may : S → Spelled → Bool) (g : Grammar A) (s : S)
     (ts : List Spelled) → begins_piece may g s ts ≡ false → turns after may g s ts ≡ done s ts
 turns_end after may g s [] h = refl
 turns_end after may g s (t ∷ ts) h =
@@ -115,22 +121,23 @@ behind_list {A = A} g (suc n) xs ys (t ∷ ts) =
 
 -- a list with commas: its first piece, and those behind it
 pub list_read : {A : Type 0} (g h : Grammar A) (ts : List Spelled)
-    → read (with_commas g h) ts ≡ and_then (read g ts) (λ a rest. turns put always h (a ∷ []) rest)
+    → read (with_commas g h) ts ≡ and_then (read g ts) (λ a rest. read (many (a ∷ []) put always h (λ xs. xs)) rest)
 list_read {A = A} g h ts = by_first (read g ts)
   where
     by_rest : (a : A) (o : Outcome (List A))
         → and_then (and_then o (λ x last. done x last)) (λ more last. done (a ∷ more) last)
-        ≡ and_then o (λ zs last. done ((a ∷ []) ++ zs) last)
+        ≡ and_then (and_then o (λ zs last. done ((a ∷ []) ++ zs) last)) (λ x last. done x last)
     by_rest a (done zs last) = refl
     by_rest a (stuck w last) = refl
 
     by_first : (o : Outcome A)
         → and_then {A = List A → List A} (and_then {A = A → List A → List A} (done (λ a more. a ∷ more) ts) (λ f rest. and_then o (λ a last. done (f a) last)))
         (λ f rest. and_then (read (any_number h) rest) (λ more last. done (f more) last))
-        ≡ and_then o (λ a rest. turns put always h (a ∷ []) rest)
+        ≡ and_then o (λ a rest. read (many (a ∷ []) put always h (λ xs. xs)) rest)
     by_first (stuck w us) = refl
     by_first (done a rest) =
-        by_rest a (turns put always h [] rest) ∙ sym (behind_list h (length rest) (a ∷ []) [] rest)
+        by_rest a (turns put always h [] rest)
+        ∙ ap (λ o. and_then o (λ x last. done x last)) (sym (behind_list h (length rest) (a ∷ []) [] rest))
 
 -- a call that fails as another one did
 pub as_err : {X E : Type 0} (e : E) (r : Result X E) → IsErrAnd r (λ x. x ≡ e) → r ≡ Err e
@@ -142,33 +149,19 @@ abbrev pub Answers : {C : Type 0} → List ℕ → Result (C × Bor (List Token)
 Answers {C = C} text r o = Gives {X = C × Bor (List Token)} (λ x. x.0) (λ x. x.1.now) text r o
 
 -- a reader that stopped stops what it is a part of
-stop_goes_on : {C D : Type 0} (text : List ℕ) (e : Stop) (o : Outcome C) (p : Outcome D) → Answers text (Err e) o
+pub stop_goes_on : {C D : Type 0} (text : List ℕ) (e : Stop) (o : Outcome C) (p : Outcome D) → Answers text (Err e) o
     → ((w : Why) (rest : List Spelled) → o ≡ stuck w rest → p ≡ stuck w rest) → Answers text (Err e) p
 stop_goes_on text NoMemory o p h k = tt
 stop_goes_on text (Here w n) (done c rest) p h k = absurd h
 stop_goes_on text (Here w n) (stuck v rest) p h k =
     let P = λ (x : _). StopsWith w n x in subst P (sym (k v rest refl)) h
 
-answers_err : {C : Type 0} (text : List ℕ) (e : Stop) (r : Result (C × Bor (List Token)) Stop) (o : Outcome C)
+pub answers_err : {C : Type 0} (text : List ℕ) (e : Stop) (r : Result (C × Bor (List Token)) Stop) (o : Outcome C)
     → IsErrAnd r (λ x. x ≡ e) → Answers text (Err e) o → Answers text r o
 answers_err {C = C} text e r o same h =
     let P : Result (C × Bor (List Token)) Stop → Type 0 = λ x. Answers text x o in subst P (sym (as_err e r same)) h
 
 -- a loop over all pieces: where a piece stops, and where none begins any more
-pub turns_stop : {S A : Type 0} (text : List ℕ) (e : Stop) (r : Result (S × Bor (List Token)) Stop) (after : S → A → S)
-    (may : S → Spelled → Bool) (g : Grammar A) (start s : S) (all ts : List Spelled)
-    → turns after may g s ts ≡ turns after may g start all → begins_piece may g s ts ≡ true
-    → Answers text (Err e) (read g ts) → IsErrAnd r (λ x. x ≡ e) → Answers text r (turns after may g start all)
-turns_stop text e r after may g start s all ts same here stops told =
-    answers_err text e r (turns after may g start all) told
-    (stop_goes_on text e (read g ts) (turns after may g start all) stops
-    (λ w rest h. sym same ∙ turn_stops after may g s ts w rest here h))
-
-pub turns_done : {S A : Type 0} (after : S → A → S) (may : S → Spelled → Bool) (g : Grammar A) (start s : S)
-    (all ts : List Spelled) → turns after may g s ts ≡ turns after may g start all → begins_piece may g s ts ≡ false
-    → turns after may g start all ≡ done s ts
-turns_done after may g start s all ts same here = sym same ∙ turns_end after may g s ts here
-
 pub loop_stops : {S A C : Type 0} (text : List ℕ) (e : Stop) (r : Result (C × Bor (List Token)) Stop) (after : S → A → S)
     (may : S → Spelled → Bool) (g : Grammar A) (f : S → C) (start s : S) (all ts : List Spelled)
     → turns after may g s ts ≡ turns after may g start all → begins_piece may g s ts ≡ true
@@ -194,10 +187,19 @@ begins_always g s (t ∷ ts) = by_test (is_any (tries g) t)
     by_test true = refl
     by_test false = refl
 
--- the answer of a list, of which the first piece was read
-pub list_answer : {A : Type 0} (text : List ℕ) (r : Result (List A × Bor (List Token)) Stop) (g h : Grammar A)
-    (ts : List Spelled) (a : A) (rest : List Spelled) → read g ts ≡ done a rest
-    → Answers text r (turns put always h (a ∷ []) rest) → Answers text r (read (with_commas g h) ts)
-list_answer {A = A} text r g h ts a rest first behind =
+-- a list of which the first piece was read, and where one behind it stops
+pub list_behind : {A : Type 0} (g h : Grammar A) (ts : List Spelled) (a : A) (rest : List Spelled) (xs : List A)
+    → read g ts ≡ done a rest → xs ≡ a ∷ []
+    → read (with_commas g h) ts ≡ read (many xs put always h (λ ys. ys)) rest
+list_behind g h ts a rest xs first start =
+    list_read g h ts ∙ ap (λ o. and_then o (λ b more. read (many (b ∷ []) put always h (λ ys. ys)) more)) first
+    ∙ ap (λ ys. read (many ys put always h (λ zs. zs)) rest) (sym start)
+
+pub list_stops : {A : Type 0} (text : List ℕ) (e : Stop) (r : Result (List A × Bor (List Token)) Stop) (g h : Grammar A)
+    (ts : List Spelled) (a : A) (rest : List Spelled) (xs : List A) → read g ts ≡ done a rest → xs ≡ a ∷ []
+    → Answers text (Err e) (read (many xs put always h (λ ys. ys)) rest) → IsErrAnd r (λ x. x ≡ e)
+    → Answers text r (read (with_commas g h) ts)
+list_stops {A = A} text e r g h ts a rest xs first start stops told =
     let P : Outcome (List A) → Type 0 = λ o. Answers text r o in
-    subst P (sym (list_read g h ts ∙ ap (λ o. and_then o (λ b more. turns put always h (b ∷ []) more)) first)) behind
+    subst P (sym (list_behind g h ts a rest xs first start))
+    (answers_err text e r (read (many xs put always h (λ ys. ys)) rest) told stops)

@@ -7,6 +7,7 @@ use Rattle.composer_parser.specs.Kinds.{Kind, keyword, is_reserved, reserved_wor
 use Rattle.calendars.specs.Written.{date_of}
 use Rattle.calendars.specs.Dates.{day_of}
 use Rattle.composer_parser.specs.Groups.{kinds_apart, apart, group_of}
+use Rattle.composer_parser.specs.Grammars.{Grammar}
 use Rattle.composer_parser.specs.Reading.{decided, empty, tries, goes_on, has}
 use Rattle.composer_parser.specs.Answers.{is_sound}
 use Rattle.composer_parser.specs.Parts.{description, date}
@@ -37,33 +38,17 @@ pub next_pred_decided : decided next_pred ≡ true
 unfolding next_pred is_reserved reserved_words is_placed is_scoped is_pred is_time is_date date_of day_of is_plus is_minus is_offset
 next_pred_decided = refl
 
-pub next_pred_some : empty next_pred ≡ false
-unfolding next_pred
-next_pred_some = refl
-
 pub next_need_decided : decided next_need ≡ true
 unfolding next_need need units is_reserved reserved_words is_placed is_scoped is_pred is_time is_date date_of day_of is_plus is_minus is_offset
 next_need_decided = refl
-
-pub next_need_some : empty next_need ≡ false
-unfolding next_need need units
-next_need_some = refl
 
 pub next_prompt_decided : decided next_prompt ≡ true
 unfolding next_prompt prompt is_reserved reserved_words is_placed is_scoped is_pred is_time is_date date_of day_of is_plus is_minus is_offset
 next_prompt_decided = refl
 
-pub next_prompt_some : empty next_prompt ≡ false
-unfolding next_prompt prompt
-next_prompt_some = refl
-
 pub next_file_decided : decided next_file ≡ true
 unfolding next_file file no_qualifier is_reserved reserved_words is_placed is_scoped is_pred is_time is_date date_of day_of is_plus is_minus is_offset
 next_file_decided = refl
-
-pub next_file_some : empty next_file ≡ false
-unfolding next_file file no_qualifier
-next_file_some = refl
 
 pub clause_decided : decided clause ≡ true
 unfolding plus_days until_word on_until next_pred preds units need next_need needs prompt next_prompt prompts no_qualifier file next_file files priority at_clause until_clause deadline_clause priority_clause limit_clause carry_clause follows_clause needs_clause prompt_clause opens_clause clause is_reserved reserved_words is_placed is_scoped is_pred is_time is_date date_of day_of is_plus is_minus is_offset
@@ -76,10 +61,6 @@ clause_some = refl
 pub next_item_decided : decided next_item ≡ true
 unfolding next_item item weekday days rule calendar_item offset offset_unit is_reserved reserved_words is_placed is_scoped is_pred is_time is_date date_of day_of is_plus is_minus is_offset
 next_item_decided = refl
-
-pub next_item_some : empty next_item ≡ false
-unfolding next_item item weekday days rule calendar_item offset offset_unit
-next_item_some = refl
 
 pub on_decided : decided on ≡ true
 unfolding valid_from valid_to cycle shift no_times on_key on offset_unit offset calendar_item weekday days rule item next_item items description is_reserved reserved_words is_placed is_scoped is_pred is_time is_date date_of day_of is_plus is_minus is_offset
@@ -141,145 +122,43 @@ first_kinds =
     keyword (codes "CPUNAME") ∷ keyword (codes "DOMAIN") ∷ keyword (codes "$CALENDAR") ∷ keyword (codes "$PROMPT")
     ∷ keyword (codes "$RESOURCE") ∷ keyword (codes "$JOBS") ∷ keyword (codes "SCHEDULE") ∷ []
 
-pub cpu_statement_decided : decided cpu_statement ≡ true
+-- a statement that begins with this word
+abbrev BeginsStatement : {A : Type 0} → Grammar A → List ℕ → Type 0
+BeginsStatement g word = record {
+  decides : decided g ≡ true;
+  some : empty g ≡ false;
+  can_be : has g ≡ true;
+  first : tries g ≡ keyword word ∷ [];
+  ends : kinds_apart (goes_on g) first_kinds ≡ true;
+}
+
+cpu_statement_facts : BeginsStatement cpu_statement (codes "CPUNAME")
 unfolding cpu_statement on_or_off firewall_off flag flags cpu_type port machine place cpu description is_reserved reserved_words is_placed is_scoped is_pred is_time is_date date_of day_of is_plus is_minus is_offset
-cpu_statement_decided = refl
+cpu_statement_facts = record { decides = refl; some = refl; can_be = refl; first = refl; ends = refl }
 
-pub cpu_statement_some : empty cpu_statement ≡ false
-unfolding cpu_statement on_or_off firewall_off flag flags cpu_type port machine place cpu description
-cpu_statement_some = refl
-
-pub cpu_statement_has : has cpu_statement ≡ true
-unfolding cpu_statement on_or_off firewall_off flag flags cpu_type port machine place cpu description is_reserved reserved_words is_placed is_scoped is_pred is_time is_date date_of day_of is_plus is_minus is_offset
-cpu_statement_has = refl
-
-pub cpu_statement_tries : tries cpu_statement ≡ keyword (codes "CPUNAME") ∷ []
-unfolding cpu_statement on_or_off firewall_off flag flags cpu_type port machine place cpu description
-cpu_statement_tries = refl
-
-pub cpu_statement_apart : kinds_apart (goes_on cpu_statement) first_kinds ≡ true
-unfolding cpu_statement on_or_off firewall_off flag flags cpu_type port machine place cpu description is_reserved reserved_words
-cpu_statement_apart = refl
-
-pub domain_statement_decided : decided domain_statement ≡ true
+domain_statement_facts : BeginsStatement domain_statement (codes "DOMAIN")
 unfolding domain_statement star parent domain description is_reserved reserved_words is_placed is_scoped is_pred is_time is_date date_of day_of is_plus is_minus is_offset
-domain_statement_decided = refl
+domain_statement_facts = record { decides = refl; some = refl; can_be = refl; first = refl; ends = refl }
 
-pub domain_statement_some : empty domain_statement ≡ false
-unfolding domain_statement star parent domain description
-domain_statement_some = refl
-
-pub domain_statement_has : has domain_statement ≡ true
-unfolding domain_statement star parent domain description is_reserved reserved_words is_placed is_scoped is_pred is_time is_date date_of day_of is_plus is_minus is_offset
-domain_statement_has = refl
-
-pub domain_statement_tries : tries domain_statement ≡ keyword (codes "DOMAIN") ∷ []
-unfolding domain_statement star parent domain description
-domain_statement_tries = refl
-
-pub domain_statement_apart : kinds_apart (goes_on domain_statement) first_kinds ≡ true
-unfolding domain_statement star parent domain description is_reserved reserved_words
-domain_statement_apart = refl
-
-pub calendar_group_decided : decided calendar_group ≡ true
+calendar_group_facts : BeginsStatement calendar_group (codes "$CALENDAR")
 unfolding calendar_group calendars calendar a_text_or_none dates is_reserved reserved_words is_placed is_scoped is_pred is_time is_date date_of day_of is_plus is_minus is_offset
-calendar_group_decided = refl
+calendar_group_facts = record { decides = refl; some = refl; can_be = refl; first = refl; ends = refl }
 
-pub calendar_group_some : empty calendar_group ≡ false
-unfolding calendar_group calendars calendar a_text_or_none dates
-calendar_group_some = refl
-
-pub calendar_group_has : has calendar_group ≡ true
-unfolding calendar_group calendars calendar a_text_or_none dates is_reserved reserved_words is_placed is_scoped is_pred is_time is_date date_of day_of is_plus is_minus is_offset
-calendar_group_has = refl
-
-pub calendar_group_tries : tries calendar_group ≡ keyword (codes "$CALENDAR") ∷ []
-unfolding calendar_group calendars calendar a_text_or_none dates
-calendar_group_tries = refl
-
-pub calendar_group_apart : kinds_apart (goes_on calendar_group) first_kinds ≡ true
-unfolding calendar_group calendars calendar a_text_or_none dates is_reserved reserved_words
-calendar_group_apart = refl
-
-pub prompt_group_decided : decided prompt_group ≡ true
+prompt_group_facts : BeginsStatement prompt_group (codes "$PROMPT")
 unfolding prompt_group prompt_defs prompt_def is_reserved reserved_words is_placed is_scoped is_pred is_time is_date date_of day_of is_plus is_minus is_offset
-prompt_group_decided = refl
+prompt_group_facts = record { decides = refl; some = refl; can_be = refl; first = refl; ends = refl }
 
-pub prompt_group_some : empty prompt_group ≡ false
-unfolding prompt_group prompt_defs prompt_def
-prompt_group_some = refl
-
-pub prompt_group_has : has prompt_group ≡ true
-unfolding prompt_group prompt_defs prompt_def is_reserved reserved_words is_placed is_scoped is_pred is_time is_date date_of day_of is_plus is_minus is_offset
-prompt_group_has = refl
-
-pub prompt_group_tries : tries prompt_group ≡ keyword (codes "$PROMPT") ∷ []
-unfolding prompt_group prompt_defs prompt_def
-prompt_group_tries = refl
-
-pub prompt_group_apart : kinds_apart (goes_on prompt_group) first_kinds ≡ true
-unfolding prompt_group prompt_defs prompt_def is_reserved reserved_words
-prompt_group_apart = refl
-
-pub resource_group_decided : decided resource_group ≡ true
+resource_group_facts : BeginsStatement resource_group (codes "$RESOURCE")
 unfolding resource_group resources resource a_text_or_none is_reserved reserved_words is_placed is_scoped is_pred is_time is_date date_of day_of is_plus is_minus is_offset
-resource_group_decided = refl
+resource_group_facts = record { decides = refl; some = refl; can_be = refl; first = refl; ends = refl }
 
-pub resource_group_some : empty resource_group ≡ false
-unfolding resource_group resources resource a_text_or_none
-resource_group_some = refl
-
-pub resource_group_has : has resource_group ≡ true
-unfolding resource_group resources resource a_text_or_none is_reserved reserved_words is_placed is_scoped is_pred is_time is_date date_of day_of is_plus is_minus is_offset
-resource_group_has = refl
-
-pub resource_group_tries : tries resource_group ≡ keyword (codes "$RESOURCE") ∷ []
-unfolding resource_group resources resource a_text_or_none
-resource_group_tries = refl
-
-pub resource_group_apart : kinds_apart (goes_on resource_group) first_kinds ≡ true
-unfolding resource_group resources resource a_text_or_none is_reserved reserved_words
-resource_group_apart = refl
-
-pub job_group_decided : decided job_group ≡ true
+job_group_facts : BeginsStatement job_group (codes "$JOBS")
 unfolding job_group jobs job command recovery_word no_recovery_job work_flag work_flags work is_reserved reserved_words is_placed is_scoped is_pred is_time is_date date_of day_of is_plus is_minus is_offset
-job_group_decided = refl
+job_group_facts = record { decides = refl; some = refl; can_be = refl; first = refl; ends = refl }
 
-pub job_group_some : empty job_group ≡ false
-unfolding job_group jobs job command recovery_word no_recovery_job work_flag work_flags work
-job_group_some = refl
-
-pub job_group_has : has job_group ≡ true
-unfolding job_group jobs job command recovery_word no_recovery_job work_flag work_flags work is_reserved reserved_words is_placed is_scoped is_pred is_time is_date date_of day_of is_plus is_minus is_offset
-job_group_has = refl
-
-pub job_group_tries : tries job_group ≡ keyword (codes "$JOBS") ∷ []
-unfolding job_group jobs job command recovery_word no_recovery_job work_flag work_flags work
-job_group_tries = refl
-
-pub job_group_apart : kinds_apart (goes_on job_group) first_kinds ≡ true
-unfolding job_group jobs job command recovery_word no_recovery_job work_flag work_flags work is_reserved reserved_words
-job_group_apart = refl
-
-pub schedule_statement_decided : decided schedule_statement ≡ true
+schedule_statement_facts : BeginsStatement schedule_statement (codes "SCHEDULE")
 unfolding schedule_statement ons entries minus_sa minus_su free_days title header schedule own_work entry valid_from valid_to cycle shift no_times on_key on offset_unit offset calendar_item weekday days rule item next_item items command recovery_word no_recovery_job work_flag work_flags work plus_days until_word on_until next_pred preds units need next_need needs prompt next_prompt prompts no_qualifier file next_file files priority at_clause until_clause deadline_clause priority_clause limit_clause carry_clause follows_clause needs_clause prompt_clause opens_clause clause clauses description is_reserved reserved_words is_placed is_scoped is_pred is_time is_date date_of day_of is_plus is_minus is_offset
-schedule_statement_decided = refl
-
-pub schedule_statement_some : empty schedule_statement ≡ false
-unfolding schedule_statement ons entries minus_sa minus_su free_days title header schedule own_work entry valid_from valid_to cycle shift no_times on_key on offset_unit offset calendar_item weekday days rule item next_item items command recovery_word no_recovery_job work_flag work_flags work plus_days until_word on_until next_pred preds units need next_need needs prompt next_prompt prompts no_qualifier file next_file files priority at_clause until_clause deadline_clause priority_clause limit_clause carry_clause follows_clause needs_clause prompt_clause opens_clause clause clauses description
-schedule_statement_some = refl
-
-pub schedule_statement_has : has schedule_statement ≡ true
-unfolding schedule_statement ons entries minus_sa minus_su free_days title header schedule own_work entry valid_from valid_to cycle shift no_times on_key on offset_unit offset calendar_item weekday days rule item next_item items command recovery_word no_recovery_job work_flag work_flags work plus_days until_word on_until next_pred preds units need next_need needs prompt next_prompt prompts no_qualifier file next_file files priority at_clause until_clause deadline_clause priority_clause limit_clause carry_clause follows_clause needs_clause prompt_clause opens_clause clause clauses description is_reserved reserved_words is_placed is_scoped is_pred is_time is_date date_of day_of is_plus is_minus is_offset
-schedule_statement_has = refl
-
-pub schedule_statement_tries : tries schedule_statement ≡ keyword (codes "SCHEDULE") ∷ []
-unfolding schedule_statement ons entries minus_sa minus_su free_days title header schedule own_work entry valid_from valid_to cycle shift no_times on_key on offset_unit offset calendar_item weekday days rule item next_item items command recovery_word no_recovery_job work_flag work_flags work plus_days until_word on_until next_pred preds units need next_need needs prompt next_prompt prompts no_qualifier file next_file files priority at_clause until_clause deadline_clause priority_clause limit_clause carry_clause follows_clause needs_clause prompt_clause opens_clause clause clauses description
-schedule_statement_tries = refl
-
-pub schedule_statement_apart : kinds_apart (goes_on schedule_statement) first_kinds ≡ true
-unfolding schedule_statement ons entries minus_sa minus_su free_days title header schedule own_work entry valid_from valid_to cycle shift no_times on_key on offset_unit offset calendar_item weekday days rule item next_item items command recovery_word no_recovery_job work_flag work_flags work plus_days until_word on_until next_pred preds units need next_need needs prompt next_prompt prompts no_qualifier file next_file files priority at_clause until_clause deadline_clause priority_clause limit_clause carry_clause follows_clause needs_clause prompt_clause opens_clause clause clauses description is_reserved reserved_words
-schedule_statement_apart = refl
+schedule_statement_facts = record { decides = refl; some = refl; can_be = refl; first = refl; ends = refl }
 
 both_apart : (ks ls : List Kind) → kinds_apart ks first_kinds ≡ true → kinds_apart ls first_kinds ≡ true
     → kinds_apart (ks ++ ls) first_kinds ≡ true
@@ -288,21 +167,21 @@ both_apart ks ls a b =
 
 pub statement_tries : tries statement ≡ first_kinds
 unfolding statement
-statement_tries = rw (cpu_statement_tries, domain_statement_tries, calendar_group_tries, prompt_group_tries, resource_group_tries, job_group_tries, schedule_statement_tries) refl
+statement_tries = rw (cpu_statement_facts.first, domain_statement_facts.first, calendar_group_facts.first, prompt_group_facts.first, resource_group_facts.first, job_group_facts.first, schedule_statement_facts.first) refl
 
 pub statement_some : empty statement ≡ false
 unfolding statement
-statement_some = rw (schedule_statement_some, cpu_statement_some, domain_statement_some, calendar_group_some, prompt_group_some, resource_group_some, job_group_some) refl
+statement_some = rw (schedule_statement_facts.some, cpu_statement_facts.some, domain_statement_facts.some, calendar_group_facts.some, prompt_group_facts.some, resource_group_facts.some, job_group_facts.some) refl
 
 pub statement_decided : decided statement ≡ true
 unfolding statement
-statement_decided = rw (cpu_statement_decided, domain_statement_decided, calendar_group_decided, prompt_group_decided, resource_group_decided, job_group_decided, schedule_statement_decided, cpu_statement_some, domain_statement_some, calendar_group_some, prompt_group_some, resource_group_some, job_group_some, cpu_statement_tries, domain_statement_tries, calendar_group_tries, prompt_group_tries, resource_group_tries, job_group_tries, schedule_statement_tries) refl
+statement_decided = rw (cpu_statement_facts.decides, domain_statement_facts.decides, calendar_group_facts.decides, prompt_group_facts.decides, resource_group_facts.decides, job_group_facts.decides, schedule_statement_facts.decides, cpu_statement_facts.some, domain_statement_facts.some, calendar_group_facts.some, prompt_group_facts.some, resource_group_facts.some, job_group_facts.some, cpu_statement_facts.first, domain_statement_facts.first, calendar_group_facts.first, prompt_group_facts.first, resource_group_facts.first, job_group_facts.first, schedule_statement_facts.first) refl
 
 statement_apart : kinds_apart (goes_on statement) first_kinds ≡ true
 unfolding statement
 statement_apart =
-    rw (domain_statement_some, calendar_group_some, prompt_group_some, resource_group_some, job_group_some, schedule_statement_some)
-    (both_apart (goes_on cpu_statement) (goes_on domain_statement ++ (goes_on calendar_group ++ (goes_on prompt_group ++ (goes_on resource_group ++ (goes_on job_group ++ (goes_on schedule_statement)))))) cpu_statement_apart (both_apart (goes_on domain_statement) (goes_on calendar_group ++ (goes_on prompt_group ++ (goes_on resource_group ++ (goes_on job_group ++ (goes_on schedule_statement))))) domain_statement_apart (both_apart (goes_on calendar_group) (goes_on prompt_group ++ (goes_on resource_group ++ (goes_on job_group ++ (goes_on schedule_statement)))) calendar_group_apart (both_apart (goes_on prompt_group) (goes_on resource_group ++ (goes_on job_group ++ (goes_on schedule_statement))) prompt_group_apart (both_apart (goes_on resource_group) (goes_on job_group ++ (goes_on schedule_statement)) resource_group_apart (both_apart (goes_on job_group) (goes_on schedule_statement) job_group_apart (schedule_statement_apart)))))))
+    rw (domain_statement_facts.some, calendar_group_facts.some, prompt_group_facts.some, resource_group_facts.some, job_group_facts.some, schedule_statement_facts.some)
+    (both_apart (goes_on cpu_statement) (goes_on domain_statement ++ (goes_on calendar_group ++ (goes_on prompt_group ++ (goes_on resource_group ++ (goes_on job_group ++ (goes_on schedule_statement)))))) cpu_statement_facts.ends (both_apart (goes_on domain_statement) (goes_on calendar_group ++ (goes_on prompt_group ++ (goes_on resource_group ++ (goes_on job_group ++ (goes_on schedule_statement))))) domain_statement_facts.ends (both_apart (goes_on calendar_group) (goes_on prompt_group ++ (goes_on resource_group ++ (goes_on job_group ++ (goes_on schedule_statement)))) calendar_group_facts.ends (both_apart (goes_on prompt_group) (goes_on resource_group ++ (goes_on job_group ++ (goes_on schedule_statement))) prompt_group_facts.ends (both_apart (goes_on resource_group) (goes_on job_group ++ (goes_on schedule_statement)) resource_group_facts.ends (both_apart (goes_on job_group) (goes_on schedule_statement) job_group_facts.ends (schedule_statement_facts.ends)))))))
 
 statements_decided : (last : ℕ) → decided (statements last) ≡ true
 unfolding statements

@@ -147,5 +147,8 @@ dropped_mark c = one (a_mark c) (λ t. tt)
 abbrev pub comma : Grammar (Unit {0})
 comma = dropped_mark 44
 
+abbrev pub after_comma : {A : Type 0} → Grammar A → Grammar A
+after_comma g = made (λ x a. a) ⊛ comma ⊛ g
+
 abbrev pub with_commas : {A : Type 0} → Grammar A → Grammar A → Grammar (List A)
 with_commas g further = made (λ a more. a ∷ more) ⊛ g ⊛ any_number further

@@ -1,7 +1,13 @@
-//! Items that were read together.
-ghost use Rattle.std.specs.Prelude.{◌≡◌, ◌++◌, [], IfOk, OnOk};
+//! Pieces that stand one behind the other.
+ghost use Rattle.std.specs.Prelude.{◌≡◌, ◌++◌, [], true, false, OnOk};
+ghost use Rattle.composer_parser.specs.Parts.{any_number};
+ghost use Rattle.composer_parser.specs.Reading.{read, decided, empty};
+ghost use Rattle.composer_parser.specs.Tokens.{all_spelled, Gives};
 
-use base_types::{Items, NoMemory};
+use crate::gathering::{Gathers, gather};
+use crate::pieces::Begins;
+use crate::stops::Stop;
+use base_types::{Items, NoMemory, Token};
 use std::alloc::Global;
 use std::marker::Model;
 
@@ -20,10 +26,19 @@ impl<T> Model for Batch<T> {
 }
 
 impl<T> Batch<T> {
-    pub(crate) fn of(items: Vec<T>) -> Self
-        ensures { result ≡ items.items }
+    fn new(alloc: Global) -> Self
+        ensures { result ≡ [] }
     {
-        Batch { items }
+        Batch {
+            items: Vec::new(alloc),
+        }
+    }
+
+    /// The items as a list, which takes no memory.
+    pub(crate) fn into_items(self) -> Items<T>
+        ensures { result ≡ self }
+    {
+        Items::of_vec(self.items)
     }
 
     /// Puts the items behind a list. Where memory runs out the list may have some of them.
@@ -45,9 +60,45 @@ fn append<T: Drop>(items: Vec<T>, all: &mut Items<T>) -> Result<(), NoMemory>
     Ok(())
 }
 
-/// An empty list with room for one item, which is all that most lists of definitions have.
-pub(crate) fn room_for_one<T>(alloc: Global) -> Result<Items<T>, NoMemory>
-    ensures { IfOk result (λ list. list ≡ []) }
+impl<T: Begins> Gathers for Batch<T> {
+    ghost use Rattle.composer_parser.specs.Parts.{put, always};
+
+    type Part = T;
+
+    ghost part_grammar = { T.grammar };
+
+    ghost next_state = { put };
+
+    ghost may_begin = { always };
+
+    #[tactic(auto, using(crate::proofs::Loops::begins_always))]
+    fn goes_on(&self, text: &str, rest: &[Token]) -> bool {
+        T::begins(text, rest)
+    }
+
+    fn read_part<'a>(
+        alloc: Global,
+        text: &str,
+        rest: &'a [Token],
+    ) -> Result<(T, &'a [Token]), Stop> {
+        T::read(alloc, text, rest)
+    }
+
+    fn take(&mut self, part: T) -> Result<(), NoMemory> {
+        self.items.push(part)?;
+        Ok(())
+    }
+}
+
+/// All of a kind that stand here one behind the other.
+pub(crate) fn row<'a, T: Begins>(
+    alloc: Global,
+    text: &str,
+    rest: &'a [Token],
+) -> Result<(Batch<T>, &'a [Token]), Stop>
+    requires decided { decided T.grammar ≡ true }
+    requires some { empty T.grammar ≡ false }
+    ensures { Gives (λ x. x.0) (λ x. x.1.now) text.now result (read (any_number T.grammar) (all_spelled text.now rest.now)) }
 {
-    Ok(Items::of_vec(Vec::with_capacity(alloc, 1)?))
+    gather(alloc, text, rest, Batch::new(alloc))
 }

@@ -1,18 +1,19 @@
 //! The clauses of streams and of their entries, read from their tokens.
-ghost use Rattle.std.specs.Prelude.{◌≡◌, ◌||◌, ℕ, List, codes, not};
-ghost use Rattle.composer_parser.specs.Reading.{read, begins_piece, is_any, tries};
+ghost use Rattle.std.specs.Prelude.{◌≡◌, ◌||◌, [], ◌∷◌, true, false, not};
+ghost use Rattle.std.specs.List.{list_any};
+ghost use Rattle.composer_parser.specs.Reading.{read, is_any, tries};
 ghost use Rattle.composer_parser.specs.Clauses as spec;
-ghost use Rattle.composer_parser.specs.Parts.{once};
 ghost use Rattle.composer_parser.specs.Tokens.{all_spelled, spelled, Gives};
-ghost use Rattle.composer_parser.specs.Clauses.{has_clause, may_clause};
+ghost use Rattle.composer_parser.specs.Clauses.{may_clause};
 
-use crate::clauses::Clause;
+use crate::clauses::{Clause, Need, Pred, PromptItem};
 use crate::definitions::Lined;
-use crate::lists::{files, needs, preds, prompts};
+use crate::gathering::{Gathers, gather};
+use crate::lists::list;
 use crate::moments::{is_plus_next, plus, time};
-use crate::parts::{is_keyword, is_next, is_number_next, is_word_of, key, number};
+use crate::parts::{is_keyword, is_next, is_number_next, is_word_of, key, number, taken};
 use crate::stops::Stop;
-use base_types::{Items, OnUntil, Token};
+use base_types::{Items, NoMemory, OnUntil, Text, Token};
 use std::alloc::Global;
 
 #[tactic(auto, unfolding(crate::specs::Clauses::plus_days))]
@@ -31,12 +32,10 @@ fn plus_days<'a>(text: &str, rest: &'a [Token]) -> Result<(Option<u32>, &'a [Tok
 fn until_word<'a>(text: &str, rest: &'a [Token]) -> Result<(OnUntil, &'a [Token]), Stop>
     ensures { Gives (λ x. x.0) (λ x. x.1.now) text.now result (read spec.until_word (all_spelled text.now rest.now)) }
 {
-    if is_next(text, rest, "SUPPR") {
-        let (_, rest) = key(text, rest, "SUPPR")?;
+    if let Some((_, rest)) = taken(text, rest, "SUPPR") {
         return Ok((OnUntil::Suppr, rest));
     }
-    if is_next(text, rest, "CONT") {
-        let (_, rest) = key(text, rest, "CONT")?;
+    if let Some((_, rest)) = taken(text, rest, "CONT") {
         return Ok((OnUntil::Cont, rest));
     }
     let (_, rest) = key(text, rest, "CANC")?;
@@ -47,8 +46,7 @@ fn until_word<'a>(text: &str, rest: &'a [Token]) -> Result<(OnUntil, &'a [Token]
 fn on_until<'a>(text: &str, rest: &'a [Token]) -> Result<(OnUntil, &'a [Token]), Stop>
     ensures { Gives (λ x. x.0) (λ x. x.1.now) text.now result (read spec.on_until (all_spelled text.now rest.now)) }
 {
-    if is_next(text, rest, "ONUNTIL") {
-        let (_, rest) = key(text, rest, "ONUNTIL")?;
+    if let Some((_, rest)) = taken(text, rest, "ONUNTIL") {
         return until_word(text, rest);
     }
     Ok((OnUntil::Suppr, rest))
@@ -61,8 +59,7 @@ fn priority<'a>(text: &str, rest: &'a [Token]) -> Result<(u32, &'a [Token]), Sto
     if is_number_next(text, rest) {
         return number(text, rest);
     }
-    if is_next(text, rest, "HI") {
-        let (_, rest) = key(text, rest, "HI")?;
+    if let Some((_, rest)) = taken(text, rest, "HI") {
         return Ok((100, rest));
     }
     let (_, rest) = key(text, rest, "GO")?;
@@ -132,7 +129,7 @@ fn carry_clause<'a>(text: &str, rest: &'a [Token]) -> Result<(Lined<Clause>, &'a
     Ok((Lined { line, item }, rest))
 }
 
-#[tactic(auto, unfolding(crate::specs::Clauses::follows_clause))]
+#[tactic(auto, using(crate::proofs::Sound::next_pred_decided), unfolding(crate::specs::Clauses::follows_clause, crate::specs::Clauses::preds, crate::specs::Clauses::next_pred))]
 fn follows_clause<'a>(
     alloc: Global,
     text: &str,
@@ -141,12 +138,12 @@ fn follows_clause<'a>(
     ensures { Gives (λ x. x.0) (λ x. x.1.now) text.now result (read spec.follows_clause (all_spelled text.now rest.now)) }
 {
     let (line, rest) = key(text, rest, "FOLLOWS")?;
-    let (all, rest) = preds(alloc, text, rest)?;
+    let (all, rest) = list::<Pred>(alloc, text, rest)?;
     let item = Clause::Follows(all);
     Ok((Lined { line, item }, rest))
 }
 
-#[tactic(auto, unfolding(crate::specs::Clauses::needs_clause))]
+#[tactic(auto, using(crate::proofs::Sound::next_need_decided), unfolding(crate::specs::Clauses::needs_clause, crate::specs::Clauses::needs, crate::specs::Clauses::next_need))]
 fn needs_clause<'a>(
     alloc: Global,
     text: &str,
@@ -155,12 +152,12 @@ fn needs_clause<'a>(
     ensures { Gives (λ x. x.0) (λ x. x.1.now) text.now result (read spec.needs_clause (all_spelled text.now rest.now)) }
 {
     let (line, rest) = key(text, rest, "NEEDS")?;
-    let (all, rest) = needs(alloc, text, rest)?;
+    let (all, rest) = list::<Need>(alloc, text, rest)?;
     let item = Clause::Needs(all);
     Ok((Lined { line, item }, rest))
 }
 
-#[tactic(auto, unfolding(crate::specs::Clauses::prompt_clause))]
+#[tactic(auto, using(crate::proofs::Sound::next_prompt_decided), unfolding(crate::specs::Clauses::prompt_clause, crate::specs::Clauses::prompts, crate::specs::Clauses::next_prompt))]
 fn prompt_clause<'a>(
     alloc: Global,
     text: &str,
@@ -169,12 +166,12 @@ fn prompt_clause<'a>(
     ensures { Gives (λ x. x.0) (λ x. x.1.now) text.now result (read spec.prompt_clause (all_spelled text.now rest.now)) }
 {
     let (line, rest) = key(text, rest, "PROMPT")?;
-    let (all, rest) = prompts(alloc, text, rest)?;
+    let (all, rest) = list::<PromptItem>(alloc, text, rest)?;
     let item = Clause::Prompt(all);
     Ok((Lined { line, item }, rest))
 }
 
-#[tactic(auto, unfolding(crate::specs::Clauses::opens_clause))]
+#[tactic(auto, using(crate::proofs::Sound::next_file_decided), unfolding(crate::specs::Clauses::opens_clause, crate::specs::Clauses::files, crate::specs::Clauses::next_file))]
 fn opens_clause<'a>(
     alloc: Global,
     text: &str,
@@ -183,120 +180,9 @@ fn opens_clause<'a>(
     ensures { Gives (λ x. x.0) (λ x. x.1.now) text.now result (read spec.opens_clause (all_spelled text.now rest.now)) }
 {
     let (line, rest) = key(text, rest, "OPENS")?;
-    let (all, rest) = files(alloc, text, rest)?;
+    let (all, rest) = list::<Text>(alloc, text, rest)?;
     let item = Clause::Opens(all);
     Ok((Lined { line, item }, rest))
-}
-
-/// One clause.
-#[tactic(auto, unfolding(crate::specs::Clauses::clause, crate::specs::Clauses::at_clause, crate::specs::Clauses::until_clause, crate::specs::Clauses::deadline_clause, crate::specs::Clauses::priority_clause, crate::specs::Clauses::limit_clause, crate::specs::Clauses::carry_clause, crate::specs::Clauses::follows_clause, crate::specs::Clauses::needs_clause, crate::specs::Clauses::prompt_clause, crate::specs::Clauses::opens_clause))]
-fn clause<'a>(
-    alloc: Global,
-    text: &str,
-    rest: &'a [Token],
-) -> Result<(Lined<Clause>, &'a [Token]), Stop>
-    ensures { Gives (λ x. x.0) (λ x. x.1.now) text.now result (read spec.clause (all_spelled text.now rest.now)) }
-{
-    if is_next(text, rest, "AT") {
-        return at_clause(text, rest);
-    }
-    if is_next(text, rest, "UNTIL") {
-        return until_clause(text, rest);
-    }
-    if is_next(text, rest, "DEADLINE") {
-        return deadline_clause(text, rest);
-    }
-    if is_next(text, rest, "PRIORITY") {
-        return priority_clause(text, rest);
-    }
-    if is_next(text, rest, "LIMIT") {
-        return limit_clause(text, rest);
-    }
-    if is_next(text, rest, "CARRYFORWARD") {
-        return carry_clause(text, rest);
-    }
-    if is_next(text, rest, "FOLLOWS") {
-        return follows_clause(alloc, text, rest);
-    }
-    if is_next(text, rest, "NEEDS") {
-        return needs_clause(alloc, text, rest);
-    }
-    if is_next(text, rest, "PROMPT") {
-        return prompt_clause(alloc, text, rest);
-    }
-    opens_clause(alloc, text, rest)
-}
-
-fn has_at(all: &[Lined<Clause>]) -> bool
-    ensures { result ≡ has_clause spec.is_at all.now }
-{
-    all.iter().any(|clause| is_at(&clause.item))
-}
-
-fn is_at(clause: &Clause) -> bool
-    ensures { result ≡ spec.is_at clause.now }
-{
-    matches!(clause, Clause::At(..))
-}
-
-fn has_until(all: &[Lined<Clause>]) -> bool
-    ensures { result ≡ has_clause spec.is_until all.now }
-{
-    all.iter().any(|clause| is_until(&clause.item))
-}
-
-fn is_until(clause: &Clause) -> bool
-    ensures { result ≡ spec.is_until clause.now }
-{
-    matches!(clause, Clause::Until(..))
-}
-
-fn has_deadline(all: &[Lined<Clause>]) -> bool
-    ensures { result ≡ has_clause spec.is_deadline all.now }
-{
-    all.iter().any(|clause| is_deadline(&clause.item))
-}
-
-fn is_deadline(clause: &Clause) -> bool
-    ensures { result ≡ spec.is_deadline clause.now }
-{
-    matches!(clause, Clause::Deadline(..))
-}
-
-fn has_priority(all: &[Lined<Clause>]) -> bool
-    ensures { result ≡ has_clause spec.is_priority all.now }
-{
-    all.iter().any(|clause| is_priority(&clause.item))
-}
-
-fn is_priority(clause: &Clause) -> bool
-    ensures { result ≡ spec.is_priority clause.now }
-{
-    matches!(clause, Clause::Priority(_))
-}
-
-fn has_limit(all: &[Lined<Clause>]) -> bool
-    ensures { result ≡ has_clause spec.is_limit all.now }
-{
-    all.iter().any(|clause| is_limit(&clause.item))
-}
-
-fn is_limit(clause: &Clause) -> bool
-    ensures { result ≡ spec.is_limit clause.now }
-{
-    matches!(clause, Clause::Limit(_))
-}
-
-fn has_carry(all: &[Lined<Clause>]) -> bool
-    ensures { result ≡ has_clause spec.is_carry all.now }
-{
-    all.iter().any(|clause| is_carry(&clause.item))
-}
-
-fn is_carry(clause: &Clause) -> bool
-    ensures { result ≡ spec.is_carry clause.now }
-{
-    matches!(clause, Clause::CarryForward)
 }
 
 /// The words with which clauses begin.
@@ -321,66 +207,119 @@ fn begins_clause(text: &str, token: &Token) -> bool
     is_word_of(text, token, &CLAUSE_WORDS)
 }
 
-fn at_may_stand(all: &[Lined<Clause>], text: &str, token: &Token) -> bool
-    ensures { result ≡ once (has_clause spec.is_at all.now) (codes "AT") (spelled text.now token.now) }
+/// Whether the token begins what stands once, and this clause is that.
+fn is_again(clause: &Lined<Clause>, text: &str, token: &Token) -> bool
+    ensures { result ≡ not (may_clause true (clause.now ∷ []) (spelled text.now token.now)) }
 {
-    !(is_keyword(text, token, "AT") && has_at(all))
+    match &clause.item {
+        Clause::At(..) => is_keyword(text, token, "AT"),
+        Clause::Until(..) => is_keyword(text, token, "UNTIL"),
+        Clause::Deadline(..) => is_keyword(text, token, "DEADLINE"),
+        Clause::Priority(_) => is_keyword(text, token, "PRIORITY"),
+        Clause::Limit(_) => is_keyword(text, token, "LIMIT"),
+        Clause::CarryForward => is_keyword(text, token, "CARRYFORWARD"),
+        Clause::Follows(_) | Clause::Needs(_) | Clause::Prompt(_) | Clause::Opens(_) => false,
+    }
 }
 
-fn until_may_stand(all: &[Lined<Clause>], text: &str, token: &Token) -> bool
-    ensures { result ≡ once (has_clause spec.is_until all.now) (codes "UNTIL") (spelled text.now token.now) }
+/// Whether one of the clauses is what the token begins, and stands once.
+fn stands(all: &[Lined<Clause>], text: &str, token: &Token) -> bool
+    ensures { result ≡ list_any (λ c. not (may_clause true (c ∷ []) (spelled text.now token.now))) all.now }
 {
-    !(is_keyword(text, token, "UNTIL") && has_until(all))
+    all.iter().any(|clause| is_again(clause, text, token))
 }
 
-fn deadline_may_stand(all: &[Lined<Clause>], text: &str, token: &Token) -> bool
-    ensures { result ≡ once (has_clause spec.is_deadline all.now) (codes "DEADLINE") (spelled text.now token.now) }
+/// Whether a stream, or an entry, may have what the token begins.
+fn is_had(stream: bool, text: &str, token: &Token) -> bool
+    ensures { result ≡ (stream || may_clause false [] (spelled text.now token.now)) }
 {
-    !(is_keyword(text, token, "DEADLINE") && has_deadline(all))
-}
-
-fn priority_may_stand(all: &[Lined<Clause>], text: &str, token: &Token) -> bool
-    ensures { result ≡ once (has_clause spec.is_priority all.now) (codes "PRIORITY") (spelled text.now token.now) }
-{
-    !(is_keyword(text, token, "PRIORITY") && has_priority(all))
-}
-
-fn limit_may_stand(stream: bool, all: &[Lined<Clause>], text: &str, token: &Token) -> bool
-    ensures { result ≡ once (not stream || has_clause spec.is_limit all.now) (codes "LIMIT") (spelled text.now token.now) }
-{
-    !is_keyword(text, token, "LIMIT") || stream && !has_limit(all)
-}
-
-fn carry_may_stand(stream: bool, all: &[Lined<Clause>], text: &str, token: &Token) -> bool
-    ensures { result ≡ once (not stream || has_clause spec.is_carry all.now) (codes "CARRYFORWARD") (spelled text.now token.now) }
-{
-    !is_keyword(text, token, "CARRYFORWARD") || stream && !has_carry(all)
+    if stream {
+        return true;
+    }
+    !is_keyword(text, token, "LIMIT") && !is_keyword(text, token, "CARRYFORWARD")
 }
 
 /// Whether what stands once does not stand already.
+#[tactic(auto, using(crate::proofs::Once::once_each))]
 fn may_stand(stream: bool, all: &[Lined<Clause>], text: &str, token: &Token) -> bool
     ensures { result ≡ may_clause stream all.now (spelled text.now token.now) }
 {
-    at_may_stand(all, text, token)
-        && until_may_stand(all, text, token)
-        && deadline_may_stand(all, text, token)
-        && priority_may_stand(all, text, token)
-        && limit_may_stand(stream, all, text, token)
-        && carry_may_stand(stream, all, text, token)
+    is_had(stream, text, token) && !stands(all, text, token)
 }
 
-/// Whether the next token begins a further clause. What stands once must not stand before.
-fn goes_on(stream: bool, all: &[Lined<Clause>], text: &str, rest: &[Token]) -> bool
-    ensures { result ≡ begins_piece (may_clause stream) spec.clause all.now (all_spelled text.now rest.now) }
-{
-    match rest {
-        [token, ..] => begins_clause(text, token) && may_stand(stream, all, text, token),
-        [] => false,
+/// The clauses of a stream, or of an entry, as far as they were read.
+#[derive(Drop)]
+struct ClauseList {
+    stream: bool,
+    all: Items<Lined<Clause>>,
+}
+
+impl Gathers for ClauseList {
+    ghost use Rattle.composer_parser.specs.Clauses.{clause, may_clause};
+    ghost use Rattle.composer_parser.specs.Parts.{put};
+
+    type Part = Lined<Clause>;
+
+    ghost part_grammar = { clause };
+
+    ghost next_state = { λ s c. record s { all = put s.all c } };
+
+    ghost may_begin = { λ s t. may_clause s.stream s.all t };
+
+    /// What stands once must not stand before.
+    fn goes_on(&self, text: &str, rest: &[Token]) -> bool {
+        match rest {
+            [token, ..] => {
+                begins_clause(text, token)
+                    && may_stand(self.stream, self.all.as_slice(), text, token)
+            }
+            [] => false,
+        }
+    }
+
+    #[tactic(auto, unfolding(crate::specs::Clauses::clause, crate::specs::Clauses::at_clause, crate::specs::Clauses::until_clause, crate::specs::Clauses::deadline_clause, crate::specs::Clauses::priority_clause, crate::specs::Clauses::limit_clause, crate::specs::Clauses::carry_clause, crate::specs::Clauses::follows_clause, crate::specs::Clauses::needs_clause, crate::specs::Clauses::prompt_clause, crate::specs::Clauses::opens_clause))]
+    fn read_part<'a>(
+        alloc: Global,
+        text: &str,
+        rest: &'a [Token],
+    ) -> Result<(Lined<Clause>, &'a [Token]), Stop> {
+        if is_next(text, rest, "AT") {
+            return at_clause(text, rest);
+        }
+        if is_next(text, rest, "UNTIL") {
+            return until_clause(text, rest);
+        }
+        if is_next(text, rest, "DEADLINE") {
+            return deadline_clause(text, rest);
+        }
+        if is_next(text, rest, "PRIORITY") {
+            return priority_clause(text, rest);
+        }
+        if is_next(text, rest, "LIMIT") {
+            return limit_clause(text, rest);
+        }
+        if is_next(text, rest, "CARRYFORWARD") {
+            return carry_clause(text, rest);
+        }
+        if is_next(text, rest, "FOLLOWS") {
+            return follows_clause(alloc, text, rest);
+        }
+        if is_next(text, rest, "NEEDS") {
+            return needs_clause(alloc, text, rest);
+        }
+        if is_next(text, rest, "PROMPT") {
+            return prompt_clause(alloc, text, rest);
+        }
+        opens_clause(alloc, text, rest)
+    }
+
+    fn take(&mut self, clause: Lined<Clause>) -> Result<(), NoMemory> {
+        self.all.push(clause)
     }
 }
 
 /// The clauses of a stream, or of an entry.
-#[tactic(auto, unfolding(crate::specs::Clauses::clauses))]
+#[tactic(auto, using(crate::proofs::Sound::clause_decided, crate::proofs::Sound::clause_some), unfolding(crate::specs::Clauses::clauses))]
 pub(crate) fn clauses<'a>(
     alloc: Global,
     text: &str,
@@ -389,12 +328,7 @@ pub(crate) fn clauses<'a>(
 ) -> Result<(Items<Lined<Clause>>, &'a [Token]), Stop>
     ensures { Gives (λ x. x.0) (λ x. x.1.now) text.now result (read (spec.clauses stream) (all_spelled text.now rest.now)) }
 {
-    let mut all = Items::new(alloc);
-    let mut left = rest;
-    'pieces: while goes_on(stream, all.as_slice(), text, left) {
-        let (next, behind) = clause(alloc, text, left)?;
-        all.push(next)?;
-        left = behind;
-    }
-    Ok((all, left))
+    let all = Items::new(alloc);
+    let (found, rest) = gather(alloc, text, rest, ClauseList { stream, all })?;
+    Ok((found.all, rest))
 }

@@ -1,16 +1,14 @@
 //! The jobs of a stream.
-ghost use Rattle.std.specs.Prelude.{◌≡◌, ℕ, List, codes, IfOk};
-ghost use Rattle.composer_parser.specs.Reading.{read, begins_piece};
+ghost use Rattle.std.specs.Prelude.{◌≡◌, IfOk};
+ghost use Rattle.composer_parser.specs.Reading.{read};
 ghost use Rattle.composer_parser.specs.Schedules as spec;
 ghost use Rattle.composer_parser.specs.Tokens.{all_spelled, on_line, Gives};
-ghost use Rattle.composer_parser.specs.Parts.{always};
-ghost use Rattle.composer_parser.specs.declared.definitions.Lined.{Lined as LinedOf};
-ghost use Rattle.composer_parser.specs.declared.schedules.EntryDef.{EntryDef as Entry};
 
 use crate::clause_forms::clauses;
 use crate::clauses::Clause;
 use crate::definitions::{Lined, WorkDef};
 use crate::parts::is_next;
+use crate::pieces::{Begins, Piece};
 use crate::places::{is_scoped_next, scoped};
 use crate::schedules::EntryDef;
 use crate::scopes::{own_of, ws_of};
@@ -57,43 +55,27 @@ fn entry_of(
 }
 
 /// A job of a stream.
-#[tactic(auto, unfolding(crate::specs::Schedules::entry))]
-fn entry<'a>(
-    alloc: Global,
-    text: &str,
-    rest: &'a [Token],
-) -> Result<(Lined<EntryDef>, &'a [Token]), Stop>
-    ensures { Gives (λ x. x.0) (λ x. x.1.now) text.now result (read spec.entry (all_spelled text.now rest.now)) }
-{
-    let (word, line, rest) = scoped(text, rest)?;
-    let (work, rest) = own_work(alloc, text, rest)?;
-    let (clauses, rest) = clauses(alloc, text, rest, false)?;
-    Ok((entry_of(alloc, line, word, work, clauses)?, rest))
-}
+impl Piece for Lined<EntryDef> {
+    ghost use Rattle.composer_parser.specs.Schedules.{entry};
 
-/// Whether an entry begins here.
-#[tactic(auto, unfolding(crate::specs::Schedules::entry))]
-fn begins_entry(text: &str, rest: &[Token]) -> bool
-    ensures { (s : List (LinedOf Entry)) → result ≡ begins_piece always spec.entry s (all_spelled text.now rest.now) }
-{
-    is_scoped_next(text, rest)
-}
+    ghost grammar = { entry };
 
-/// All that stand one behind the other.
-#[tactic(auto, unfolding(crate::specs::Schedules::entries))]
-pub(crate) fn entries<'a>(
-    alloc: Global,
-    text: &str,
-    rest: &'a [Token],
-) -> Result<(Items<Lined<EntryDef>>, &'a [Token]), Stop>
-    ensures { Gives (λ x. x.0) (λ x. x.1.now) text.now result (read spec.entries (all_spelled text.now rest.now)) }
-{
-    let mut all = Items::new(alloc);
-    let mut left = rest;
-    'pieces: while begins_entry(text, left) {
-        let (next, behind) = entry(alloc, text, left)?;
-        all.push(next)?;
-        left = behind;
+    #[tactic(auto, unfolding(crate::specs::Schedules::entry))]
+    fn read<'a>(
+        alloc: Global,
+        text: &str,
+        rest: &'a [Token],
+    ) -> Result<(Lined<EntryDef>, &'a [Token]), Stop> {
+        let (word, line, rest) = scoped(text, rest)?;
+        let (work, rest) = own_work(alloc, text, rest)?;
+        let (clauses, rest) = clauses(alloc, text, rest, false)?;
+        Ok((entry_of(alloc, line, word, work, clauses)?, rest))
     }
-    Ok((all, left))
+}
+
+impl Begins for Lined<EntryDef> {
+    #[tactic(auto, unfolding(crate::specs::Schedules::entry))]
+    fn begins(text: &str, rest: &[Token]) -> bool {
+        is_scoped_next(text, rest)
+    }
 }

@@ -1,13 +1,15 @@
 //! The flags of CPUNAME.
 ghost use Rattle.std.specs.Prelude.{◌≡◌};
-ghost use Rattle.composer_parser.specs.Reading.{read, begins_piece};
+ghost use Rattle.composer_parser.specs.Reading.{read};
 ghost use Rattle.composer_parser.specs.Stations as spec;
-ghost use Rattle.composer_parser.specs.Stations.{no_flags, after_flag, may_flag};
+ghost use Rattle.composer_parser.specs.Stations.{no_flags};
 ghost use Rattle.composer_parser.specs.Tokens.{all_spelled, Gives};
 
-use crate::parts::{is_next, key};
+use crate::gathering::{Gathers, gather};
+use crate::parts::{is_next, key, taken};
 use crate::stops::{Stop, Why};
-use base_types::Token;
+use base_types::{NoMemory, Token};
+use std::alloc::Global;
 
 /// One flag of a CPUNAME.
 #[derive(Clone, Copy)]
@@ -38,35 +40,21 @@ impl CpuFlags {
             full: None,
         }
     }
+}
 
-    fn after(self, flag: CpuFlag) -> Self
-        ensures { result ≡ after_flag self flag }
-    {
-        match flag {
-            CpuFlag::AutoLink(on) => CpuFlags {
-                autolink: Some(on),
-                ..self
-            },
-            CpuFlag::BehindFirewall => CpuFlags {
-                firewall: true,
-                ..self
-            },
-            CpuFlag::ResolveDep => CpuFlags {
-                resolve: true,
-                ..self
-            },
-            CpuFlag::FullStatus(on) => CpuFlags {
-                full: Some(on),
-                ..self
-            },
-        }
-    }
+impl Gathers for CpuFlags {
+    ghost use Rattle.composer_parser.specs.Stations.{flag, after_flag, may_flag};
 
-    /// Whether the next token begins a further flag.
+    type Part = CpuFlag;
+
+    ghost part_grammar = { flag };
+
+    ghost next_state = { after_flag };
+
+    ghost may_begin = { may_flag };
+
     #[tactic(auto, unfolding(crate::specs::Stations::flag))]
-    fn go_on(&self, text: &str, rest: &[Token]) -> bool
-        ensures { result ≡ begins_piece may_flag spec.flag self.now (all_spelled text.now rest.now) }
-    {
+    fn goes_on(&self, text: &str, rest: &[Token]) -> bool {
         if is_next(text, rest, "AUTOLINK") {
             return self.autolink.is_none();
         }
@@ -78,50 +66,57 @@ impl CpuFlags {
         }
         is_next(text, rest, "FULLSTATUS") && self.full.is_none()
     }
+
+    #[tactic(auto, unfolding(crate::specs::Stations::flag))]
+    fn read_part<'a>(
+        _alloc: Global,
+        text: &str,
+        rest: &'a [Token],
+    ) -> Result<(CpuFlag, &'a [Token]), Stop> {
+        if let Some((_, rest)) = taken(text, rest, "AUTOLINK") {
+            let (on, rest) = on_or_off(text, rest)?;
+            return Ok((CpuFlag::AutoLink(on), rest));
+        }
+        if let Some((_, rest)) = taken(text, rest, "BEHINDFIREWALL") {
+            let rest = firewall_off(text, rest)?;
+            return Ok((CpuFlag::BehindFirewall, rest));
+        }
+        if let Some((_, rest)) = taken(text, rest, "RESOLVEDEP") {
+            let (_, rest) = on_or_off(text, rest)?;
+            return Ok((CpuFlag::ResolveDep, rest));
+        }
+        let (_, rest) = key(text, rest, "FULLSTATUS")?;
+        let (on, rest) = on_or_off(text, rest)?;
+        Ok((CpuFlag::FullStatus(on), rest))
+    }
+
+    fn take(&mut self, flag: CpuFlag) -> Result<(), NoMemory> {
+        match flag {
+            CpuFlag::AutoLink(on) => self.autolink = Some(on),
+            CpuFlag::BehindFirewall => self.firewall = true,
+            CpuFlag::ResolveDep => self.resolve = true,
+            CpuFlag::FullStatus(on) => self.full = Some(on),
+        }
+        Ok(())
+    }
 }
 
 #[tactic(auto, unfolding(crate::specs::Stations::on_or_off))]
 fn on_or_off<'a>(text: &str, rest: &'a [Token]) -> Result<(bool, &'a [Token]), Stop>
     ensures { Gives (λ x. x.0) (λ x. x.1.now) text.now result (read spec.on_or_off (all_spelled text.now rest.now)) }
 {
-    if is_next(text, rest, "ON") {
-        let (_, rest) = key(text, rest, "ON")?;
+    if let Some((_, rest)) = taken(text, rest, "ON") {
         return Ok((true, rest));
     }
     let (_, rest) = key(text, rest, "OFF")?;
     Ok((false, rest))
 }
 
-#[tactic(auto, unfolding(crate::specs::Stations::flag))]
-fn flag<'a>(text: &str, rest: &'a [Token]) -> Result<(CpuFlag, &'a [Token]), Stop>
-    ensures { Gives (λ x. x.0) (λ x. x.1.now) text.now result (read spec.flag (all_spelled text.now rest.now)) }
-{
-    if is_next(text, rest, "AUTOLINK") {
-        let (_, rest) = key(text, rest, "AUTOLINK")?;
-        let (on, rest) = on_or_off(text, rest)?;
-        return Ok((CpuFlag::AutoLink(on), rest));
-    }
-    if is_next(text, rest, "BEHINDFIREWALL") {
-        let (_, rest) = key(text, rest, "BEHINDFIREWALL")?;
-        let rest = firewall_off(text, rest)?;
-        return Ok((CpuFlag::BehindFirewall, rest));
-    }
-    if is_next(text, rest, "RESOLVEDEP") {
-        let (_, rest) = key(text, rest, "RESOLVEDEP")?;
-        let (_, rest) = on_or_off(text, rest)?;
-        return Ok((CpuFlag::ResolveDep, rest));
-    }
-    let (_, rest) = key(text, rest, "FULLSTATUS")?;
-    let (on, rest) = on_or_off(text, rest)?;
-    Ok((CpuFlag::FullStatus(on), rest))
-}
-
 #[tactic(auto, unfolding(crate::specs::Stations::firewall_off))]
 fn firewall_off<'a>(text: &str, rest: &'a [Token]) -> Result<&'a [Token], Stop>
     ensures { Gives (λ x. tt) (λ x. x.now) text.now result (read spec.firewall_off (all_spelled text.now rest.now)) }
 {
-    if is_next(text, rest, "OFF") {
-        let (_, rest) = key(text, rest, "OFF")?;
+    if let Some((_, rest)) = taken(text, rest, "OFF") {
         return Ok(rest);
     }
     if is_next(text, rest, "ON") {
@@ -130,16 +125,13 @@ fn firewall_off<'a>(text: &str, rest: &'a [Token]) -> Result<&'a [Token], Stop>
     Err(Stop::Here(Why::NotExpected, rest.len()))
 }
 
-#[tactic(auto, unfolding(crate::specs::Stations::flags))]
-pub(crate) fn flags<'a>(text: &str, rest: &'a [Token]) -> Result<(CpuFlags, &'a [Token]), Stop>
+#[tactic(auto, using(crate::proofs::Sound::flag_decided, crate::proofs::Sound::flag_some), unfolding(crate::specs::Stations::flags))]
+pub(crate) fn flags<'a>(
+    alloc: Global,
+    text: &str,
+    rest: &'a [Token],
+) -> Result<(CpuFlags, &'a [Token]), Stop>
     ensures { Gives (λ x. x.0) (λ x. x.1.now) text.now result (read spec.flags (all_spelled text.now rest.now)) }
 {
-    let mut seen = CpuFlags::none();
-    let mut left = rest;
-    'pieces: while seen.go_on(text, left) {
-        let (next, behind) = flag(text, left)?;
-        seen = seen.after(next);
-        left = behind;
-    }
-    Ok((seen, left))
+    gather(alloc, text, rest, CpuFlags::none())
 }

@@ -1,21 +1,20 @@
 //! The items of an ON or an EXCEPT.
-ghost use Rattle.std.specs.Prelude.{◌≡◌, ℕ, List, codes};
-ghost use Rattle.composer_parser.specs.Reading.{read, begins_piece};
+ghost use Rattle.std.specs.Prelude.{◌≡◌, codes};
+ghost use Rattle.composer_parser.specs.Reading.{read};
 ghost use Rattle.composer_parser.specs.Schedules as spec;
 ghost use Rattle.composer_parser.specs.Tokens.{all_spelled, Gives};
 ghost use Rattle.std.specs.Prelude.{[], ◌∷◌};
 ghost use Rattle.composer_parser.specs.Kinds.{keyword};
-ghost use Rattle.composer_parser.specs.Parts.{put, always};
-ghost use Rattle.composer_parser.specs.Reading.{begins, turns};
+ghost use Rattle.composer_parser.specs.Reading.{begins};
 
-use crate::batches::room_for_one;
 use crate::moments::{date_value, is_date_next, is_offset_next, signed};
-use crate::parts::{is_mark_next, is_next, is_word_of, key, mark, name_word, quoted_value};
+use crate::parts::{is_next, is_word_of, key, name_word, quoted_value, taken};
+use crate::pieces::Piece;
 use crate::places::is_name_next;
 use crate::rules::{is_foreign_rule, is_rule};
 use crate::schedules::{Offset, OffsetUnit, OnItem};
 use crate::stops::{Stop, Why};
-use base_types::{Items, Text, Token, TokenKind};
+use base_types::{Text, Token, TokenKind};
 use std::alloc::Global;
 
 /// The days of the week, from Monday on.
@@ -25,12 +24,10 @@ const WEEKDAYS: [&str; 7] = ["MO", "TU", "WE", "TH", "FR", "SA", "SU"];
 fn offset_unit<'a>(text: &str, rest: &'a [Token]) -> Result<(OffsetUnit, &'a [Token]), Stop>
     ensures { Gives (λ x. x.0) (λ x. x.1.now) text.now result (read spec.offset_unit (all_spelled text.now rest.now)) }
 {
-    if is_next(text, rest, "DAYS") {
-        let (_, rest) = key(text, rest, "DAYS")?;
+    if let Some((_, rest)) = taken(text, rest, "DAYS") {
         return Ok((OffsetUnit::Days, rest));
     }
-    if is_next(text, rest, "WEEKDAYS") {
-        let (_, rest) = key(text, rest, "WEEKDAYS")?;
+    if let Some((_, rest)) = taken(text, rest, "WEEKDAYS") {
         return Ok((OffsetUnit::Weekdays, rest));
     }
     let (_, rest) = key(text, rest, "WORKDAYS")?;
@@ -68,28 +65,22 @@ fn calendar_item<'a>(
 fn weekday<'a>(text: &str, rest: &'a [Token]) -> Result<(OnItem, &'a [Token]), Stop>
     ensures { Gives (λ x. x.0) (λ x. x.1.now) text.now result (read spec.weekday (all_spelled text.now rest.now)) }
 {
-    if is_next(text, rest, "MO") {
-        let (_, rest) = key(text, rest, "MO")?;
+    if let Some((_, rest)) = taken(text, rest, "MO") {
         return Ok((OnItem::Weekday(0), rest));
     }
-    if is_next(text, rest, "TU") {
-        let (_, rest) = key(text, rest, "TU")?;
+    if let Some((_, rest)) = taken(text, rest, "TU") {
         return Ok((OnItem::Weekday(1), rest));
     }
-    if is_next(text, rest, "WE") {
-        let (_, rest) = key(text, rest, "WE")?;
+    if let Some((_, rest)) = taken(text, rest, "WE") {
         return Ok((OnItem::Weekday(2), rest));
     }
-    if is_next(text, rest, "TH") {
-        let (_, rest) = key(text, rest, "TH")?;
+    if let Some((_, rest)) = taken(text, rest, "TH") {
         return Ok((OnItem::Weekday(3), rest));
     }
-    if is_next(text, rest, "FR") {
-        let (_, rest) = key(text, rest, "FR")?;
+    if let Some((_, rest)) = taken(text, rest, "FR") {
         return Ok((OnItem::Weekday(4), rest));
     }
-    if is_next(text, rest, "SA") {
-        let (_, rest) = key(text, rest, "SA")?;
+    if let Some((_, rest)) = taken(text, rest, "SA") {
         return Ok((OnItem::Weekday(5), rest));
     }
     let (_, rest) = key(text, rest, "SU")?;
@@ -100,20 +91,16 @@ fn weekday<'a>(text: &str, rest: &'a [Token]) -> Result<(OnItem, &'a [Token]), S
 fn days<'a>(text: &str, rest: &'a [Token]) -> Result<(OnItem, &'a [Token]), Stop>
     ensures { Gives (λ x. x.0) (λ x. x.1.now) text.now result (read spec.days (all_spelled text.now rest.now)) }
 {
-    if is_next(text, rest, "EVERYDAY") {
-        let (_, rest) = key(text, rest, "EVERYDAY")?;
+    if let Some((_, rest)) = taken(text, rest, "EVERYDAY") {
         return Ok((OnItem::EveryDay, rest));
     }
-    if is_next(text, rest, "WEEKDAYS") {
-        let (_, rest) = key(text, rest, "WEEKDAYS")?;
+    if let Some((_, rest)) = taken(text, rest, "WEEKDAYS") {
         return Ok((OnItem::Weekdays, rest));
     }
-    if is_next(text, rest, "WORKDAYS") {
-        let (_, rest) = key(text, rest, "WORKDAYS")?;
+    if let Some((_, rest)) = taken(text, rest, "WORKDAYS") {
         return Ok((OnItem::Workdays, rest));
     }
-    if is_next(text, rest, "FREEDAYS") {
-        let (_, rest) = key(text, rest, "FREEDAYS")?;
+    if let Some((_, rest)) = taken(text, rest, "FREEDAYS") {
         return Ok((OnItem::FreeDays, rest));
     }
     let (_, rest) = key(text, rest, "REQUEST")?;
@@ -163,68 +150,30 @@ fn rule<'a>(alloc: Global, text: &str, rest: &'a [Token]) -> Result<(OnItem, &'a
 }
 
 /// One item of an ON or an EXCEPT.
-#[tactic(auto, unfolding(crate::specs::Schedules::item, crate::specs::Schedules::weekday, crate::specs::Schedules::days, crate::specs::Schedules::rule, crate::specs::Schedules::calendar_item))]
-fn item<'a>(alloc: Global, text: &str, rest: &'a [Token]) -> Result<(OnItem, &'a [Token]), Stop>
-    ensures { Gives (λ x. x.0) (λ x. x.1.now) text.now result (read spec.item (all_spelled text.now rest.now)) }
-{
-    if is_weekday_next(text, rest) {
-        return weekday(text, rest);
-    }
-    if is_days_next(text, rest) {
-        return days(text, rest);
-    }
-    if is_date_next(text, rest) {
-        let (day, rest) = date_value(text, rest)?;
-        return Ok((OnItem::Date(day), rest));
-    }
-    if is_name_next(text, rest) {
-        return calendar_item(alloc, text, rest);
-    }
-    rule(alloc, text, rest)
-}
+impl Piece for OnItem {
+    ghost use Rattle.composer_parser.specs.Schedules.{item};
 
-/// A comma, and an item.
-#[tactic(auto, unfolding(crate::specs::Schedules::next_item))]
-fn next_item<'a>(
-    alloc: Global,
-    text: &str,
-    rest: &'a [Token],
-) -> Result<(OnItem, &'a [Token]), Stop>
-    ensures { Gives (λ x. x.0) (λ x. x.1.now) text.now result (read spec.next_item (all_spelled text.now rest.now)) }
-{
-    let rest = mark(text, rest, b',')?;
-    item(alloc, text, rest)
-}
+    ghost grammar = { item };
 
-/// Those that follow behind commas.
-fn more_items<'a>(
-    alloc: Global,
-    text: &str,
-    rest: &'a [Token],
-    first: OnItem,
-) -> Result<(Items<OnItem>, &'a [Token]), Stop>
-    ensures { Gives (λ x. x.0) (λ x. x.1.now) text.now result (turns put always spec.next_item (first ∷ []) (all_spelled text.now rest.now)) }
-{
-    let mut all = room_for_one(alloc)?;
-    all.push(first)?;
-    let mut left = rest;
-    'pieces: while is_mark_next(text, left, b',') {
-        let (next, behind) = next_item(alloc, text, left)?;
-        all.push(next)?;
-        left = behind;
+    #[tactic(auto, unfolding(crate::specs::Schedules::item, crate::specs::Schedules::weekday, crate::specs::Schedules::days, crate::specs::Schedules::rule, crate::specs::Schedules::calendar_item))]
+    fn read<'a>(
+        alloc: Global,
+        text: &str,
+        rest: &'a [Token],
+    ) -> Result<(OnItem, &'a [Token]), Stop> {
+        if is_weekday_next(text, rest) {
+            return weekday(text, rest);
+        }
+        if is_days_next(text, rest) {
+            return days(text, rest);
+        }
+        if is_date_next(text, rest) {
+            let (day, rest) = date_value(text, rest)?;
+            return Ok((OnItem::Date(day), rest));
+        }
+        if is_name_next(text, rest) {
+            return calendar_item(alloc, text, rest);
+        }
+        rule(alloc, text, rest)
     }
-    Ok((all, left))
-}
-
-/// Items, with commas between them.
-#[tactic(auto, using(crate::proofs::Loops::list_read), unfolding(crate::specs::Schedules::items))]
-pub(crate) fn items<'a>(
-    alloc: Global,
-    text: &str,
-    rest: &'a [Token],
-) -> Result<(Items<OnItem>, &'a [Token]), Stop>
-    ensures { Gives (λ x. x.0) (λ x. x.1.now) text.now result (read spec.items (all_spelled text.now rest.now)) }
-{
-    let (first, rest) = item(alloc, text, rest)?;
-    more_items(alloc, text, rest, first)
 }

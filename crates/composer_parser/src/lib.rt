@@ -6,6 +6,7 @@
 //!
 //! The grammar is proved to be decided by the next token at each place (`proofs/Sound.antt`), so no tokens are two
 //! definitions (`tokens_have_one_reading`). Each reader has one clause: it answers what reading its production gives.
+//! What stands in lists is read by its type (`pieces`), and one loop reads all that stand one behind the other (`gathering`).
 #![tactic(auto)]
 
 mod batches;
@@ -16,6 +17,7 @@ mod definitions;
 mod entries;
 mod faults;
 mod flags;
+mod gathering;
 mod groups;
 mod items;
 mod laws;
@@ -25,6 +27,7 @@ mod ons;
 mod options;
 mod parsing;
 mod parts;
+mod pieces;
 mod places;
 mod rules;
 mod schedules;

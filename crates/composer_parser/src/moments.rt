@@ -9,10 +9,12 @@ ghost use Rattle.composer_parser.specs.Kinds.{a_date, a_plus, an_offset, is_time
 ghost use Rattle.composer_parser.specs.Reading.{begins};
 
 use crate::parts::{are_digits, capped};
+use crate::pieces::{Begins, Piece};
 use crate::spells::piece;
 use crate::stops::{Stop, Why};
 use base_types::{Token, TokenKind};
 use calendars::read_date;
+use std::alloc::Global;
 
 /// The minutes after 0000 that four digits are. None where they are no time from 0000 to 2359.
 #[tactic(auto, unfolding(crate::specs::Kinds::is_time))]
@@ -114,6 +116,23 @@ pub(crate) fn date_value<'a>(text: &str, rest: &'a [Token]) -> Result<(u32, &'a 
     match read_date(piece(text, token)) {
         Some(day) => Ok((day, behind)),
         None => Err(Stop::Here(Why::NotExpected, rest.len())),
+    }
+}
+
+/// A date in a list of dates.
+impl Piece for u32 {
+    ghost use Rattle.composer_parser.specs.Parts.{date};
+
+    ghost grammar = { date };
+
+    fn read<'a>(_alloc: Global, text: &str, rest: &'a [Token]) -> Result<(u32, &'a [Token]), Stop> {
+        date_value(text, rest)
+    }
+}
+
+impl Begins for u32 {
+    fn begins(text: &str, rest: &[Token]) -> bool {
+        is_date_next(text, rest)
     }
 }
 

@@ -1,27 +1,23 @@
 //! ON and EXCEPT.
-ghost use Rattle.std.specs.Prelude.{◌≡◌, ℕ, List, codes};
-ghost use Rattle.composer_parser.specs.Reading.{read, begins_piece};
+ghost use Rattle.composer_parser.specs.Reading.{read};
 ghost use Rattle.composer_parser.specs.Schedules as spec;
 ghost use Rattle.composer_parser.specs.Tokens.{all_spelled, Gives};
-ghost use Rattle.composer_parser.specs.Parts.{always};
-ghost use Rattle.composer_parser.specs.declared.definitions.Lined.{Lined as LinedOf};
-ghost use Rattle.composer_parser.specs.declared.schedules.OnDef.{OnDef as On};
 
 use crate::definitions::Lined;
-use crate::items::items;
+use crate::lists::list;
 use crate::moments::date_value;
-use crate::parts::{description, is_mark_next, is_next, key, name_word};
-use crate::schedules::{CycleDef, OnDef, Shift};
+use crate::parts::{description, is_mark_next, is_next, key, name_word, taken};
+use crate::pieces::{Begins, Piece};
+use crate::schedules::{CycleDef, OnDef, OnItem, Shift};
 use crate::stops::{Stop, Why};
-use base_types::{Items, Text, Token};
+use base_types::{Text, Token};
 use std::alloc::Global;
 
 #[tactic(auto, unfolding(crate::specs::Schedules::valid_from))]
 fn valid_from<'a>(text: &str, rest: &'a [Token]) -> Result<(Option<u32>, &'a [Token]), Stop>
     ensures { Gives (λ x. x.0) (λ x. x.1.now) text.now result (read spec.valid_from (all_spelled text.now rest.now)) }
 {
-    if is_next(text, rest, "VALIDFROM") {
-        let (_, rest) = key(text, rest, "VALIDFROM")?;
+    if let Some((_, rest)) = taken(text, rest, "VALIDFROM") {
         let (day, rest) = date_value(text, rest)?;
         return Ok((Some(day), rest));
     }
@@ -32,8 +28,7 @@ fn valid_from<'a>(text: &str, rest: &'a [Token]) -> Result<(Option<u32>, &'a [To
 fn valid_to<'a>(text: &str, rest: &'a [Token]) -> Result<(Option<u32>, &'a [Token]), Stop>
     ensures { Gives (λ x. x.0) (λ x. x.1.now) text.now result (read spec.valid_to (all_spelled text.now rest.now)) }
 {
-    if is_next(text, rest, "VALIDTO") {
-        let (_, rest) = key(text, rest, "VALIDTO")?;
+    if let Some((_, rest)) = taken(text, rest, "VALIDTO") {
         let (day, rest) = date_value(text, rest)?;
         return Ok((Some(day), rest));
     }
@@ -49,10 +44,9 @@ fn cycle<'a>(
 ) -> Result<(Option<CycleDef>, &'a [Token]), Stop>
     ensures { Gives (λ x. x.0) (λ x. x.1.now) text.now result (read spec.cycle (all_spelled text.now rest.now)) }
 {
-    if !is_next(text, rest, "RUNCYCLE") {
+    let Some((_, rest)) = taken(text, rest, "RUNCYCLE") else {
         return Ok((None, rest));
-    }
-    let (_, rest) = key(text, rest, "RUNCYCLE")?;
+    };
     let (word, rest) = name_word(text, rest)?;
     let (first, rest) = valid_from(text, rest)?;
     let (last, rest) = valid_to(text, rest)?;
@@ -65,16 +59,13 @@ fn cycle<'a>(
 fn shift<'a>(text: &str, rest: &'a [Token]) -> Result<(Option<Shift>, &'a [Token]), Stop>
     ensures { Gives (λ x. x.0) (λ x. x.1.now) text.now result (read spec.shift (all_spelled text.now rest.now)) }
 {
-    if is_next(text, rest, "FDIGNORE") {
-        let (_, rest) = key(text, rest, "FDIGNORE")?;
+    if let Some((_, rest)) = taken(text, rest, "FDIGNORE") {
         return Ok((Some(Shift::Ignore), rest));
     }
-    if is_next(text, rest, "FDNEXT") {
-        let (_, rest) = key(text, rest, "FDNEXT")?;
+    if let Some((_, rest)) = taken(text, rest, "FDNEXT") {
         return Ok((Some(Shift::Next), rest));
     }
-    if is_next(text, rest, "FDPREV") {
-        let (_, rest) = key(text, rest, "FDPREV")?;
+    if let Some((_, rest)) = taken(text, rest, "FDPREV") {
         return Ok((Some(Shift::Prev), rest));
     }
     Ok((None, rest))
@@ -96,8 +87,7 @@ fn no_times<'a>(text: &str, rest: &'a [Token]) -> Result<&'a [Token], Stop>
 fn on_key<'a>(text: &str, rest: &'a [Token]) -> Result<((bool, u32), &'a [Token]), Stop>
     ensures { Gives (λ x. x.0) (λ x. x.1.now) text.now result (read spec.on_key (all_spelled text.now rest.now)) }
 {
-    if is_next(text, rest, "ON") {
-        let (line, rest) = key(text, rest, "ON")?;
+    if let Some((line, rest)) = taken(text, rest, "ON") {
         return Ok(((false, line), rest));
     }
     let (line, rest) = key(text, rest, "EXCEPT")?;
@@ -105,47 +95,35 @@ fn on_key<'a>(text: &str, rest: &'a [Token]) -> Result<((bool, u32), &'a [Token]
 }
 
 /// An ON or an EXCEPT.
-#[tactic(auto, unfolding(crate::specs::Schedules::on))]
-fn on<'a>(alloc: Global, text: &str, rest: &'a [Token]) -> Result<(Lined<OnDef>, &'a [Token]), Stop>
-    ensures { Gives (λ x. x.0) (λ x. x.1.now) text.now result (read spec.on (all_spelled text.now rest.now)) }
-{
-    let ((except, line), rest) = on_key(text, rest)?;
-    let (cycle, rest) = cycle(alloc, text, rest)?;
-    let (items, rest) = items(alloc, text, rest)?;
-    let (shift, rest) = shift(text, rest)?;
-    let rest = no_times(text, rest)?;
-    let item = OnDef {
-        except,
-        cycle,
-        items,
-        shift,
-    };
-    Ok((Lined { line, item }, rest))
-}
+impl Piece for Lined<OnDef> {
+    ghost use Rattle.composer_parser.specs.Schedules.{on};
 
-/// Whether an ON or an EXCEPT begins here.
-#[tactic(auto, unfolding(crate::specs::Schedules::on, crate::specs::Schedules::on_key))]
-fn begins_on(text: &str, rest: &[Token]) -> bool
-    ensures { (s : List (LinedOf On)) → result ≡ begins_piece always spec.on s (all_spelled text.now rest.now) }
-{
-    is_next(text, rest, "ON") || is_next(text, rest, "EXCEPT")
-}
+    ghost grammar = { on };
 
-/// All that stand one behind the other.
-#[tactic(auto, unfolding(crate::specs::Schedules::ons))]
-pub(crate) fn ons<'a>(
-    alloc: Global,
-    text: &str,
-    rest: &'a [Token],
-) -> Result<(Items<Lined<OnDef>>, &'a [Token]), Stop>
-    ensures { Gives (λ x. x.0) (λ x. x.1.now) text.now result (read spec.ons (all_spelled text.now rest.now)) }
-{
-    let mut all = Items::new(alloc);
-    let mut left = rest;
-    'pieces: while begins_on(text, left) {
-        let (next, behind) = on(alloc, text, left)?;
-        all.push(next)?;
-        left = behind;
+    #[tactic(auto, using(crate::proofs::Sound::next_item_decided), unfolding(crate::specs::Schedules::on, crate::specs::Schedules::items, crate::specs::Schedules::next_item))]
+    fn read<'a>(
+        alloc: Global,
+        text: &str,
+        rest: &'a [Token],
+    ) -> Result<(Lined<OnDef>, &'a [Token]), Stop> {
+        let ((except, line), rest) = on_key(text, rest)?;
+        let (cycle, rest) = cycle(alloc, text, rest)?;
+        let (items, rest) = list::<OnItem>(alloc, text, rest)?;
+        let (shift, rest) = shift(text, rest)?;
+        let rest = no_times(text, rest)?;
+        let item = OnDef {
+            except,
+            cycle,
+            items,
+            shift,
+        };
+        Ok((Lined { line, item }, rest))
     }
-    Ok((all, left))
+}
+
+impl Begins for Lined<OnDef> {
+    #[tactic(auto, unfolding(crate::specs::Schedules::on, crate::specs::Schedules::on_key))]
+    fn begins(text: &str, rest: &[Token]) -> bool {
+        is_next(text, rest, "ON") || is_next(text, rest, "EXCEPT")
+    }
 }

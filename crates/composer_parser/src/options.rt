@@ -6,7 +6,7 @@ ghost use Rattle.composer_parser.specs.Tokens.{all_spelled, Gives};
 
 use crate::definitions::Lined;
 use crate::moments::time;
-use crate::parts::{is_next, key, text_value};
+use crate::parts::{key, taken, text_value};
 use crate::stops::Stop;
 use base_types::{Carry, Text, Token};
 use std::alloc::Global;
@@ -26,8 +26,7 @@ fn start_of_day<'a>(
 ) -> Result<(Option<Lined<u16>>, &'a [Token]), Stop>
     ensures { Gives (λ x. x.0) (λ x. x.1.now) text.now result (read spec.start_of_day (all_spelled text.now rest.now)) }
 {
-    if is_next(text, rest, "STARTOFDAY") {
-        let (line, rest) = key(text, rest, "STARTOFDAY")?;
+    if let Some((line, rest)) = taken(text, rest, "STARTOFDAY") {
         let (item, rest) = time(text, rest)?;
         return Ok((Some(Lined { line, item }), rest));
     }
@@ -42,8 +41,7 @@ fn time_zone<'a>(
 ) -> Result<(Option<Lined<Text>>, &'a [Token]), Stop>
     ensures { Gives (λ x. x.0) (λ x. x.1.now) text.now result (read spec.time_zone (all_spelled text.now rest.now)) }
 {
-    if is_next(text, rest, "TIMEZONE") {
-        let (line, rest) = key(text, rest, "TIMEZONE")?;
+    if let Some((line, rest)) = taken(text, rest, "TIMEZONE") {
         let (item, rest) = text_value(alloc, text, rest)?;
         return Ok((Some(Lined { line, item }), rest));
     }
@@ -54,12 +52,10 @@ fn time_zone<'a>(
 fn carry_word<'a>(text: &str, rest: &'a [Token]) -> Result<(Carry, &'a [Token]), Stop>
     ensures { Gives (λ x. x.0) (λ x. x.1.now) text.now result (read spec.carry_word (all_spelled text.now rest.now)) }
 {
-    if is_next(text, rest, "YES") {
-        let (_, rest) = key(text, rest, "YES")?;
+    if let Some((_, rest)) = taken(text, rest, "YES") {
         return Ok((Carry::Yes, rest));
     }
-    if is_next(text, rest, "NO") {
-        let (_, rest) = key(text, rest, "NO")?;
+    if let Some((_, rest)) = taken(text, rest, "NO") {
         return Ok((Carry::No, rest));
     }
     let (_, rest) = key(text, rest, "ALL")?;
@@ -73,8 +69,7 @@ fn carry_forward<'a>(
 ) -> Result<(Option<Lined<Carry>>, &'a [Token]), Stop>
     ensures { Gives (λ x. x.0) (λ x. x.1.now) text.now result (read spec.carry_forward (all_spelled text.now rest.now)) }
 {
-    if is_next(text, rest, "ENCARRYFORWARD") {
-        let (line, rest) = key(text, rest, "ENCARRYFORWARD")?;
+    if let Some((line, rest)) = taken(text, rest, "ENCARRYFORWARD") {
         let (item, rest) = carry_word(text, rest)?;
         return Ok((Some(Lined { line, item }), rest));
     }
@@ -90,15 +85,14 @@ pub(crate) fn read_options<'a>(
 ) -> Result<(Options, &'a [Token]), Stop>
     ensures { Gives (λ x. x.0) (λ x. x.1.now) text.now result (read spec.options (all_spelled text.now rest.now)) }
 {
-    if !is_next(text, rest, "$OPTIONS") {
+    let Some((_, rest)) = taken(text, rest, "$OPTIONS") else {
         let none = Options {
             start: None,
             zone: None,
             carry: None,
         };
         return Ok((none, rest));
-    }
-    let (_, rest) = key(text, rest, "$OPTIONS")?;
+    };
     let (start, rest) = start_of_day(text, rest)?;
     let (zone, rest) = time_zone(alloc, text, rest)?;
     let (carry, rest) = carry_forward(text, rest)?;

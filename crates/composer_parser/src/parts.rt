@@ -1,5 +1,5 @@
 //! Single tokens: what the next one is, and reading it.
-ghost use Rattle.std.specs.Prelude.{◌≡◌, ℕ, List, [], ◌∷◌, IfOk, if◌then◌else◌, slice_index};
+ghost use Rattle.std.specs.Prelude.{◌≡◌, [], ◌∷◌, IfOk, IfSome, if◌then◌else◌, is_some, slice_index};
 ghost use Rattle.std.specs.List.{list_all, list_any};
 ghost use Rattle.std.specs.Char.{is_ascii_digit};
 ghost use Rattle.std.specs.Option.{option_map_or};
@@ -10,7 +10,7 @@ ghost use Rattle.composer_parser.specs.Tokens as tokens;
 ghost use Rattle.composer_parser.specs.Kinds as kinds;
 ghost use Rattle.composer_parser.specs.Kinds.{a_text, a_word, a_mark, a_number};
 ghost use Rattle.composer_parser.specs.Kinds.{keyword as keyword_kind};
-ghost use Rattle.composer_parser.specs.Reading.{read, begins};
+ghost use Rattle.composer_parser.specs.Reading.{read, begins, done};
 ghost use Rattle.composer_parser.specs.Parts as spec;
 ghost use Rattle.composer_parser.specs.Parts.{key, skipped_text, skipped_word};
 ghost use Rattle.composer_parser.specs.Tokens.{all_spelled, Gives};
@@ -55,6 +55,17 @@ pub(crate) fn key<'a>(text: &str, rest: &'a [Token], word: &str) -> Result<(u32,
     match rest {
         [token, behind @ ..] if is_keyword(text, token, word) => Ok((token.line, behind)),
         _ => Err(Stop::Here(Why::NotExpected, rest.len())),
+    }
+}
+
+/// The line of the next token and the tokens behind it, where it is this word, in any case.
+pub(crate) fn taken<'a>(text: &str, rest: &'a [Token], word: &str) -> Option<(u32, &'a [Token])>
+    ensures next { begins (keyword_kind word.now ∷ []) (all_spelled text.now rest.now) ≡ is_some result }
+    ensures value { IfSome result (λ x. read (key word.now) (all_spelled text.now rest.now) ≡ done x.0 (all_spelled text.now x.1.now)) }
+{
+    match rest {
+        [token, behind @ ..] if is_keyword(text, token, word) => Some((token.line, behind)),
+        _ => None,
     }
 }
 
@@ -152,8 +163,7 @@ fn is_text(text: &str, token: &Token) -> bool
 pub(crate) fn description<'a>(text: &str, rest: &'a [Token]) -> Result<&'a [Token], Stop>
     ensures { Gives (λ x. tt) (λ x. x.now) text.now result (read spec.description (all_spelled text.now rest.now)) }
 {
-    if is_next(text, rest, "DESCRIPTION") {
-        let (_, rest) = key(text, rest, "DESCRIPTION")?;
+    if let Some((_, rest)) = taken(text, rest, "DESCRIPTION") {
         return skip_text(text, rest);
     }
     Ok(rest)

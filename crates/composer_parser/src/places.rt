@@ -1,7 +1,6 @@
 //! Names with their workstations as tokens.
-ghost use Rattle.std.specs.Prelude.{◌≡◌, ℕ, List, codes};
-ghost use Rattle.composer_parser.specs.Reading.{read, begins_piece};
-ghost use Rattle.composer_parser.specs.Parts as spec;
+ghost use Rattle.std.specs.Prelude.{◌≡◌};
+ghost use Rattle.composer_parser.specs.Reading.{read};
 ghost use Rattle.composer_parser.specs.Tokens.{all_spelled, Gives};
 ghost use Rattle.std.specs.Prelude.{[], ◌∷◌};
 ghost use Rattle.composer_parser.specs.Kinds.{a_name, a_placed, a_scoped};
@@ -10,6 +9,7 @@ ghost use Rattle.composer_parser.specs.Reading.{begins};
 ghost use Rattle.composer_parser.specs.Tokens.{on_line};
 
 use crate::clauses::Pred;
+use crate::pieces::Piece;
 use crate::scopes::{is_placed, is_pred, is_scoped, pred_of};
 use crate::spells::piece;
 use crate::stops::{Stop, Why};
@@ -117,22 +117,22 @@ pub(crate) fn plain_name<'t, 'a>(
 }
 
 /// What is followed.
-pub(crate) fn pred<'a>(
-    alloc: Global,
-    text: &str,
-    rest: &'a [Token],
-) -> Result<(Pred, &'a [Token]), Stop>
-    ensures { Gives (λ x. x.0) (λ x. x.1.now) text.now result (read spec.pred (all_spelled text.now rest.now)) }
-{
-    let [token, behind @ ..] = rest else {
-        return Err(Stop::Here(Why::NotExpected, 0));
-    };
-    let TokenKind::Word = token.kind else {
-        return Err(Stop::Here(Why::NotExpected, rest.len()));
-    };
-    let word = piece(text, token);
-    if !is_pred(word) {
-        return Err(Stop::Here(Why::NotExpected, rest.len()));
+impl Piece for Pred {
+    ghost use Rattle.composer_parser.specs.Parts.{pred};
+
+    ghost grammar = { pred };
+
+    fn read<'a>(alloc: Global, text: &str, rest: &'a [Token]) -> Result<(Pred, &'a [Token]), Stop> {
+        let [token, behind @ ..] = rest else {
+            return Err(Stop::Here(Why::NotExpected, 0));
+        };
+        let TokenKind::Word = token.kind else {
+            return Err(Stop::Here(Why::NotExpected, rest.len()));
+        };
+        let word = piece(text, token);
+        if !is_pred(word) {
+            return Err(Stop::Here(Why::NotExpected, rest.len()));
+        }
+        Ok((pred_of(alloc, word)?, behind))
     }
-    Ok((pred_of(alloc, word)?, behind))
 }

@@ -1,18 +1,16 @@
 //! Statements one behind the other.
-ghost use Rattle.std.specs.Prelude.{◌≡◌, ℕ, List, codes};
-ghost use Rattle.composer_parser.specs.Reading.{read, begins_piece};
+ghost use Rattle.std.specs.Prelude.{◌≡◌, codes};
+ghost use Rattle.composer_parser.specs.Reading.{read};
 ghost use Rattle.composer_parser.specs.Composer as spec;
 ghost use Rattle.composer_parser.specs.Tokens.{all_spelled, Gives};
-ghost use Rattle.std.specs.Prelude.{[], ◌∷◌, OnOk};
-ghost use Rattle.composer_parser.specs.declared.definitions.Defs.{Defs as Definitions};
+ghost use Rattle.std.specs.Prelude.{[], ◌∷◌};
 ghost use Rattle.composer_parser.specs.Kinds.{keyword};
-ghost use Rattle.composer_parser.specs.Parts.{always};
 ghost use Rattle.composer_parser.specs.Reading.{begins};
-ghost use Rattle.composer_parser.specs.Composer.{after_statement, no_defs, with_options};
+ghost use Rattle.composer_parser.specs.Composer.{no_defs, with_options};
 
-use crate::batches::Batch;
+use crate::batches::{Batch, row};
 use crate::definitions::{CalendarDef, CpuDef, Defs, DomainDef, JobDef, Lined, ResourceDef};
-use crate::groups::{calendars, jobs, prompt_defs, resources};
+use crate::gathering::{Gathers, gather};
 use crate::options::{Options, read_options};
 use crate::parts::{is_next, key};
 use crate::schedules::ScheduleDef;
@@ -58,7 +56,7 @@ fn domain_statement<'a>(
     Ok((Statement::Domain(found), rest))
 }
 
-#[tactic(auto, unfolding(crate::specs::Composer::calendar_group))]
+#[tactic(auto, using(crate::proofs::Sound::calendar_decided, crate::proofs::Sound::calendar_some), unfolding(crate::specs::Composer::calendar_group, crate::specs::Composer::calendars))]
 fn calendar_group<'a>(
     alloc: Global,
     text: &str,
@@ -67,11 +65,11 @@ fn calendar_group<'a>(
     ensures { Gives (λ x. x.0) (λ x. x.1.now) text.now result (read spec.calendar_group (all_spelled text.now rest.now)) }
 {
     let (_, rest) = key(text, rest, "$CALENDAR")?;
-    let (all, rest) = calendars(alloc, text, rest)?;
+    let (all, rest) = row::<Lined<CalendarDef>>(alloc, text, rest)?;
     Ok((Statement::Calendars(all), rest))
 }
 
-#[tactic(auto, unfolding(crate::specs::Composer::prompt_group))]
+#[tactic(auto, using(crate::proofs::Sound::prompt_def_decided, crate::proofs::Sound::prompt_def_some), unfolding(crate::specs::Composer::prompt_group, crate::specs::Composer::prompt_defs))]
 fn prompt_group<'a>(
     alloc: Global,
     text: &str,
@@ -80,11 +78,11 @@ fn prompt_group<'a>(
     ensures { Gives (λ x. x.0) (λ x. x.1.now) text.now result (read spec.prompt_group (all_spelled text.now rest.now)) }
 {
     let (_, rest) = key(text, rest, "$PROMPT")?;
-    let (all, rest) = prompt_defs(alloc, text, rest)?;
+    let (all, rest) = row::<Lined<PromptDef>>(alloc, text, rest)?;
     Ok((Statement::Prompts(all), rest))
 }
 
-#[tactic(auto, unfolding(crate::specs::Composer::resource_group))]
+#[tactic(auto, using(crate::proofs::Sound::resource_decided, crate::proofs::Sound::resource_some), unfolding(crate::specs::Composer::resource_group, crate::specs::Composer::resources))]
 fn resource_group<'a>(
     alloc: Global,
     text: &str,
@@ -93,11 +91,11 @@ fn resource_group<'a>(
     ensures { Gives (λ x. x.0) (λ x. x.1.now) text.now result (read spec.resource_group (all_spelled text.now rest.now)) }
 {
     let (_, rest) = key(text, rest, "$RESOURCE")?;
-    let (all, rest) = resources(alloc, text, rest)?;
+    let (all, rest) = row::<Lined<ResourceDef>>(alloc, text, rest)?;
     Ok((Statement::Resources(all), rest))
 }
 
-#[tactic(auto, unfolding(crate::specs::Composer::job_group))]
+#[tactic(auto, using(crate::proofs::Sound::job_decided, crate::proofs::Sound::job_some), unfolding(crate::specs::Composer::job_group, crate::specs::Composer::jobs))]
 fn job_group<'a>(
     alloc: Global,
     text: &str,
@@ -106,7 +104,7 @@ fn job_group<'a>(
     ensures { Gives (λ x. x.0) (λ x. x.1.now) text.now result (read spec.job_group (all_spelled text.now rest.now)) }
 {
     let (_, rest) = key(text, rest, "$JOBS")?;
-    let (all, rest) = jobs(alloc, text, rest)?;
+    let (all, rest) = row::<Lined<JobDef>>(alloc, text, rest)?;
     Ok((Statement::Jobs(all), rest))
 }
 
@@ -120,36 +118,6 @@ fn schedule_statement<'a>(
 {
     let (found, rest) = schedule(alloc, text, rest)?;
     Ok((Statement::Schedule(found), rest))
-}
-
-/// One statement.
-#[tactic(auto, unfolding(crate::specs::Composer::statement, crate::specs::Composer::cpu_statement, crate::specs::Composer::domain_statement, crate::specs::Composer::calendar_group, crate::specs::Composer::prompt_group, crate::specs::Composer::resource_group, crate::specs::Composer::job_group, crate::specs::Composer::schedule_statement, crate::specs::Stations::cpu, crate::specs::Stations::domain, crate::specs::Schedules::schedule, crate::specs::Schedules::header, crate::specs::Schedules::title))]
-fn one_statement<'a>(
-    alloc: Global,
-    text: &str,
-    rest: &'a [Token],
-) -> Result<(Statement, &'a [Token]), Stop>
-    ensures { Gives (λ x. x.0) (λ x. x.1.now) text.now result (read spec.statement (all_spelled text.now rest.now)) }
-{
-    if is_next(text, rest, "CPUNAME") {
-        return cpu_statement(alloc, text, rest);
-    }
-    if is_next(text, rest, "DOMAIN") {
-        return domain_statement(alloc, text, rest);
-    }
-    if is_next(text, rest, "$CALENDAR") {
-        return calendar_group(alloc, text, rest);
-    }
-    if is_next(text, rest, "$PROMPT") {
-        return prompt_group(alloc, text, rest);
-    }
-    if is_next(text, rest, "$RESOURCE") {
-        return resource_group(alloc, text, rest);
-    }
-    if is_next(text, rest, "$JOBS") {
-        return job_group(alloc, text, rest);
-    }
-    schedule_statement(alloc, text, rest)
 }
 
 impl Defs {
@@ -171,9 +139,63 @@ impl Defs {
         }
     }
 
-    fn put(&mut self, statement: Statement) -> Result<(), NoMemory>
-        ensures { OnOk result (self.new ≡ after_statement self.old statement) }
+    fn set_options(&mut self, options: Options)
+        ensures { self.new ≡ with_options options self.old }
     {
+        self.start = options.start;
+        self.zone = options.zone;
+        self.carry = options.carry;
+    }
+}
+
+impl Gathers for Defs {
+    ghost use Rattle.composer_parser.specs.Composer.{statement, after_statement};
+    ghost use Rattle.composer_parser.specs.Parts.{always};
+
+    type Part = Statement;
+
+    ghost part_grammar = { statement };
+
+    ghost next_state = { after_statement };
+
+    ghost may_begin = { always };
+
+    #[tactic(auto, unfolding(crate::specs::Composer::statement, crate::specs::Composer::cpu_statement, crate::specs::Composer::domain_statement, crate::specs::Composer::calendar_group, crate::specs::Composer::prompt_group, crate::specs::Composer::resource_group, crate::specs::Composer::job_group, crate::specs::Composer::schedule_statement, crate::specs::Stations::cpu, crate::specs::Stations::domain, crate::specs::Schedules::schedule, crate::specs::Schedules::header, crate::specs::Schedules::title))]
+    fn goes_on(&self, text: &str, rest: &[Token]) -> bool {
+        is_next(text, rest, "CPUNAME")
+            || is_next(text, rest, "DOMAIN")
+            || begins_group(text, rest)
+            || is_next(text, rest, "SCHEDULE")
+    }
+
+    #[tactic(auto, unfolding(crate::specs::Composer::statement, crate::specs::Composer::cpu_statement, crate::specs::Composer::domain_statement, crate::specs::Composer::calendar_group, crate::specs::Composer::prompt_group, crate::specs::Composer::resource_group, crate::specs::Composer::job_group, crate::specs::Composer::schedule_statement, crate::specs::Stations::cpu, crate::specs::Stations::domain, crate::specs::Schedules::schedule, crate::specs::Schedules::header, crate::specs::Schedules::title))]
+    fn read_part<'a>(
+        alloc: Global,
+        text: &str,
+        rest: &'a [Token],
+    ) -> Result<(Statement, &'a [Token]), Stop> {
+        if is_next(text, rest, "CPUNAME") {
+            return cpu_statement(alloc, text, rest);
+        }
+        if is_next(text, rest, "DOMAIN") {
+            return domain_statement(alloc, text, rest);
+        }
+        if is_next(text, rest, "$CALENDAR") {
+            return calendar_group(alloc, text, rest);
+        }
+        if is_next(text, rest, "$PROMPT") {
+            return prompt_group(alloc, text, rest);
+        }
+        if is_next(text, rest, "$RESOURCE") {
+            return resource_group(alloc, text, rest);
+        }
+        if is_next(text, rest, "$JOBS") {
+            return job_group(alloc, text, rest);
+        }
+        schedule_statement(alloc, text, rest)
+    }
+
+    fn take(&mut self, statement: Statement) -> Result<(), NoMemory> {
         match statement {
             Statement::Cpu(item) => self.cpus.push(item),
             Statement::Domain(item) => self.domains.push(item),
@@ -184,25 +206,6 @@ impl Defs {
             Statement::Schedule(item) => self.schedules.push(item),
         }
     }
-
-    fn set_options(&mut self, options: Options)
-        ensures { self.new ≡ with_options options self.old }
-    {
-        self.start = options.start;
-        self.zone = options.zone;
-        self.carry = options.carry;
-    }
-}
-
-/// Whether the next token begins a statement.
-#[tactic(auto, unfolding(crate::specs::Composer::statement, crate::specs::Composer::cpu_statement, crate::specs::Composer::domain_statement, crate::specs::Composer::calendar_group, crate::specs::Composer::prompt_group, crate::specs::Composer::resource_group, crate::specs::Composer::job_group, crate::specs::Composer::schedule_statement, crate::specs::Stations::cpu, crate::specs::Stations::domain, crate::specs::Schedules::schedule, crate::specs::Schedules::header, crate::specs::Schedules::title))]
-fn begins_statement(text: &str, rest: &[Token]) -> bool
-    ensures { (d : Definitions) → result ≡ begins_piece always spec.statement d (all_spelled text.now rest.now) }
-{
-    is_next(text, rest, "CPUNAME")
-        || is_next(text, rest, "DOMAIN")
-        || begins_group(text, rest)
-        || is_next(text, rest, "SCHEDULE")
 }
 
 fn begins_group(text: &str, rest: &[Token]) -> bool
@@ -214,7 +217,7 @@ fn begins_group(text: &str, rest: &[Token]) -> bool
         || is_next(text, rest, "$JOBS")
 }
 
-#[tactic(auto, unfolding(crate::specs::Composer::statements))]
+#[tactic(auto, using(crate::proofs::Sound::statement_decided, crate::proofs::Sound::statement_some), unfolding(crate::specs::Composer::statements))]
 fn statements<'a>(
     alloc: Global,
     text: &str,
@@ -223,14 +226,7 @@ fn statements<'a>(
 ) -> Result<(Defs, &'a [Token]), Stop>
     ensures { Gives (λ x. x.0) (λ x. x.1.now) text.now result (read (spec.statements last_line) (all_spelled text.now rest.now)) }
 {
-    let mut defs = Defs::none(alloc, last_line);
-    let mut left = rest;
-    'pieces: while begins_statement(text, left) {
-        let (next, behind) = one_statement(alloc, text, left)?;
-        defs.put(next)?;
-        left = behind;
-    }
-    Ok((defs, left))
+    gather(alloc, text, rest, Defs::none(alloc, last_line))
 }
 
 /// The definitions that the tokens are from the first on, as far as they go.

@@ -8,7 +8,7 @@ ghost use Rattle.composer_parser.specs.Tokens.{all_spelled, Gives};
 use crate::definitions::{CpuDef, DomainDef, Lined};
 use crate::flags::{CpuFlags, flags};
 use crate::parts::{
-    description, is_any_word, is_next, key, name, name_word, number, upper_word, value,
+    description, is_any_word, key, name, name_word, number, taken, upper_word, value,
 };
 use crate::stops::{Stop, Why};
 use base_types::{NoMemory, Text, Token};
@@ -18,12 +18,10 @@ use std::alloc::Global;
 fn cpu_type<'a>(text: &str, rest: &'a [Token]) -> Result<(bool, &'a [Token]), Stop>
     ensures { Gives (λ x. x.0) (λ x. x.1.now) text.now result (read spec.cpu_type (all_spelled text.now rest.now)) }
 {
-    if is_next(text, rest, "MANAGER") {
-        let (_, rest) = key(text, rest, "MANAGER")?;
+    if let Some((_, rest)) = taken(text, rest, "MANAGER") {
         return Ok((true, rest));
     }
-    if is_next(text, rest, "FTA") {
-        let (_, rest) = key(text, rest, "FTA")?;
+    if let Some((_, rest)) = taken(text, rest, "FTA") {
         return Ok((false, rest));
     }
     if is_any_word(text, rest) {
@@ -36,8 +34,7 @@ fn cpu_type<'a>(text: &str, rest: &'a [Token]) -> Result<(bool, &'a [Token]), St
 fn port<'a>(text: &str, rest: &'a [Token]) -> Result<(Option<u32>, &'a [Token]), Stop>
     ensures { Gives (λ x. x.0) (λ x. x.1.now) text.now result (read spec.port (all_spelled text.now rest.now)) }
 {
-    if is_next(text, rest, "TCPADDR") {
-        let (_, rest) = key(text, rest, "TCPADDR")?;
+    if let Some((_, rest)) = taken(text, rest, "TCPADDR") {
         let (port, rest) = number(text, rest)?;
         return Ok((Some(port), rest));
     }
@@ -126,7 +123,7 @@ pub(crate) fn cpu<'a>(
     let rest = description(text, rest)?;
     let (machine, rest) = cpu_machine(alloc, text, rest)?;
     let (place, rest) = cpu_place(alloc, text, rest)?;
-    let (flags, rest) = flags(text, rest)?;
+    let (flags, rest) = flags(alloc, text, rest)?;
     let (_, rest) = key(text, rest, "END")?;
     Ok((cpu_of(alloc, line, word, machine, place, flags)?, rest))
 }
@@ -136,8 +133,7 @@ pub(crate) fn cpu<'a>(
 fn star<'a>(text: &str, rest: &'a [Token]) -> Result<&'a [Token], Stop>
     ensures { Gives (λ x. tt) (λ x. x.now) text.now result (read spec.star (all_spelled text.now rest.now)) }
 {
-    if is_next(text, rest, "*") {
-        let (_, rest) = key(text, rest, "*")?;
+    if let Some((_, rest)) = taken(text, rest, "*") {
         return Ok(rest);
     }
     Ok(rest)
@@ -152,8 +148,7 @@ fn parent<'a>(
 ) -> Result<(Option<Text>, &'a [Token]), Stop>
     ensures { Gives (λ x. x.0) (λ x. x.1.now) text.now result (read spec.parent (all_spelled text.now rest.now)) }
 {
-    if is_next(text, rest, "PARENT") {
-        let (_, rest) = key(text, rest, "PARENT")?;
+    if let Some((_, rest)) = taken(text, rest, "PARENT") {
         let (above, rest) = name(alloc, text, rest)?;
         return Ok((Some(above), rest));
     }

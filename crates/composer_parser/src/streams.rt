@@ -1,17 +1,16 @@
 //! SCHEDULE.
-ghost use Rattle.std.specs.Prelude.{◌≡◌, ℕ, List, codes, IfOk};
-ghost use Rattle.composer_parser.specs.Reading.{read, begins_piece};
+ghost use Rattle.std.specs.Prelude.{◌≡◌, IfOk};
+ghost use Rattle.composer_parser.specs.Reading.{read};
 ghost use Rattle.composer_parser.specs.Schedules as spec;
 ghost use Rattle.composer_parser.specs.Tokens.{all_spelled, on_line, Gives};
 
+use crate::batches::row;
 use crate::clause_forms::clauses;
 use crate::clauses::Clause;
 use crate::definitions::Lined;
-use crate::entries::entries;
-use crate::ons::ons;
-use crate::parts::{description, is_next, key, mark, name_word};
+use crate::parts::{description, key, mark, name_word, taken};
 use crate::places::scoped;
-use crate::schedules::{FreeDef, OnDef, ScheduleDef};
+use crate::schedules::{EntryDef, FreeDef, OnDef, ScheduleDef};
 use crate::scopes::{own_of, ws_of};
 use crate::stops::Stop;
 use base_types::{Items, NoMemory, Text, Token};
@@ -21,8 +20,7 @@ use std::alloc::Global;
 fn minus_sa<'a>(text: &str, rest: &'a [Token]) -> Result<(bool, &'a [Token]), Stop>
     ensures { Gives (λ x. x.0) (λ x. x.1.now) text.now result (read spec.minus_sa (all_spelled text.now rest.now)) }
 {
-    if is_next(text, rest, "-SA") {
-        let (_, rest) = key(text, rest, "-SA")?;
+    if let Some((_, rest)) = taken(text, rest, "-SA") {
         return Ok((true, rest));
     }
     Ok((false, rest))
@@ -32,8 +30,7 @@ fn minus_sa<'a>(text: &str, rest: &'a [Token]) -> Result<(bool, &'a [Token]), St
 fn minus_su<'a>(text: &str, rest: &'a [Token]) -> Result<(bool, &'a [Token]), Stop>
     ensures { Gives (λ x. x.0) (λ x. x.1.now) text.now result (read spec.minus_su (all_spelled text.now rest.now)) }
 {
-    if is_next(text, rest, "-SU") {
-        let (_, rest) = key(text, rest, "-SU")?;
+    if let Some((_, rest)) = taken(text, rest, "-SU") {
         return Ok((true, rest));
     }
     Ok((false, rest))
@@ -48,10 +45,9 @@ fn free_days<'a>(
 ) -> Result<(Option<FreeDef>, &'a [Token]), Stop>
     ensures { Gives (λ x. x.0) (λ x. x.1.now) text.now result (read spec.free_days (all_spelled text.now rest.now)) }
 {
-    if !is_next(text, rest, "FREEDAYS") {
+    let Some((_, rest)) = taken(text, rest, "FREEDAYS") else {
         return Ok((None, rest));
-    }
-    let (_, rest) = key(text, rest, "FREEDAYS")?;
+    };
     let (word, rest) = name_word(text, rest)?;
     let (minus_sa, rest) = minus_sa(text, rest)?;
     let (minus_su, rest) = minus_su(text, rest)?;
@@ -140,7 +136,7 @@ fn stream_title<'a>(
 }
 
 /// A stream up to its colon, without its entries.
-#[tactic(auto, unfolding(crate::specs::Schedules::header))]
+#[tactic(auto, using(crate::proofs::Sound::on_decided, crate::proofs::Sound::on_some), unfolding(crate::specs::Schedules::header, crate::specs::Schedules::ons))]
 fn header<'a>(
     alloc: Global,
     text: &str,
@@ -149,14 +145,14 @@ fn header<'a>(
     ensures { Gives (λ x. x.0) (λ x. x.1.now) text.now result (read spec.header (all_spelled text.now rest.now)) }
 {
     let (title, rest) = stream_title(alloc, text, rest)?;
-    let (ons, rest) = ons(alloc, text, rest)?;
+    let (ons, rest) = row::<Lined<OnDef>>(alloc, text, rest)?;
     let (clauses, rest) = clauses(alloc, text, rest, true)?;
     let rest = mark(text, rest, b':')?;
-    Ok((title.stream(alloc, ons, clauses), rest))
+    Ok((title.stream(alloc, ons.into_items(), clauses), rest))
 }
 
 /// A stream.
-#[tactic(auto, unfolding(crate::specs::Schedules::schedule))]
+#[tactic(auto, using(crate::proofs::Sound::entry_decided, crate::proofs::Sound::entry_some), unfolding(crate::specs::Schedules::schedule, crate::specs::Schedules::entries))]
 pub(crate) fn schedule<'a>(
     alloc: Global,
     text: &str,
@@ -165,8 +161,8 @@ pub(crate) fn schedule<'a>(
     ensures { Gives (λ x. x.0) (λ x. x.1.now) text.now result (read spec.schedule (all_spelled text.now rest.now)) }
 {
     let (mut found, rest) = header(alloc, text, rest)?;
-    let (entries, rest) = entries(alloc, text, rest)?;
+    let (entries, rest) = row::<Lined<EntryDef>>(alloc, text, rest)?;
     let (_, rest) = key(text, rest, "END")?;
-    found.item.entries = entries;
+    found.item.entries = entries.into_items();
     Ok((found, rest))
 }

@@ -1,14 +1,15 @@
 //! What a job runs.
 ghost use Rattle.std.specs.Prelude.{◌≡◌, ℕ, List, codes};
-ghost use Rattle.composer_parser.specs.Reading.{read, begins_piece};
+ghost use Rattle.composer_parser.specs.Reading.{read};
 ghost use Rattle.composer_parser.specs.Works as spec;
 ghost use Rattle.composer_parser.specs.Tokens.{all_spelled, Gives};
-ghost use Rattle.composer_parser.specs.Works.{no_work_flags, after_work_flag, may_work_flag};
+ghost use Rattle.composer_parser.specs.Works.{no_work_flags};
 
 use crate::definitions::WorkDef;
-use crate::parts::{is_next, key, skip_text, skip_word, text_value, value};
+use crate::gathering::{Gathers, gather};
+use crate::parts::{is_next, key, skip_text, skip_word, taken, text_value, value};
 use crate::stops::{Stop, Why};
-use base_types::{Recovery, Text, Token, Work};
+use base_types::{NoMemory, Recovery, Text, Token, Work};
 use std::alloc::Global;
 
 /// One flag of a work.
@@ -43,24 +44,21 @@ impl WorkFlags {
             recovery: None,
         }
     }
+}
 
-    fn put(&mut self, flag: WorkFlag)
-        ensures { self.new ≡ after_work_flag self.old flag }
-    {
-        match flag {
-            WorkFlag::Logon(user) => self.logon = Some(user),
-            WorkFlag::Description => self.description = true,
-            WorkFlag::TaskType => self.task_type = true,
-            WorkFlag::Cond(cond) => self.cond = Some(cond),
-            WorkFlag::Recovery(recovery) => self.recovery = Some(recovery),
-        }
-    }
+impl Gathers for WorkFlags {
+    ghost use Rattle.composer_parser.specs.Works.{work_flag, after_work_flag, may_work_flag};
 
-    /// Whether the next token begins a further flag.
+    type Part = WorkFlag;
+
+    ghost part_grammar = { work_flag };
+
+    ghost next_state = { after_work_flag };
+
+    ghost may_begin = { may_work_flag };
+
     #[tactic(auto, unfolding(crate::specs::Works::work_flag))]
-    fn go_on(&self, text: &str, rest: &[Token]) -> bool
-        ensures { result ≡ begins_piece may_work_flag spec.work_flag self.now (all_spelled text.now rest.now) }
-    {
+    fn goes_on(&self, text: &str, rest: &[Token]) -> bool {
         if is_next(text, rest, "STREAMLOGON") {
             return self.logon.is_none();
         }
@@ -75,14 +73,52 @@ impl WorkFlags {
         }
         is_next(text, rest, "RECOVERY") && self.recovery.is_none()
     }
+
+    #[tactic(auto, unfolding(crate::specs::Works::work_flag))]
+    fn read_part<'a>(
+        alloc: Global,
+        text: &str,
+        rest: &'a [Token],
+    ) -> Result<(WorkFlag, &'a [Token]), Stop> {
+        if let Some((_, rest)) = taken(text, rest, "STREAMLOGON") {
+            let (user, rest) = value(alloc, text, rest)?;
+            return Ok((WorkFlag::Logon(user), rest));
+        }
+        if let Some((_, rest)) = taken(text, rest, "DESCRIPTION") {
+            let rest = skip_text(text, rest)?;
+            return Ok((WorkFlag::Description, rest));
+        }
+        if let Some((_, rest)) = taken(text, rest, "TASKTYPE") {
+            let rest = skip_word(text, rest)?;
+            return Ok((WorkFlag::TaskType, rest));
+        }
+        if let Some((_, rest)) = taken(text, rest, "RCCONDSUCC") {
+            let (cond, rest) = text_value(alloc, text, rest)?;
+            return Ok((WorkFlag::Cond(cond), rest));
+        }
+        let (_, rest) = key(text, rest, "RECOVERY")?;
+        let (recovery, rest) = recovery_word(text, rest)?;
+        let rest = no_recovery_job(text, rest)?;
+        Ok((WorkFlag::Recovery(recovery), rest))
+    }
+
+    fn take(&mut self, flag: WorkFlag) -> Result<(), NoMemory> {
+        match flag {
+            WorkFlag::Logon(user) => self.logon = Some(user),
+            WorkFlag::Description => self.description = true,
+            WorkFlag::TaskType => self.task_type = true,
+            WorkFlag::Cond(cond) => self.cond = Some(cond),
+            WorkFlag::Recovery(recovery) => self.recovery = Some(recovery),
+        }
+        Ok(())
+    }
 }
 
 #[tactic(auto, unfolding(crate::specs::Works::command))]
 fn command<'a>(alloc: Global, text: &str, rest: &'a [Token]) -> Result<(Work, &'a [Token]), Stop>
     ensures { Gives (λ x. x.0) (λ x. x.1.now) text.now result (read spec.command (all_spelled text.now rest.now)) }
 {
-    if is_next(text, rest, "SCRIPTNAME") {
-        let (_, rest) = key(text, rest, "SCRIPTNAME")?;
+    if let Some((_, rest)) = taken(text, rest, "SCRIPTNAME") {
         let (file, rest) = value(alloc, text, rest)?;
         return Ok((Work::Script(file), rest));
     }
@@ -95,16 +131,13 @@ fn command<'a>(alloc: Global, text: &str, rest: &'a [Token]) -> Result<(Work, &'
 fn recovery_word<'a>(text: &str, rest: &'a [Token]) -> Result<(Recovery, &'a [Token]), Stop>
     ensures { Gives (λ x. x.0) (λ x. x.1.now) text.now result (read spec.recovery_word (all_spelled text.now rest.now)) }
 {
-    if is_next(text, rest, "STOP") {
-        let (_, rest) = key(text, rest, "STOP")?;
+    if let Some((_, rest)) = taken(text, rest, "STOP") {
         return Ok((Recovery::Stop, rest));
     }
-    if is_next(text, rest, "CONTINUE") {
-        let (_, rest) = key(text, rest, "CONTINUE")?;
+    if let Some((_, rest)) = taken(text, rest, "CONTINUE") {
         return Ok((Recovery::Continue, rest));
     }
-    if is_next(text, rest, "RERUN") {
-        let (_, rest) = key(text, rest, "RERUN")?;
+    if let Some((_, rest)) = taken(text, rest, "RERUN") {
         return Ok((Recovery::Rerun, rest));
     }
     if is_next(text, rest, "AFTER") || is_next(text, rest, "ABENDPROMPT") {
@@ -124,41 +157,7 @@ fn no_recovery_job<'a>(text: &str, rest: &'a [Token]) -> Result<&'a [Token], Sto
     Ok(rest)
 }
 
-#[tactic(auto, unfolding(crate::specs::Works::work_flag))]
-fn work_flag<'a>(
-    alloc: Global,
-    text: &str,
-    rest: &'a [Token],
-) -> Result<(WorkFlag, &'a [Token]), Stop>
-    ensures { Gives (λ x. x.0) (λ x. x.1.now) text.now result (read spec.work_flag (all_spelled text.now rest.now)) }
-{
-    if is_next(text, rest, "STREAMLOGON") {
-        let (_, rest) = key(text, rest, "STREAMLOGON")?;
-        let (user, rest) = value(alloc, text, rest)?;
-        return Ok((WorkFlag::Logon(user), rest));
-    }
-    if is_next(text, rest, "DESCRIPTION") {
-        let (_, rest) = key(text, rest, "DESCRIPTION")?;
-        let rest = skip_text(text, rest)?;
-        return Ok((WorkFlag::Description, rest));
-    }
-    if is_next(text, rest, "TASKTYPE") {
-        let (_, rest) = key(text, rest, "TASKTYPE")?;
-        let rest = skip_word(text, rest)?;
-        return Ok((WorkFlag::TaskType, rest));
-    }
-    if is_next(text, rest, "RCCONDSUCC") {
-        let (_, rest) = key(text, rest, "RCCONDSUCC")?;
-        let (cond, rest) = text_value(alloc, text, rest)?;
-        return Ok((WorkFlag::Cond(cond), rest));
-    }
-    let (_, rest) = key(text, rest, "RECOVERY")?;
-    let (recovery, rest) = recovery_word(text, rest)?;
-    let rest = no_recovery_job(text, rest)?;
-    Ok((WorkFlag::Recovery(recovery), rest))
-}
-
-#[tactic(auto, unfolding(crate::specs::Works::work_flags))]
+#[tactic(auto, using(crate::proofs::Sound::work_flag_decided, crate::proofs::Sound::work_flag_some), unfolding(crate::specs::Works::work_flags))]
 fn work_flags<'a>(
     alloc: Global,
     text: &str,
@@ -166,14 +165,7 @@ fn work_flags<'a>(
 ) -> Result<(WorkFlags, &'a [Token]), Stop>
     ensures { Gives (λ x. x.0) (λ x. x.1.now) text.now result (read spec.work_flags (all_spelled text.now rest.now)) }
 {
-    let mut seen = WorkFlags::none();
-    let mut left = rest;
-    'pieces: while seen.go_on(text, left) {
-        let (next, behind) = work_flag(alloc, text, left)?;
-        seen.put(next);
-        left = behind;
-    }
-    Ok((seen, left))
+    gather(alloc, text, rest, WorkFlags::none())
 }
 
 /// What a job runs, with its flags.

@@ -14,44 +14,21 @@ same_text text n m {us = us} {ts = ts} r lines tokens h =
     let P : List Token → Type 0 = λ vs. Answered m (all_spelled text vs) r in
     let Q : ℕ → Type 0 = λ k. Answered k (all_spelled text us) r in subst P tokens (subst Q lines h)
 
-pub returns-clause-found : goal.returns-clause-found
-returns-clause-found c =
-    found (last_line_of c.args.text.now) (all_spelled c.args.text.now c.args.tokens.now) c.parse_tokens.result
-    (same_text c.args.text.now c.last_line.result (last_line_of c.args.text.now) c.parse_tokens.result
-    (c.last_line.ensures ∙ ap (λ bytes. last_line_of bytes) c.as_bytes.ensures.value) c.as_slice.ensures c.parse_tokens.ensures)
-
-pub returns-clause-all : goal.returns-clause-all
-returns-clause-all c =
-    all (last_line_of c.args.text.now) (all_spelled c.args.text.now c.args.tokens.now) c.parse_tokens.result
-    (same_text c.args.text.now c.last_line.result (last_line_of c.args.text.now) c.parse_tokens.result
-    (c.last_line.ensures ∙ ap (λ bytes. last_line_of bytes) c.as_bytes.ensures.value) c.as_slice.ensures c.parse_tokens.ensures)
-
-pub returns-clause-expected : goal.returns-clause-expected
-returns-clause-expected c =
-    expected (last_line_of c.args.text.now) (all_spelled c.args.text.now c.args.tokens.now) c.parse_tokens.result
-    (same_text c.args.text.now c.last_line.result (last_line_of c.args.text.now) c.parse_tokens.result
-    (c.last_line.ensures ∙ ap (λ bytes. last_line_of bytes) c.as_bytes.ensures.value) c.as_slice.ensures c.parse_tokens.ensures)
-
-pub returns-clause-all_expected : goal.returns-clause-all_expected
-returns-clause-all_expected c =
-    all_expected (last_line_of c.args.text.now) (all_spelled c.args.text.now c.args.tokens.now) c.parse_tokens.result
-    (same_text c.args.text.now c.last_line.result (last_line_of c.args.text.now) c.parse_tokens.result
-    (c.last_line.ensures ∙ ap (λ bytes. last_line_of bytes) c.as_bytes.ensures.value) c.as_slice.ensures c.parse_tokens.ensures)
-
-pub returns-clause-left_out : goal.returns-clause-left_out
-returns-clause-left_out c =
-    left_out (last_line_of c.args.text.now) (all_spelled c.args.text.now c.args.tokens.now) c.parse_tokens.result
-    (same_text c.args.text.now c.last_line.result (last_line_of c.args.text.now) c.parse_tokens.result
-    (c.last_line.ensures ∙ ap (λ bytes. last_line_of bytes) c.as_bytes.ensures.value) c.as_slice.ensures c.parse_tokens.ensures)
-
-pub returns-clause-all_left_out : goal.returns-clause-all_left_out
-returns-clause-all_left_out c =
-    all_left_out (last_line_of c.args.text.now) (all_spelled c.args.text.now c.args.tokens.now) c.parse_tokens.result
-    (same_text c.args.text.now c.last_line.result (last_line_of c.args.text.now) c.parse_tokens.result
-    (c.last_line.ensures ∙ ap (λ bytes. last_line_of bytes) c.as_bytes.ensures.value) c.as_slice.ensures c.parse_tokens.ensures)
-
-pub returns-clause-built : goal.returns-clause-built
-returns-clause-built c =
-    built (last_line_of c.args.text.now) (all_spelled c.args.text.now c.args.tokens.now) c.parse_tokens.result
-    (same_text c.args.text.now c.last_line.result (last_line_of c.args.text.now) c.parse_tokens.result
-    (c.last_line.ensures ∙ ap (λ bytes. last_line_of bytes) c.as_bytes.ensures.value) c.as_slice.ensures c.parse_tokens.ensures)
+pub returns : goal.returns
+returns c =
+    let text = c.args.text.now in
+    let last = last_line_of text in
+    let ts = all_spelled text c.args.tokens.now in
+    let r = c.parse_tokens.result in
+    let told : Answered last ts r =
+    same_text text c.last_line.result last r (c.last_line.ensures ∙ ap (λ bytes. last_line_of bytes) c.as_bytes.ensures.value)
+    c.as_slice.ensures c.parse_tokens.ensures in
+    record {
+      found = found last ts r told;
+      all = all last ts r told;
+      expected = expected last ts r told;
+      all_expected = all_expected last ts r told;
+      left_out = left_out last ts r told;
+      all_left_out = all_left_out last ts r told;
+      built = built last ts r told;
+    }

@@ -11,7 +11,7 @@ use Rattle.model.specs.Facts.{is_open, open_launch}
 use Rattle.model.specs.Turn.{is_alive, lost_jobs}
 use Rattle.dependencies.specs.Planned.{ArePlannedJobs, IsPlannedJob}
 use Rattle.dependencies.proofs.Found.{jobs_planned}
-use Rattle.dependencies.proofs.Lists.{all_filter}
+use Rattle.model_laws.proofs.Lists.{all_filter}
 use Rattle.dependencies.proofs.Lowest.{filter_filter, lower_of, numbers_among, numbers_of}
 
 -- every item

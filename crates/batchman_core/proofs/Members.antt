@@ -12,7 +12,7 @@ use Rattle.owner_fold.specs.Holders.{is_under_way, streams_under_way}
 use Rattle.owner_fold.specs.Sets.{is_waiting}
 use Rattle.dependencies.specs.Planned.{ArePlannedStreams, IsPlannedStream}
 use Rattle.dependencies.proofs.Found.{streams_planned}
-use Rattle.dependencies.proofs.Lists.{all_filter}
+use Rattle.model_laws.proofs.Lists.{all_filter}
 use Rattle.dependencies.proofs.Lowest.{filter_filter, lower_of, numbers_among, numbers_of}
 
 twice : (a b c : Bool) → (a && (b && (a && (b && c)))) ≡ (a && (b && c))

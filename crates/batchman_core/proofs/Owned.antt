@@ -14,10 +14,10 @@ use Rattle.model.specs.Readiness.{best, is_ready, is_ready_in, ready_conditions}
 use Rattle.model.specs.Turn.{is_alive, lost_jobs}
 use Rattle.model_laws.proofs.Bests.{best_is}
 use Rattle.model_laws.proofs.Growth.{and_left, and_right, ready_owner}
-use Rattle.model_laws.proofs.Options.{find_passes}
+use Rattle.model_laws.proofs.Options.{find_passes, there_if}
 use Rattle.dependencies.specs.Planned.{IsPlannedJob}
 use Rattle.dependencies.proofs.Found.{jobs_planned}
-use Rattle.dependencies.proofs.Lists.{all_filter, there_if}
+use Rattle.model_laws.proofs.Lists.{all_filter}
 
 -- w owns the job of this number
 abbrev Owns : View → ℕ → ℕ → Type 0

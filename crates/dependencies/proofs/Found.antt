@@ -1,74 +1,17 @@
 -- Each job and each stream of the catalogue is found by its number.
-use Rattle.std.proofs.Common.{◌≡◌, ◌∷◌, ◌||◌, [], ℕ, Bool, List, Some, cond, false, refl, subst, sym, true}
-use Rattle.std.proofs.lemmas.Bool.{eq-eqb, eqb-true}
+use Rattle.std.proofs.Common.{◌≡◌, ◌∷◌, [], ℕ, Bool, List, Some, cond, false, refl, subst, sym, true}
+use Rattle.std.proofs.lemmas.Bool.{eqb-true}
 use Rattle.std.specs.List.{AllByRecursion}
-use Rattle.std.specs.Prelude.{◌==◌, eqb, find, flat_map, map}
+use Rattle.std.specs.Prelude.{◌==◌, flat_map, map}
 use Rattle.model.specs.Types.{Events, JobDoc, StreamDoc}
 use Rattle.model.specs.Words.{firsts, has}
 use Rattle.model.specs.History.{View}
 use Rattle.model.specs.Catalogue.{StreamJob, catalogue, docs_in, job, jobs, jobs_in, jobs_of_stream, owner, stream}
 use Rattle.dependencies.specs.Planned.{ArePlannedJobs, ArePlannedStreams, IsPlannedJob, IsPlannedStream}
-use Rattle.dependencies.proofs.Lists.{all_both, all_filter, all_flat, all_found, all_such, there_if}
-
-or_left_false : (a b : Bool) → (a || b) ≡ false → a ≡ false
-or_left_false true b h = cc
-or_left_false false b h = refl
-
-or_right_false : (a b : Bool) → (a || b) ≡ false → b ≡ false
-or_right_false true b h = cc
-or_right_false false b h = h
-
--- of what counts, none was known
-firsts_fresh : {X : Type 0} (number : X → ℕ) (known : List ℕ) (xs : List X)
-    → AllByRecursion (λ (x : X). has known (number x) ≡ false) (firsts number known xs)
-firsts_fresh number known [] = tt
-firsts_fresh {X} number known (x ∷ xs) =
-    go (has known (number x)) refl (firsts_fresh number known xs) (firsts_fresh number (number x ∷ known) xs)
-  where
-    go : (b : Bool) → has known (number x) ≡ b
-        → AllByRecursion (λ (y : X). has known (number y) ≡ false) (firsts number known xs)
-        → AllByRecursion (λ (y : X). has (number x ∷ known) (number y) ≡ false) (firsts number (number x ∷ known) xs)
-        → AllByRecursion (λ (y : X). has known (number y) ≡ false)
-        (cond b (firsts number known xs) (x ∷ firsts number (number x ∷ known) xs))
-    go true e h k = h
-    go false e h k = (
-      e,
-      all_such (λ (y : X). has (number x ∷ known) (number y) ≡ false)
-          (λ (y : X). has known (number y) ≡ false) _ (λ y f. or_right_false (eqb (number x) (number y)) _ f) k,
-    )
-
--- it is the first of its number
-abbrev pub IsFound : {X : Type 0} → (X → ℕ) → List X → X → Type 0
-IsFound {X} number xs x = find (λ (y : X). number y == number x) xs ≡ Some x
-
-firsts_found : {X : Type 0} (number : X → ℕ) (known : List ℕ) (xs : List X)
-    → AllByRecursion (IsFound number (firsts number known xs)) (firsts number known xs)
-firsts_found number known [] = tt
-firsts_found {X} number known (x ∷ xs) =
-    go (has known (number x)) (firsts_found number known xs) (firsts_found number (number x ∷ known) xs)
-    (firsts_fresh number (number x ∷ known) xs)
-  where
-    later : (y : X) → has (number x ∷ known) (number y) ≡ false
-        → IsFound number (firsts number (number x ∷ known) xs) y
-        → IsFound number (x ∷ firsts number (number x ∷ known) xs) y
-    later y f g = rw (or_left_false (eqb (number x) (number y)) _ f) g
-
-    itself : IsFound number (x ∷ firsts number (number x ∷ known) xs) x
-    itself = rw (eq-eqb (number x) (number x) refl) refl
-
-    go : (b : Bool)
-        → AllByRecursion (IsFound number (firsts number known xs)) (firsts number known xs)
-        → AllByRecursion (IsFound number (firsts number (number x ∷ known) xs)) (firsts number (number x ∷ known) xs)
-        → AllByRecursion (λ (y : X). has (number x ∷ known) (number y) ≡ false) (firsts number (number x ∷ known) xs)
-        → AllByRecursion (IsFound number (cond b (firsts number known xs)
-        (x ∷ firsts number (number x ∷ known) xs)))
-        (cond b (firsts number known xs) (x ∷ firsts number (number x ∷ known) xs))
-    go true h k f = h
-    go false h k f = (
-      itself,
-      all_both _ _ (IsFound number (x ∷ firsts number (number x ∷ known) xs))
-          (firsts number (number x ∷ known) xs) later f k,
-    )
+use Rattle.model_laws.proofs.Firsts.{IsFound, all_both, first_found}
+use Rattle.model_laws.proofs.Lists.{all_filter, all_such}
+use Rattle.model_laws.proofs.Options.{there_if}
+use Rattle.dependencies.proofs.Lists.{all_flat, all_found}
 
 -- what holds of all holds of those that count
 pub firsts_all : {X : Type 0} (P : X → Type 0) (number : X → ℕ) (known : List ℕ) (xs : List X) → AllByRecursion P xs
@@ -95,7 +38,7 @@ streams_planned V =
     all_such
     (IsFound (λ (d : StreamDoc). d.no) (firsts (λ (d : StreamDoc). d.no) [] (flat_map docs_in (V (Events 0)))))
     (IsPlannedStream V) _ (λ d e. planned_stream V d e)
-    (firsts_found (λ (d : StreamDoc). d.no) [] (flat_map docs_in (V (Events 0))))
+    (first_found (λ (d : StreamDoc). d.no) [] (flat_map docs_in (V (Events 0))))
 
 parents_in : (V : View) (d : StreamDoc) (placed : List JobDoc) → IsPlannedStream V d
     → AllByRecursion (λ (p : StreamJob). IsPlannedStream V p.parent)
@@ -124,7 +67,7 @@ unfolding job jobs
 jobs_planned V =
     all_both (λ (p : StreamJob). job V p.doc.no ≡ Some p) (λ (p : StreamJob). IsPlannedStream V p.parent)
     (IsPlannedJob V) (jobs V) (λ p e h. planned_job V p e h)
-    (firsts_found (λ (p : StreamJob). p.doc.no) [] (flat_map jobs_in (catalogue V))) (parents_planned V)
+    (first_found (λ (p : StreamJob). p.doc.no) [] (flat_map jobs_in (catalogue V))) (parents_planned V)
 
 found_job : (V : View) (j : ℕ) (p : StreamJob) → job V j ≡ Some p → IsPlannedJob V p × ((p.doc.no == j) ≡ true)
 unfolding job

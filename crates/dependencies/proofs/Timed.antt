@@ -23,7 +23,7 @@ use Rattle.dependencies.specs.Planned.{ArePlannedJobs, ArePlannedStreams, IsPlan
 use Rattle.dependencies.specs.declared.dues.Due.{Due}
 use Rattle.dependencies.specs.declared.dues.Due.TheVariants.{Late, Until}
 use Rattle.dependencies.proofs.Found.{jobs_planned, streams_planned}
-use Rattle.dependencies.proofs.Lists.{all_filter}
+use Rattle.model_laws.proofs.Lists.{all_filter}
 use Rattle.dependencies.proofs.Lowest.{filter_filter, lower_of, numbers_among, numbers_of}
 
 or_more : (t a b : Bool) → (a ≡ true → b ≡ true) → (t || a) ≡ true → (t || b) ≡ true

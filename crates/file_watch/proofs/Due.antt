@@ -13,9 +13,10 @@ use Rattle.model.specs.Dependencies.{NumberedDep, dep, deps, unwaived_deps}
 use Rattle.model.specs.OwnMembers.{has_begun, own_objects}
 use Rattle.model.specs.StepFaults.{is_outside, lacks_dep}
 use Rattle.model_laws.proofs.Options.{filter_all}
-use Rattle.model_laws.proofs.Lists.{all_filter, all_map}
+use Rattle.model_laws.proofs.Lists.{all_filter, all_map, all_such}
 use Rattle.model_laws.proofs.Untils.{open_is_nth}
-use Rattle.dependencies.proofs.Lists.{all_both, all_flat, all_such}
+use Rattle.model_laws.proofs.Firsts.{all_both}
+use Rattle.dependencies.proofs.Lists.{all_flat}
 use Rattle.file_watch.specs.Circle.{DepPlace}
 use Rattle.file_watch.specs.Probes.{due_at, due_files, due_probes, is_file_due, next_probe, path_at, path_in}
 use Rattle.file_watch.proofs.Chosen.{holds_of_soonest}

@@ -10,7 +10,9 @@ use Rattle.model.specs.History.{list_of, view_of}
 use Rattle.model.specs.Catalogue.{catalogue, docs_in, stream}
 use Rattle.model.specs.Fit.{AreFitEntries, IsFit, IsFitBody, IsFitStream}
 use Rattle.dependencies.proofs.Found.{firsts_all}
-use Rattle.dependencies.proofs.Lists.{all_append, all_found, all_flat, there_if}
+use Rattle.model_laws.proofs.Lists.{all_append}
+use Rattle.model_laws.proofs.Options.{there_if}
+use Rattle.dependencies.proofs.Lists.{all_found, all_flat}
 
 bodies_fit : (kept : List Entry) (f : Feed) → AllByRecursion IsFit kept → AllByRecursion IsFitBody (list_of kept f)
 unfolding list_of

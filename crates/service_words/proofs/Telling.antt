@@ -5,7 +5,7 @@ use Rattle.exit_statuses.specs.Sayings.{Says}
 use Rattle.exit_statuses.specs.Statuses.{number_of}
 use Rattle.exit_statuses.specs.declared.statuses.Status.{Status}
 use Rattle.exit_statuses.specs.declared.statuses.Status.TheVariants as status
-use Rattle.service_words.specs.Ends.{IsSpoken, IsTold}
+use Rattle.service_words.specs.Ends.{IsSpoken, IsTold, TakesMemory}
 
 not_nine : (s : Status) → IsSpoken s → number_of s ≡ 9 → ⊥
 not_nine status.Success spoken e = omega arith
@@ -31,10 +31,14 @@ module _ (result : ℕ) (written written' : Option (List ℕ)) (faults faults' :
       → IsTold s text result written written' faults faults'
   told_said s text spoken says = record {
     said = λ other. says;
-    silent = λ nine.
-        let five : result ≡ 5 → ⊥ = λ e. omega (arith, nine, e) in
-        absurd (not_nine s spoken (sym (says.all five).0 ∙ nine));
+    silent = λ nine. absurd (never nine);
+    want = λ nine. absurd (never nine);
   }
+    where
+      never : result ≡ 9 → ⊥
+      never nine =
+          let five : result ≡ 5 → ⊥ = λ e. omega (arith, nine, e) in
+          not_nine s spoken (sym (says.all five).0 ∙ nine)
 
   -- the same of another name of the text
   pub told_same : (s : Status) (text due : List ℕ) → IsSpoken s → text ≡ due
@@ -43,6 +47,7 @@ module _ (result : ℕ) (written written' : Option (List ℕ)) (faults faults' :
       told_said s due spoken (subst (λ (t : List ℕ). Says s t result written written' faults faults') same says)
 
   -- what is not said for want of memory
-  pub told_silent : (s : Status) (text : List ℕ) → result ≡ 9 → Keeps written written'
+  pub told_silent : (s : Status) (text : List ℕ) → TakesMemory s → result ≡ 9 → Keeps written written'
       → IsTold s text result written written' faults faults'
-  told_silent s text nine keeps = record { said = λ other. absurd (other nine); silent = λ e. keeps }
+  told_silent s text takes nine keeps =
+      record { said = λ other. absurd (other nine); silent = λ e. keeps; want = λ e. takes }

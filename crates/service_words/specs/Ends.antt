@@ -75,8 +75,17 @@ IsSpoken status.SinkFailed = ⊥
 IsSpoken status.NoMemory = ⊥
 IsSpoken other = Unit {0}
 
--- this is said, or nothing for want of memory
+-- a status whose text takes memory, or that tells of want of memory itself
+abbrev pub TakesMemory : Status → Type 0
+TakesMemory status.DefinitionsRefused = Unit {0}
+TakesMemory status.OtherFile = Unit {0}
+TakesMemory status.LimitPassed = Unit {0}
+TakesMemory status.NoMemory = Unit {0}
+TakesMemory other = ⊥
+
+-- This is said, or nothing for want of memory. All other ends are said without memory, so they are never told as that.
 pub record IsTold (due : Status) (text : List ℕ) (result : ℕ) (written written' : Option (List ℕ)) (faults faults' : ℕ)
     : Type 0 where
   pub said : result ≢ 9 → Says due text result written written' faults faults'
   pub silent : result ≡ 9 → Keeps written written'
+  pub want : result ≡ 9 → TakesMemory due

@@ -1,7 +1,7 @@
 //! What is said of the end of a service.
 ghost use Rattle.std.specs.Prelude.{◌++◌, ◌≡◌, ◌≢◌, ℕ, IfOk, List, OnOk};
 ghost use Rattle.service_words.specs.Ends as spec;
-ghost use Rattle.service_words.specs.Ends.{IsSpoken, IsTold};
+ghost use Rattle.service_words.specs.Ends.{IsSpoken, IsTold, TakesMemory};
 
 use base_types::{Bytes, Items, LONGEST_FILE, LimitName, NoMemory, Text};
 use conman_client::AskEnd;
@@ -17,7 +17,8 @@ const PLACES_LIMIT: u32 = 4_294_967_295;
 /// Says a text with its status, and answers the status, or 5 where the sink failed. Where there was no memory for the text
 /// nothing is said, and the answer is 9.
 pub(crate) fn tell<O: Sink>(out: &mut O, status: Status, text: Result<Bytes, NoMemory>) -> u8
-    requires { IsSpoken status }
+    requires spoken { IsSpoken status }
+    requires takes { TakesMemory status }
     ensures told { (due : List ℕ) → IfOk text (λ t. t ≡ due)
         → IsTold status due result (O.written out.old) (O.written out.new) (O.faults out.old) (O.faults out.new) }
     ensures no_fault { result ≢ 5 → O.faults out.new ≡ O.faults out.old }

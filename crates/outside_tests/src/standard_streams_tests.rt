@@ -4,6 +4,7 @@ use standard_streams::{StdSink, StdSource};
 use std::io;
 use std::io::{ErrorKind, Read, Write};
 use std::test::Fail;
+use test_builders::first_wrong;
 
 /// A reader and writer whose calls are interrupted so often, and then work on one byte; after the last byte they
 /// fail.
@@ -62,32 +63,38 @@ impl Write for Full {
 #[test]
 fn a_source_reads_its_reader(rt: HostRuntime) -> Result<(), Fail> {
     let mut source = StdSource::new(b"node".as_slice());
-    let mut buf = [0u8; 3];
-    assert_eq!(rt; source.read(&mut buf), Ok(3));
-    assert_eq!(rt; buf, [110, 111, 100]);
-    assert_eq!(rt; source.read(&mut buf), Ok(1));
-    assert_eq!(rt; source.read(&mut buf), Ok(0));
-    let mut source = StdSource::new(Interrupted { times: 2, bytes: 1 });
-    assert_eq!(rt; source.read(&mut buf), Ok(1));
-    assert_eq!(rt; source.read(&mut buf), Err(Failed));
-    let mut source = StdSource::new(Interrupted {
+    let mut twice = StdSource::new(Interrupted { times: 2, bytes: 1 });
+    let mut always = StdSource::new(Interrupted {
         times: 200,
         bytes: 1,
     });
-    assert_eq!(rt; source.read(&mut buf), Err(Failed));
+    let mut buf = [0u8; 3];
+    let right = [
+        source.read(&mut buf) == Ok(3),
+        buf == [110, 111, 100],
+        source.read(&mut buf) == Ok(1),
+        source.read(&mut buf) == Ok(0),
+        twice.read(&mut buf) == Ok(1),
+        twice.read(&mut buf) == Err(Failed),
+        always.read(&mut buf) == Err(Failed),
+    ];
+    assert_eq!(rt; first_wrong(&right), None);
     Ok(())
 }
 
 #[test]
 fn a_sink_writes_its_writer(rt: HostRuntime) -> Result<(), Fail> {
     let mut text = Vec::new(rt.alloc());
-    assert_eq!(rt; StdSink::new(&mut text).write(b"node"), Ok(4));
-    assert_eq!(rt; text.as_slice(), b"node".as_slice());
-    let mut sink = StdSink::new(Interrupted { times: 2, bytes: 1 });
-    assert_eq!(rt; sink.write(b"node"), Ok(1));
-    assert_eq!(rt; sink.write(b"node"), Err(Failed));
-    let mut sink = StdSink::new(Full);
-    assert_eq!(rt; sink.write(b""), Ok(0));
-    assert_eq!(rt; sink.write(b"node"), Err(Failed));
+    let mut twice = StdSink::new(Interrupted { times: 2, bytes: 1 });
+    let mut full = StdSink::new(Full);
+    let right = [
+        StdSink::new(&mut text).write(b"node") == Ok(4),
+        text.as_slice() == b"node".as_slice(),
+        twice.write(b"node") == Ok(1),
+        twice.write(b"node") == Err(Failed),
+        full.write(b"") == Ok(0),
+        full.write(b"node") == Err(Failed),
+    ];
+    assert_eq!(rt; first_wrong(&right), None);
     Ok(())
 }

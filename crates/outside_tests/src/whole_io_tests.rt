@@ -4,7 +4,7 @@ use outside::{Failed, Sink};
 use outside_mem::{MemSink, MemSource};
 use std::alloc::Global;
 use std::test::Fail;
-use test_builders::listed;
+use test_builders::{first_wrong, listed};
 use whole_io::{ReadError, read_whole, write_whole};
 
 fn source(alloc: Global, text: &str, fails: &[u32]) -> Result<MemSource, Fail> {
@@ -70,10 +70,13 @@ impl Sink for OneByOne {
 fn a_write_that_fails_leaves_a_front(rt: HostRuntime) -> Result<(), Fail> {
     let alloc = rt.alloc();
     let mut sink = OneByOne(MemSink::new(alloc, listed(alloc, &[3])?, 9)?);
-    assert_eq!(rt; write_whole(&mut sink, b"node"), Err(Failed));
-    assert_eq!(rt; sink.0.bytes(), b"no".as_slice());
-    assert_eq!(rt; write_whole(&mut sink, b"de"), Ok(()));
-    assert_eq!(rt; sink.0.bytes(), b"node".as_slice());
+    let right = [
+        write_whole(&mut sink, b"node") == Err(Failed),
+        sink.0.bytes() == b"no".as_slice(),
+        write_whole(&mut sink, b"de") == Ok(()),
+        sink.0.bytes() == b"node".as_slice(),
+    ];
+    assert_eq!(rt; first_wrong(&right), None);
     Ok(())
 }
 
@@ -81,11 +84,14 @@ fn a_write_that_fails_leaves_a_front(rt: HostRuntime) -> Result<(), Fail> {
 fn writes_all_or_a_front(rt: HostRuntime) -> Result<(), Fail> {
     let alloc = rt.alloc();
     let mut sink = MemSink::new(alloc, listed(alloc, &[2])?, 9)?;
-    assert_eq!(rt; write_whole(&mut sink, b"node M\n"), Ok(()));
-    assert_eq!(rt; sink.bytes(), b"node M\n".as_slice());
-    assert_eq!(rt; write_whole(&mut sink, b"\n"), Err(Failed));
-    assert_eq!(rt; write_whole(&mut sink, b"M#S"), Err(Failed));
-    assert_eq!(rt; write_whole(&mut sink, b""), Ok(()));
-    assert_eq!(rt; sink.bytes(), b"node M\n".as_slice());
+    let right = [
+        write_whole(&mut sink, b"node M\n") == Ok(()),
+        sink.bytes() == b"node M\n".as_slice(),
+        write_whole(&mut sink, b"\n") == Err(Failed),
+        write_whole(&mut sink, b"M#S") == Err(Failed),
+        write_whole(&mut sink, b"") == Ok(()),
+        sink.bytes() == b"node M\n".as_slice(),
+    ];
+    assert_eq!(rt; first_wrong(&right), None);
     Ok(())
 }

@@ -22,6 +22,6 @@ pub use commands::{Asks, command};
 pub use dependencies::Waits;
 pub use documents::{JobRow, StreamRow, job, stream};
 pub use draft_rows::{DraftWaits, JobDraftRow, StreamDraftRow, drafts};
-pub use lists::{listed, one};
+pub use lists::{first_wrong, listed, one};
 pub use networks::{ALONE, NodeRow, PromptRow, ResourceRow, TWO_AGENTS, net, node, plain_net};
 pub use objects::ObjRow;

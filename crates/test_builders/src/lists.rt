@@ -18,6 +18,12 @@ pub fn listed<T: Copy + Drop>(alloc: Global, items: &[T]) -> Result<Items<T>, No
     Ok(list)
 }
 
+/// The place of the first answer that is not right, counted from 0. A test that asks for it once, and not for each answer by
+/// itself, has one exit, and is soon proved.
+pub fn first_wrong(right: &[bool]) -> Option<usize> {
+    right.iter().position(|right| !*right)
+}
+
 /// Streams by their numbers.
 pub fn stream_nos(alloc: Global, numbers: &[u32]) -> Result<StreamNos, NoMemory> {
     let mut list = Items::new(alloc);

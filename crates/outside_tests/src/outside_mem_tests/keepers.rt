@@ -4,7 +4,7 @@ use outside::{Clock, Framed, KeepFault, Keeper};
 use outside_mem::{MemClock, MemKeeper};
 use std::alloc::Global;
 use std::test::Fail;
-use test_builders::listed;
+use test_builders::{first_wrong, listed};
 
 fn append(alloc: Global, keeper: &mut MemKeeper, body: &[u8]) -> Result<(), KeepFault> {
     match Framed::of(alloc, body) {
@@ -20,23 +20,29 @@ fn reads(keeper: &mut MemKeeper, i: u32, body: &[u8]) -> bool {
     }
 }
 
+fn is_refused(keeper: &mut MemKeeper, i: u32, wanted: KeepFault) -> bool {
+    match keeper.read(i) {
+        Ok(_) => false,
+        Err(fault) => fault == wanted,
+    }
+}
+
 #[test]
 fn a_keeper_gives_its_bodies_until_a_listed_call_spends_it(rt: HostRuntime) -> Result<(), Fail> {
     let alloc = rt.alloc();
     let mut keeper = MemKeeper::new(alloc, listed(alloc, &[6u32])?, 9)?;
-    assert_eq!(rt; append(alloc, &mut keeper, b"one"), Ok(()));
-    assert_eq!(rt; append(alloc, &mut keeper, b""), Ok(()));
-    assert!(rt; reads(&mut keeper, 1, b""));
-    assert!(rt; reads(&mut keeper, 0, b"one"));
-    assert!(rt;
-        keeper
-            .read(2)
-            .is_err_and(|fault| fault == KeepFault::NotThere)
-    );
-    assert_eq!(rt; append(alloc, &mut keeper, b"two"), Err(KeepFault::Disk));
-    assert_eq!(rt; append(alloc, &mut keeper, b"two"), Err(KeepFault::Disk));
-    assert!(rt; keeper.read(0).is_err_and(|fault| fault == KeepFault::Disk));
-    assert_eq!(rt; keeper.count(), 2);
+    let right = [
+        append(alloc, &mut keeper, b"one") == Ok(()),
+        append(alloc, &mut keeper, b"") == Ok(()),
+        reads(&mut keeper, 1, b""),
+        reads(&mut keeper, 0, b"one"),
+        is_refused(&mut keeper, 2, KeepFault::NotThere),
+        append(alloc, &mut keeper, b"two") == Err(KeepFault::Disk),
+        append(alloc, &mut keeper, b"two") == Err(KeepFault::Disk),
+        is_refused(&mut keeper, 0, KeepFault::Disk),
+        keeper.count() == 2,
+    ];
+    assert_eq!(rt; first_wrong(&right), None);
     Ok(())
 }
 
@@ -44,9 +50,12 @@ fn a_keeper_gives_its_bodies_until_a_listed_call_spends_it(rt: HostRuntime) -> R
 fn a_keeper_fails_past_its_room(rt: HostRuntime) -> Result<(), Fail> {
     let alloc = rt.alloc();
     let mut keeper = MemKeeper::new(alloc, Items::new(alloc), 3)?;
-    assert_eq!(rt; append(alloc, &mut keeper, b"abc"), Ok(()));
-    assert_eq!(rt; append(alloc, &mut keeper, b"d"), Err(KeepFault::Disk));
-    assert_eq!(rt; keeper.count(), 1);
+    let right = [
+        append(alloc, &mut keeper, b"abc") == Ok(()),
+        append(alloc, &mut keeper, b"d") == Err(KeepFault::Disk),
+        keeper.count() == 1,
+    ];
+    assert_eq!(rt; first_wrong(&right), None);
     Ok(())
 }
 
@@ -54,10 +63,13 @@ fn a_keeper_fails_past_its_room(rt: HostRuntime) -> Result<(), Fail> {
 fn a_clock_gives_its_last_reading_again(rt: HostRuntime) -> Result<(), Fail> {
     let alloc = rt.alloc();
     let mut clock = MemClock::new(listed(alloc, &[Moment(5), Moment(3)])?);
-    assert_eq!(rt; clock.now(), Moment(5));
-    assert_eq!(rt; clock.now(), Moment(3));
-    assert_eq!(rt; clock.now(), Moment(3));
-    let mut clock = MemClock::new(Items::new(alloc));
-    assert_eq!(rt; clock.now(), Moment(0));
+    let mut empty = MemClock::new(Items::new(alloc));
+    let right = [
+        clock.now() == Moment(5),
+        clock.now() == Moment(3),
+        clock.now() == Moment(3),
+        empty.now() == Moment(0),
+    ];
+    assert_eq!(rt; first_wrong(&right), None);
     Ok(())
 }

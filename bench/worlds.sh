@@ -38,13 +38,13 @@ ghost use Rattle.std.specs.Prelude.{◌≡◌, nat_lt};
 ghost use Rattle.std.specs.List.{list_all};
 ghost use Rattle.network_world.specs.Standing.{ws_in_step};
 
-use base_types::{JobNo, Local, Moment, NoMemory, WorldStep, Ws};
+use base_types::{Cmd, JobNo, Local, Moment, NoMemory, WorldStep, Ws};
 use network_tree::Network;
 use network_world::World;
 use std::alloc::Global;
 use std::{env, io};
 use test_builders::{
-    Asks, DraftWaits, JobDraftRow, NodeRow, StreamDraftRow, Waits, command, drafts, node, plain_net,
+    DraftWaits, JobDraftRow, NodeRow, StreamDraftRow, Waits, drafts, node, plain_net,
 };
 
 /// The master with an agent that has work, and one that has none.
@@ -101,9 +101,8 @@ impl Night {
         self.take(&WorldStep::Take(Ws(w), local))
     }
 
-    fn typed(&mut self, w: u16, to: u16, asks: &Asks) -> Result<bool, NoMemory> {
-        let cmd = command(self.alloc, asks)?;
-        Ok(self.at(w, Local::Typed(Ws(to), cmd)))
+    fn typed(&mut self, w: u16, to: u16, cmd: Cmd) -> bool {
+        self.at(w, Local::Typed(Ws(to), cmd))
     }
 
     fn turn(&mut self, w: u16) -> bool {
@@ -156,7 +155,7 @@ impl Night {
         self.begin()?;
         for _ in 0..200_000u32 {
             if self.taken < self.most {
-                self.typed(0, 1, &Asks::Rerun(1))?;
+                self.typed(0, 1, Cmd::Rerun(JobNo(1)));
                 self.go_round();
                 self.go_round();
                 self.go_round();
@@ -167,20 +166,18 @@ impl Night {
     }
 
     /// A hundred steps in which P stops and loses its entry.
-    fn lose(&mut self) -> Result<(), NoMemory> {
+    fn lose(&mut self) {
         self.most = u32::MAX;
         for _ in 0..100u32 {
-            let cmd = command(self.alloc, &Asks::Fence(9))?;
-            let local = Local::Typed(Ws(0), cmd);
+            let local = Local::Typed(Ws(0), Cmd::Fence(9));
             self.take(&WorldStep::CrashTake(Ws(1), local, false));
         }
-        Ok(())
     }
 
     /// The master has eight entries that each of its agents wants and none acknowledges.
-    fn send(&mut self) -> Result<(), NoMemory> {
+    fn send(&mut self) {
         for _ in 0..8u32 {
-            self.typed(0, 0, &Asks::Fence(9))?;
+            self.typed(0, 0, Cmd::Fence(9));
             self.turn(0);
         }
         for w in 1..256u16 {
@@ -189,7 +186,6 @@ impl Night {
         for _ in 0..10_000u32 {
             self.turn(0);
         }
-        Ok(())
     }
 }
 
@@ -241,17 +237,15 @@ fn night(alloc: Global, most: u32, words: usize) -> Option<Night> {
     if words == 5 && night.world.parts().is_err() {
         return None;
     }
-    if words == 6 && night.lose().is_err() {
-        return None;
+    if words == 6 {
+        night.lose();
     }
     Some(night)
 }
 
 fn sent(alloc: Global) -> Option<Night> {
     let mut night = crowd(alloc)?;
-    if night.send().is_err() {
-        return None;
-    }
+    night.send();
     Some(night)
 }
 

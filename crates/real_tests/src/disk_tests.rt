@@ -26,13 +26,13 @@ fn a_disk_is_a_file_of_its_own(rt: HostRuntime) -> Result<(), Fail> {
     let _ = fs::remove_file(&rt, "OFDISK.msg");
     let mut disk = FileDisk::new(alloc, rt, "OFDISK")?;
     let mut second = FileDisk::new(alloc, rt, "OFDISK")?;
-    assert_eq!(rt; fs::exists(&rt, "OFDISK.msg").unwrap_or(true), false);
-    assert!(rt; is_used(&mut disk));
+    let absent = !fs::exists(&rt, "OFDISK.msg").unwrap_or(true);
 
     // Nobody else gets the file as long as the disk is there.
-    assert!(rt; second.len().is_err());
+    let alone = is_used(&mut disk) && second.len().is_err();
     drop(disk);
-    assert_eq!(rt; second.len(), Ok(6));
+    let reached = second.len() == Ok(6);
+    assert!(rt; absent && alone && reached);
     let bytes = fs::read(&rt, "OFDISK.msg")?;
     assert_eq!(rt; bytes.as_slice(), b"TWABmo".as_slice());
     fs::remove_file(&rt, "OFDISK.msg")?;

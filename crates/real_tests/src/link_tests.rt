@@ -114,23 +114,44 @@ fn tell_much<L: Link>(alloc: Global, master: &mut L, agent: &mut L) -> Result<bo
     Ok(agent.send(M, piece.as_slice()).is_ok() && brings(master, 1, 200_000, 7))
 }
 
+/// Whether the agent begins, and hears of nobody.
+fn is_alone<L: Link>(agent: &mut L, of_both: &Peers) -> bool {
+    agent.begin(Some(A), Some(M), of_both).is_ok()
+        && is_nothing(&agent.poll())
+        && agent.send(M, b"nobody").is_err()
+}
+
+/// Whether the agent finds the master that begins now.
+fn is_found<L: Link>(alloc: Global, of_both: &Peers, master: &mut L, agent: &mut L) -> bool {
+    master.begin(Some(M), None, of_both).is_ok()
+        && begins(master, agent)
+        && talk(master, agent)
+        && tell_much(alloc, master, agent).unwrap_or(false)
+}
+
+/// Whether the agent finds the master that comes, and hears that it goes.
+fn comes_and_goes<L: Link + Drop>(
+    alloc: Global,
+    of_both: &Peers,
+    mut master: L,
+    agent: &mut L,
+) -> bool {
+    let found = is_found(alloc, of_both, &mut master, agent);
+    drop(master);
+    found && is_down(&next(agent), 0)
+}
+
 #[test]
 fn an_agent_finds_its_master(rt: HostRuntime) -> Result<(), Fail> {
     let alloc = rt.alloc();
     let of_both = peers(alloc, &[free_port(&rt)?, free_port(&rt)?])?;
     let mut agent = TcpLink::new(alloc, rt);
-    assert!(rt; agent.begin(Some(A), Some(M), &of_both).is_ok());
-    assert!(rt; is_nothing(&agent.poll()));
-    assert!(rt; agent.send(M, b"nobody").is_err());
+    assert!(rt; is_alone(&mut agent, &of_both));
 
     // The master comes later, and goes, and comes again.
     for _ in 0..2 {
-        let mut master = TcpLink::new(alloc, rt);
-        assert!(rt; master.begin(Some(M), None, &of_both).is_ok());
-        assert!(rt; begins(&mut master, &mut agent) && talk(&mut master, &mut agent));
-        assert!(rt; tell_much(alloc, &mut master, &mut agent).unwrap_or(false));
-        drop(master);
-        assert!(rt; is_down(&next(&mut agent), 0));
+        let master = TcpLink::new(alloc, rt);
+        assert!(rt; comes_and_goes(alloc, &of_both, master, &mut agent));
     }
     Ok(())
 }
@@ -148,6 +169,23 @@ fn gives_way<R: Net, L: Link>(
     Ok(told && is_down(&next(agent), 0))
 }
 
+/// Whether both begin, and neither calls the other.
+fn are_apart<L: Link>(master: &mut L, agent: &mut L, of_both: &Peers) -> bool {
+    master.begin(Some(M), None, of_both).is_ok()
+        && agent.begin(Some(A), None, of_both).is_ok()
+        && is_nothing(&agent.poll())
+}
+
+/// Whether the link begins once the agent raises it, and ends where the master closes it.
+fn begins_and_ends<L: Link>(master: &mut L, agent: &mut L) -> bool {
+    agent.raise(M);
+    if !begins(master, agent) {
+        return false;
+    }
+    master.close(A);
+    is_down(&next(master), 1) && is_down(&next(agent), 0)
+}
+
 #[test]
 fn a_link_ends_at_both_ends(rt: HostRuntime) -> Result<(), Fail> {
     let alloc = rt.alloc();
@@ -155,17 +193,15 @@ fn a_link_ends_at_both_ends(rt: HostRuntime) -> Result<(), Fail> {
     let of_both = peers(alloc, &[port, free_port(&rt)?])?;
     let mut master = TcpLink::new(alloc, rt);
     let mut agent = TcpLink::new(alloc, rt);
-    assert!(rt; master.begin(Some(M), None, &of_both).is_ok());
-    assert!(rt; agent.begin(Some(A), None, &of_both).is_ok());
-    assert!(rt; is_nothing(&agent.poll()));
-    agent.raise(M);
-    assert!(rt; begins(&mut master, &mut agent));
-    master.close(A);
-    assert!(rt; is_down(&next(&mut master), 1) && is_down(&next(&mut agent), 0));
+    assert!(rt;
+        are_apart(&mut master, &mut agent, &of_both) && begins_and_ends(&mut master, &mut agent)
+    );
 
     // It begins again, and then another connection of the same workstation takes its place.
-    assert!(rt; begins(&mut master, &mut agent));
-    assert!(rt; gives_way(&rt, port, &mut master, &mut agent).unwrap_or(false));
+    assert!(rt;
+        begins(&mut master, &mut agent)
+            && gives_way(&rt, port, &mut master, &mut agent).unwrap_or(false)
+    );
     Ok(())
 }
 
@@ -203,9 +239,9 @@ fn two_that_call_each_other_find_each_other(rt: HostRuntime) -> Result<(), Fail>
     let of_both = peers(alloc, &[free_port(&rt)?, free_port(&rt)?])?;
     let mut master = TcpLink::new(alloc, rt);
     let mut agent = TcpLink::new(alloc, rt);
-    assert!(rt; master.begin(Some(M), Some(A), &of_both).is_ok());
-    assert!(rt; agent.begin(Some(A), Some(M), &of_both).is_ok());
-    assert!(rt; settle(&mut master, &mut agent) && talk(&mut master, &mut agent));
+    let begun = master.begin(Some(M), Some(A), &of_both).is_ok()
+        && agent.begin(Some(A), Some(M), &of_both).is_ok();
+    assert!(rt; begun && settle(&mut master, &mut agent) && talk(&mut master, &mut agent));
     Ok(())
 }
 
@@ -225,11 +261,11 @@ fn a_client_asks_a_node(rt: HostRuntime) -> Result<(), Fail> {
     let alloc = rt.alloc();
     let of_master = peers(alloc, &[free_port(&rt)?])?;
     let mut client = TcpLink::new(alloc, rt);
-    assert!(rt; client.begin(None, Some(M), &of_master).is_err());
     let mut master = TcpLink::new(alloc, rt);
-    assert!(rt; master.begin(Some(M), None, &of_master).is_ok());
-    assert!(rt; client.begin(None, Some(M), &of_master).is_ok());
-    assert!(rt; ask(&mut master, &mut client));
+    let begun = client.begin(None, Some(M), &of_master).is_err()
+        && master.begin(Some(M), None, &of_master).is_ok()
+        && client.begin(None, Some(M), &of_master).is_ok();
+    assert!(rt; begun && ask(&mut master, &mut client));
     Ok(())
 }
 
@@ -238,12 +274,12 @@ fn a_node_listens_on_its_own_address_alone(rt: HostRuntime) -> Result<(), Fail> 
     let alloc = rt.alloc();
     let of_master = peers(alloc, &[free_port(&rt)?])?;
     let mut master = TcpLink::new(alloc, rt);
-    assert!(rt; master.begin(Some(A), None, &of_master).is_err());
-    assert!(rt; master.begin(Some(M), Some(A), &of_master).is_err());
-    assert!(rt; master.begin(Some(M), None, &of_master).is_ok());
     let mut second = TcpLink::new(alloc, rt);
-    assert!(rt; second.begin(Some(M), None, &of_master).is_err());
-    assert!(rt; is_nothing(&second.poll()));
+    let begun = master.begin(Some(A), None, &of_master).is_err()
+        && master.begin(Some(M), Some(A), &of_master).is_err()
+        && master.begin(Some(M), None, &of_master).is_ok();
+    let refused = second.begin(Some(M), None, &of_master).is_err() && is_nothing(&second.poll());
+    assert!(rt; begun && refused);
     Ok(())
 }
 
@@ -274,19 +310,25 @@ fn refuses<R: Net, L: Link>(rt: &R, port: u16, node: &mut L, words: &[u8]) -> io
     Ok(closed && is_nothing(&heard))
 }
 
+/// How many of the wrong callers are refused, up to the first that is not.
+fn wrong_ones_refused<R: Net, L: Link>(rt: &R, port: u16, node: &mut L) -> io::Result<usize> {
+    for (i, words) in WRONG.iter().enumerate() {
+        if !refuses(rt, port, node, words)? {
+            return Ok(i);
+        }
+    }
+    Ok(WRONG.len())
+}
+
 #[test]
 fn callers_are_not_trusted(rt: HostRuntime) -> Result<(), Fail> {
     let alloc = rt.alloc();
     let port = free_port(&rt)?;
     let of_both = peers(alloc, &[port, free_port(&rt)?])?;
     let mut node = TcpLink::new(alloc, rt);
-    assert!(rt; node.begin(Some(M), None, &of_both).is_ok());
-    assert!(rt; hears_slow_one(&rt, port, &mut node).unwrap_or(false));
-    for words in WRONG {
-        assert!(rt;
-            refuses(&rt, port, &mut node, words).unwrap_or(false),
-            "{words:?}"
-        );
-    }
+    let heard = node.begin(Some(M), None, &of_both).is_ok()
+        && hears_slow_one(&rt, port, &mut node).unwrap_or(false);
+    assert!(rt; heard);
+    assert_eq!(rt; wrong_ones_refused(&rt, port, &mut node).unwrap_or(0), 4);
     Ok(())
 }

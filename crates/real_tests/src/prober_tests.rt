@@ -8,14 +8,35 @@ use std::fs;
 use std::fs::Files;
 use std::test::Fail;
 
-/// What the prober answers. None where there is no memory for the path.
-fn answer<R: Files>(
+/// Paths, and what the prober answers where `in.dat` is a file.
+static ANSWERS: [(&str, Result<bool, Failed>); 4] = [
+    ("in.dat", Ok(true)),
+    ("no/in.dat", Ok(false)),
+    ("in.dat/in.dat", Err(Failed)),
+    ("in\0dat", Err(Failed)),
+];
+
+/// Whether the prober gives this answer.
+fn answers<R: Files>(
     alloc: Global,
     prober: &mut FileProber<R>,
     path: &str,
-) -> Option<Result<bool, Failed>> {
-    let path = Text::of(alloc, path).ok()?;
-    Some(prober.seen(&path))
+    wanted: Result<bool, Failed>,
+) -> bool {
+    match Text::of(alloc, path) {
+        Ok(path) => prober.seen(&path) == wanted,
+        Err(_) => false,
+    }
+}
+
+/// How many of the answers are given, up to the first that is not.
+fn given<R: Files>(alloc: Global, prober: &mut FileProber<R>) -> usize {
+    for (i, (path, wanted)) in ANSWERS.iter().enumerate() {
+        if !answers(alloc, prober, path, *wanted) {
+            return i;
+        }
+    }
+    ANSWERS.len()
 }
 
 #[test]
@@ -23,15 +44,9 @@ fn files_are_there_or_not(rt: HostRuntime) -> Result<(), Fail> {
     let alloc = rt.alloc();
     let _ = fs::remove_file(&rt, "in.dat");
     let mut prober = FileProber::new(rt);
-    assert_eq!(rt; answer(alloc, &mut prober, "in.dat"), Some(Ok(false)));
+    assert!(rt; answers(alloc, &mut prober, "in.dat", Ok(false)));
     fs::write(&rt, "in.dat", "")?;
-    assert_eq!(rt; answer(alloc, &mut prober, "in.dat"), Some(Ok(true)));
-    assert_eq!(rt; answer(alloc, &mut prober, "no/in.dat"), Some(Ok(false)));
-    assert_eq!(rt;
-        answer(alloc, &mut prober, "in.dat/in.dat"),
-        Some(Err(Failed))
-    );
-    assert_eq!(rt; answer(alloc, &mut prober, "in\0dat"), Some(Err(Failed)));
+    assert_eq!(rt; given(alloc, &mut prober), 4);
     fs::remove_file(&rt, "in.dat")?;
     Ok(())
 }

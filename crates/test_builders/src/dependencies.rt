@@ -1,5 +1,5 @@
 //! Dependencies as rows.
-use base_types::{Dep, Deps, Items, JobNo, Moment, NoMemory, OnUntil, PromptRef, StreamNo, Text};
+use base_types::{Dep, JobNo, Moment, NoMemory, OnUntil, PromptRef, StreamNo, Text};
 use std::alloc::Global;
 
 /// A dependency, in numbers and names.
@@ -41,13 +41,4 @@ pub fn dep(alloc: Global, row: &Waits) -> Result<Dep, NoMemory> {
         Waits::File(path) => file(alloc, *path),
         Waits::Deadline(time) => Ok(Dep::Deadline(Moment(*time))),
     }
-}
-
-/// Dependencies, in the order of their numbers.
-pub fn deps(alloc: Global, rows: &[Waits]) -> Result<Deps, NoMemory> {
-    let mut list = Items::new(alloc);
-    for row in rows {
-        list.push(dep(alloc, row)?)?;
-    }
-    Ok(list)
 }

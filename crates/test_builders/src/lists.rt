@@ -1,5 +1,5 @@
 //! Short lists.
-use base_types::{Items, NoMemory, StreamNo, StreamNos};
+use base_types::{Items, NoMemory};
 use std::alloc::Global;
 
 /// A list of one item.
@@ -22,13 +22,4 @@ pub fn listed<T: Copy + Drop>(alloc: Global, items: &[T]) -> Result<Items<T>, No
 /// itself, has one exit, and is soon proved.
 pub fn first_wrong(right: &[bool]) -> Option<usize> {
     right.iter().position(|right| !*right)
-}
-
-/// Streams by their numbers.
-pub fn stream_nos(alloc: Global, numbers: &[u32]) -> Result<StreamNos, NoMemory> {
-    let mut list = Items::new(alloc);
-    for number in numbers {
-        list.push(StreamNo(*number))?;
-    }
-    Ok(list)
 }

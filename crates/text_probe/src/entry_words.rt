@@ -5,7 +5,7 @@ use crate::arguments::digits;
 use crate::document_texts::put_documents;
 use crate::outs::Out;
 use crate::report_words::{no_parts, printed, put_report};
-use base_types::{Bytes, Entry, NoMemory, ReportParts};
+use base_types::{Bytes, Copied, Entry, NoMemory, ReportParts};
 use entry_codec::{EntryFault, read_entry, write_entry};
 use std::alloc::Global;
 use std::str;
@@ -68,14 +68,21 @@ fn put_entry(out: &mut Out, entry: Entry) {
     put_parts(out, &parts)
 }
 
+fn put_copy(out: &mut Out, entry: &Entry) {
+    let copy = entry.copy();
+    if let Some(copy) = out.kept(copy) {
+        put_entry(out, copy)
+    }
+}
+
 fn put_read(out: &mut Out, bytes: &[u8]) {
     match read(out.alloc, bytes) {
-        Ok(entry) => put_entry(out, entry),
+        Ok(entry) => put_copy(out, &entry),
         Err(fault) => out.debug("", &fault),
     }
 }
 
-/// `read_entry DIGITS`: its line in a report, and its documents.
+/// `read_entry DIGITS`: the line in a report of a copy of the entry, and its documents.
 pub fn put_entry_of(out: &mut Out, text: &str) {
     match digits(out, text) {
         Some(bytes) => put_read(out, bytes.as_slice()),

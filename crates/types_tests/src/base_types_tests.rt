@@ -1,34 +1,12 @@
-//! Each public function of `base_types` on its happy path, and copies of what has many kinds.
+//! Each public function of `base_types` on its happy path, and copies. Those of entries are told by the cases
+//! `text_entries_*`.
 use base_types::{
-    Carry, Copied, Feed, Growing, Items, JobNo, Local, Moment, Obj, OnUntil, Out, Packet, Peer,
-    Seen, Text, Why, WorldStep, Ws, is_name,
+    Carry, Copied, Feed, Growing, Items, JobNo, Local, Moment, NoMemory, Node, Obj, Out, Packet,
+    Peer, PromptDef, Resource, Seen, StreamDraft, Text, WorldStep, Ws, is_name,
 };
 use std::alloc::Global;
 use std::test::Fail;
-use test_builders::{
-    Asks, DraftWaits, JobRow, NodeRow, ObjRow, Says, StreamDraftRow, StreamRow, Waits, body,
-    drafts, net,
-};
-
-const JOB: JobRow = (
-    7,
-    1,
-    "PAYROLL",
-    10,
-    &[
-        Waits::Job(3),
-        Waits::Stream(4),
-        Waits::Units(1, 2),
-        Waits::Global(1),
-        Waits::Own("ready?"),
-        Waits::At(5),
-        Waits::Until(6, OnUntil::Canc),
-        Waits::File("/in/day"),
-        Waits::Deadline(9),
-    ],
-);
-
-const STREAM: StreamRow = (2, 0, "NIGHT", true, &[Waits::At(1)], &[JOB]);
+use test_builders::{DraftWaits, NodeRow, StreamDraftRow, Waits, drafts, first_wrong, net, one};
 
 const DRAFT: StreamDraftRow = (
     0,
@@ -45,76 +23,11 @@ const DRAFT: StreamDraftRow = (
     )],
 );
 
-const JOB_1: ObjRow = ObjRow::Job(1);
-
-const STREAM_2: ObjRow = ObjRow::Stream(2);
-
-/// What a workstation decides and sees.
-static EVENTS: [Says; 15] = [
-    Says::NewPlan(2, &[(0, 5), (1, 3)], &[1, 4], &[STREAM]),
-    Says::Added(1, 2, &STREAM),
-    Says::Clock(100),
-    Says::Released(2, &[(0, 1)]),
-    Says::StreamEnded(2, &[(0, 9)]),
-    Says::UntilPassed(JOB_1, 1, OnUntil::Suppr),
-    Says::Launched(7, 1, &[(0, 6)]),
-    Says::Started(7, 1),
-    Says::Failed(7, 1),
-    Says::Ended(7, 1, 0),
-    Says::EndedAs(7, 2, -4, true),
-    Says::Lost(7, 1),
-    Says::Fulfilled(STREAM_2, 3),
-    Says::Declined(1, 2, Why::NotBuilt),
-    Says::Late(JOB_1, 9),
-];
-
-/// Orders of every command.
-static ORDERS: [Says; 18] = [
-    Says::Order(Asks::AddDep(JOB_1, Waits::Own("go?"))),
-    Says::Order(Asks::DelDep(STREAM_2, 1)),
-    Says::Order(Asks::Release(JOB_1)),
-    Says::Order(Asks::AltPri(STREAM_2, 101)),
-    Says::Order(Asks::Cancel(JOB_1)),
-    Says::Order(Asks::Confirm(1)),
-    Says::Order(Asks::Kill(1)),
-    Says::Order(Asks::Rerun(1)),
-    Says::Obeyed(1, 2, Asks::Fence(100)),
-    Says::Obeyed(1, 2, Asks::Limit(3)),
-    Says::Obeyed(1, 2, Asks::StreamLimit(2, 3)),
-    Says::Obeyed(1, 2, Asks::Total(1, 1024)),
-    Says::Obeyed(1, 2, Asks::ReplyGlobal(1, true)),
-    Says::Obeyed(1, 2, Asks::ReplyOwn(JOB_1, 1, false)),
-    Says::Order(Asks::Start),
-    Says::Order(Asks::Stop),
-    Says::Order(Asks::Submit(&DRAFT)),
-    Says::Order(Asks::SwitchMgr(1)),
-];
-
-/// Whether the body can be copied. That the copy is equal is proved.
-fn is_copied(alloc: Global, says: &Says) -> Result<bool, Fail> {
-    let body = body(alloc, says)?;
-    Ok(body.copy().is_ok())
-}
-
-/// How many of the bodies can be copied, up to the first that cannot.
-fn copied(alloc: Global, rows: &[Says]) -> Result<usize, Fail> {
-    for (i, says) in rows.iter().enumerate() {
-        if !is_copied(alloc, says)? {
-            return Ok(i);
-        }
+fn equals_its_copy(text: &Text) -> bool {
+    match text.copy() {
+        Ok(copy) => copy == *text,
+        Err(_) => false,
     }
-    Ok(rows.len())
-}
-
-#[test]
-fn copies_of_bodies(rt: HostRuntime) -> Result<(), Fail> {
-    assert_eq!(rt; copied(rt.alloc(), &EVENTS)?, 15);
-    assert_eq!(rt; copied(rt.alloc(), &ORDERS)?, 18);
-    Ok(())
-}
-
-fn equals_its_copy(text: &Text) -> Result<bool, Fail> {
-    Ok(text.copy()? == *text)
 }
 
 fn is_behind_the_empty(alloc: Global, text: &Text) -> bool {
@@ -122,38 +35,56 @@ fn is_behind_the_empty(alloc: Global, text: &Text) -> bool {
     empty.is_empty() && empty < *text
 }
 
-fn is_in_upper_case(alloc: Global, text: &str, upper: &str) -> Result<bool, Fail> {
-    Ok(Text::of_upper(alloc, text)?.as_str() == upper)
+fn is_in_upper_case(alloc: Global, text: &str, upper: &str) -> bool {
+    match Text::of_upper(alloc, text) {
+        Ok(text) => text.as_str() == upper,
+        Err(_) => false,
+    }
 }
 
 /// Whether a text that is made of the string with the text and a number is this one.
-fn is_made_of_a_string(alloc: Global, text: &Text, made: &str) -> Result<bool, Fail> {
-    Ok(Text::from_string(format!(in alloc; "{text}#1")?).as_str() == made)
+fn is_made_of_a_string(alloc: Global, text: &Text, made: &str) -> bool {
+    match format!(in alloc; "{text}#1") {
+        Ok(string) => Text::from_string(string).as_str() == made,
+        Err(_) => false,
+    }
 }
 
 #[test]
 fn texts(rt: HostRuntime) -> Result<(), Fail> {
-    let text = Text::of(rt.alloc(), "Zoë")?;
-    assert!(rt; text.as_str() == "Zoë" && text.len() == 4);
-    assert!(rt; equals_its_copy(&text)?);
-    assert!(rt; is_behind_the_empty(rt.alloc(), &text));
-    assert!(rt; is_in_upper_case(rt.alloc(), "Zoë-1a", "ZOë-1A")?);
-    assert!(rt; is_made_of_a_string(rt.alloc(), &text, "Zoë#1")?);
+    let alloc = rt.alloc();
+    let text = Text::of(alloc, "Zoë")?;
+    let right = [
+        text.as_str() == "Zoë",
+        text.len() == 4,
+        equals_its_copy(&text),
+        is_behind_the_empty(alloc, &text),
+        is_in_upper_case(alloc, "Zoë-1a", "ZOë-1A"),
+        is_made_of_a_string(alloc, &text, "Zoë#1"),
+    ];
+    assert_eq!(rt; first_wrong(&right), None);
     Ok(())
 }
 
 #[test]
 fn names(rt: HostRuntime) {
-    assert!(rt; is_name("A-1_b"));
-    assert!(rt; !is_name(""));
-    assert!(rt; !is_name("1A"));
-    assert!(rt; !is_name("Zoë"));
-    assert!(rt; is_name("abcdefghijabcdefghijabcdefghijabcdefghij"));
-    assert!(rt; !is_name("abcdefghijabcdefghijabcdefghijabcdefghijk"));
+    let right = [
+        is_name("A-1_b"),
+        !is_name(""),
+        !is_name("1A"),
+        !is_name("Zoë"),
+        is_name("abcdefghijabcdefghijabcdefghijabcdefghij"),
+        !is_name("abcdefghijabcdefghijabcdefghijabcdefghijk"),
+    ];
+    assert_eq!(rt; first_wrong(&right), None);
 }
 
-fn has_an_equal_copy(seen: &Seen) -> Result<bool, Fail> {
-    Ok(seen.copy()?.as_slice() == seen.as_slice())
+/// The counts of a copy for the workstations 3 and 4.
+fn copied_counts(seen: &Seen) -> Option<(u32, u32)> {
+    match seen.copy() {
+        Ok(copy) => Some((copy.count(Ws(3)), copy.count(Ws(4)))),
+        Err(_) => None,
+    }
 }
 
 #[test]
@@ -161,34 +92,56 @@ fn counts(rt: HostRuntime) -> Result<(), Fail> {
     let mut seen = Seen::new(rt.alloc());
     seen.reserve(1)?;
     seen.push((Ws(3), 8))?;
-    assert!(rt; seen.count(Ws(3)) == 8 && seen.count(Ws(4)) == 0);
-    assert!(rt; has_an_equal_copy(&seen)?);
+    let right = [
+        seen.count(Ws(3)) == 8,
+        seen.count(Ws(4)) == 0,
+        seen.as_slice().len() == 1,
+        copied_counts(&seen) == Some((8, 0)),
+    ];
+    assert_eq!(rt; first_wrong(&right), None);
     Ok(())
+}
+
+/// A list of the jobs 1 and 2, with room that was reserved first.
+fn two_jobs(alloc: Global) -> Result<Growing<Obj>, NoMemory> {
+    let mut list = Growing::new(alloc);
+    list.reserve(2)?;
+    list.push(Obj::Job(JobNo(1)))?;
+    list.put(Obj::Job(JobNo(2)));
+    Ok(list)
+}
+
+/// The list with the job 3 behind it, and the job 4 in its first place.
+fn three_jobs(mut list: Items<Obj>) -> Result<Items<Obj>, NoMemory> {
+    list.reserve(1)?;
+    list.push(Obj::Job(JobNo(3)))?;
+    list.set(0, Obj::Job(JobNo(4)));
+    Ok(list)
 }
 
 #[test]
 fn room(rt: HostRuntime) -> Result<(), Fail> {
-    let mut list = Growing::new(rt.alloc());
-    list.reserve(2)?;
-    list.push(Obj::Job(JobNo(1)))?;
-    list.put(Obj::Job(JobNo(2)));
-    let mut list = list.into_items();
-    list.reserve(1)?;
-    list.push(Obj::Job(JobNo(3)))?;
-    assert_eq!(rt; list.len(), 3);
-    list.set(0, Obj::Job(JobNo(4)));
-    assert_eq!(rt; list.get(0), Some(&Obj::Job(JobNo(4))));
-    assert_eq!(rt; Growing::of_items(list).len(), 3);
+    let list = three_jobs(two_jobs(rt.alloc())?.into_items())?;
+    let right = [
+        list.len() == 3,
+        list.get(0) == Some(&Obj::Job(JobNo(4))),
+        Growing::of_items(list).len() == 3,
+    ];
+    assert_eq!(rt; first_wrong(&right), None);
     Ok(())
+}
+
+fn is_night(draft: Option<&StreamDraft>) -> bool {
+    match draft {
+        Some(draft) => draft.name.as_str() == "NIGHT",
+        None => false,
+    }
 }
 
 /// Whether the step is the one of the test below, with its draft.
 fn is_the_step(step: &WorldStep) -> bool {
     match step {
-        WorldStep::CrashTake(Ws(2), Local::Next(drafts), true) => match drafts.get(0) {
-            Some(draft) => draft.name.as_str() == "NIGHT",
-            None => false,
-        },
+        WorldStep::CrashTake(Ws(2), Local::Next(drafts), true) => is_night(drafts.get(0)),
         _ => false,
     }
 }
@@ -211,53 +164,78 @@ fn copies_of_peers(rt: HostRuntime) -> Result<(), Fail> {
         port: 31111,
     };
     let copy = peer.copy()?;
-    assert_eq!(rt; copy.ws, Ws(1));
-    assert_eq!(rt; copy.host.as_str(), "mdm.example");
-    assert_eq!(rt; copy.port, 31111);
+    let right = [
+        copy.ws.0 == 1,
+        copy.host.as_str() == "mdm.example",
+        copy.port == 31111,
+    ];
+    assert_eq!(rt; first_wrong(&right), None);
     Ok(())
 }
 
-#[test]
-fn copies_of_outputs(rt: HostRuntime) -> Result<(), Fail> {
-    let mut outs = Items::new(rt.alloc());
-    outs.push(Out::Send(Ws(1), Packet::Ack(Feed::Events(Ws(0)), 3)))?;
-    let copies = outs.copy()?;
-    let same = match copies.as_slice() {
+/// Whether the outputs are the one of the test below.
+fn are_the_outputs(outs: &[Out]) -> bool {
+    match outs {
         [Out::Send(to, packet)] => {
             *to == Ws(1) && *packet == Packet::Ack(Feed::Events(Ws(0)), 3)
         }
         _ => false,
-    };
-    assert!(rt; same);
+    }
+}
+
+#[test]
+fn copies_of_outputs(rt: HostRuntime) -> Result<(), Fail> {
+    let out = Out::Send(Ws(1), Packet::Ack(Feed::Events(Ws(0)), 3));
+    let outs = one(rt.alloc(), out)?;
+    let copies = outs.copy()?;
+    assert!(rt; are_the_outputs(copies.as_slice()));
     Ok(())
 }
 
 static NODES: [NodeRow; 2] = [("M", None, true, true), ("P", Some(0), false, false)];
 
+fn is_the_second(node: Option<&Node>) -> bool {
+    match node {
+        Some(node) => {
+            node.name.as_str() == "P" && node.hop == Some(Ws(0)) && !node.manager && !node.full
+        }
+        None => false,
+    }
+}
+
+fn is_the_tape(resource: Option<&Resource>) -> bool {
+    match resource {
+        Some(resource) => resource.total == 2 && resource.ws.0 == 1,
+        None => false,
+    }
+}
+
+fn is_the_prompt(prompt: Option<&PromptDef>) -> bool {
+    match prompt {
+        Some(prompt) => prompt.text.as_str() == "go on?",
+        None => false,
+    }
+}
+
 #[test]
 fn copies_of_networks(rt: HostRuntime) -> Result<(), Fail> {
     let net = net(rt.alloc(), &NODES, &[(1, "TAPE", 2)], &[("GO", "go on?")])?;
     let copy = net.copy()?;
-    let last = copy.nodes.get(1).ok_or("no second workstation")?;
-    assert!(rt; last.name.as_str() == "P" && last.hop == Some(Ws(0)));
-    assert!(rt; !last.manager && !last.full);
-    assert!(rt;
-        copy.resources
-            .get(0)
-            .is_some_and(|r| r.total == 2 && r.ws == Ws(1))
-    );
-    assert!(rt;
-        copy.prompts
-            .get(0)
-            .is_some_and(|p| p.text.as_str() == "go on?")
-    );
-    assert!(rt; copy.carry == Carry::Yes);
+    let right = [
+        is_the_second(copy.nodes.get(1)),
+        is_the_tape(copy.resources.get(0)),
+        is_the_prompt(copy.prompts.get(0)),
+        copy.carry == Carry::Yes,
+    ];
+    assert_eq!(rt; first_wrong(&right), None);
     Ok(())
 }
 
 #[test]
 fn feeds_and_moments_in_order(rt: HostRuntime) {
-    assert!(rt; Feed::Events(Ws(2)) < Feed::Orders(Ws(0), Ws(1)));
-    assert!(rt; Feed::Orders(Ws(0), Ws(1)) < Feed::Orders(Ws(0), Ws(2)));
-    assert!(rt; Moment(9) < Moment(10));
+    let events = Feed::Events(Ws(2));
+    let first = Feed::Orders(Ws(0), Ws(1));
+    let second = Feed::Orders(Ws(0), Ws(2));
+    let right = [events < first, first < second, Moment(9) < Moment(10)];
+    assert_eq!(rt; first_wrong(&right), None);
 }

@@ -21,7 +21,7 @@ use Rattle.model_laws.proofs.Lists.{all_map, all_such, each_such}
 use Rattle.model_laws.proofs.Options.{filter_all, there_if}
 use Rattle.dependencies.specs.Planned.{IsPlannedJob, IsPlannedStream}
 use Rattle.dependencies.proofs.Found.{firsts_all, job_planned, jobs_left_planned, streams_left_planned}
-use Rattle.dependencies.proofs.Lists.{all_flat, all_found}
+use Rattle.dependencies.proofs.Lists.{all_found, flat_all}
 use Rattle.counted_facts.specs.Facts.{is_named}
 use Rattle.counted_facts.specs.Subjects.{brings}
 
@@ -218,7 +218,7 @@ module _ (U V : View) (grows : Grows U V) where
   later_jobs_not =
       firsts_all (λ (p : StreamJob). brought p.parent.no ≡ false) (λ (p : StreamJob). p.doc.no)
       (known_after (λ (p : StreamJob). p.doc.no) [] (flat_map jobs_in (catalogue U))) (flat_map jobs_in later_streams)
-      (all_flat (λ (p : StreamJob). brought p.parent.no ≡ false) jobs_in later_streams
+      (flat_all (λ (p : StreamJob). brought p.parent.no ≡ false) jobs_in later_streams
       (all_such (λ (d : StreamDoc). brought d.no ≡ false)
       (λ (d : StreamDoc). AllByRecursion (λ (p : StreamJob). brought p.parent.no ≡ false) (jobs_in d)) later_streams
       (λ d h. all_map (λ (p : StreamJob). brought p.parent.no ≡ false)

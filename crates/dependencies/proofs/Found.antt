@@ -8,10 +8,10 @@ use Rattle.model.specs.Words.{firsts, has}
 use Rattle.model.specs.History.{View}
 use Rattle.model.specs.Catalogue.{StreamJob, catalogue, docs_in, job, jobs, jobs_in, jobs_of_stream, owner, stream}
 use Rattle.dependencies.specs.Planned.{ArePlannedJobs, ArePlannedStreams, IsPlannedJob, IsPlannedStream}
-use Rattle.model_laws.proofs.Firsts.{IsFound, all_both, first_found}
-use Rattle.model_laws.proofs.Lists.{all_filter, all_such}
+use Rattle.model_laws.proofs.Firsts.{IsFound, first_found}
+use Rattle.model_laws.proofs.Lists.{all_both, all_filter, all_such}
 use Rattle.model_laws.proofs.Options.{there_if}
-use Rattle.dependencies.proofs.Lists.{all_flat, all_found}
+use Rattle.dependencies.proofs.Lists.{all_found, flat_all}
 
 -- what holds of all holds of those that count
 pub firsts_all : {X : Type 0} (P : X → Type 0) (number : X → ℕ) (known : List ℕ) (xs : List X) → AllByRecursion P xs
@@ -52,7 +52,7 @@ unfolding jobs
 parents_planned V =
     firsts_all (λ (p : StreamJob). IsPlannedStream V p.parent) (λ (p : StreamJob). p.doc.no) []
     (flat_map jobs_in (catalogue V))
-    (all_flat (λ (p : StreamJob). IsPlannedStream V p.parent) jobs_in (catalogue V)
+    (flat_all (λ (p : StreamJob). IsPlannedStream V p.parent) jobs_in (catalogue V)
     (all_such (IsPlannedStream V)
     (λ (d : StreamDoc). AllByRecursion (λ (p : StreamJob). IsPlannedStream V p.parent) (jobs_in d)) (catalogue V)
     (λ d h. parents_in V d d.jobs h) (streams_planned V)))

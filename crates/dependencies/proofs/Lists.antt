@@ -4,10 +4,10 @@ use Rattle.std.specs.List.{AllByRecursion}
 use Rattle.std.specs.Prelude.{IfSome, find, flat_map}
 use Rattle.model_laws.proofs.Lists.{all_append}
 
-pub all_flat : {A B : Type 0} (P : B → Type 0) (f : A → List B) (xs : List A)
+pub flat_all : {A B : Type 0} (P : B → Type 0) (f : A → List B) (xs : List A)
     → AllByRecursion (λ a. AllByRecursion P (f a)) xs → AllByRecursion P (flat_map f xs)
-all_flat P f [] h = tt
-all_flat P f (x ∷ xs) h = all_append P (f x) (flat_map f xs) h.0 (all_flat P f xs h.1)
+flat_all P f [] h = tt
+flat_all P f (x ∷ xs) h = all_append P (f x) (flat_map f xs) h.0 (flat_all P f xs h.1)
 
 -- what is found is one of them, and passes
 pub all_found : {A : Type 0} (P : A → Type 0) (p : A → Bool) (xs : List A) → AllByRecursion P xs

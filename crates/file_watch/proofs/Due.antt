@@ -13,10 +13,9 @@ use Rattle.model.specs.Dependencies.{NumberedDep, dep, deps, unwaived_deps}
 use Rattle.model.specs.OwnMembers.{has_begun, own_objects}
 use Rattle.model.specs.StepFaults.{is_outside, lacks_dep}
 use Rattle.model_laws.proofs.Options.{filter_all}
-use Rattle.model_laws.proofs.Lists.{all_filter, all_map, all_such}
+use Rattle.model_laws.proofs.Lists.{all_both, all_filter, all_map, all_such}
 use Rattle.model_laws.proofs.Untils.{open_is_nth}
-use Rattle.model_laws.proofs.Firsts.{all_both}
-use Rattle.dependencies.proofs.Lists.{all_flat}
+use Rattle.dependencies.proofs.Lists.{flat_all}
 use Rattle.file_watch.specs.Circle.{DepPlace}
 use Rattle.file_watch.specs.Probes.{due_at, due_files, due_probes, is_file_due, next_probe, path_at, path_in}
 use Rattle.file_watch.proofs.Chosen.{holds_of_soonest}
@@ -91,7 +90,7 @@ due_here V w o mine = go (is_cancelled o (V (Events w)) || has_begun (V (Events 
 all_due : (V : View) (w : ℕ) → AllByRecursion (IsDue V w) (due_probes V w)
 unfolding due_probes
 all_due V w =
-    all_flat (IsDue V w) (due_at V w) (own_objects V w)
+    flat_all (IsDue V w) (due_at V w) (own_objects V w)
     (all_such (λ (o : Obj). obj_among (own_objects V w) o ≡ true)
     (λ (o : Obj). AllByRecursion (IsDue V w) (due_at V w o)) (own_objects V w) (due_here V w)
     (all_among (own_objects V w)))

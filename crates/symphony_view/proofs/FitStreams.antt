@@ -12,7 +12,7 @@ use Rattle.model.specs.Fit.{AreFitEntries, IsFit, IsFitBody, IsFitStream}
 use Rattle.dependencies.proofs.Found.{firsts_all}
 use Rattle.model_laws.proofs.Lists.{all_append}
 use Rattle.model_laws.proofs.Options.{there_if}
-use Rattle.dependencies.proofs.Lists.{all_found, all_flat}
+use Rattle.dependencies.proofs.Lists.{all_found, flat_all}
 
 bodies_fit : (kept : List Entry) (f : Feed) → AllByRecursion IsFit kept → AllByRecursion IsFitBody (list_of kept f)
 unfolding list_of
@@ -57,7 +57,7 @@ stream_fit kept s d h e =
     (there_if (λ (d : StreamDoc). IsFitStream d × ((d.no == s) ≡ true)) (stream (view_of kept) s) d
     (all_found IsFitStream (λ (d : StreamDoc). d.no == s) (catalogue (view_of kept))
     (firsts_all IsFitStream (λ (d : StreamDoc). d.no) [] (flat_map docs_in (list_of kept (Events 0)))
-    (all_flat IsFitStream docs_in (list_of kept (Events 0))
+    (flat_all IsFitStream docs_in (list_of kept (Events 0))
     (each_docs_fit (list_of kept (Events 0)) (bodies_fit kept (Events 0) (recursion_from_All IsFit kept h)))))) e).0
 
 -- fit entries and one more

@@ -5,6 +5,7 @@ ghost use Rattle.composer_parser.specs.Reading.{read, is_any, tries};
 ghost use Rattle.composer_parser.specs.Clauses as spec;
 ghost use Rattle.composer_parser.specs.Tokens.{all_spelled, spelled, Gives};
 ghost use Rattle.composer_parser.specs.Clauses.{may_clause};
+ghost use Rattle.composer_parser.specs.Parts.{◌or◌};
 
 use crate::clauses::{Clause, Need, Pred, PromptItem};
 use crate::definitions::Lined;
@@ -185,6 +186,28 @@ fn opens_clause<'a>(
     Ok((Lined { line, item }, rest))
 }
 
+/// A clause that lists something.
+#[tactic(auto, unfolding(crate::specs::Clauses::follows_clause, crate::specs::Clauses::needs_clause, crate::specs::Clauses::prompt_clause))]
+fn list_clause<'a>(
+    alloc: Global,
+    text: &str,
+    rest: &'a [Token],
+) -> Result<(Lined<Clause>, &'a [Token]), Stop>
+    ensures { Gives (λ x. x.0) (λ x. x.1.now) text.now result
+        (read (spec.follows_clause or spec.needs_clause or spec.prompt_clause or spec.opens_clause) (all_spelled text.now rest.now)) }
+{
+    if is_next(text, rest, "FOLLOWS") {
+        return follows_clause(alloc, text, rest);
+    }
+    if is_next(text, rest, "NEEDS") {
+        return needs_clause(alloc, text, rest);
+    }
+    if is_next(text, rest, "PROMPT") {
+        return prompt_clause(alloc, text, rest);
+    }
+    opens_clause(alloc, text, rest)
+}
+
 /// The words with which clauses begin.
 const CLAUSE_WORDS: [&str; 10] = [
     "AT",
@@ -277,7 +300,7 @@ impl Gathers for ClauseList {
         }
     }
 
-    #[tactic(auto, unfolding(crate::specs::Clauses::clause, crate::specs::Clauses::at_clause, crate::specs::Clauses::until_clause, crate::specs::Clauses::deadline_clause, crate::specs::Clauses::priority_clause, crate::specs::Clauses::limit_clause, crate::specs::Clauses::carry_clause, crate::specs::Clauses::follows_clause, crate::specs::Clauses::needs_clause, crate::specs::Clauses::prompt_clause, crate::specs::Clauses::opens_clause))]
+    #[tactic(auto, unfolding(crate::specs::Clauses::clause, crate::specs::Clauses::at_clause, crate::specs::Clauses::until_clause, crate::specs::Clauses::deadline_clause, crate::specs::Clauses::priority_clause, crate::specs::Clauses::limit_clause, crate::specs::Clauses::carry_clause))]
     fn read_part<'a>(
         alloc: Global,
         text: &str,
@@ -301,16 +324,7 @@ impl Gathers for ClauseList {
         if is_next(text, rest, "CARRYFORWARD") {
             return carry_clause(text, rest);
         }
-        if is_next(text, rest, "FOLLOWS") {
-            return follows_clause(alloc, text, rest);
-        }
-        if is_next(text, rest, "NEEDS") {
-            return needs_clause(alloc, text, rest);
-        }
-        if is_next(text, rest, "PROMPT") {
-            return prompt_clause(alloc, text, rest);
-        }
-        opens_clause(alloc, text, rest)
+        list_clause(alloc, text, rest)
     }
 
     fn take(&mut self, clause: Lined<Clause>) -> Result<(), NoMemory> {

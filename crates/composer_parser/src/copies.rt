@@ -8,6 +8,15 @@ use crate::definitions::{
 use crate::schedules::{CycleDef, EntryDef, FreeDef, OnDef, OnItem, ScheduleDef};
 use base_types::{Copied, NoMemory};
 
+/// Copies of two values.
+fn copies<A: Copied + Drop, B: Copied>(first: &A, second: &B) -> Result<(A, B), NoMemory>
+    ensures { IfOk result (λ both. (both.0 ≡ first.now) × (both.1 ≡ second.now)) }
+{
+    let first = first.copy()?;
+    let second = second.copy()?;
+    Ok((first, second))
+}
+
 impl<T: Copied> Copied for Lined<T> {
     fn copy(&self) -> Result<Lined<T>, NoMemory> {
         Ok(Lined {
@@ -19,12 +28,14 @@ impl<T: Copied> Copied for Lined<T> {
 
 impl Copied for CpuDef {
     fn copy(&self) -> Result<CpuDef, NoMemory> {
+        let (name, os) = copies(&self.name, &self.os)?;
+        let (host, domain) = copies(&self.host, &self.domain)?;
         Ok(CpuDef {
-            name: self.name.copy()?,
-            os: self.os.copy()?,
-            host: self.host.copy()?,
+            name,
+            os,
+            host,
             port: self.port,
-            domain: self.domain.copy()?,
+            domain,
             manager: self.manager,
             autolink: self.autolink,
             full: self.full,
@@ -34,9 +45,10 @@ impl Copied for CpuDef {
 
 impl Copied for DomainDef {
     fn copy(&self) -> Result<DomainDef, NoMemory> {
+        let (name, manager) = copies(&self.name, &self.manager)?;
         Ok(DomainDef {
-            name: self.name.copy()?,
-            manager: self.manager.copy()?,
+            name,
+            manager,
             parent: self.parent.copy()?,
         })
     }
@@ -44,9 +56,10 @@ impl Copied for DomainDef {
 
 impl Copied for CalendarDef {
     fn copy(&self) -> Result<CalendarDef, NoMemory> {
+        let (name, text) = copies(&self.name, &self.text)?;
         Ok(CalendarDef {
-            name: self.name.copy()?,
-            text: self.text.copy()?,
+            name,
+            text,
             days: self.days.copy()?,
         })
     }
@@ -54,9 +67,10 @@ impl Copied for CalendarDef {
 
 impl Copied for ResourceDef {
     fn copy(&self) -> Result<ResourceDef, NoMemory> {
+        let (ws, name) = copies(&self.ws, &self.name)?;
         Ok(ResourceDef {
-            ws: self.ws.copy()?,
-            name: self.name.copy()?,
+            ws,
+            name,
             total: self.total,
             text: self.text.copy()?,
         })
@@ -65,10 +79,11 @@ impl Copied for ResourceDef {
 
 impl Copied for WorkDef {
     fn copy(&self) -> Result<WorkDef, NoMemory> {
+        let (logon, cond) = copies(&self.logon, &self.cond)?;
         Ok(WorkDef {
             work: self.work.copy()?,
-            logon: self.logon.copy()?,
-            cond: self.cond.copy()?,
+            logon,
+            cond,
             recovery: self.recovery,
         })
     }
@@ -76,9 +91,10 @@ impl Copied for WorkDef {
 
 impl Copied for JobDef {
     fn copy(&self) -> Result<JobDef, NoMemory> {
+        let (ws, name) = copies(&self.ws, &self.name)?;
         Ok(JobDef {
-            ws: self.ws.copy()?,
-            name: self.name.copy()?,
+            ws,
+            name,
             work: self.work.copy()?,
         })
     }
@@ -117,9 +133,10 @@ impl Copied for OnDef {
 
 impl Copied for Pred {
     fn copy(&self) -> Result<Pred, NoMemory> {
+        let (ws, name) = copies(&self.ws, &self.name)?;
         Ok(Pred {
-            ws: self.ws.copy()?,
-            name: self.name.copy()?,
+            ws,
+            name,
             part: self.part.copy()?,
         })
     }
@@ -137,29 +154,30 @@ impl Copied for Need {
 
 impl Copied for EntryDef {
     fn copy(&self) -> Result<EntryDef, NoMemory> {
+        let (ws, name) = copies(&self.ws, &self.name)?;
+        let (work, clauses) = copies(&self.work, &self.clauses)?;
         Ok(EntryDef {
-            clauses: self.clauses.copy()?,
-            name: self.name.copy()?,
-            ws: self.ws.copy()?,
-            work: self.work.copy()?,
+            ws,
+            name,
+            work,
+            clauses,
         })
     }
 }
 
 impl Copied for ScheduleDef {
     fn copy(&self) -> Result<ScheduleDef, NoMemory> {
-        let mut copy = ScheduleDef {
-            name: self.name.copy()?,
-            ws: self.ws.copy()?,
-            free: self.free.copy()?,
-            ons: self.ons.empty(),
-            clauses: self.clauses.empty(),
-            entries: self.entries.empty(),
-        };
-        copy.ons = self.ons.copy()?;
-        copy.clauses = self.clauses.copy()?;
-        copy.entries = self.entries.copy()?;
-        Ok(copy)
+        let (ws, name) = copies(&self.ws, &self.name)?;
+        let (free, ons) = copies(&self.free, &self.ons)?;
+        let (clauses, entries) = copies(&self.clauses, &self.entries)?;
+        Ok(ScheduleDef {
+            ws,
+            name,
+            free,
+            ons,
+            clauses,
+            entries,
+        })
     }
 }
 
@@ -262,17 +280,27 @@ impl Defs {
         })
     }
 
-    /// Puts copies of the statements in the place of those that another has.
-    fn copy_statements(&self, copy: &mut Defs) -> Result<(), NoMemory>
-        ensures { OnOk result (copy.new ≡ record self.now { start = copy.old.start; zone = copy.old.zone; carry = copy.old.carry; last_line = copy.old.last_line }) }
+    /// Puts copies of the stations and of what stands under the first `$` headers in the place of those that another has.
+    fn copy_first(&self, copy: &mut Defs) -> Result<(), NoMemory>
+        ensures { OnOk result (copy.new ≡ record copy.old { cpus = self.now.cpus; domains = self.now.domains; calendars = self.now.calendars; prompts = self.now.prompts }) }
     {
-        copy.cpus = self.cpus.copy()?;
-        copy.domains = self.domains.copy()?;
-        copy.calendars = self.calendars.copy()?;
-        copy.prompts = self.prompts.copy()?;
-        copy.resources = self.resources.copy()?;
-        copy.jobs = self.jobs.copy()?;
+        let (cpus, domains) = copies(&self.cpus, &self.domains)?;
+        let (calendars, prompts) = copies(&self.calendars, &self.prompts)?;
+        copy.cpus = cpus;
+        copy.domains = domains;
+        copy.calendars = calendars;
+        copy.prompts = prompts;
+        Ok(())
+    }
+
+    /// Puts copies of the resources, jobs and streams in the place of those that another has.
+    fn copy_last(&self, copy: &mut Defs) -> Result<(), NoMemory>
+        ensures { OnOk result (copy.new ≡ record copy.old { resources = self.now.resources; jobs = self.now.jobs; schedules = self.now.schedules }) }
+    {
+        let (resources, jobs) = copies(&self.resources, &self.jobs)?;
         copy.schedules = self.schedules.copy()?;
+        copy.resources = resources;
+        copy.jobs = jobs;
         Ok(())
     }
 }
@@ -280,7 +308,8 @@ impl Defs {
 impl Copied for Defs {
     fn copy(&self) -> Result<Defs, NoMemory> {
         let mut copy = self.copy_of_options()?;
-        self.copy_statements(&mut copy)?;
+        self.copy_first(&mut copy)?;
+        self.copy_last(&mut copy)?;
         Ok(copy)
     }
 }

@@ -1,17 +1,18 @@
 //! What stands under the `$` headers.
+ghost use Rattle.std.specs.Prelude.{◌≡◌, IfOk};
 ghost use Rattle.composer_parser.specs.Composer as spec;
 ghost use Rattle.composer_parser.specs.Reading.{read};
-ghost use Rattle.composer_parser.specs.Tokens.{all_spelled, Gives};
+ghost use Rattle.composer_parser.specs.Tokens.{all_spelled, on_line, Gives};
 
 use crate::batches::row;
-use crate::definitions::{CalendarDef, JobDef, Lined, ResourceDef};
+use crate::definitions::{CalendarDef, JobDef, Lined, ResourceDef, WorkDef};
 use crate::parts::{is_text_next, number, text_value};
 use crate::pieces::{Begins, Piece};
 use crate::places::{is_name_next, is_placed_next, placed, plain_name};
 use crate::scopes::{own_of, placed_ws};
 use crate::stops::Stop;
 use crate::works::work;
-use base_types::{PromptDef, Text, Token};
+use base_types::{Items, NoMemory, PromptDef, Text, Token};
 use std::alloc::Global;
 
 #[tactic(auto, unfolding(crate::specs::Composer::a_text_or_none))]
@@ -41,16 +42,28 @@ impl Piece for Lined<CalendarDef> {
         rest: &'a [Token],
     ) -> Result<(Lined<CalendarDef>, &'a [Token]), Stop> {
         let (word, line, rest) = plain_name(text, rest)?;
-        let name = Text::of_upper(alloc, word)?;
         let (about, rest) = text_or_none(alloc, text, rest)?;
         let (days, rest) = row::<u32>(alloc, text, rest)?;
-        let item = CalendarDef {
-            name,
-            text: about,
-            days: days.into_items(),
-        };
-        Ok((Lined { line, item }, rest))
+        Ok((
+            calendar_of(alloc, line, word, about, days.into_items())?,
+            rest,
+        ))
     }
+}
+
+/// The calendar that a word names, with its parts.
+fn calendar_of(
+    alloc: Global,
+    line: u32,
+    word: &str,
+    text: Option<Text>,
+    days: Items<u32>,
+) -> Result<Lined<CalendarDef>, NoMemory>
+    ensures { IfOk result (λ c. c ≡ spec.calendar_of (on_line line word.now) text days) }
+{
+    let name = Text::of_upper(alloc, word)?;
+    let item = CalendarDef { name, text, days };
+    Ok(Lined { line, item })
 }
 
 impl Piece for Lined<PromptDef> {
@@ -65,8 +78,8 @@ impl Piece for Lined<PromptDef> {
         rest: &'a [Token],
     ) -> Result<(Lined<PromptDef>, &'a [Token]), Stop> {
         let (word, line, rest) = plain_name(text, rest)?;
-        let name = Text::of_upper(alloc, word)?;
         let (asked, rest) = text_value(alloc, text, rest)?;
+        let name = Text::of_upper(alloc, word)?;
         let item = PromptDef { name, text: asked };
         Ok((Lined { line, item }, rest))
     }
@@ -84,18 +97,31 @@ impl Piece for Lined<ResourceDef> {
         rest: &'a [Token],
     ) -> Result<(Lined<ResourceDef>, &'a [Token]), Stop> {
         let (word, line, rest) = placed(text, rest)?;
-        let ws = placed_ws(alloc, word)?;
-        let name = own_of(alloc, word)?;
         let (total, rest) = number(text, rest)?;
         let (about, rest) = text_or_none(alloc, text, rest)?;
-        let item = ResourceDef {
-            ws,
-            name,
-            total,
-            text: about,
-        };
-        Ok((Lined { line, item }, rest))
+        Ok((resource_of(alloc, line, word, total, about)?, rest))
     }
+}
+
+/// The resource that a word names, with its parts.
+fn resource_of(
+    alloc: Global,
+    line: u32,
+    word: &str,
+    total: u32,
+    text: Option<Text>,
+) -> Result<Lined<ResourceDef>, NoMemory>
+    ensures { IfOk result (λ r. r ≡ spec.resource_of (on_line line word.now) total text) }
+{
+    let ws = placed_ws(alloc, word)?;
+    let name = own_of(alloc, word)?;
+    let item = ResourceDef {
+        ws,
+        name,
+        total,
+        text,
+    };
+    Ok(Lined { line, item })
 }
 
 impl Piece for Lined<JobDef> {
@@ -110,12 +136,19 @@ impl Piece for Lined<JobDef> {
         rest: &'a [Token],
     ) -> Result<(Lined<JobDef>, &'a [Token]), Stop> {
         let (word, line, rest) = placed(text, rest)?;
-        let ws = placed_ws(alloc, word)?;
-        let name = own_of(alloc, word)?;
         let (work, rest) = work(alloc, text, rest)?;
-        let item = JobDef { ws, name, work };
-        Ok((Lined { line, item }, rest))
+        Ok((job_of(alloc, line, word, work)?, rest))
     }
+}
+
+/// The job that a word names, with what it runs.
+fn job_of(alloc: Global, line: u32, word: &str, work: WorkDef) -> Result<Lined<JobDef>, NoMemory>
+    ensures { IfOk result (λ j. j ≡ spec.job_of (on_line line word.now) work) }
+{
+    let ws = placed_ws(alloc, word)?;
+    let name = own_of(alloc, word)?;
+    let item = JobDef { ws, name, work };
+    Ok(Lined { line, item })
 }
 
 impl Begins for Lined<CalendarDef> {

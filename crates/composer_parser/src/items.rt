@@ -5,6 +5,8 @@ ghost use Rattle.composer_parser.specs.Schedules as spec;
 ghost use Rattle.composer_parser.specs.Tokens.{all_spelled, Gives};
 ghost use Rattle.std.specs.Prelude.{[], ◌∷◌};
 ghost use Rattle.composer_parser.specs.Kinds.{keyword};
+ghost use Rattle.composer_parser.specs.Parts.{◌⊛◌, made, date};
+ghost use Rattle.composer_parser.specs.declared.schedules.OnItem.TheVariants.{Date};
 ghost use Rattle.composer_parser.specs.Reading.{begins};
 
 use crate::moments::{date_value, is_date_next, is_offset_next, signed};
@@ -107,6 +109,13 @@ fn days<'a>(text: &str, rest: &'a [Token]) -> Result<(OnItem, &'a [Token]), Stop
     Ok((OnItem::Request, rest))
 }
 
+fn date_item<'a>(text: &str, rest: &'a [Token]) -> Result<(OnItem, &'a [Token]), Stop>
+    ensures { Gives (λ x. x.0) (λ x. x.1.now) text.now result (read (made Date ⊛ date) (all_spelled text.now rest.now)) }
+{
+    let (day, rest) = date_value(text, rest)?;
+    Ok((OnItem::Date(day), rest))
+}
+
 /// Whether the next token is a day of the week.
 fn is_weekday_next(text: &str, rest: &[Token]) -> bool
     ensures { result ≡ begins (keyword (codes "MO") ∷ keyword (codes "TU") ∷ keyword (codes "WE") ∷ keyword (codes "TH") ∷ keyword (codes "FR") ∷ keyword (codes "SA") ∷ keyword (codes "SU") ∷ []) (all_spelled text.now rest.now) }
@@ -168,8 +177,7 @@ impl Piece for OnItem {
             return days(text, rest);
         }
         if is_date_next(text, rest) {
-            let (day, rest) = date_value(text, rest)?;
-            return Ok((OnItem::Date(day), rest));
+            return date_item(text, rest);
         }
         if is_name_next(text, rest) {
             return calendar_item(alloc, text, rest);

@@ -108,10 +108,17 @@ impl Piece for Need {
     fn read<'a>(alloc: Global, text: &str, rest: &'a [Token]) -> Result<(Need, &'a [Token]), Stop> {
         let (units, rest) = units(text, rest)?;
         let (word, _, rest) = scoped(text, rest)?;
-        let name = own_of(alloc, word)?;
-        let ws = ws_of(alloc, word)?;
-        Ok((Need { units, ws, name }, rest))
+        Ok((need_of(alloc, units, word)?, rest))
     }
+}
+
+/// So many units of the resource that a word names.
+fn need_of(alloc: Global, units: Option<u32>, word: &str) -> Result<Need, NoMemory>
+    ensures { IfOk result (λ n. n ≡ spec.need_of units word.now) }
+{
+    let name = own_of(alloc, word)?;
+    let ws = ws_of(alloc, word)?;
+    Ok(Need { units, ws, name })
 }
 
 /// A prompt by its name, or a text of its own.

@@ -1,5 +1,10 @@
 //! ON and EXCEPT.
+ghost use Rattle.std.specs.Prelude.{Option};
+ghost use Rattle.composer_parser.specs.Parts.{◌⊛◌, made, lined};
 ghost use Rattle.composer_parser.specs.Reading.{read};
+ghost use Rattle.composer_parser.specs.declared.definitions.Lined.{Lined as LinedOf};
+ghost use Rattle.composer_parser.specs.declared.schedules.OnDef.{OnDef as OnOf};
+ghost use Rattle.composer_parser.specs.declared.schedules.Shift.{Shift as ShiftOf};
 ghost use Rattle.composer_parser.specs.Schedules as spec;
 ghost use Rattle.composer_parser.specs.Tokens.{all_spelled, Gives};
 
@@ -94,30 +99,45 @@ fn on_key<'a>(text: &str, rest: &'a [Token]) -> Result<((bool, u32), &'a [Token]
     Ok(((true, line), rest))
 }
 
+/// An ON or an EXCEPT up to its items, without a shift.
+#[tactic(auto, using(crate::proofs::Sound::next_item_decided), unfolding(crate::specs::Schedules::items, crate::specs::Schedules::next_item))]
+fn on_items<'a>(
+    alloc: Global,
+    text: &str,
+    rest: &'a [Token],
+) -> Result<(Lined<OnDef>, &'a [Token]), Stop>
+    ensures { Gives {C = Option ShiftOf → LinedOf OnOf} (λ x shift. lined x.0.line (record x.0.item { shift = shift })) (λ x. x.1.now) text.now result
+        (read (made (λ k cycle items shift. spec.on_of k.0 k.1 cycle items shift) ⊛ spec.on_key ⊛ spec.cycle ⊛ spec.items) (all_spelled text.now rest.now)) }
+{
+    let ((except, line), rest) = on_key(text, rest)?;
+    let (cycle, rest) = cycle(alloc, text, rest)?;
+    let (items, rest) = list::<OnItem>(alloc, text, rest)?;
+    let item = OnDef {
+        except,
+        cycle,
+        items,
+        shift: None,
+    };
+    Ok((Lined { line, item }, rest))
+}
+
 /// An ON or an EXCEPT.
 impl Piece for Lined<OnDef> {
     ghost use Rattle.composer_parser.specs.Schedules.{on};
 
     ghost grammar = { on };
 
-    #[tactic(auto, using(crate::proofs::Sound::next_item_decided), unfolding(crate::specs::Schedules::on, crate::specs::Schedules::items, crate::specs::Schedules::next_item))]
+    #[tactic(auto, unfolding(crate::specs::Schedules::on))]
     fn read<'a>(
         alloc: Global,
         text: &str,
         rest: &'a [Token],
     ) -> Result<(Lined<OnDef>, &'a [Token]), Stop> {
-        let ((except, line), rest) = on_key(text, rest)?;
-        let (cycle, rest) = cycle(alloc, text, rest)?;
-        let (items, rest) = list::<OnItem>(alloc, text, rest)?;
+        let (mut found, rest) = on_items(alloc, text, rest)?;
         let (shift, rest) = shift(text, rest)?;
         let rest = no_times(text, rest)?;
-        let item = OnDef {
-            except,
-            cycle,
-            items,
-            shift,
-        };
-        Ok((Lined { line, item }, rest))
+        found.item.shift = shift;
+        Ok((found, rest))
     }
 }
 

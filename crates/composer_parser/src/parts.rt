@@ -169,13 +169,12 @@ pub(crate) fn description<'a>(text: &str, rest: &'a [Token]) -> Result<&'a [Toke
     Ok(rest)
 }
 
-/// Any word, in upper case.
-pub(crate) fn upper_word<'a>(
-    alloc: Global,
-    text: &str,
+/// Any word as it is written, which stands for its upper case.
+pub(crate) fn upper_word<'t, 'a>(
+    text: &'t str,
     rest: &'a [Token],
-) -> Result<(Text, &'a [Token]), Stop>
-    ensures { Gives (λ x. x.0) (λ x. x.1.now) text.now result (read spec.upper_word (all_spelled text.now rest.now)) }
+) -> Result<(&'t str, &'a [Token]), Stop>
+    ensures { Gives (λ x. spec.upper x.0.now) (λ x. x.1.now) text.now result (read spec.upper_word (all_spelled text.now rest.now)) }
 {
     let [token, behind @ ..] = rest else {
         return Err(Stop::Here(Why::NotExpected, 0));
@@ -183,7 +182,7 @@ pub(crate) fn upper_word<'a>(
     let TokenKind::Word = token.kind else {
         return Err(Stop::Here(Why::NotExpected, rest.len()));
     };
-    Ok((Text::of_upper(alloc, piece(text, token))?, behind))
+    Ok((piece(text, token), behind))
 }
 
 /// Any word, which is dropped.

@@ -1,12 +1,15 @@
 //! CPUNAME and DOMAIN.
-ghost use Rattle.std.specs.Prelude.{◌≡◌, IfOk};
-ghost use Rattle.composer_parser.specs.Parts.{upper};
+ghost use Rattle.std.specs.Prelude.{◌≡◌, ℕ, Bool, List, Option, IfOk, codes};
+ghost use Rattle.composer_parser.specs.Parts.{◌⊛◌, ◌⊲◌, made, key, name, upper_word, upper, lined};
+ghost use Rattle.composer_parser.specs.Parts.{description as described};
+ghost use Rattle.composer_parser.specs.declared.stations.Machine.{Machine as MachineOf};
+ghost use Rattle.composer_parser.specs.declared.stations.Place.{Place as PlaceOf};
 ghost use Rattle.composer_parser.specs.Reading.{read};
 ghost use Rattle.composer_parser.specs.Stations as spec;
 ghost use Rattle.composer_parser.specs.Tokens.{all_spelled, Gives};
 
 use crate::definitions::{CpuDef, DomainDef, Lined};
-use crate::flags::{CpuFlags, flags};
+use crate::flags::flags;
 use crate::parts::{
     description, is_any_word, key, name, name_word, number, taken, upper_word, value,
 };
@@ -56,6 +59,17 @@ pub(crate) struct Place {
     manager: bool,
 }
 
+/// A machine up to its host, with its system as it is written.
+fn machine_os<'t, 'a>(text: &'t str, rest: &'a [Token]) -> Result<(&'t str, &'a [Token]), Stop>
+    ensures { Gives {C = List ℕ → Option ℕ → MachineOf} (λ x host tcp. record { os = upper x.0.now; host = host; port = tcp }) (λ x. x.1.now) text.now result
+        (read (made (λ x os y host tcp. record { os = os; host = host; port = tcp }) ⊛ key (codes "OS") ⊛ upper_word ⊛ key (codes "NODE")) (all_spelled text.now rest.now)) }
+{
+    let (_, rest) = key(text, rest, "OS")?;
+    let (word, rest) = upper_word(text, rest)?;
+    let (_, rest) = key(text, rest, "NODE")?;
+    Ok((word, rest))
+}
+
 #[tactic(auto, unfolding(crate::specs::Stations::machine))]
 fn cpu_machine<'a>(
     alloc: Global,
@@ -64,21 +78,29 @@ fn cpu_machine<'a>(
 ) -> Result<(Machine, &'a [Token]), Stop>
     ensures { Gives (λ x. x.0) (λ x. x.1.now) text.now result (read spec.machine (all_spelled text.now rest.now)) }
 {
-    let (_, rest) = key(text, rest, "OS")?;
-    let (os, rest) = upper_word(alloc, text, rest)?;
-    let (_, rest) = key(text, rest, "NODE")?;
+    let (word, rest) = machine_os(text, rest)?;
     let (host, rest) = value(alloc, text, rest)?;
     let (port, rest) = port(text, rest)?;
+    let os = Text::of_upper(alloc, word)?;
     Ok((Machine { os, host, port }, rest))
+}
+
+/// A place up to FOR, with its domain as it is written.
+fn place_domain<'t, 'a>(text: &'t str, rest: &'a [Token]) -> Result<(&'t str, &'a [Token]), Stop>
+    ensures { Gives {C = ℕ → ℕ → Bool → PlaceOf} (λ x y z manager. record { domain = upper x.0.now; manager = manager }) (λ x. x.1.now) text.now result
+        (read (made (λ x own u y z manager. record { domain = own; manager = manager }) ⊛ key (codes "DOMAIN") ⊛ name ⊛ key (codes "FOR")) (all_spelled text.now rest.now)) }
+{
+    let (_, rest) = key(text, rest, "DOMAIN")?;
+    let (word, rest) = name_word(text, rest)?;
+    let (_, rest) = key(text, rest, "FOR")?;
+    Ok((word, rest))
 }
 
 #[tactic(auto, unfolding(crate::specs::Stations::place))]
 fn cpu_place<'a>(alloc: Global, text: &str, rest: &'a [Token]) -> Result<(Place, &'a [Token]), Stop>
     ensures { Gives (λ x. x.0) (λ x. x.1.now) text.now result (read spec.place (all_spelled text.now rest.now)) }
 {
-    let (_, rest) = key(text, rest, "DOMAIN")?;
-    let (word, rest) = name_word(text, rest)?;
-    let (_, rest) = key(text, rest, "FOR")?;
+    let (word, rest) = place_domain(text, rest)?;
     let (_, rest) = key(text, rest, "MAESTRO")?;
     let (_, rest) = key(text, rest, "TYPE")?;
     let (manager, rest) = cpu_type(text, rest)?;
@@ -86,16 +108,15 @@ fn cpu_place<'a>(alloc: Global, text: &str, rest: &'a [Token]) -> Result<(Place,
     Ok((Place { domain, manager }, rest))
 }
 
-/// The workstation that a word names, of its parts.
+/// The workstation that a word names, of its parts, without flags.
 fn cpu_of(
     alloc: Global,
     line: u32,
     word: &str,
     machine: Machine,
     place: Place,
-    flags: CpuFlags,
 ) -> Result<Lined<CpuDef>, NoMemory>
-    ensures { IfOk result (λ c. c ≡ spec.cpu_of line (upper word.now) tt machine place flags line) }
+    ensures { IfOk result (λ c. c ≡ spec.cpu_of line (upper word.now) tt machine place spec.no_flags line) }
 {
     let item = CpuDef {
         name: Text::of_upper(alloc, word)?,
@@ -104,10 +125,36 @@ fn cpu_of(
         port: machine.port,
         domain: place.domain,
         manager: place.manager,
-        autolink: flags.autolink,
-        full: flags.full,
+        autolink: None,
+        full: None,
     };
     Ok(Lined { line, item })
+}
+
+/// CPUNAME with its line, its name as it is written, and its description.
+fn cpu_name<'t, 'a>(text: &'t str, rest: &'a [Token]) -> Result<(u32, &'t str, &'a [Token]), Stop>
+    ensures { Gives (λ x. spec.cpu_of x.0 (upper x.1.now) tt) (λ x. x.2.now) text.now result
+        (read (made spec.cpu_of ⊛ key (codes "CPUNAME") ⊛ name ⊛ described) (all_spelled text.now rest.now)) }
+{
+    let (line, rest) = key(text, rest, "CPUNAME")?;
+    let (word, rest) = name_word(text, rest)?;
+    let rest = description(text, rest)?;
+    Ok((line, word, rest))
+}
+
+/// A workstation up to its flags, without them.
+fn placed_cpu<'a>(
+    alloc: Global,
+    text: &str,
+    rest: &'a [Token],
+) -> Result<(Lined<CpuDef>, &'a [Token]), Stop>
+    ensures { Gives (λ x flags y. lined x.0.line (record x.0.item { autolink = flags.autolink; full = flags.full })) (λ x. x.1.now) text.now result
+        (read (made spec.cpu_of ⊛ key (codes "CPUNAME") ⊛ name ⊛ described ⊛ spec.machine ⊛ spec.place) (all_spelled text.now rest.now)) }
+{
+    let (line, word, rest) = cpu_name(text, rest)?;
+    let (machine, rest) = cpu_machine(alloc, text, rest)?;
+    let (place, rest) = cpu_place(alloc, text, rest)?;
+    Ok((cpu_of(alloc, line, word, machine, place)?, rest))
 }
 
 #[tactic(auto, unfolding(crate::specs::Stations::cpu))]
@@ -118,14 +165,12 @@ pub(crate) fn cpu<'a>(
 ) -> Result<(Lined<CpuDef>, &'a [Token]), Stop>
     ensures { Gives (λ x. x.0) (λ x. x.1.now) text.now result (read spec.cpu (all_spelled text.now rest.now)) }
 {
-    let (line, rest) = key(text, rest, "CPUNAME")?;
-    let (word, rest) = name_word(text, rest)?;
-    let rest = description(text, rest)?;
-    let (machine, rest) = cpu_machine(alloc, text, rest)?;
-    let (place, rest) = cpu_place(alloc, text, rest)?;
+    let (mut found, rest) = placed_cpu(alloc, text, rest)?;
     let (flags, rest) = flags(alloc, text, rest)?;
     let (_, rest) = key(text, rest, "END")?;
-    Ok((cpu_of(alloc, line, word, machine, place, flags)?, rest))
+    found.item.autolink = flags.autolink;
+    found.item.full = flags.full;
+    Ok((found, rest))
 }
 
 /// A star, or nothing.
@@ -174,6 +219,35 @@ fn domain_of(
     Ok(Lined { line, item })
 }
 
+/// DOMAIN with its line, its name as it is written, its description and its star.
+fn domain_name<'t, 'a>(
+    text: &'t str,
+    rest: &'a [Token],
+) -> Result<(u32, &'t str, &'a [Token]), Stop>
+    ensures { Gives (λ x. spec.domain_of x.0 (upper x.1.now)) (λ x. x.2.now) text.now result
+        (read (made spec.domain_of ⊛ key (codes "DOMAIN") ⊛ name ⊲ described ⊲ spec.star) (all_spelled text.now rest.now)) }
+{
+    let (line, rest) = key(text, rest, "DOMAIN")?;
+    let (word, rest) = name_word(text, rest)?;
+    let rest = description(text, rest)?;
+    let rest = star(text, rest)?;
+    Ok((line, word, rest))
+}
+
+/// A domain up to its manager: its line, its name and its manager's name, as they are written.
+fn domain_manager<'t, 'a>(
+    text: &'t str,
+    rest: &'a [Token],
+) -> Result<(u32, &'t str, &'t str, &'a [Token]), Stop>
+    ensures { Gives (λ x. spec.domain_of x.0 (upper x.1.now) (upper x.2.now)) (λ x. x.3.now) text.now result
+        (read (made spec.domain_of ⊛ key (codes "DOMAIN") ⊛ name ⊲ described ⊲ spec.star ⊲ key (codes "MANAGER") ⊛ name) (all_spelled text.now rest.now)) }
+{
+    let (line, word, rest) = domain_name(text, rest)?;
+    let (_, rest) = key(text, rest, "MANAGER")?;
+    let (manager, rest) = name_word(text, rest)?;
+    Ok((line, word, manager, rest))
+}
+
 #[tactic(auto, unfolding(crate::specs::Stations::domain))]
 pub(crate) fn domain<'a>(
     alloc: Global,
@@ -182,12 +256,7 @@ pub(crate) fn domain<'a>(
 ) -> Result<(Lined<DomainDef>, &'a [Token]), Stop>
     ensures { Gives (λ x. x.0) (λ x. x.1.now) text.now result (read spec.domain (all_spelled text.now rest.now)) }
 {
-    let (line, rest) = key(text, rest, "DOMAIN")?;
-    let (word, rest) = name_word(text, rest)?;
-    let rest = description(text, rest)?;
-    let rest = star(text, rest)?;
-    let (_, rest) = key(text, rest, "MANAGER")?;
-    let (manager, rest) = name_word(text, rest)?;
+    let (line, word, manager, rest) = domain_manager(text, rest)?;
     let (parent, rest) = parent(alloc, text, rest)?;
     let (_, rest) = key(text, rest, "END")?;
     Ok((domain_of(alloc, line, word, manager, parent)?, rest))

@@ -1,5 +1,7 @@
 //! SCHEDULE.
-ghost use Rattle.std.specs.Prelude.{◌≡◌, IfOk};
+ghost use Rattle.std.specs.Prelude.{◌≡◌, IfOk, true};
+ghost use Rattle.composer_parser.specs.Clauses.{clauses};
+ghost use Rattle.composer_parser.specs.Parts.{◌⊛◌, made};
 ghost use Rattle.composer_parser.specs.Reading.{read};
 ghost use Rattle.composer_parser.specs.Schedules as spec;
 ghost use Rattle.composer_parser.specs.Tokens.{all_spelled, on_line, Gives};
@@ -135,8 +137,24 @@ fn stream_title<'a>(
     Ok((Title::of(alloc, line, word, free)?, rest))
 }
 
+/// A stream up to its clauses, without its entries.
+#[tactic(auto, using(crate::proofs::Sound::on_decided, crate::proofs::Sound::on_some), unfolding(crate::specs::Schedules::ons))]
+fn open_header<'a>(
+    alloc: Global,
+    text: &str,
+    rest: &'a [Token],
+) -> Result<(Lined<ScheduleDef>, &'a [Token]), Stop>
+    ensures { Gives (λ x. x.0) (λ x. x.1.now) text.now result
+        (read (made spec.header_of ⊛ spec.title ⊛ spec.ons ⊛ clauses true) (all_spelled text.now rest.now)) }
+{
+    let (title, rest) = stream_title(alloc, text, rest)?;
+    let (ons, rest) = row::<Lined<OnDef>>(alloc, text, rest)?;
+    let (clauses, rest) = clauses(alloc, text, rest, true)?;
+    Ok((title.stream(alloc, ons.into_items(), clauses), rest))
+}
+
 /// A stream up to its colon, without its entries.
-#[tactic(auto, using(crate::proofs::Sound::on_decided, crate::proofs::Sound::on_some), unfolding(crate::specs::Schedules::header, crate::specs::Schedules::ons))]
+#[tactic(auto, unfolding(crate::specs::Schedules::header))]
 fn header<'a>(
     alloc: Global,
     text: &str,
@@ -144,11 +162,9 @@ fn header<'a>(
 ) -> Result<(Lined<ScheduleDef>, &'a [Token]), Stop>
     ensures { Gives (λ x. x.0) (λ x. x.1.now) text.now result (read spec.header (all_spelled text.now rest.now)) }
 {
-    let (title, rest) = stream_title(alloc, text, rest)?;
-    let (ons, rest) = row::<Lined<OnDef>>(alloc, text, rest)?;
-    let (clauses, rest) = clauses(alloc, text, rest, true)?;
+    let (found, rest) = open_header(alloc, text, rest)?;
     let rest = mark(text, rest, b':')?;
-    Ok((title.stream(alloc, ons.into_items(), clauses), rest))
+    Ok((found, rest))
 }
 
 /// A stream.

@@ -4,6 +4,9 @@ ghost use Rattle.composer_parser.specs.Reading.{read};
 ghost use Rattle.composer_parser.specs.Works as spec;
 ghost use Rattle.composer_parser.specs.Tokens.{all_spelled, Gives};
 ghost use Rattle.composer_parser.specs.Works.{no_work_flags};
+ghost use Rattle.composer_parser.specs.Parts.{◌⊛◌, ◌⊲◌, made, key, value, skipped_text, skipped_word};
+ghost use Rattle.composer_parser.specs.Parts.{text as text_of};
+ghost use Rattle.composer_parser.specs.declared.works.WorkFlag.TheVariants as flag;
 
 use crate::definitions::WorkDef;
 use crate::gathering::{Gathers, gather};
@@ -81,25 +84,18 @@ impl Gathers for WorkFlags {
         rest: &'a [Token],
     ) -> Result<(WorkFlag, &'a [Token]), Stop> {
         if let Some((_, rest)) = taken(text, rest, "STREAMLOGON") {
-            let (user, rest) = value(alloc, text, rest)?;
-            return Ok((WorkFlag::Logon(user), rest));
+            return logon(alloc, text, rest);
         }
         if let Some((_, rest)) = taken(text, rest, "DESCRIPTION") {
-            let rest = skip_text(text, rest)?;
-            return Ok((WorkFlag::Description, rest));
+            return about(text, rest);
         }
         if let Some((_, rest)) = taken(text, rest, "TASKTYPE") {
-            let rest = skip_word(text, rest)?;
-            return Ok((WorkFlag::TaskType, rest));
+            return task_type(text, rest);
         }
         if let Some((_, rest)) = taken(text, rest, "RCCONDSUCC") {
-            let (cond, rest) = text_value(alloc, text, rest)?;
-            return Ok((WorkFlag::Cond(cond), rest));
+            return cond(alloc, text, rest);
         }
-        let (_, rest) = key(text, rest, "RECOVERY")?;
-        let (recovery, rest) = recovery_word(text, rest)?;
-        let rest = no_recovery_job(text, rest)?;
-        Ok((WorkFlag::Recovery(recovery), rest))
+        recovery(text, rest)
     }
 
     fn take(&mut self, flag: WorkFlag) -> Result<(), NoMemory> {
@@ -112,6 +108,48 @@ impl Gathers for WorkFlags {
         }
         Ok(())
     }
+}
+
+/// The user of a STREAMLOGON.
+fn logon<'a>(alloc: Global, text: &str, rest: &'a [Token]) -> Result<(WorkFlag, &'a [Token]), Stop>
+    ensures { Gives (λ x. x.0) (λ x. x.1.now) text.now result (read (made flag.Logon ⊛ value) (all_spelled text.now rest.now)) }
+{
+    let (user, rest) = value(alloc, text, rest)?;
+    Ok((WorkFlag::Logon(user), rest))
+}
+
+/// The text of a DESCRIPTION.
+fn about<'a>(text: &str, rest: &'a [Token]) -> Result<(WorkFlag, &'a [Token]), Stop>
+    ensures { Gives (λ x. x.0) (λ x. x.1.now) text.now result (read (made (λ x. flag.Description) ⊛ skipped_text) (all_spelled text.now rest.now)) }
+{
+    let rest = skip_text(text, rest)?;
+    Ok((WorkFlag::Description, rest))
+}
+
+/// The word of a TASKTYPE.
+fn task_type<'a>(text: &str, rest: &'a [Token]) -> Result<(WorkFlag, &'a [Token]), Stop>
+    ensures { Gives (λ x. x.0) (λ x. x.1.now) text.now result (read (made (λ x. flag.TaskType) ⊛ skipped_word) (all_spelled text.now rest.now)) }
+{
+    let rest = skip_word(text, rest)?;
+    Ok((WorkFlag::TaskType, rest))
+}
+
+/// The condition of an RCCONDSUCC.
+fn cond<'a>(alloc: Global, text: &str, rest: &'a [Token]) -> Result<(WorkFlag, &'a [Token]), Stop>
+    ensures { Gives (λ x. x.0) (λ x. x.1.now) text.now result (read (made flag.Cond ⊛ text_of) (all_spelled text.now rest.now)) }
+{
+    let (cond, rest) = text_value(alloc, text, rest)?;
+    Ok((WorkFlag::Cond(cond), rest))
+}
+
+/// RECOVERY and its word.
+fn recovery<'a>(text: &str, rest: &'a [Token]) -> Result<(WorkFlag, &'a [Token]), Stop>
+    ensures { Gives (λ x. x.0) (λ x. x.1.now) text.now result (read (made (λ x r. flag.Recovery r) ⊛ key (codes "RECOVERY") ⊛ spec.recovery_word ⊲ spec.no_recovery_job) (all_spelled text.now rest.now)) }
+{
+    let (_, rest) = key(text, rest, "RECOVERY")?;
+    let (recovery, rest) = recovery_word(text, rest)?;
+    let rest = no_recovery_job(text, rest)?;
+    Ok((WorkFlag::Recovery(recovery), rest))
 }
 
 #[tactic(auto, unfolding(crate::specs::Works::command))]
@@ -168,6 +206,19 @@ fn work_flags<'a>(
     gather(alloc, text, rest, WorkFlags::none())
 }
 
+/// A work with these flags.
+fn work_of(work: Work, flags: WorkFlags) -> WorkDef
+    ensures { result ≡ spec.work_of work flags }
+{
+    let recovery = flags.recovery.unwrap_or(Recovery::Stop);
+    WorkDef {
+        work,
+        logon: flags.logon,
+        cond: flags.cond,
+        recovery,
+    }
+}
+
 /// What a job runs, with its flags.
 #[tactic(auto, unfolding(crate::specs::Works::work))]
 pub(crate) fn work<'a>(
@@ -179,12 +230,5 @@ pub(crate) fn work<'a>(
 {
     let (work, rest) = command(alloc, text, rest)?;
     let (flags, rest) = work_flags(alloc, text, rest)?;
-    let recovery = flags.recovery.unwrap_or(Recovery::Stop);
-    let item = WorkDef {
-        work,
-        logon: flags.logon,
-        cond: flags.cond,
-        recovery,
-    };
-    Ok((item, rest))
+    Ok((work_of(work, flags), rest))
 }

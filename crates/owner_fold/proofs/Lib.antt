@@ -15,3 +15,4 @@ pub mod Additions
 mod Giving
 mod Growing
 mod Pairing
+mod Passing

@@ -13,4 +13,5 @@ pub mod Kept
 pub mod Given
 pub mod Times
 pub mod Files
+pub mod Searches
 pub mod Pairs

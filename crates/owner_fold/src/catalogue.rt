@@ -37,7 +37,7 @@ impl<'a> Iterator for Streams<'a> {
                 return Some(doc);
             }
         }
-        self.doc_places = &doc_places[doc_places.len()..];
+        self.doc_places = &[];
         None
     }
 }
@@ -65,7 +65,7 @@ impl<'a> Iterator for PlannedJobs<'a> {
                 return Some(placed);
             }
         }
-        self.doc_places = &doc_places[doc_places.len()..];
+        self.doc_places = &[];
         None
     }
 }
@@ -110,7 +110,7 @@ impl<'a> Iterator for StreamJobs<'a> {
                 }
             }
         }
-        self.codes = &codes[codes.len()..];
+        self.codes = &[];
         None
     }
 }

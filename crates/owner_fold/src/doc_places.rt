@@ -14,7 +14,7 @@ use std::alloc::Global;
 use std::slice::from_ref;
 
 /// Where a stream document stands: the entry, and the document among those that the entry brings, both from 0.
-#[derive(Clone, Copy, Debug, PartialEq, Eq)]
+#[derive(Clone, Copy)]
 pub(crate) struct StreamPlace {
     /// The stream's number.
     pub(crate) number: u32,
@@ -23,7 +23,7 @@ pub(crate) struct StreamPlace {
 }
 
 /// Where a job stands: its stream, and the job among those of the stream, from 0.
-#[derive(Clone, Copy, Debug, PartialEq, Eq)]
+#[derive(Clone, Copy)]
 pub(crate) struct JobPlace {
     /// The job's number.
     pub(crate) number: u32,
@@ -95,7 +95,6 @@ pub(crate) fn planned_job_at<'a>(
 }
 
 /// Where the streams and the jobs of the catalogue stand, in its order.
-#[derive(Debug)]
 pub(crate) struct DocPlaces {
     pub(crate) streams: Items<StreamPlace>,
     pub(crate) jobs: Items<JobPlace>,

@@ -11,7 +11,7 @@ ghost use Rattle.owner_fold.specs.Files.{filed_jobs_left, filed_streams_left};
 
 use crate::given::Kind;
 use crate::holdings::Owners;
-use crate::timed::{is_given_job, is_given_stream, job_at_code, stream_at_code};
+use crate::searches::{JobTest, StreamTest, next_job, next_stream};
 use base_types::{JobDoc, StreamDoc, Ws};
 
 /// The own members of a workstation with a dependency on a file, in the order of the catalogue.
@@ -39,17 +39,10 @@ impl<'a> Iterator for FiledStreams<'a> {
 
     #[tactic(auto, unfolding(crate::specs::Files::filed_streams_left))]
     fn next(&mut self) -> Option<&'a StreamDoc> {
-        let codes = self.codes;
-        for (i, code) in codes.iter().enumerate() {
-            if let Some(doc) = stream_at_code(self.owners, self.ws, *code) {
-                if is_given_stream(Kind::File, self.owners, self.ws, doc) {
-                    self.codes = &codes[i + 1..];
-                    return Some(doc);
-                }
-            }
-        }
-        self.codes = &codes[codes.len()..];
-        None
+        let test = StreamTest::Given(Kind::File);
+        let (found, rest) = next_stream(test, self.owners, self.ws, self.codes);
+        self.codes = rest;
+        found
     }
 }
 
@@ -62,17 +55,10 @@ impl<'a> Iterator for FiledJobs<'a> {
 
     #[tactic(auto, unfolding(crate::specs::Files::filed_jobs_left))]
     fn next(&mut self) -> Option<(&'a StreamDoc, &'a JobDoc)> {
-        let codes = self.codes;
-        for (i, code) in codes.iter().enumerate() {
-            if let Some((parent, job)) = job_at_code(self.owners, self.ws, *code) {
-                if is_given_job(Kind::File, self.owners, self.ws, parent, job) {
-                    self.codes = &codes[i + 1..];
-                    return Some((parent, job));
-                }
-            }
-        }
-        self.codes = &codes[codes.len()..];
-        None
+        let test = JobTest::Given(Kind::File);
+        let (found, rest) = next_job(test, self.owners, self.ws, self.codes);
+        self.codes = rest;
+        found
     }
 }
 

@@ -5,6 +5,7 @@ ghost use Rattle.model.specs.Types.{StreamDoc as Doc};
 ghost use Rattle.model.specs.Catalogue.{StreamJob};
 ghost use Rattle.owner_fold.specs.Given.{given_job_by, given_stream_by, is_of};
 ghost use Rattle.owner_fold.specs.Numbers.{ArePlaces};
+ghost use Rattle.owner_fold.specs.Searches.{job_counts, stream_counts};
 ghost use Rattle.owner_fold.specs.Sets as spec;
 ghost use Rattle.owner_fold.specs.Sets.{Covers, Further};
 ghost use Rattle.owner_fold.specs.DocPlaces.{AreJobPlaces, AreStreamPlaces, doc_at, job_at, stream_job};
@@ -12,6 +13,7 @@ ghost use Rattle.owner_fold.specs.DocPlaces.{AreJobPlaces, AreStreamPlaces, doc_
 use crate::doc_places::{DocPlaces, JobPlace, StreamPlace, docs_of};
 use crate::given::{Kind, is_given};
 use crate::numbers::Numbers;
+use crate::searches::{JobTest, StreamTest};
 use crate::sets::{is_begun, is_waiting};
 use base_types::{Entry, JobDoc, NoMemory, Obj, StreamDoc};
 use grouped_places::Groups;
@@ -55,78 +57,6 @@ pub(crate) fn job_with<'a>(
             None => None,
             Some(job) => Some((doc, job)),
         },
-    }
-}
-
-/// Puts in the stream at this place, where it waits.
-fn put_waiting(
-    groups: &mut Groups,
-    kept: &Kept,
-    e: &Entry,
-    place: usize,
-    doc_place: &StreamPlace,
-) -> Result<(), NoMemory>
-    ensures { OnOk result (Further spec.station_of (spec.waits_by kept.now) place
-        (doc_at (kept.now ++ e.now ∷ []) doc_place.now) groups.old groups.new) }
-{
-    match stream_with(kept.entries(), e, doc_place) {
-        None => Ok(()),
-        Some(doc) => {
-            if is_waiting(kept, doc.ws, doc.no) {
-                groups.add(u32::from(doc.ws.0), place)?;
-                Ok(())
-            } else {
-                Ok(())
-            }
-        }
-    }
-}
-
-/// Puts in the stream at this place, where it is begun.
-fn put_begun(
-    groups: &mut Groups,
-    kept: &Kept,
-    e: &Entry,
-    place: usize,
-    doc_place: &StreamPlace,
-) -> Result<(), NoMemory>
-    ensures { OnOk result (Further spec.station_of (spec.began_by kept.now) place
-        (doc_at (kept.now ++ e.now ∷ []) doc_place.now) groups.old groups.new) }
-{
-    match stream_with(kept.entries(), e, doc_place) {
-        None => Ok(()),
-        Some(doc) => {
-            if is_begun(kept, doc.ws, doc.no) {
-                groups.add(u32::from(doc.ws.0), place)?;
-                Ok(())
-            } else {
-                Ok(())
-            }
-        }
-    }
-}
-
-/// Puts in the job at this place, where it has an open launch.
-fn put_opened(
-    groups: &mut Groups,
-    kept: &Kept,
-    e: &Entry,
-    place: usize,
-    doc_place: &JobPlace,
-) -> Result<(), NoMemory>
-    ensures { OnOk result (Further spec.job_station_of (spec.opened_by kept.now) place
-        (job_at (kept.now ++ e.now ∷ []) doc_place.now) groups.old groups.new) }
-{
-    match job_with(kept.entries(), e, doc_place) {
-        None => Ok(()),
-        Some((_, doc)) => {
-            if kept.is_open_at(doc.ws, doc.no) {
-                groups.add(u32::from(doc.ws.0), place)?;
-                Ok(())
-            } else {
-                Ok(())
-            }
-        }
     }
 }
 
@@ -174,9 +104,38 @@ fn is_given_members_job(
     members.has(parent.no.0) && is_given(kind, kept, doc.ws, &o, doc.deps.as_slice())
 }
 
-/// Puts in the stream at this place, where it is a member that was given a dependency of the kind.
-fn put_given_stream(
-    kind: Kind,
+/// The stream passes the test by what its workstation tells.
+fn stream_counts(test: StreamTest, kept: &Kept, members: &Numbers, doc: &StreamDoc) -> bool
+    ensures { (ms : List ℕ) → ArePlaces ms members.now
+        → result ≡ stream_counts test ms kept.now doc.now }
+{
+    match test {
+        StreamTest::Waits => is_waiting(kept, doc.ws, doc.no),
+        StreamTest::Begun => is_begun(kept, doc.ws, doc.no),
+        StreamTest::Given(kind) => is_given_member(kind, kept, members, doc),
+    }
+}
+
+/// The job does.
+fn job_counts(
+    test: JobTest,
+    kept: &Kept,
+    members: &Numbers,
+    parent: &StreamDoc,
+    doc: &JobDoc,
+) -> bool
+    ensures { (ms : List ℕ) → ArePlaces ms members.now
+        → result ≡ job_counts test ms kept.now (stream_job parent.now doc.now) }
+{
+    match test {
+        JobTest::Opened => kept.is_open_at(doc.ws, doc.no),
+        JobTest::Given(kind) => is_given_members_job(kind, kept, members, parent, doc),
+    }
+}
+
+/// Puts in the stream at this place, where it passes the test.
+fn put_stream(
+    test: StreamTest,
     groups: &mut Groups,
     kept: &Kept,
     e: &Entry,
@@ -185,13 +144,13 @@ fn put_given_stream(
     doc_place: &StreamPlace,
 ) -> Result<(), NoMemory>
     ensures { OnOk result ((ms : List ℕ) → ArePlaces ms members.now
-        → Further spec.station_of (given_stream_by (is_of kind) ms kept.now) place
+        → Further spec.station_of (stream_counts test ms kept.now) place
         (doc_at (kept.now ++ e.now ∷ []) doc_place.now) groups.old groups.new) }
 {
     match stream_with(kept.entries(), e, doc_place) {
         None => Ok(()),
         Some(doc) => {
-            if is_given_member(kind, kept, members, doc) {
+            if stream_counts(test, kept, members, doc) {
                 groups.add(u32::from(doc.ws.0), place)?;
                 Ok(())
             } else {
@@ -201,9 +160,9 @@ fn put_given_stream(
     }
 }
 
-/// Puts in the job at this place, where it is a member's that was given one.
-fn put_given_job(
-    kind: Kind,
+/// Puts in the job at this place, where it passes the test.
+fn put_job(
+    test: JobTest,
     groups: &mut Groups,
     kept: &Kept,
     e: &Entry,
@@ -212,13 +171,13 @@ fn put_given_job(
     doc_place: &JobPlace,
 ) -> Result<(), NoMemory>
     ensures { OnOk result ((ms : List ℕ) → ArePlaces ms members.now
-        → Further spec.job_station_of (given_job_by (is_of kind) ms kept.now) place
+        → Further spec.job_station_of (job_counts test ms kept.now) place
         (job_at (kept.now ++ e.now ∷ []) doc_place.now) groups.old groups.new) }
 {
     match job_with(kept.entries(), e, doc_place) {
         None => Ok(()),
         Some((parent, doc)) => {
-            if is_given_members_job(kind, kept, members, parent, doc) {
+            if job_counts(test, kept, members, parent, doc) {
                 groups.add(u32::from(doc.ws.0), place)?;
                 Ok(())
             } else {
@@ -226,55 +185,6 @@ fn put_given_job(
             }
         }
     }
-}
-
-/// The streams that wait.
-pub(crate) fn waiting_of(
-    mut groups: Groups,
-    kept: &Kept,
-    e: &Entry,
-    doc_places: &DocPlaces,
-) -> Result<Groups, NoMemory>
-    ensures { IfOk result (λ codes. (docs : List Doc) → AreStreamPlaces (kept.now ++ e.now ∷ []) doc_places.now.streams docs
-        → Covers spec.station_of (spec.waits_by kept.now) docs codes) }
-{
-    for (i, doc_place) in doc_places.streams.as_slice().iter().enumerate() {
-        put_waiting(&mut groups, kept, e, i, doc_place)?;
-    }
-    Ok(groups)
-}
-
-/// The streams that are begun.
-pub(crate) fn begun_of(
-    mut groups: Groups,
-    kept: &Kept,
-    e: &Entry,
-    doc_places: &DocPlaces,
-) -> Result<Groups, NoMemory>
-    ensures { IfOk result (λ codes. (docs : List Doc) → AreStreamPlaces (kept.now ++ e.now ∷ []) doc_places.now.streams docs
-        → Covers spec.station_of (spec.began_by kept.now) docs codes) }
-{
-    for (i, doc_place) in doc_places.streams.as_slice().iter().enumerate() {
-        put_begun(&mut groups, kept, e, i, doc_place)?;
-    }
-    Ok(groups)
-}
-
-/// The jobs with an open launch.
-pub(crate) fn opened_of(
-    mut groups: Groups,
-    kept: &Kept,
-    e: &Entry,
-    doc_places: &DocPlaces,
-) -> Result<Groups, NoMemory>
-    ensures { IfOk result (λ codes. (placed : List StreamJob)
-        → AreJobPlaces (kept.now ++ e.now ∷ []) doc_places.now.jobs placed
-        → Covers spec.job_station_of (spec.opened_by kept.now) placed codes) }
-{
-    for (i, doc_place) in doc_places.jobs.as_slice().iter().enumerate() {
-        put_opened(&mut groups, kept, e, i, doc_place)?;
-    }
-    Ok(groups)
 }
 
 /// The jobs of each stream.
@@ -294,9 +204,9 @@ pub(crate) fn by_stream_of(
     Ok(groups)
 }
 
-/// The members that were given a dependency of the kind.
-pub(crate) fn given_streams_of(
-    kind: Kind,
+/// The streams that pass the test.
+pub(crate) fn streams_of(
+    test: StreamTest,
     mut groups: Groups,
     kept: &Kept,
     e: &Entry,
@@ -305,17 +215,17 @@ pub(crate) fn given_streams_of(
 ) -> Result<Groups, NoMemory>
     ensures { IfOk result (λ codes. (ms : List ℕ) (docs : List Doc) → ArePlaces ms members.now
         → AreStreamPlaces (kept.now ++ e.now ∷ []) doc_places.now.streams docs
-        → Covers spec.station_of (given_stream_by (is_of kind) ms kept.now) docs codes) }
+        → Covers spec.station_of (stream_counts test ms kept.now) docs codes) }
 {
     for (i, doc_place) in doc_places.streams.as_slice().iter().enumerate() {
-        put_given_stream(kind, &mut groups, kept, e, members, i, doc_place)?;
+        put_stream(test, &mut groups, kept, e, members, i, doc_place)?;
     }
     Ok(groups)
 }
 
-/// The members' jobs that were given one.
-pub(crate) fn given_jobs_of(
-    kind: Kind,
+/// The jobs that pass the test.
+pub(crate) fn jobs_of(
+    test: JobTest,
     mut groups: Groups,
     kept: &Kept,
     e: &Entry,
@@ -324,10 +234,10 @@ pub(crate) fn given_jobs_of(
 ) -> Result<Groups, NoMemory>
     ensures { IfOk result (λ codes. (ms : List ℕ) (placed : List StreamJob) → ArePlaces ms members.now
         → AreJobPlaces (kept.now ++ e.now ∷ []) doc_places.now.jobs placed
-        → Covers spec.job_station_of (given_job_by (is_of kind) ms kept.now) placed codes) }
+        → Covers spec.job_station_of (job_counts test ms kept.now) placed codes) }
 {
     for (i, doc_place) in doc_places.jobs.as_slice().iter().enumerate() {
-        put_given_job(kind, &mut groups, kept, e, members, i, doc_place)?;
+        put_job(test, &mut groups, kept, e, members, i, doc_place)?;
     }
     Ok(groups)
 }

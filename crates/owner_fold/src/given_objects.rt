@@ -8,9 +8,10 @@ ghost use Rattle.owner_fold.specs.Sets.{AreGivenAmong, HasGiven, KeepsGiven};
 ghost use Rattle.owner_fold.specs.DocPlaces.{AreJobPlaces, AreStreamPlaces};
 
 use crate::doc_places::DocPlaces;
-use crate::fills::{given_jobs_of, given_streams_of};
+use crate::fills::{jobs_of, streams_of};
 use crate::given::Kind;
 use crate::numbers::{Index, Numbers};
+use crate::searches::{JobTest, StreamTest};
 use crate::sets::include;
 use base_types::{Entry, NoMemory, Obj};
 use grouped_places::Groups;
@@ -60,8 +61,16 @@ impl GivenObjects {
             → AreJobPlaces (kept.now ++ e.now ∷ []) doc_places.now.jobs placed
             → AreGivenAmong (is_of kind) kept.now ms streams placed given) }
     {
-        let streams = given_streams_of(kind, self.streams.empty(), kept, e, doc_places, members)?;
-        let jobs = given_jobs_of(kind, self.jobs.empty(), kept, e, doc_places, members)?;
+        let (of_streams, of_jobs) = (StreamTest::Given(kind), JobTest::Given(kind));
+        let streams = streams_of(
+            of_streams,
+            self.streams.empty(),
+            kept,
+            e,
+            doc_places,
+            members,
+        )?;
+        let jobs = jobs_of(of_jobs, self.jobs.empty(), kept, e, doc_places, members)?;
         Ok(GivenObjects { streams, jobs })
     }
 

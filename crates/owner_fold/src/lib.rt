@@ -25,6 +25,7 @@ mod holdings;
 mod numbers;
 mod pairs;
 mod plans;
+mod searches;
 mod sets;
 mod stages;
 mod stations;

@@ -11,10 +11,11 @@ ghost use Rattle.owner_fold.specs.DocPlaces.{AreJobPlaces, AreStreamPlaces};
 
 use crate::changes::Change;
 use crate::doc_places::DocPlaces;
-use crate::fills::{begun_of, by_stream_of, opened_of, waiting_of};
+use crate::fills::{by_stream_of, jobs_of, streams_of};
 use crate::given::Kind;
 use crate::given_objects::GivenObjects;
 use crate::numbers::{Index, Numbers};
+use crate::searches::{JobTest, StreamTest};
 use base_types::{Entry, JobNo, NoMemory, Obj, StreamNo, Ws};
 use grouped_places::Groups;
 use owner_rows::Kept;
@@ -147,9 +148,12 @@ impl Sets {
             → AreJobPlaces (kept.now ++ e.now ∷ []) doc_places.now.jobs placed
             → AreSetsAmong kept.now ms streams placed sets) }
     {
-        let waiting = waiting_of(self.waiting.empty(), kept, e, doc_places)?;
-        let begun = begun_of(self.begun.empty(), kept, e, doc_places)?;
-        let opened = opened_of(self.opened.empty(), kept, e, doc_places)?;
+        let waiting = self.waiting.empty();
+        let waiting = streams_of(StreamTest::Waits, waiting, kept, e, doc_places, members)?;
+        let begun = self.begun.empty();
+        let begun = streams_of(StreamTest::Begun, begun, kept, e, doc_places, members)?;
+        let opened = self.opened.empty();
+        let opened = jobs_of(JobTest::Opened, opened, kept, e, doc_places, members)?;
         let by_stream = by_stream_of(self.by_stream.empty(), kept, e, doc_places)?;
         let timed = self.timed.anew(Kind::Time, kept, e, doc_places, members)?;
         let filed = self.filed.anew(Kind::File, kept, e, doc_places, members)?;

@@ -1,16 +1,15 @@
 //! The streams of a workstation that wait for their release, and those that are under way.
 ghost use Rattle.std.specs.Prelude.{◌≡◌, filter};
 ghost use Rattle.std.specs.Iterator.{YieldsFirstRef, item_count};
-ghost use Rattle.std.specs.Option.{option_copied};
 ghost use Rattle.model.specs.Types.{Events, StreamDoc as Doc};
 ghost use Rattle.model.specs.History.{list_of, view_of};
 ghost use Rattle.model.specs.Catalogue.{streams_of};
 ghost use Rattle.owner_fold.specs.Holders.{is_under_way, streams_under_way};
-ghost use Rattle.owner_fold.specs.Sets as spec;
 ghost use Rattle.owner_fold.specs.Sets.{is_waiting, is_waiting_here, streams_waiting};
 ghost use Rattle.owner_fold.specs.Stages.{begun_left, waiting_left};
 
 use crate::holdings::Owners;
+use crate::searches::{StreamTest, next_stream};
 use crate::sets::{is_begun, is_waiting};
 use base_types::{StreamDoc, Ws};
 
@@ -30,22 +29,15 @@ pub struct BegunStreams<'a> {
     pub(crate) ws: Ws,
 }
 
-/// The stream at the place of a code of w.
-fn stream_coded(owners: &Owners, w: Ws, code: u64) -> Option<&StreamDoc>
-    ensures { option_copied result ≡ spec.stream_coded owners.now w code }
-{
-    owners.stream_coded(u32::from(w.0), code)
-}
-
 /// The stream is one of w, and waits.
-fn is_waiting_at(owners: &Owners, w: Ws, doc: &StreamDoc) -> bool
+pub(crate) fn is_waiting_at(owners: &Owners, w: Ws, doc: &StreamDoc) -> bool
     ensures { result ≡ is_waiting_here w (list_of owners.now (Events w)) doc.now }
 {
     doc.ws.0 == w.0 && is_waiting(owners.kept(), w, doc.no)
 }
 
 /// The stream is one of w, and is under way.
-fn is_under_way_at(owners: &Owners, w: Ws, doc: &StreamDoc) -> bool
+pub(crate) fn is_under_way_at(owners: &Owners, w: Ws, doc: &StreamDoc) -> bool
     ensures { result ≡ is_under_way w (list_of owners.now (Events w)) doc.now }
 {
     doc.ws.0 == w.0 && is_begun(owners.kept(), w, doc.no)
@@ -60,17 +52,9 @@ impl<'a> Iterator for WaitingStreams<'a> {
 
     #[tactic(auto, unfolding(crate::specs::Stages::waiting_left))]
     fn next(&mut self) -> Option<&'a StreamDoc> {
-        let codes = self.codes;
-        for (i, code) in codes.iter().enumerate() {
-            if let Some(doc) = stream_coded(self.owners, self.ws, *code) {
-                if is_waiting_at(self.owners, self.ws, doc) {
-                    self.codes = &codes[i + 1..];
-                    return Some(doc);
-                }
-            }
-        }
-        self.codes = &codes[codes.len()..];
-        None
+        let (found, rest) = next_stream(StreamTest::Waits, self.owners, self.ws, self.codes);
+        self.codes = rest;
+        found
     }
 }
 
@@ -83,17 +67,9 @@ impl<'a> Iterator for BegunStreams<'a> {
 
     #[tactic(auto, unfolding(crate::specs::Stages::begun_left))]
     fn next(&mut self) -> Option<&'a StreamDoc> {
-        let codes = self.codes;
-        for (i, code) in codes.iter().enumerate() {
-            if let Some(doc) = stream_coded(self.owners, self.ws, *code) {
-                if is_under_way_at(self.owners, self.ws, doc) {
-                    self.codes = &codes[i + 1..];
-                    return Some(doc);
-                }
-            }
-        }
-        self.codes = &codes[codes.len()..];
-        None
+        let (found, rest) = next_stream(StreamTest::Begun, self.owners, self.ws, self.codes);
+        self.codes = rest;
+        found
     }
 }
 

@@ -1,18 +1,17 @@
 //! The own members of a workstation, and own members' jobs, that have a time.
-ghost use Rattle.std.specs.Prelude.{◌≡◌, filter, option_map};
+ghost use Rattle.std.specs.Prelude.{◌≡◌, filter};
 ghost use Rattle.std.specs.Iterator.{YieldsFirstBy, YieldsFirstRef, item_count};
-ghost use Rattle.std.specs.Option.{option_copied};
 ghost use Rattle.model.specs.Types.{Events, Job, Stream, StreamDoc as Doc};
 ghost use Rattle.model.specs.History.{view_of};
 ghost use Rattle.model.specs.Catalogue.{StreamJob};
 ghost use Rattle.model.specs.OwnMembers.{own_jobs, own_streams};
 ghost use Rattle.owner_fold.specs.Given.{is_given, is_given_job_here, is_given_stream_here, is_of, is_timed};
-ghost use Rattle.owner_fold.specs.Sets as spec;
 ghost use Rattle.owner_fold.specs.DocPlaces.{stream_job};
 ghost use Rattle.owner_fold.specs.Times.{timed_jobs_left, timed_streams_left};
 
 use crate::given::{Kind, is_given};
 use crate::holdings::Owners;
+use crate::searches::{JobTest, StreamTest, next_job, next_stream};
 use base_types::{JobDoc, Obj, StreamDoc, Ws};
 
 /// The own members of a workstation with an AT, an UNTIL or a DEADLINE among their dependencies, in the order of the
@@ -30,20 +29,6 @@ pub struct TimedJobs<'a> {
     pub(crate) owners: &'a Owners,
     pub(crate) codes: &'a [u64],
     pub(crate) ws: Ws,
-}
-
-/// The stream at the place of a code of w.
-pub(crate) fn stream_at_code(owners: &Owners, w: Ws, code: u64) -> Option<&StreamDoc>
-    ensures { option_copied result ≡ spec.stream_coded owners.now w code }
-{
-    owners.stream_coded(u32::from(w.0), code)
-}
-
-/// The job at the place of a code of w, with its stream.
-pub(crate) fn job_at_code(owners: &Owners, w: Ws, code: u64) -> Option<(&StreamDoc, &JobDoc)>
-    ensures { option_map (λ p. stream_job p.0.now p.1.now) result ≡ spec.job_coded owners.now w code }
-{
-    owners.job_coded(u32::from(w.0), code)
 }
 
 /// The stream of w was given a dependency of the kind.
@@ -91,17 +76,10 @@ impl<'a> Iterator for TimedStreams<'a> {
 
     #[tactic(auto, unfolding(crate::specs::Times::timed_streams_left))]
     fn next(&mut self) -> Option<&'a StreamDoc> {
-        let codes = self.codes;
-        for (i, code) in codes.iter().enumerate() {
-            if let Some(doc) = stream_at_code(self.owners, self.ws, *code) {
-                if is_given_stream(Kind::Time, self.owners, self.ws, doc) {
-                    self.codes = &codes[i + 1..];
-                    return Some(doc);
-                }
-            }
-        }
-        self.codes = &codes[codes.len()..];
-        None
+        let test = StreamTest::Given(Kind::Time);
+        let (found, rest) = next_stream(test, self.owners, self.ws, self.codes);
+        self.codes = rest;
+        found
     }
 }
 
@@ -114,17 +92,10 @@ impl<'a> Iterator for TimedJobs<'a> {
 
     #[tactic(auto, unfolding(crate::specs::Times::timed_jobs_left))]
     fn next(&mut self) -> Option<(&'a StreamDoc, &'a JobDoc)> {
-        let codes = self.codes;
-        for (i, code) in codes.iter().enumerate() {
-            if let Some((parent, job)) = job_at_code(self.owners, self.ws, *code) {
-                if is_given_job(Kind::Time, self.owners, self.ws, parent, job) {
-                    self.codes = &codes[i + 1..];
-                    return Some((parent, job));
-                }
-            }
-        }
-        self.codes = &codes[codes.len()..];
-        None
+        let test = JobTest::Given(Kind::Time);
+        let (found, rest) = next_job(test, self.owners, self.ws, self.codes);
+        self.codes = rest;
+        found
     }
 }
 

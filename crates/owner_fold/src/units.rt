@@ -1,17 +1,17 @@
 //! The open launches of a workstation, and the units of a resource that are in use there.
-ghost use Rattle.std.specs.Prelude.{◌≡◌, ◌+◌, ◌<◌, ◌≤◌, ◌^◌, filter, length, option_map};
+ghost use Rattle.std.specs.Prelude.{◌≡◌, ◌+◌, ◌<◌, ◌≤◌, ◌^◌, filter, length};
 ghost use Rattle.std.specs.Iterator.{YieldsFirstBy, item_count};
 ghost use Rattle.model.specs.Types.{Events};
 ghost use Rattle.model.specs.History.{list_of, view_of};
 ghost use Rattle.model.specs.Catalogue.{StreamJob, jobs_of};
 ghost use Rattle.model.specs.Facts.{is_open};
 ghost use Rattle.model.specs.Dependencies.{units, units_in, used};
-ghost use Rattle.owner_fold.specs.Sets as spec;
 ghost use Rattle.owner_fold.specs.DocPlaces.{stream_job};
 ghost use Rattle.owner_fold.specs.Holders.{is_open_here, open_jobs, open_left};
 ghost use Rattle.owner_fold.specs.Holders.{streams_under_way, units_at};
 
 use crate::holdings::Owners;
+use crate::searches::{JobTest, next_job};
 use base_types::{Dep, JobDoc, Obj, StreamDoc, Ws};
 
 /// The jobs of a workstation with an open launch, each with its stream, in the order of the catalogue.
@@ -31,29 +31,14 @@ impl<'a> Iterator for OpenLaunches<'a> {
 
     #[tactic(auto, unfolding(crate::specs::Holders::open_left))]
     fn next(&mut self) -> Option<(&'a StreamDoc, &'a JobDoc)> {
-        let codes = self.codes;
-        for (i, code) in codes.iter().enumerate() {
-            if let Some((parent, job)) = job_coded(self.owners, self.ws, *code) {
-                if is_open_job(self.owners, self.ws, job) {
-                    self.codes = &codes[i + 1..];
-                    return Some((parent, job));
-                }
-            }
-        }
-        self.codes = &codes[codes.len()..];
-        None
+        let (found, rest) = next_job(JobTest::Opened, self.owners, self.ws, self.codes);
+        self.codes = rest;
+        found
     }
 }
 
-/// The job at the place of a code of w, with its stream.
-fn job_coded(owners: &Owners, w: Ws, code: u64) -> Option<(&StreamDoc, &JobDoc)>
-    ensures { option_map (λ p. stream_job p.0.now p.1.now) result ≡ spec.job_coded owners.now w code }
-{
-    owners.job_coded(u32::from(w.0), code)
-}
-
 /// The job is one of w, and has an open launch.
-fn is_open_job(owners: &Owners, w: Ws, job: &JobDoc) -> bool
+pub(crate) fn is_open_job(owners: &Owners, w: Ws, job: &JobDoc) -> bool
     ensures { result ≡ is_open_here w (list_of owners.now (Events w)) job.now }
 {
     job.ws.0 == w.0 && owners.kept().is_open_at(w, job.no)

@@ -1,5 +1,6 @@
 use Rattle.std.proofs.Common.{[], ◌++◌, ◌∙◌, ◌∷◌, ◌≡◌, List, Some, ap, append_assoc, flat_map, slice_get, subst, sym}
-use Rattle.std.proofs.Common.{take}
+use Rattle.std.proofs.Common.{arith, length, take}
+use Rattle.std.proofs.lemmas.List.{take_all}
 use Rattle.model.specs.Types.{Events, StreamDoc}
 use Rattle.model.specs.History.{list_of}
 use Rattle.model.specs.Catalogue.{docs_in}
@@ -39,3 +40,19 @@ loop-i-preserved c =
       streams = c.in_ok-add.ensures.streams;
       jobs = c.in_ok-add.ensures.jobs;
     }
+
+pub returns-clause-doc_places : goal.returns-clause-doc_places
+returns-clause-doc_places c =
+    let before : List StreamDoc = flat_map docs_in (list_of c.args.entries.now (Events 0)) in
+    subst
+    (λ (docs : List StreamDoc).
+    AreDocPlacesOf (c.args.entries.now ++ c.args.e.now ∷ []) (before ++ docs) c.loop-i.doc_places)
+    (take_all c.loop-i.i (docs_in c.args.e.now.body)
+    (omega (arith, c.loop-i-test.false, ap length c.docs_of-doc-items.ensures)))
+    c.loop-i.invariant.doc_places
+
+pub returns-clause-streams : goal.returns-clause-streams
+returns-clause-streams c = c.loop-i.invariant.streams
+
+pub returns-clause-jobs : goal.returns-clause-jobs
+returns-clause-jobs c = c.loop-i.invariant.jobs

@@ -2,13 +2,18 @@ use Rattle.std.proofs.Common.{[], ◌++◌, ◌∷◌, Err, List, Ok, Result, su
 use Rattle.std.specs.Prelude.{OnErr}
 use Rattle.model.specs.Types.{Entry}
 use Rattle.owner_fold.specs.Plans.{IsPlanOf}
-use Rattle.owner_fold.proofs.Beside.{beside_planned}
+use Rattle.owner_fold.proofs.Beside.{beside_planned, beside_same}
 use Rattle.owner_fold.proofs.holdings.Owners.take_planning.Goals as goal
 
 pub pairs_of-requires : goal.pairs_of-requires
 pairs_of-requires c =
     subst (λ (l : List Entry). IsPlanOf (l ++ c.args.e ∷ []) c.in_ok-plan.plan) c.entries.ensures.list
     c.in_ok-plan.ensures
+
+pub invariant_of-self : goal.invariant_of-self
+invariant_of-self c =
+    beside_same c.self.inside.kept c.take_own.new.self c.self.inside.plan c.self.inside.sets c.self.inside.pairs
+    c.in_err-take_own.ensures.err c.self.invariant
 
 pub invariant_of-self-2 : goal.invariant_of-self-2
 invariant_of-self-2 c =

@@ -28,7 +28,12 @@ fn is_second(body: &Body) -> bool
 fn any_has_deadline(docs: &[StreamDoc]) -> bool
     ensures { result ≡ list_any needed.doc_has_deadline docs.now }
 {
-    docs.iter().any(|doc| has_deadline(doc))
+    for doc in docs {
+        if has_deadline(doc) {
+            return true;
+        }
+    }
+    false
 }
 
 fn cmd_has_deadline(cmd: &Cmd) -> bool
@@ -51,13 +56,23 @@ pub fn has_deadline(doc: &StreamDoc) -> bool
 fn any_job_has_one(jobs: &[JobDoc]) -> bool
     ensures { result ≡ list_any (λ (j : JobDoc). list_any needed.is_deadline j.deps) jobs.now }
 {
-    jobs.iter().any(|job| any_deadline(job.deps.as_slice()))
+    for job in jobs {
+        if any_deadline(job.deps.as_slice()) {
+            return true;
+        }
+    }
+    false
 }
 
 fn any_deadline(deps: &[Dep]) -> bool
     ensures { result ≡ list_any needed.is_deadline deps.now }
 {
-    deps.iter().any(|dep| is_deadline(dep))
+    for dep in deps {
+        if is_deadline(dep) {
+            return true;
+        }
+    }
+    false
 }
 
 fn is_deadline(dep: &Dep) -> bool
@@ -78,14 +93,23 @@ fn draft_has_deadline(draft: &StreamDraft) -> bool
 fn any_job_draft_has_one(jobs: &[JobDraft]) -> bool
     ensures { result ≡ list_any (λ (j : JobDraft). list_any needed.is_draft_deadline j.deps) jobs.now }
 {
-    jobs.iter()
-        .any(|job| any_draft_deadline(job.deps.as_slice()))
+    for job in jobs {
+        if any_draft_deadline(job.deps.as_slice()) {
+            return true;
+        }
+    }
+    false
 }
 
 fn any_draft_deadline(deps: &[DraftDep]) -> bool
     ensures { result ≡ list_any needed.is_draft_deadline deps.now }
 {
-    deps.iter().any(|dep| is_draft_deadline(dep))
+    for dep in deps {
+        if is_draft_deadline(dep) {
+            return true;
+        }
+    }
+    false
 }
 
 fn is_draft_deadline(dep: &DraftDep) -> bool

@@ -1,7 +1,8 @@
 -- Places of a frame: what brings one to the next, and that a frame can be completed from each.
 use Rattle.std.proofs.Common.{◌≡◌, ℕ, suc, ◌+◌, ◌-◌, ◌*◌, ◌/◌, ◌%◌, ◌<◌, ◌≤◌, ◌↔◌, List, [], ◌∷◌, ◌++◌}
 use Rattle.std.proofs.Common.{length, replicate, take, refl, sym, ◌∙◌, subst, ap, arith}
-use Rattle.std.proofs.Common.{length-append, append_assoc}
+use Rattle.std.proofs.Common.{length-append, append_assoc, add-one, slice_index_or}
+use Rattle.std.proofs.Math.Seq.{take-suc}
 use Rattle.std.proofs.lemmas.List.{append-nil, length-replicate}
 use Rattle.std.specs.Prelude.{Some}
 use Rattle.model.specs.Fields.{u32_bytes}
@@ -27,6 +28,20 @@ pub seen_alike : (P Q : List ℕ → Type 0) (seen : Scanned) → ((bytes : List
 seen_alike P Q (Open place) w h = (h.0, λ b. (λ p. (h.1 b).0 ((w b).0 p), λ q. (w b).1 ((h.1 b).1 q)))
 seen_alike P Q Whole w h = λ b. (λ p. (h b).0 ((w b).0 p), λ q. (w b).1 ((h b).1 q))
 seen_alike P Q Bad w h = λ b p. h b ((w b).0 p)
+
+-- ---- one byte further
+
+pub one_further : (start place : Place) (bytes : List ℕ) (i d : ℕ) (seen : Scanned) → i < length bytes
+    → ((rest : List ℕ) → Completes start (take i bytes ++ rest) ↔ Completes place rest)
+    → ScannedAfter (λ rest. Completes place (slice_index_or bytes i d ∷ rest)) seen
+    → ScannedAfter (λ rest. Completes start (take (i + 1) bytes ++ rest)) seen
+one_further start place bytes i d seen low so_far h =
+    let x = slice_index_or bytes i d in
+    let more : take (i + 1) bytes ≡ take i bytes ++ x ∷ [] = ap (λ n. take n bytes) (add-one i) ∙ take-suc bytes i d low in
+    seen_alike (λ rest. Completes start (take (i + 1) bytes ++ rest)) (λ rest. Completes place (x ∷ rest)) seen
+    (λ rest. (let e : take (i + 1) bytes ++ rest ≡ take i bytes ++ (x ∷ rest) =
+    ap (λ (l : List ℕ). l ++ rest) more ∙ append_assoc (take i bytes) (x ∷ []) rest in
+    subst (λ (l : List ℕ). Completes start l ↔ Completes place (x ∷ rest)) (sym e) (so_far (x ∷ rest)))) h
 
 -- ---- behind a kind
 

@@ -4,7 +4,7 @@ ghost use Rattle.mail_frames.specs.Places.{IsReached, Scans};
 use crate::places::{Place, Scanned};
 
 /// The first so many bytes, and what they come to.
-#[derive(Clone, Copy, Debug, PartialEq, Eq)]
+#[derive(Clone, Copy)]
 pub struct Found {
     pub count: usize,
     pub seen: Scanned,

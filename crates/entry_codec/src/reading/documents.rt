@@ -2,17 +2,16 @@
 ghost use Rattle.std.specs.Prelude.{◌≡◌, ◌≤◌, length, nat_le, IfOk};
 ghost use Rattle.std.specs.Int.{w8};
 ghost use Rattle.entry_codec.specs.Read.{Gives, IsPlace, one};
-ghost use Rattle.entry_codec.specs.Fields.{i32_at, items_at, number_with};
-ghost use Rattle.entry_codec.specs.Parts.{cond_at, op_at};
+ghost use Rattle.entry_codec.specs.Fields.{i32_at, number_with};
+ghost use Rattle.entry_codec.specs.Parts.{cond_at};
 ghost use Rattle.base_types.specs.declared.CondOp.TheVariants.{Cmp};
 
 use crate::EntryFault;
 use crate::reading::fields::{read_i32, read_u8};
-use crate::reading::lists::Read;
+use crate::reading::lists::{Read, read_items};
 use crate::reading::parts::read_recovery;
 use base_types::{
-    Cond, CondOp, Deps, Items, JobDoc, JobNo, Jobs, Recovery, Rel, StreamDoc, StreamNo, Text, Work,
-    Ws,
+    Cond, CondOp, Deps, JobDoc, JobNo, Jobs, Recovery, Rel, StreamDoc, StreamNo, Text, Work, Ws,
 };
 use std::alloc::Global;
 
@@ -44,7 +43,7 @@ impl Read for Task {
         at: usize,
     ) -> Result<(Task, usize), EntryFault> {
         let ((work, logon), next) = <(Work, Text)>::read(alloc, second, from, at)?;
-        let (cond, next) = read_cond(alloc, from, next)?;
+        let (cond, next) = read_cond(alloc, second, from, next)?;
         let (recovery, next) = read_recovery(from, next)?;
         let task = Task {
             work,
@@ -152,13 +151,18 @@ impl Read for Work {
 
 /// A condition: a count of at most 64 in one byte, and the operations.
 #[tactic(auto, unfolding(crate::specs::Read::chain, crate::specs::Parts::cond_at))]
-fn read_cond(alloc: Global, from: &[u8], at: usize) -> Result<(Cond, usize), EntryFault>
+fn read_cond(
+    alloc: Global,
+    second: bool,
+    from: &[u8],
+    at: usize,
+) -> Result<(Cond, usize), EntryFault>
     requires { IsPlace from.now at }
     ensures reads { Gives result (cond_at from.now at) }
     ensures within { IfOk result (λ r. r.1 ≤ length from.now) }
 {
     let (count, next) = read_op_count(from, at)?;
-    read_ops(alloc, count, from, next)
+    read_items(alloc, second, u32::from(count), from, next)
 }
 
 /// A number in one byte that is at most 64.
@@ -175,40 +179,31 @@ fn read_op_count(from: &[u8], at: usize) -> Result<(u8, usize), EntryFault>
     Ok((count, next))
 }
 
-/// So many operations.
-fn read_ops(alloc: Global, count: u8, from: &[u8], at: usize) -> Result<(Cond, usize), EntryFault>
-    requires { IsPlace from.now at }
-    ensures reads { Gives result (items_at op_at count from.now at) }
-    ensures within { IfOk result (λ r. r.1 ≤ length from.now) }
-{
-    let mut ops = Items::new(alloc);
-    let mut next = at;
-    for _ in 0..count {
-        let (op, after) = read_op(from, next)?;
-        ops.push(op)?;
-        next = after;
-    }
-    Ok((ops, next))
-}
-
 /// A comparison with its code, or another operation.
-#[tactic(auto, unfolding(crate::specs::Read::chain, crate::specs::Fields::choice_at, crate::specs::Parts::op_at))]
-fn read_op(from: &[u8], at: usize) -> Result<(CondOp, usize), EntryFault>
-    requires { IsPlace from.now at }
-    ensures reads { Gives result (op_at from.now at) }
-    ensures within { IfOk result (λ r. r.1 ≤ length from.now) }
-{
-    match read_u8(from, at)? {
-        (0, next) => read_comparison(Rel::Eq, from, next),
-        (1, next) => read_comparison(Rel::Ne, from, next),
-        (2, next) => read_comparison(Rel::Lt, from, next),
-        (3, next) => read_comparison(Rel::Le, from, next),
-        (4, next) => read_comparison(Rel::Gt, from, next),
-        (5, next) => read_comparison(Rel::Ge, from, next),
-        (6, next) => Ok((CondOp::And, next)),
-        (7, next) => Ok((CondOp::Or, next)),
-        (8, next) => Ok((CondOp::Not, next)),
-        _ => Err(EntryFault::BadField(at as u32)),
+impl Read for CondOp {
+    ghost use Rattle.entry_codec.specs.Parts.{op_at};
+
+    ghost reader = { λ _. op_at };
+
+    #[tactic(auto, unfolding(crate::specs::Read::chain, crate::specs::Fields::choice_at, crate::specs::Parts::op_at))]
+    fn read(
+        _alloc: Global,
+        _second: bool,
+        from: &[u8],
+        at: usize,
+    ) -> Result<(CondOp, usize), EntryFault> {
+        match read_u8(from, at)? {
+            (0, next) => read_comparison(Rel::Eq, from, next),
+            (1, next) => read_comparison(Rel::Ne, from, next),
+            (2, next) => read_comparison(Rel::Lt, from, next),
+            (3, next) => read_comparison(Rel::Le, from, next),
+            (4, next) => read_comparison(Rel::Gt, from, next),
+            (5, next) => read_comparison(Rel::Ge, from, next),
+            (6, next) => Ok((CondOp::And, next)),
+            (7, next) => Ok((CondOp::Or, next)),
+            (8, next) => Ok((CondOp::Not, next)),
+            _ => Err(EntryFault::BadField(at as u32)),
+        }
     }
 }
 

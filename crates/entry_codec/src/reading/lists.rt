@@ -90,7 +90,7 @@ impl<T: Read> Read for Items<T> {
 }
 
 /// So many items.
-fn read_items<T: Read>(
+pub(crate) fn read_items<T: Read>(
     alloc: Global,
     second: bool,
     count: u32,

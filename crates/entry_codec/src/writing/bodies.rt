@@ -3,14 +3,15 @@ ghost use Rattle.std.specs.Prelude.{◌≡◌, ◌++◌, ◌∷◌, OnOk};
 ghost use Rattle.model.specs.Fields.{flag_bytes, i32_bytes, u16_bytes, u32_bytes};
 ghost use Rattle.std.specs.List.{All};
 ghost use Rattle.model.specs.Fit.{IsFitBody, IsFitSeen};
-ghost use Rattle.model.specs.Ranges.{BodyInRange, CountInRange, IsI32, IsU16, IsU32, ObjInRange};
-ghost use Rattle.model.specs.Spelling.{body_bytes, obj_bytes, seen_bytes};
+ghost use Rattle.model.specs.Ranges.{BodyInRange, CountInRange, IsI32, IsU16, IsU32};
+ghost use Rattle.model.specs.Spelling.{body_bytes, seen_bytes};
 
+use crate::writing::choices::{put_long, put_numbered, put_short};
 use crate::writing::commands::put_cmd;
 use crate::writing::lists::{Put, put_flag, put_list};
-use crate::writing::parts::{put_obj, put_seen, until_choice, why_choice};
-use base_types::{Body, Bytes, JobNo, NoMemory, Obj, Seen, StreamNo, Ws};
-use byte_fields::{put_i32, put_u8, put_u16, put_u32, put_u64};
+use crate::writing::parts::{put_dependency, put_seen, until_choice, why_choice};
+use base_types::{Body, Bytes, JobNo, NoMemory, Seen, StreamNo, Ws};
+use byte_fields::{put_i32, put_u8, put_u32};
 
 /// Adds a body: its kind and its fields.
 #[tactic(auto, unfolding(model::specs::Spelling::body_bytes))]
@@ -21,8 +22,7 @@ pub(crate) fn put_body(out: &mut Bytes, body: &Body) -> Result<(), NoMemory>
 {
     match body {
         Body::NewPlan(run, cut, carried, docs) => {
-            put_u8(out, 1)?;
-            put_u32(out, *run)?;
+            put_numbered(out, 1, *run)?;
             put_seen(out, cut)?;
             put_list(out, carried)?;
             put_list(out, docs)
@@ -31,10 +31,7 @@ pub(crate) fn put_body(out: &mut Bytes, body: &Body) -> Result<(), NoMemory>
             put_answer(out, 2, issuer, *order)?;
             doc.put(out)
         }
-        Body::Clock(time) => {
-            put_u8(out, 3)?;
-            put_u64(out, time.0)
-        }
+        Body::Clock(time) => put_long(out, 3, time.0),
         Body::Released(stream, seen) => put_decision(out, 4, stream, seen),
         Body::StreamEnded(stream, seen) => put_decision(out, 5, stream, seen),
         Body::UntilPassed(obj, dep, mark) => {
@@ -68,8 +65,7 @@ fn put_answer(out: &mut Bytes, kind: u8, issuer: &Ws, order: u32) -> Result<(), 
     ensures added { OnOk result (out.new ≡ out.old ++ (kind ∷ u16_bytes issuer.now ++ u32_bytes order)) }
     ensures range { OnOk result (IsU16 issuer.now × IsU32 order) }
 {
-    put_u8(out, kind)?;
-    put_u16(out, issuer.0)?;
+    put_short(out, kind, issuer.0)?;
     put_u32(out, order)
 }
 
@@ -79,19 +75,8 @@ fn put_decision(out: &mut Bytes, kind: u8, stream: &StreamNo, seen: &Seen) -> Re
     ensures added { OnOk result (out.new ≡ out.old ++ (kind ∷ u32_bytes stream.now ++ seen_bytes seen.now)) }
     ensures range { OnOk result (IsU32 stream.now × All CountInRange seen.now) }
 {
-    put_u8(out, kind)?;
-    put_u32(out, stream.0)?;
+    put_numbered(out, kind, stream.0)?;
     put_seen(out, seen)
-}
-
-/// Adds a kind, an object and the number of its dependency.
-fn put_dependency(out: &mut Bytes, kind: u8, obj: &Obj, dep: u16) -> Result<(), NoMemory>
-    ensures added { OnOk result (out.new ≡ out.old ++ (kind ∷ obj_bytes obj.now ++ u16_bytes dep)) }
-    ensures range { OnOk result (ObjInRange obj.now × IsU16 dep) }
-{
-    put_u8(out, kind)?;
-    put_obj(out, obj)?;
-    put_u16(out, dep)
 }
 
 /// Adds a kind, a job and the number of its launch.
@@ -99,8 +84,7 @@ fn put_launch(out: &mut Bytes, kind: u8, job: &JobNo, number: u32) -> Result<(),
     ensures added { OnOk result (out.new ≡ out.old ++ (kind ∷ u32_bytes job.now ++ u32_bytes number)) }
     ensures range { OnOk result (IsU32 job.now × IsU32 number) }
 {
-    put_u8(out, kind)?;
-    put_u32(out, job.0)?;
+    put_numbered(out, kind, job.0)?;
     put_u32(out, number)
 }
 

@@ -1,13 +1,13 @@
 //! Dependencies, of documents and of drafts.
-ghost use Rattle.std.specs.Prelude.{◌≡◌, ◌++◌, IfSome, IsUtf8, OnOk, length};
-ghost use Rattle.std.specs.Option.{option_copied};
+ghost use Rattle.std.specs.Prelude.{◌≡◌, ◌++◌, IfSome, IsUtf8, OnOk};
 ghost use Rattle.model.specs.Fields.{option_bytes, text_bytes};
 ghost use Rattle.model.specs.Fit.{IsFitText};
 
+use crate::writing::choices::{put_long, put_numbered, put_short, put_shorts, put_worded};
 use crate::writing::lists::Put;
 use crate::writing::parts::until_choice;
 use base_types::{Bytes, Dep, DraftDep, NoMemory, PromptRef, Text};
-use byte_fields::{put_text, put_u8, put_u16, put_u32, put_u64};
+use byte_fields::{put_text, put_u8};
 
 impl Put for Dep {
     ghost use Rattle.model.specs.Fit.{IsFitDep};
@@ -23,44 +23,18 @@ impl Put for Dep {
     #[tactic(auto, unfolding(model::specs::Spelling::dep_bytes))]
     fn put(&self, out: &mut Bytes) -> Result<(), NoMemory> {
         match self {
-            Dep::FollowsJob(job) => {
-                put_u8(out, 1)?;
-                put_u32(out, job.0)
-            }
-            Dep::FollowsStream(stream) => {
-                put_u8(out, 2)?;
-                put_u32(out, stream.0)
-            }
-            Dep::Needs(resource, units) => {
-                put_u8(out, 3)?;
-                put_u16(out, *resource)?;
-                put_u16(out, *units)
-            }
-            Dep::Prompt(PromptRef::Global(prompt)) => {
-                put_u8(out, 4)?;
-                put_u16(out, *prompt)
-            }
-            Dep::Prompt(PromptRef::Own(text)) => {
-                put_u8(out, 5)?;
-                put_text(out, text.as_str())
-            }
-            Dep::At(time) => {
-                put_u8(out, 6)?;
-                put_u64(out, time.0)
-            }
+            Dep::FollowsJob(job) => put_numbered(out, 1, job.0),
+            Dep::FollowsStream(stream) => put_numbered(out, 2, stream.0),
+            Dep::Needs(resource, units) => put_shorts(out, 3, *resource, *units),
+            Dep::Prompt(PromptRef::Global(prompt)) => put_short(out, 4, *prompt),
+            Dep::Prompt(PromptRef::Own(text)) => put_worded(out, 5, text.as_str()),
+            Dep::At(time) => put_long(out, 6, time.0),
             Dep::Until(time, mark) => {
-                put_u8(out, 7)?;
-                put_u64(out, time.0)?;
+                put_long(out, 7, time.0)?;
                 put_u8(out, until_choice(*mark))
             }
-            Dep::Outside(path) => {
-                put_u8(out, 8)?;
-                put_text(out, path.as_str())
-            }
-            Dep::Deadline(time) => {
-                put_u8(out, 9)?;
-                put_u64(out, time.0)
-            }
+            Dep::Outside(path) => put_worded(out, 8, path.as_str()),
+            Dep::Deadline(time) => put_long(out, 9, time.0),
         }
     }
 }
@@ -80,8 +54,7 @@ impl Put for DraftDep {
     fn put(&self, out: &mut Bytes) -> Result<(), NoMemory> {
         match self {
             DraftDep::Follows(ws, name, job) => {
-                put_u8(out, 0)?;
-                put_u16(out, ws.0)?;
+                put_short(out, 0, ws.0)?;
                 put_text(out, name.as_str())?;
                 put_job_name(out, job)
             }
@@ -98,9 +71,6 @@ fn put_job_name(out: &mut Bytes, name: &Option<Text>) -> Result<(), NoMemory>
 {
     match name {
         None => put_u8(out, 0),
-        Some(name) => {
-            put_u8(out, 1)?;
-            put_text(out, name.as_str())
-        }
+        Some(name) => put_worded(out, 1, name.as_str()),
     }
 }

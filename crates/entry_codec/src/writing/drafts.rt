@@ -1,9 +1,7 @@
 //! The drafts of streams and jobs.
-use crate::writing::documents::{put_cond, put_work};
+use crate::writing::documents::{put_named, put_task};
 use crate::writing::lists::{Put, put_flag, put_limit, put_list};
-use crate::writing::parts::recovery_choice;
 use base_types::{Bytes, JobDraft, NoMemory, StreamDraft};
-use byte_fields::{put_text, put_u8, put_u16};
 
 impl Put for JobDraft {
     ghost use Rattle.model.specs.Fit.{IsFitJobDraft};
@@ -18,13 +16,8 @@ impl Put for JobDraft {
 
     #[tactic(auto, unfolding(model::specs::Spelling::job_draft_bytes))]
     fn put(&self, out: &mut Bytes) -> Result<(), NoMemory> {
-        put_u16(out, self.ws.0)?;
-        put_text(out, self.name.as_str())?;
-        put_u8(out, self.priority)?;
-        put_work(out, &self.work)?;
-        put_text(out, self.logon.as_str())?;
-        put_cond(out, &self.cond)?;
-        put_u8(out, recovery_choice(self.recovery))?;
+        put_named(out, &self.ws, &self.name, self.priority)?;
+        put_task(out, &self.work, &self.logon, &self.cond, self.recovery)?;
         put_list(out, &self.deps)
     }
 }
@@ -42,9 +35,7 @@ impl Put for StreamDraft {
 
     #[tactic(auto, unfolding(model::specs::Spelling::stream_draft_bytes))]
     fn put(&self, out: &mut Bytes) -> Result<(), NoMemory> {
-        put_u16(out, self.ws.0)?;
-        put_text(out, self.name.as_str())?;
-        put_u8(out, self.priority)?;
+        put_named(out, &self.ws, &self.name, self.priority)?;
         put_limit(out, self.limit)?;
         put_flag(out, self.carry)?;
         put_list(out, &self.deps)?;

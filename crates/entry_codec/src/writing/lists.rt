@@ -5,8 +5,9 @@ ghost use Rattle.model.specs.Fields.{flag_bytes, list_bytes, option_bytes, u16_b
 ghost use Rattle.model.specs.Fit.{AreFit};
 ghost use Rattle.model.specs.Ranges.{IsU16};
 
+use crate::writing::choices::put_short;
 use base_types::{Bytes, Items, NoMemory, StreamNo};
-use byte_fields::{put_u8, put_u16, put_u32};
+use byte_fields::{put_u8, put_u32};
 
 /// A value that stands in lists.
 pub(crate) trait Put {
@@ -71,9 +72,6 @@ pub(crate) fn put_limit(out: &mut Bytes, limit: Option<u16>) -> Result<(), NoMem
 {
     match limit {
         None => put_u8(out, 0),
-        Some(limit) => {
-            put_u8(out, 1)?;
-            put_u16(out, limit)
-        }
+        Some(limit) => put_short(out, 1, limit),
     }
 }

@@ -1,11 +1,13 @@
 //! Feeds, counts, objects and choices.
-ghost use Rattle.std.specs.Prelude.{◌≡◌, ◌++◌, ◌<◌, ◌^◌, OnOk};
+ghost use Rattle.std.specs.Prelude.{◌≡◌, ◌++◌, ◌∷◌, ◌<◌, ◌^◌, OnOk};
 ghost use Rattle.std.specs.List.{All};
+ghost use Rattle.model.specs.Fields.{u16_bytes};
 ghost use Rattle.model.specs.Fit.{IsFitSeen};
-ghost use Rattle.model.specs.Ranges.{CountInRange, FeedInRange, ObjInRange};
+ghost use Rattle.model.specs.Ranges.{CountInRange, FeedInRange, IsU16, ObjInRange};
 ghost use Rattle.model.specs.Spelling.{count_bytes, feed_bytes, obj_bytes, seen_bytes};
 ghost use Rattle.model.specs.Spelling as spelled;
 
+use crate::writing::choices::{put_numbered, put_short, put_shorts};
 use base_types::{Bytes, Feed, NoMemory, Obj, OnUntil, Recovery, Seen, Why, Ws};
 use byte_fields::{put_u8, put_u16, put_u32};
 
@@ -15,15 +17,8 @@ pub(crate) fn put_feed(out: &mut Bytes, feed: &Feed) -> Result<(), NoMemory>
     ensures range { OnOk result (FeedInRange feed.now) }
 {
     match feed {
-        Feed::Events(w) => {
-            put_u8(out, 0)?;
-            put_u16(out, w.0)
-        }
-        Feed::Orders(a, w) => {
-            put_u8(out, 1)?;
-            put_u16(out, a.0)?;
-            put_u16(out, w.0)
-        }
+        Feed::Events(w) => put_short(out, 0, w.0),
+        Feed::Orders(a, w) => put_shorts(out, 1, a.0, w.0),
     }
 }
 
@@ -56,15 +51,32 @@ pub(crate) fn put_obj(out: &mut Bytes, obj: &Obj) -> Result<(), NoMemory>
     ensures range { OnOk result (ObjInRange obj.now) }
 {
     match obj {
-        Obj::Job(job) => {
-            put_u8(out, 0)?;
-            put_u32(out, job.0)
-        }
-        Obj::Stream(stream) => {
-            put_u8(out, 1)?;
-            put_u32(out, stream.0)
-        }
+        Obj::Job(job) => put_numbered(out, 0, job.0),
+        Obj::Stream(stream) => put_numbered(out, 1, stream.0),
     }
+}
+
+/// Adds a choice and the object that it is about.
+pub(crate) fn put_for(out: &mut Bytes, choice: u8, obj: &Obj) -> Result<(), NoMemory>
+    ensures added { OnOk result (out.new ≡ out.old ++ choice ∷ obj_bytes obj.now) }
+    ensures range { OnOk result (ObjInRange obj.now) }
+{
+    put_u8(out, choice)?;
+    put_obj(out, obj)
+}
+
+/// Adds a choice, an object and the number of its dependency.
+pub(crate) fn put_dependency(
+    out: &mut Bytes,
+    choice: u8,
+    obj: &Obj,
+    dep: u16,
+) -> Result<(), NoMemory>
+    ensures added { OnOk result (out.new ≡ out.old ++ (choice ∷ obj_bytes obj.now ++ u16_bytes dep)) }
+    ensures range { OnOk result (ObjInRange obj.now × IsU16 dep) }
+{
+    put_for(out, choice, obj)?;
+    put_u16(out, dep)
 }
 
 /// The choice of what a passed UNTIL does.

@@ -7,7 +7,7 @@ ghost use Rattle.record_rows.specs.declared.rows.DepRow.TheVariants as dep;
 
 use crate::quotes::text;
 use crate::rows::DepRow;
-use crate::words::{moment, number_up_to};
+use crate::words::{is, moment, number_up_to};
 use base_types::{NoMemory, OnUntil, Text};
 use std::alloc::Global;
 use syntax::{first_word, name};
@@ -16,11 +16,11 @@ use syntax::{first_word, name};
 fn passed(word: &str) -> Option<OnUntil>
     ensures { result ≡ spec.passed_of word.now }
 {
-    if word == "suppr" {
+    if is(word, "suppr") {
         Some(OnUntil::Suppr)
-    } else if word == "cont" {
+    } else if is(word, "cont") {
         Some(OnUntil::Cont)
-    } else if word == "canc" {
+    } else if is(word, "canc") {
         Some(OnUntil::Canc)
     } else {
         None
@@ -106,10 +106,11 @@ fn follows(alloc: Global, word: &str) -> Result<Option<DepRow>, NoMemory>
 fn follows_job(alloc: Global, ws: Text, stream: Text, job: &str) -> Result<Option<DepRow>, NoMemory>
     ensures { IfOk result (λ o. o ≡ option_map (dep.FollowsJob ws stream) (name_of job.now)) }
 {
-    let Some(job) = name(alloc, job)? else {
-        return Ok(None);
-    };
-    Ok(Some(DepRow::FollowsJob(ws, stream, job)))
+    match name(alloc, job) {
+        Ok(Some(job)) => Ok(Some(DepRow::FollowsJob(ws, stream, job))),
+        Ok(None) => Ok(None),
+        Err(error) => Err(error),
+    }
 }
 
 /// `STREAM`, `STREAM.JOB` on a workstation
@@ -138,19 +139,19 @@ fn opens(alloc: Global, rest: &str) -> Result<Option<DepRow>, NoMemory>
 pub(crate) fn dep(alloc: Global, word: &str, rest: &str) -> Result<Option<DepRow>, NoMemory>
     ensures { IfOk result (λ o. o ≡ spec.dep_of word.now rest.now) }
 {
-    if word == "at" {
+    if is(word, "at") {
         Ok(moment(rest).map(DepRow::At))
-    } else if word == "until" {
+    } else if is(word, "until") {
         Ok(until(rest))
-    } else if word == "deadline" {
+    } else if is(word, "deadline") {
         Ok(moment(rest).map(DepRow::Deadline))
-    } else if word == "follows" {
+    } else if is(word, "follows") {
         follows(alloc, rest)
-    } else if word == "needs" {
+    } else if is(word, "needs") {
         needs(alloc, rest)
-    } else if word == "ask" {
+    } else if is(word, "ask") {
         ask(alloc, rest)
-    } else if word == "opens" {
+    } else if is(word, "opens") {
         opens(alloc, rest)
     } else {
         Ok(None)

@@ -12,6 +12,7 @@
 
 mod dependency_rows;
 mod network_rows;
+mod pairs;
 mod plan_rows;
 mod quotes;
 mod ranges;

@@ -1,5 +1,5 @@
 //! The rows of a text's lines.
-ghost use Rattle.std.specs.Prelude.{◌≡◌, IfOk, map, option_map};
+ghost use Rattle.std.specs.Prelude.{◌≡◌, ◌++◌, ◌∷◌, [], IfOk, OnOk, map, option_map};
 ghost use Rattle.record_rows.specs.Plans.{dep_of, part_of};
 ghost use Rattle.record_rows.specs.Rows as spec;
 ghost use Rattle.record_rows.specs.Rows.{◌else_◌, plan_row, row_of, rows_of};
@@ -11,6 +11,7 @@ use crate::network_rows::network_row;
 use crate::plan_rows::{object_row, part};
 use crate::rows::Row;
 use crate::step_rows::step;
+use crate::words::is;
 use base_types::{Items, NoMemory};
 use std::alloc::Global;
 use syntax::{first_word, lines};
@@ -19,16 +20,27 @@ use syntax::{first_word, lines};
 fn header(text: &str) -> Option<Row>
     ensures { result ≡ spec.header_of text.now }
 {
-    if text == "$NETWORK" {
+    if is(text, "$NETWORK") {
         Some(Row::Network)
-    } else if text == "$DEFINITIONS" {
+    } else if is(text, "$DEFINITIONS") {
         Some(Row::Definitions)
-    } else if text == "$PLAN" {
+    } else if is(text, "$PLAN") {
         Some(Row::Plan)
-    } else if text == "$STEPS" {
+    } else if is(text, "$STEPS") {
         Some(Row::Steps)
     } else {
         None
+    }
+}
+
+/// A step.
+fn step_row(alloc: Global, text: &str) -> Result<Option<Row>, NoMemory>
+    ensures { IfOk result (λ o. o ≡ option_map row.Step (step_of text.now)) }
+{
+    match step(alloc, text) {
+        Ok(Some(step)) => Ok(Some(Row::Step(step))),
+        Ok(None) => Ok(None),
+        Err(error) => Err(error),
     }
 }
 
@@ -37,9 +49,10 @@ fn dep_or_step(alloc: Global, text: &str, word: &str, rest: &str) -> Result<Opti
     ensures { IfOk result (λ o. o ≡ (option_map row.Dep (dep_of word.now rest.now)
         else_ option_map row.Step (step_of text.now))) }
 {
-    match dep(alloc, word, rest)? {
-        Some(dep) => Ok(Some(Row::Dep(dep))),
-        None => Ok(step(alloc, text)?.map(Row::Step)),
+    match dep(alloc, word, rest) {
+        Ok(Some(dep)) => Ok(Some(Row::Dep(dep))),
+        Ok(None) => step_row(alloc, text),
+        Err(error) => Err(error),
     }
 }
 
@@ -53,9 +66,10 @@ fn part_or_behind(
     ensures { IfOk result (λ o. o ≡ (option_map row.Part (part_of word.now rest.now)
         else_ option_map row.Dep (dep_of word.now rest.now) else_ option_map row.Step (step_of text.now))) }
 {
-    match part(alloc, word, rest)? {
-        Some(part) => Ok(Some(Row::Part(part))),
-        None => dep_or_step(alloc, text, word, rest),
+    match part(alloc, word, rest) {
+        Ok(Some(part)) => Ok(Some(Row::Part(part))),
+        Ok(None) => dep_or_step(alloc, text, word, rest),
+        Err(error) => Err(error),
     }
 }
 
@@ -69,9 +83,10 @@ fn object_or_behind(
     ensures { IfOk result (λ o. o ≡ (plan_row word.now rest.now else_ option_map row.Part (part_of word.now rest.now)
         else_ option_map row.Dep (dep_of word.now rest.now) else_ option_map row.Step (step_of text.now))) }
 {
-    match object_row(alloc, word, rest)? {
-        Some(row) => Ok(Some(row)),
-        None => part_or_behind(alloc, text, word, rest),
+    match object_row(alloc, word, rest) {
+        Ok(Some(row)) => Ok(Some(row)),
+        Ok(None) => part_or_behind(alloc, text, word, rest),
+        Err(error) => Err(error),
     }
 }
 
@@ -81,9 +96,10 @@ fn form_below(alloc: Global, text: &str) -> Result<Option<Row>, NoMemory>
     ensures { IfOk result (λ o. o ≡ spec.form_below text.now) }
 {
     let (word, rest) = first_word(text);
-    match network_row(alloc, word, rest)? {
-        Some(row) => Ok(Some(row)),
-        None => object_or_behind(alloc, text, word, rest),
+    match network_row(alloc, word, rest) {
+        Ok(Some(row)) => Ok(Some(row)),
+        Ok(None) => object_or_behind(alloc, text, word, rest),
+        Err(error) => Err(error),
     }
 }
 
@@ -112,9 +128,20 @@ fn row(alloc: Global, text: &str) -> Result<Row, NoMemory>
     if is_skipped(text) {
         return Ok(Row::Skipped);
     }
-    match form(alloc, text)? {
-        Some(row) => Ok(row),
-        None => Ok(Row::NoForm),
+    match form(alloc, text) {
+        Ok(Some(row)) => Ok(row),
+        Ok(None) => Ok(Row::NoForm),
+        Err(error) => Err(error),
+    }
+}
+
+/// Adds the row that a line is.
+fn add_row(alloc: Global, rows: &mut Items<Row>, text: &str) -> Result<(), NoMemory>
+    ensures { OnOk result (rows.new ≡ rows.old ++ row_of text.now ∷ []) }
+{
+    match row(alloc, text) {
+        Ok(next) => rows.push(next),
+        Err(error) => Err(error),
     }
 }
 
@@ -124,8 +151,7 @@ fn rows(alloc: Global, texts: &[&str]) -> Result<Items<Row>, NoMemory>
 {
     let mut rows = Items::new(alloc);
     for text in texts {
-        let next = row(alloc, text)?;
-        rows.push(next)?;
+        add_row(alloc, &mut rows, text)?;
     }
     Ok(rows)
 }

@@ -6,11 +6,14 @@ ghost use Rattle.syntax.specs.Splits.{words_of};
 ghost use Rattle.conman_syntax.specs.Rows.{due_line};
 ghost use Rattle.record_rows.specs.Steps as spec;
 ghost use Rattle.record_rows.specs.Behind as behind;
+ghost use Rattle.record_rows.specs.Words.{code_of};
+ghost use Rattle.record_rows.specs.declared.rows.CutRow.TheVariants as cut;
 ghost use Rattle.record_rows.specs.declared.rows.OwnRow.TheVariants as own;
 ghost use Rattle.record_rows.specs.declared.rows.StepRow.TheVariants as step;
 
+use crate::pairs::pair;
 use crate::rows::{CutRow, ObjRow, OwnRow, Ranged, StepRow};
-use crate::words::{code, count, dep_no, job_no, moment, stream_no};
+use crate::words::{code, count, dep_no, is, job_no, moment, stream_no};
 use base_types::{NoMemory, Text};
 use calendars::read_date;
 use conman_syntax::{CommandFault, Line, parse_command};
@@ -70,15 +73,15 @@ fn command(alloc: Global, text: &str) -> Result<Option<OwnRow>, NoMemory>
 fn own(alloc: Global, word: &str, rest: &str) -> Result<Option<OwnRow>, NoMemory>
     ensures { IfOk result (λ o. o ≡ spec.own_of word.now rest.now) }
 {
-    if word == "turn" {
+    if is(word, "turn") {
         Ok(moment(rest).map(OwnRow::Turn))
-    } else if word == "started" {
+    } else if is(word, "started") {
         Ok(job_no(rest).map(OwnRow::Started))
-    } else if word == "failed" {
+    } else if is(word, "failed") {
         Ok(job_no(rest).map(OwnRow::Failed))
-    } else if word == "ended" {
+    } else if is(word, "ended") {
         Ok(ended(rest))
-    } else if word == "type" {
+    } else if is(word, "type") {
         command(alloc, rest)
     } else {
         Ok(None)
@@ -89,10 +92,11 @@ fn own(alloc: Global, word: &str, rest: &str) -> Result<Option<OwnRow>, NoMemory
 fn step_on(alloc: Global, ws: Text, word: &str, rest: &str) -> Result<Option<StepRow>, NoMemory>
     ensures { IfOk result (λ o. o ≡ option_map (step.Own ws) (spec.own_of word.now rest.now)) }
 {
-    let Some(step) = own(alloc, word, rest)? else {
-        return Ok(None);
-    };
-    Ok(Some(StepRow::Own(ws, step)))
+    match own(alloc, word, rest) {
+        Ok(Some(step)) => Ok(Some(StepRow::Own(ws, step))),
+        Ok(None) => Ok(None),
+        Err(error) => Err(error),
+    }
 }
 
 /// A step that is a workstation's own.
@@ -105,27 +109,6 @@ fn own_step(alloc: Global, word: &str, rest: &str) -> Result<Option<StepRow>, No
         return Ok(None);
     };
     step_on(alloc, ws, word, rest)
-}
-
-/// `B`, behind a name
-fn pair_with(alloc: Global, a: Text, b: &str) -> Result<Option<(Text, Text)>, NoMemory>
-    ensures { IfOk result (λ o. o ≡ behind.pair_with a b.now) }
-{
-    let Some(b) = name(alloc, b)? else {
-        return Ok(None);
-    };
-    Ok(Some((a, b)))
-}
-
-/// `A B`
-fn pair(alloc: Global, rest: &str) -> Result<Option<(Text, Text)>, NoMemory>
-    ensures { IfOk result (λ o. o ≡ spec.pair_of rest.now) }
-{
-    let (a, b) = first_word(rest);
-    let Some(a) = name(alloc, a)? else {
-        return Ok(None);
-    };
-    pair_with(alloc, a, b)
 }
 
 /// `K`, behind two names
@@ -174,28 +157,36 @@ fn packet_in(alloc: Global, rest: &str) -> Result<Option<(Text, Text, Ranged<u32
     packet(alloc, &words)
 }
 
+/// `RC`, behind the workstation
+fn reap_on(ws: Text, rc: &str) -> Option<StepRow>
+    ensures { result ≡ option_map (step.Reap ws) (code_of rc.now) }
+{
+    match code(rc) {
+        Some(rc) => Some(StepRow::Reap(ws, rc)),
+        None => None,
+    }
+}
+
 /// `W RC`
 #[tactic(auto, unfolding(crate::specs::Steps::reap_of))]
 fn reap(alloc: Global, rest: &str) -> Result<Option<StepRow>, NoMemory>
     ensures { IfOk result (λ o. o ≡ spec.reap_of rest.now) }
 {
     let (ws, rc) = first_word(rest);
-    let Some(ws) = name(alloc, ws)? else {
-        return Ok(None);
-    };
-    let Some(rc) = code(rc) else {
-        return Ok(None);
-    };
-    Ok(Some(StepRow::Reap(ws, rc)))
+    match name(alloc, ws) {
+        Ok(Some(ws)) => Ok(reap_on(ws, rc)),
+        Ok(None) => Ok(None),
+        Err(error) => Err(error),
+    }
 }
 
 /// `job J`, `stream S`
 fn object(kind: &str, n: &str) -> Option<ObjRow>
     ensures { result ≡ spec.object_of kind.now n.now }
 {
-    if kind == "job" {
+    if is(kind, "job") {
         job_no(n).map(ObjRow::Job)
-    } else if kind == "stream" {
+    } else if is(kind, "stream") {
         stream_no(n).map(ObjRow::Stream)
     } else {
         None
@@ -233,6 +224,17 @@ fn is_same(a: &Text, b: &Text) -> bool
     a.as_str() == b.as_str()
 }
 
+/// What a workstation does or is told, as the step in which it stops
+fn own_as_cut(alloc: Global, word: &str, rest: &str) -> Result<Option<CutRow>, NoMemory>
+    ensures { IfOk result (λ o. o ≡ option_map cut.Own (spec.own_of word.now rest.now)) }
+{
+    match own(alloc, word, rest) {
+        Ok(Some(own)) => Ok(Some(CutRow::Own(own))),
+        Ok(None) => Ok(None),
+        Err(error) => Err(error),
+    }
+}
+
 /// A step of this workstation's own, in which it stops.
 #[tactic(auto, unfolding(crate::specs::Steps::own_cut))]
 fn own_cut(alloc: Global, ws: &Text, word: &str, rest: &str) -> Result<Option<CutRow>, NoMemory>
@@ -245,7 +247,7 @@ fn own_cut(alloc: Global, ws: &Text, word: &str, rest: &str) -> Result<Option<Cu
     if !is_same(&named, ws) {
         return Ok(None);
     }
-    Ok(own(alloc, word, rest)?.map(CutRow::Own))
+    own_as_cut(alloc, word, rest)
 }
 
 /// The packet that was read, where it goes to this workstation.
@@ -265,9 +267,10 @@ fn packet_to(ws: &Text, packet: (Text, Text, Ranged<u32>)) -> Option<CutRow>
 fn packet_cut(alloc: Global, ws: &Text, rest: &str) -> Result<Option<CutRow>, NoMemory>
     ensures { IfOk result (λ o. o ≡ spec.packet_cut ws.now rest.now) }
 {
-    match packet_in(alloc, rest)? {
-        Some(packet) => Ok(packet_to(ws, packet)),
-        None => Ok(None),
+    match packet_in(alloc, rest) {
+        Ok(Some(packet)) => Ok(packet_to(ws, packet)),
+        Ok(None) => Ok(None),
+        Err(error) => Err(error),
     }
 }
 
@@ -276,13 +279,13 @@ fn packet_cut(alloc: Global, ws: &Text, rest: &str) -> Result<Option<CutRow>, No
 fn cut(alloc: Global, ws: &Text, text: &str) -> Result<Option<CutRow>, NoMemory>
     ensures { IfOk result (λ o. o ≡ spec.cut_of ws.now text.now) }
 {
-    if text == "next" {
+    if is(text, "next") {
         return Ok(Some(CutRow::Next));
     }
     let (word, rest) = first_word(text);
-    if word == "next" {
+    if is(word, "next") {
         Ok(read_date(rest).map(CutRow::NextDay))
-    } else if word == "deliver" {
+    } else if is(word, "deliver") {
         packet_cut(alloc, ws, rest)
     } else {
         own_cut(alloc, ws, word, rest)
@@ -293,9 +296,9 @@ fn cut(alloc: Global, ws: &Text, text: &str) -> Result<Option<CutRow>, NoMemory>
 fn kept(word: &str) -> Option<bool>
     ensures { result ≡ spec.kept_of word.now }
 {
-    if word == "kept" {
+    if is(word, "kept") {
         Some(true)
-    } else if word == "lost" {
+    } else if is(word, "lost") {
         Some(false)
     } else {
         None
@@ -336,9 +339,10 @@ fn crash(alloc: Global, rest: &str) -> Result<Option<StepRow>, NoMemory>
 fn link(alloc: Global, rest: &str) -> Result<Option<StepRow>, NoMemory>
     ensures { IfOk result (λ o. o ≡ option_map (λ p. step.Link p.0 p.1) (spec.pair_of rest.now)) }
 {
-    match pair(alloc, rest)? {
-        Some((a, b)) => Ok(Some(StepRow::Link(a, b))),
-        None => Ok(None),
+    match pair(alloc, rest) {
+        Ok(Some((a, b))) => Ok(Some(StepRow::Link(a, b))),
+        Ok(None) => Ok(None),
+        Err(error) => Err(error),
     }
 }
 
@@ -346,9 +350,10 @@ fn link(alloc: Global, rest: &str) -> Result<Option<StepRow>, NoMemory>
 fn unlink(alloc: Global, rest: &str) -> Result<Option<StepRow>, NoMemory>
     ensures { IfOk result (λ o. o ≡ option_map (λ p. step.Unlink p.0 p.1) (spec.pair_of rest.now)) }
 {
-    match pair(alloc, rest)? {
-        Some((a, b)) => Ok(Some(StepRow::Unlink(a, b))),
-        None => Ok(None),
+    match pair(alloc, rest) {
+        Ok(Some((a, b))) => Ok(Some(StepRow::Unlink(a, b))),
+        Ok(None) => Ok(None),
+        Err(error) => Err(error),
     }
 }
 
@@ -356,9 +361,10 @@ fn unlink(alloc: Global, rest: &str) -> Result<Option<StepRow>, NoMemory>
 fn flow(alloc: Global, rest: &str) -> Result<Option<StepRow>, NoMemory>
     ensures { IfOk result (λ o. o ≡ option_map (λ p. step.Flow p.0 p.1) (spec.pair_of rest.now)) }
 {
-    match pair(alloc, rest)? {
-        Some((a, b)) => Ok(Some(StepRow::Flow(a, b))),
-        None => Ok(None),
+    match pair(alloc, rest) {
+        Ok(Some((a, b))) => Ok(Some(StepRow::Flow(a, b))),
+        Ok(None) => Ok(None),
+        Err(error) => Err(error),
     }
 }
 
@@ -376,15 +382,21 @@ fn deliver(alloc: Global, rest: &str) -> Result<Option<StepRow>, NoMemory>
 fn fulfil_in(alloc: Global, rest: &str) -> Result<Option<StepRow>, NoMemory>
     ensures { IfOk result (λ o. o ≡ spec.fulfil_of (words_of rest.now)) }
 {
-    let words = words(alloc, rest)?;
-    fulfil(alloc, &words)
+    match words(alloc, rest) {
+        Ok(words) => fulfil(alloc, &words),
+        Err(error) => Err(error),
+    }
 }
 
 /// `W`, behind `recover`
 fn recover(alloc: Global, rest: &str) -> Result<Option<StepRow>, NoMemory>
     ensures { IfOk result (λ o. o ≡ option_map step.Recover (name_of rest.now)) }
 {
-    Ok(name(alloc, rest)?.map(StepRow::Recover))
+    match name(alloc, rest) {
+        Ok(Some(ws)) => Ok(Some(StepRow::Recover(ws))),
+        Ok(None) => Ok(None),
+        Err(error) => Err(error),
+    }
 }
 
 /// A step by its first word and what follows it.
@@ -392,23 +404,23 @@ fn recover(alloc: Global, rest: &str) -> Result<Option<StepRow>, NoMemory>
 fn step_of_word(alloc: Global, word: &str, rest: &str) -> Result<Option<StepRow>, NoMemory>
     ensures { IfOk result (λ o. o ≡ spec.step_of_word word.now rest.now) }
 {
-    if word == "next" {
+    if is(word, "next") {
         Ok(read_date(rest).map(StepRow::NextDay))
-    } else if word == "link" {
+    } else if is(word, "link") {
         link(alloc, rest)
-    } else if word == "unlink" {
+    } else if is(word, "unlink") {
         unlink(alloc, rest)
-    } else if word == "deliver" {
+    } else if is(word, "deliver") {
         deliver(alloc, rest)
-    } else if word == "flow" {
+    } else if is(word, "flow") {
         flow(alloc, rest)
-    } else if word == "reap" {
+    } else if is(word, "reap") {
         reap(alloc, rest)
-    } else if word == "crash" {
+    } else if is(word, "crash") {
         crash(alloc, rest)
-    } else if word == "fulfil" {
+    } else if is(word, "fulfil") {
         fulfil_in(alloc, rest)
-    } else if word == "recover" {
+    } else if is(word, "recover") {
         recover(alloc, rest)
     } else {
         own_step(alloc, word, rest)
@@ -420,7 +432,7 @@ fn step_of_word(alloc: Global, word: &str, rest: &str) -> Result<Option<StepRow>
 pub(crate) fn step(alloc: Global, text: &str) -> Result<Option<StepRow>, NoMemory>
     ensures { IfOk result (λ o. o ≡ spec.step_of text.now) }
 {
-    if text == "next" {
+    if is(text, "next") {
         return Ok(Some(StepRow::Next));
     }
     let (word, rest) = first_word(text);

@@ -1,13 +1,13 @@
 //! What streams and jobs depend on.
-ghost use Rattle.std.specs.Prelude.{◌≡◌, IfOk, Some, filter_map};
-ghost use Rattle.model.specs.Types.{Follows};
-ghost use Rattle.record_script.specs.Numbers.{ws_no};
+ghost use Rattle.std.specs.Prelude.{◌≡◌, [], IfOk, None, Some, filter_map};
+ghost use Rattle.model.specs.Types.{Follows, Outside, Own, Plain, Prompt};
+ghost use Rattle.record_script.specs.Numbers.{within, ws_no};
 ghost use Rattle.record_script.specs.Plans as spec;
 
 use crate::numbers::Numbers;
-use crate::values::{text_within, within};
+use crate::values::{copy_texts, text_within, within};
 use base_types::{Copied, Dep, DraftDep, DraftDeps, Items, Moment, NoMemory, PromptRef, Text};
-use record_rows::{DepRow, Row, StreamRow};
+use record_rows::{DepRow, Ranged, Row, StreamRow};
 use std::alloc::Global;
 
 /// A dependency of an object on workstation `ws`, in a stream.
@@ -25,9 +25,7 @@ fn draft_dep<'a>(
         DepRow::At(t) => Ok(DraftDep::Plain(Dep::At(within(Moment(0), t)))),
         DepRow::Until(t, passed) => Ok(DraftDep::Plain(Dep::Until(within(Moment(0), t), *passed))),
         DepRow::Deadline(t) => Ok(DraftDep::Plain(Dep::Deadline(within(Moment(0), t)))),
-        DepRow::FollowsStream(w, name) => {
-            Ok(DraftDep::Follows(numbers.ws(w), name.copy()?, None))
-        }
+        DepRow::FollowsStream(w, name) => follows_stream(numbers, w, name),
         DepRow::FollowsJob(w, name, job) => follows(numbers, w, name, job),
         DepRow::FollowsOwn(job) => follows(numbers, &stream.ws, &stream.name, job),
         DepRow::Needs(units, name) => Ok(DraftDep::Plain(Dep::Needs(
@@ -38,14 +36,8 @@ fn draft_dep<'a>(
             let prompt = PromptRef::Global(numbers.prompt(name));
             Ok(DraftDep::Plain(Dep::Prompt(prompt)))
         }
-        DepRow::AskOwn(text) => {
-            let prompt = PromptRef::Own(text_within(alloc, text)?);
-            Ok(DraftDep::Plain(Dep::Prompt(prompt)))
-        }
-        DepRow::Opens(path) => {
-            let path = text_within(alloc, path)?;
-            Ok(DraftDep::Plain(Dep::Outside(path)))
-        }
+        DepRow::AskOwn(text) => asks_own(alloc, text),
+        DepRow::Opens(path) => opens(alloc, path),
     }
 }
 
@@ -58,9 +50,44 @@ fn follows<'a>(
 ) -> Result<DraftDep, NoMemory>
     ensures { IfOk result (λ d. d ≡ Follows (ws_no numbers.now ws.now) stream.now (Some job.now)) }
 {
-    let name = stream.copy()?;
-    let job = job.copy()?;
-    Ok(DraftDep::Follows(numbers.ws(ws), name, Some(job)))
+    match copy_texts(stream, job) {
+        Ok((name, job)) => Ok(DraftDep::Follows(numbers.ws(ws), name, Some(job))),
+        Err(error) => Err(error),
+    }
+}
+
+/// A stream.
+fn follows_stream<'a>(
+    numbers: &Numbers<'a>,
+    ws: &'a Text,
+    stream: &'a Text,
+) -> Result<DraftDep, NoMemory>
+    ensures { IfOk result (λ d. d ≡ Follows (ws_no numbers.now ws.now) stream.now None) }
+{
+    match stream.copy() {
+        Ok(name) => Ok(DraftDep::Follows(numbers.ws(ws), name, None)),
+        Err(error) => Err(error),
+    }
+}
+
+/// A prompt with a text of its own.
+fn asks_own(alloc: Global, text: &Ranged<Text>) -> Result<DraftDep, NoMemory>
+    ensures { IfOk result (λ d. d ≡ Plain (Prompt (Own (within [] text.now)))) }
+{
+    match text_within(alloc, text) {
+        Ok(text) => Ok(DraftDep::Plain(Dep::Prompt(PromptRef::Own(text)))),
+        Err(error) => Err(error),
+    }
+}
+
+/// A file.
+fn opens(alloc: Global, path: &Ranged<Text>) -> Result<DraftDep, NoMemory>
+    ensures { IfOk result (λ d. d ≡ Plain (Outside (within [] path.now))) }
+{
+    match text_within(alloc, path) {
+        Ok(path) => Ok(DraftDep::Plain(Dep::Outside(path))),
+        Err(error) => Err(error),
+    }
 }
 
 /// The dependencies among rows of an object on workstation `ws`, in a stream.

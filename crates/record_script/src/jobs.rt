@@ -102,6 +102,22 @@ fn recovery(rows: &[Row]) -> Recovery
     Recovery::Stop
 }
 
+/// What a job with these parts runs, and for whom.
+fn work_and_logon(alloc: Global, rows: &[Row]) -> Result<(Work, Text), NoMemory>
+    ensures work { IfOk result (λ p. p.0 ≡ first_or (Command []) spec.work_in rows.now) }
+    ensures logon { IfOk result (λ p. p.1 ≡ first_or [] spec.logon_in rows.now) }
+{
+    Ok((work(alloc, rows)?, logon(alloc, rows)?))
+}
+
+/// A copy of a job's name, and when an end of the job with these parts is a good one.
+fn name_and_cond(alloc: Global, name: &Text, rows: &[Row]) -> Result<(Text, Cond), NoMemory>
+    ensures name { IfOk result (λ p. p.0 ≡ name.now) }
+    ensures cond { IfOk result (λ p. p.1 ≡ first_or [] spec.cond_in rows.now) }
+{
+    Ok((name.copy()?, cond(alloc, rows)?))
+}
+
 /// A job of a stream, with the rows behind it.
 #[tactic(auto, unfolding(crate::specs::Plans::job_draft))]
 fn job_draft<'a>(
@@ -114,15 +130,18 @@ fn job_draft<'a>(
     ensures { IfOk result (λ d. d ≡ spec.job_draft numbers.now stream.now job.now behind.now) }
 {
     let own = until_object(behind);
+    let (work, logon) = work_and_logon(alloc, own)?;
+    let (name, cond) = name_and_cond(alloc, &job.name, own)?;
+    let deps = draft_deps(alloc, numbers, stream, &job.ws, own)?;
     Ok(JobDraft {
         ws: numbers.ws(&job.ws),
-        name: job.name.copy()?,
+        name,
         priority: within(0, &job.priority),
-        work: work(alloc, own)?,
-        logon: logon(alloc, own)?,
-        cond: cond(alloc, own)?,
+        work,
+        logon,
+        cond,
         recovery: recovery(own),
-        deps: draft_deps(alloc, numbers, stream, &job.ws, own)?,
+        deps,
     })
 }
 

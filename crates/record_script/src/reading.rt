@@ -7,7 +7,10 @@ ghost use Rattle.record_faults.specs.declared.kinds.ScriptKind as kinds;
 ghost use Rattle.record_script.specs.declared.reading.ScriptFault.TheVariants.{At, NoMemory as NoRoom};
 ghost use Rattle.record_script.specs.Counted.{AreNumbers};
 ghost use Rattle.record_script.specs.Inside.{is_inside, takes_day, takes_plan};
+ghost use Rattle.record_script.specs.Networks.{net_with};
+ghost use Rattle.record_script.specs.Plans.{plans_with};
 ghost use Rattle.record_script.specs.Scripts as spec;
+ghost use Rattle.record_script.specs.Steps.{steps_from};
 
 use crate::nets::net;
 use crate::numbers::Numbers;
@@ -89,6 +92,20 @@ fn fault(alloc: Global, rows: &[Row]) -> Result<Option<(usize, ScriptKind)>, NoM
     Ok(with_definitions(definitions_line(rows), first))
 }
 
+/// What rows without faults mean, by the numbers of what they name.
+fn script_by<'a>(alloc: Global, numbers: &Numbers<'a>, rows: &'a [Row]) -> Result<Script, NoMemory>
+    requires { length rows.now < 2 ^ 32 }
+    ensures net { IfOk result (λ s. s.net ≡ net_with numbers.now rows.now) }
+    ensures plans { IfOk result (λ s. s.plans ≡ plans_with numbers.now rows.now) }
+    ensures steps { IfOk result (λ s. s.steps ≡ steps_from numbers.now 1 rows.now) }
+{
+    Ok(Script {
+        net: net(alloc, numbers, rows)?,
+        plans: plans(alloc, numbers, rows)?,
+        steps: steps(alloc, numbers, rows)?,
+    })
+}
+
 /// What rows without faults mean.
 fn script(alloc: Global, rows: &[Row]) -> Result<Script, NoMemory>
     requires few { length rows.now < 2 ^ 32 }
@@ -96,11 +113,7 @@ fn script(alloc: Global, rows: &[Row]) -> Result<Script, NoMemory>
     ensures { IfOk result (λ s. s ≡ spec.script_of rows.now) }
 {
     let numbers = Numbers::of_rows(alloc, rows)?;
-    Ok(Script {
-        net: net(alloc, &numbers, rows)?,
-        plans: plans(alloc, &numbers, rows)?,
-        steps: steps(alloc, &numbers, rows)?,
-    })
+    script_by(alloc, &numbers, rows)
 }
 
 /// The record that a text is, or its lowest faulty line with the first kind of its faults. The text has at most

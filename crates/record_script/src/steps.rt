@@ -1,7 +1,8 @@
 //! The steps of a record.
-ghost use Rattle.std.specs.Prelude.{◌≡◌, ◌<◌, ◌^◌, IfOk, bytes_eq, length};
+ghost use Rattle.std.specs.Prelude.{◌≡◌, ◌<◌, ◌^◌, ◌++◌, ◌∷◌, [], IfOk, OnOk, bytes_eq, length};
 ghost use Rattle.record_script.specs.Counted.{AreNew};
 ghost use Rattle.record_script.specs.Steps as spec;
+ghost use Rattle.record_script.specs.declared.scripts.OneStep.TheVariants as ones;
 ghost use Rattle.record_script.specs.declared.scripts.StepForm.TheVariants as forms;
 
 use crate::numbers::Numbers;
@@ -9,8 +10,19 @@ use crate::operator_lines::copy_line;
 use crate::scripts::{OneStep, ScriptStep, ScriptSteps, StepForm};
 use crate::values::within;
 use base_types::{Items, JobNo, Moment, NoMemory, Obj, StreamNo, Text, Ws};
+use conman_syntax::Line;
 use record_rows::{CutRow, ObjRow, OwnRow, Row, StepRow};
 use std::alloc::Global;
+
+/// A line that is typed at a workstation.
+fn typed(ws: Ws, line: &Line) -> Result<OneStep, NoMemory>
+    ensures { IfOk result (λ s. s ≡ ones.Typed ws line.now) }
+{
+    match copy_line(line) {
+        Ok(line) => Ok(OneStep::Typed(ws, line)),
+        Err(error) => Err(error),
+    }
+}
 
 /// A step of a workstation.
 #[tactic(auto, unfolding(crate::specs::Steps::own_step))]
@@ -22,7 +34,7 @@ fn own_step(ws: Ws, own: &OwnRow) -> Result<OneStep, NoMemory>
         OwnRow::Started(job) => Ok(OneStep::Started(ws, within(JobNo(0), job))),
         OwnRow::Failed(job) => Ok(OneStep::Failed(ws, within(JobNo(0), job))),
         OwnRow::Ended(job, rc) => Ok(OneStep::Ended(ws, within(JobNo(0), job), within(0, rc))),
-        OwnRow::Typed(line) => Ok(OneStep::Typed(ws, copy_line(line)?)),
+        OwnRow::Typed(line) => typed(ws, line),
     }
 }
 
@@ -55,6 +67,31 @@ fn one(step: OneStep) -> StepForm
     StepForm::One(step)
 }
 
+/// A step of a workstation, alone.
+fn own_form(ws: Ws, own: &OwnRow) -> Result<StepForm, NoMemory>
+    ensures { IfOk result (λ f. f ≡ forms.One (spec.own_step ws own.now)) }
+{
+    match own_step(ws, own) {
+        Ok(step) => Ok(StepForm::One(step)),
+        Err(error) => Err(error),
+    }
+}
+
+/// A step in which a workstation stops.
+fn crash_in<'a>(
+    numbers: &Numbers<'a>,
+    ws: Ws,
+    kept: bool,
+    cut: &'a CutRow,
+) -> Result<StepForm, NoMemory>
+    ensures { IfOk result (λ f. f ≡ forms.CrashIn ws kept (spec.cut_step numbers.now ws cut.now)) }
+{
+    match cut_step(numbers, ws, cut) {
+        Ok(step) => Ok(StepForm::CrashIn(ws, kept, step)),
+        Err(error) => Err(error),
+    }
+}
+
 /// What a line of the steps means.
 #[tactic(auto, unfolding(crate::specs::Steps::step_form))]
 fn step_form<'a>(numbers: &Numbers<'a>, step: &'a StepRow) -> Result<StepForm, NoMemory>
@@ -63,7 +100,7 @@ fn step_form<'a>(numbers: &Numbers<'a>, step: &'a StepRow) -> Result<StepForm, N
     match step {
         StepRow::Next => Ok(one(OneStep::Next)),
         StepRow::NextDay(day) => Ok(one(OneStep::NextDay(*day))),
-        StepRow::Own(ws, own) => Ok(one(own_step(numbers.ws(ws), own)?)),
+        StepRow::Own(ws, own) => own_form(numbers.ws(ws), own),
         StepRow::Link(a, b) => Ok(one(OneStep::Link(numbers.ws(a), numbers.ws(b)))),
         StepRow::Unlink(a, b) => Ok(one(OneStep::Unlink(numbers.ws(a), numbers.ws(b)))),
         StepRow::Deliver(a, b, k) => Ok(one(OneStep::Deliver(
@@ -74,17 +111,29 @@ fn step_form<'a>(numbers: &Numbers<'a>, step: &'a StepRow) -> Result<StepForm, N
         StepRow::Flow(a, b) => Ok(StepForm::Flow(numbers.ws(a), numbers.ws(b))),
         StepRow::Reap(ws, rc) => Ok(StepForm::Reap(numbers.ws(ws), within(0, rc))),
         StepRow::Crash(ws) => Ok(StepForm::Crash(numbers.ws(ws))),
-        StepRow::CrashIn(ws, kept, cut) => Ok(StepForm::CrashIn(
-            numbers.ws(ws),
-            *kept,
-            cut_step(numbers, numbers.ws(ws), cut)?,
-        )),
+        StepRow::CrashIn(ws, kept, cut) => crash_in(numbers, numbers.ws(ws), *kept, cut),
         StepRow::Fulfil(ws, of, i) => Ok(one(OneStep::Fulfil(
             numbers.ws(ws),
             object(of),
             within(0, i),
         ))),
         StepRow::Recover(ws) => Ok(StepForm::Recover(numbers.ws(ws))),
+    }
+}
+
+/// Adds the step on a line.
+fn add_step<'a>(
+    steps: &mut ScriptSteps,
+    numbers: &Numbers<'a>,
+    line: u32,
+    step: &'a StepRow,
+) -> Result<(), NoMemory>
+    ensures { OnOk result (steps.new
+        ≡ steps.old ++ (record { line = line; form = spec.step_form numbers.now step.now }) ∷ []) }
+{
+    match step_form(numbers, step) {
+        Ok(form) => steps.push(ScriptStep { line, form }),
+        Err(error) => Err(error),
     }
 }
 
@@ -100,9 +149,7 @@ pub(crate) fn steps<'a>(
     let mut steps = Items::new(alloc);
     for (i, row) in rows.iter().enumerate() {
         if let Row::Step(step) = row {
-            let form = step_form(numbers, step)?;
-            let line = i as u32 + 1;
-            steps.push(ScriptStep { line, form })?;
+            add_step(&mut steps, numbers, i as u32 + 1, step)?;
         }
     }
     Ok(steps)

@@ -25,3 +25,10 @@ pub(crate) fn text_within(alloc: Global, text: &Ranged<Text>) -> Result<Text, No
         Ranged::OutOfRange => Ok(Text::new(alloc)),
     }
 }
+
+/// Two texts, each a copy.
+pub(crate) fn copy_texts(first: &Text, second: &Text) -> Result<(Text, Text), NoMemory>
+    ensures { IfOk result (λ c. c ≡ (first.now, second.now)) }
+{
+    Ok((first.copy()?, second.copy()?))
+}

@@ -83,7 +83,7 @@ TakesMemory status.LimitPassed = Unit {0}
 TakesMemory status.NoMemory = Unit {0}
 TakesMemory other = ⊥
 
--- This is said, or nothing for want of memory. All other ends are said without memory, so they are never told as that.
+-- This is said, or nothing for want of memory. An end that takes no memory is never told as that.
 pub record IsTold (due : Status) (text : List ℕ) (result : ℕ) (written written' : Option (List ℕ)) (faults faults' : ℕ)
     : Type 0 where
   pub said : result ≢ 9 → Says due text result written written' faults faults'

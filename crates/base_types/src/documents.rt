@@ -124,7 +124,7 @@ pub enum Rel {
 }
 
 /// An operation of a condition in postfix order.
-#[derive(Clone, Copy, Debug, PartialEq, Eq)]
+#[derive(Clone, Copy, Debug)]
 pub enum CondOp {
     /// The return code compared with this number.
     Cmp(Rel, i32),

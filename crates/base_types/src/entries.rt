@@ -89,7 +89,7 @@ impl Drop for Entry {
 }
 
 /// What one workstation sends to its neighbour.
-#[derive(Clone, Copy, Debug, PartialEq, Eq)]
+#[derive(Clone, Copy, PartialEq, Eq)]
 pub enum Packet {
     /// The entry of this feed and place.
     Mail(Feed, u32),

@@ -19,7 +19,7 @@ use std::alloc::Global;
 use std::marker::Model;
 
 /// What a piece of the stream has brought.
-#[derive(Debug, Drop)]
+#[derive(Drop)]
 pub struct Fed {
     /// The frames that it completed before the first fault.
     pub frames: Frames,
@@ -31,7 +31,7 @@ pub struct Fed {
 /// Takes the frames out of a stream of bytes.
 ///
 /// It keeps the bytes of one unfinished frame, and no more memory for it than has come of it.
-#[derive(Debug, Drop)]
+#[derive(Drop)]
 pub struct Decoder {
     alloc: Global,
     kept: Growing<u8>,

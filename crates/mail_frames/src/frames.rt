@@ -4,7 +4,7 @@ use base_types::{Bytes, Feed, Items, Text};
 pub type Frames = Items<Frame>;
 
 /// One message on the stream between two nodes.
-#[derive(Debug, PartialEq, Eq, Drop)]
+#[derive(Drop)]
 pub enum Frame {
     /// The bytes of an entry, at most 4,194,304. A frame does not look into them.
     Mail(Bytes),

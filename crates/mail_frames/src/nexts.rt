@@ -6,7 +6,7 @@ ghost use Rattle.mail_frames.specs.Nexts.{IsOpen, Follows, NextAfter};
 ghost use Rattle.mail_frames.specs.declared.nexts.Next.TheVariants.{Within};
 
 /// What may come next in a frame's content.
-#[derive(Clone, Copy, Debug)]
+#[derive(Clone, Copy)]
 pub enum Next {
     /// Any bytes.
     Any,

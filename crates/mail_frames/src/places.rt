@@ -8,7 +8,7 @@ use crate::nexts::Next;
 use crate::{ACK, COMMAND, LONGEST_COMMAND, LONGEST_MAIL, LONGEST_REPLY, MAIL, REPLY};
 
 /// A place in a frame. The first byte of each length is 0.
-#[derive(Clone, Copy, Debug)]
+#[derive(Clone, Copy)]
 pub enum Place {
     /// Before its first byte.
     Start,

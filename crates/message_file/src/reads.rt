@@ -14,7 +14,7 @@ use outside::{Disk, Failed};
 use std::alloc::{AllocError, Global};
 
 /// What a file holds: its owner, how many bodies, and the place of the closed gate behind them.
-#[derive(Clone, Copy, Debug, PartialEq, Eq)]
+#[derive(Clone, Copy)]
 pub struct Extent {
     pub owner: u16,
     pub count: u32,
@@ -29,7 +29,7 @@ pub struct Record {
 }
 
 /// Why a body was not read. `NoMemory` comes besides where somebody else wrote the file meanwhile.
-#[derive(Clone, Copy, Debug, PartialEq, Eq)]
+#[derive(Clone, Copy, PartialEq, Eq)]
 pub enum ReadFault {
     Disk,
     NoMemory,

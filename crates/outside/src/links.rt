@@ -9,7 +9,7 @@ use crate::Failed;
 use base_types::{Bytes, Peers, Ws};
 
 /// What came over the links.
-#[derive(Debug, Drop)]
+#[derive(Drop)]
 pub enum Arrival {
     /// Bytes of a workstation.
     Bytes(Ws, Bytes),

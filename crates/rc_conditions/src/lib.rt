@@ -25,7 +25,7 @@ pub use results::holds;
 const MOST: usize = 64;
 
 /// Why a text was not read.
-#[derive(Clone, Copy, Debug, PartialEq, Eq)]
+#[derive(Clone, Copy, Debug)]
 pub enum CondFault {
     /// No condition goes on at this place, in bytes from 0.
     Bad(u32),

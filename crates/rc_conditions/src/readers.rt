@@ -13,14 +13,14 @@ use std::alloc::Global;
 use std::marker::Model;
 
 /// What joins two operands.
-#[derive(Clone, Copy, Debug)]
+#[derive(Clone, Copy)]
 pub(crate) enum Joint {
     And,
     Or,
 }
 
 /// What waits for an operand, or for the end of its parentheses.
-#[derive(Clone, Copy, Debug)]
+#[derive(Clone, Copy)]
 pub(crate) enum Pending {
     Open,
     Not,
@@ -29,7 +29,7 @@ pub(crate) enum Pending {
 }
 
 /// What the next token has to be.
-#[derive(Clone, Copy, Debug)]
+#[derive(Clone, Copy)]
 pub(crate) enum Wanted {
     Operand,
     /// The comparison behind `RC`.

@@ -11,7 +11,7 @@ use std::str;
 use syntax::number_i32;
 
 /// What stands at a place of a text.
-#[derive(Clone, Copy, Debug)]
+#[derive(Clone, Copy)]
 pub(crate) enum Token {
     Rc,
     Compare(Rel),

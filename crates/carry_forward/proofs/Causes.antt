@@ -1,7 +1,8 @@
 -- The first cause that applies.
-use Rattle.std.proofs.Common.{[], ℕ, ◌+◌, ◌<◌, ◌∙◌, ◌∷◌, ◌≡◌, ◌||◌, Bool, List, Option, Some, ap, arith, false}
-use Rattle.std.proofs.Common.{filter_map, length, map, nat_le, nat_lt, option_map, refl, sym, true}
+use Rattle.std.proofs.Common.{[], ℕ, ◌+◌, ◌<◌, ◌∙◌, ◌∷◌, ◌≡◌, ◌||◌, Bool, Err, List, Ok, Option, Result, Some, ap, arith}
+use Rattle.std.proofs.Common.{false, filter_map, length, map, nat_le, nat_lt, option_map, refl, sym, true}
 use Rattle.std.proofs.lemmas.Bool.Decides.{nat_tests}
+use Rattle.std.specs.Prelude.{IfOk}
 use Rattle.model.specs.Types.{Events, Net, NewPlan, StreamDoc, StreamDraft}
 use Rattle.model.specs.Words.{below, first_of_these}
 use Rattle.model.specs.Network.{node_count}
@@ -85,36 +86,36 @@ stream_room V draft slice earlier full numbers same members_of is =
     submit_room V draft numbers ∙ sym (is ∙ (λ p. room_fault V (members_of p) (same p)))
 
 -- the documents of drafts, from their parts
-pub documents_so : (V : View) (earlier : List ℕ) (drafts : List StreamDraft) (s j : ℕ) (fresh : List Fresh)
-    (known : List StreamDoc) (f e : List Named) (docs : List StreamDoc) → s ≡ last_stream V → j ≡ last_job V
-    → fresh ≡ fresh_from (1 + s) (1 + j) drafts → known ≡ filter_map (stream V) earlier → f ≡ map named_fresh fresh
-    → e ≡ map named_doc known → docs ≡ map (doc_of f e) fresh → docs ≡ documents V earlier drafts
+pub documents_so : {E : Type 0} (V : View) (earlier : List ℕ) (drafts : List StreamDraft) (s j : ℕ)
+    (fresh slice : List Fresh) (f e : List Named) (r : Result (List StreamDoc) E) → s ≡ last_stream V
+    → j ≡ last_job V → fresh ≡ fresh_from (1 + s) (1 + j) drafts → slice ≡ fresh → f ≡ map named_fresh fresh
+    → e ≡ map named_doc (filter_map (stream V) earlier) → IfOk r (λ docs. docs ≡ map (doc_of f e) slice)
+    → IfOk r (λ docs. docs ≡ documents V earlier drafts)
 unfolding documents fresh_of
-documents_so V earlier drafts s j fresh known f e docs streams jobs new old fs es is =
+documents_so V earlier drafts s j fresh slice f e (Err fault) streams jobs new same fs es is = tt
+documents_so V earlier drafts s j fresh slice f e (Ok docs) streams jobs new same fs es is =
     let all : fresh ≡ fresh_from (1 + last_stream V) (1 + last_job V) drafts =
     new ∙ (λ p. fresh_from (1 + streams p) (1 + jobs p) drafts)
     in
     let fs2 : f ≡ map named_fresh (fresh_from (1 + last_stream V) (1 + last_job V) drafts) =
     fs ∙ ap (map named_fresh) all
     in
-    let es2 : e ≡ map named_doc (filter_map (stream V) earlier) = es ∙ ap (map named_doc) old in
-    is ∙ (λ p. map (doc_of (fs2 p) (es2 p)) (all p))
+    is ∙ (λ p. map (doc_of (fs2 p) (es p)) ((same ∙ all) p))
 
 -- the document of a submitted stream, from its parts
-pub numbered_so : (V : View) (draft : StreamDraft) (s j : ℕ) (fresh : Fresh) (known : List StreamDoc)
-    (f e : List Named) (doc : StreamDoc) → s ≡ last_stream V → j ≡ last_job V
-    → fresh ≡ (record { number = 1 + s; first_job = 1 + j; draft = draft }) → known ≡ filter_map (stream V) (members V)
-    → f ≡ named_fresh fresh ∷ [] → e ≡ map named_doc known → doc ≡ doc_of f e fresh → doc ≡ numbered V draft
+pub numbered_so : (V : View) (draft : StreamDraft) (s j : ℕ) (fresh : Fresh) (f e : List Named) (doc : StreamDoc)
+    → s ≡ last_stream V → j ≡ last_job V → fresh ≡ (record { number = 1 + s; first_job = 1 + j; draft = draft })
+    → f ≡ named_fresh fresh ∷ [] → e ≡ map named_doc (filter_map (stream V) (members V)) → doc ≡ doc_of f e fresh
+    → doc ≡ numbered V draft
 unfolding numbered
-numbered_so V draft s j fresh known f e doc streams jobs new old fs es is =
+numbered_so V draft s j fresh f e doc streams jobs new fs es is =
     let all : fresh ≡ (record { number = 1 + last_stream V; first_job = 1 + last_job V; draft = draft }) =
     new ∙ (λ p. record { number = 1 + streams p; first_job = 1 + jobs p; draft = draft })
     in
-    let es2 : e ≡ map named_doc (filter_map (stream V) (members V)) = es ∙ ap (map named_doc) old in
     let fs2 : f ≡ named_fresh (record { number = 1 + last_stream V; first_job = 1 + last_job V; draft = draft }) ∷ [] =
     fs ∙ (λ p. named_fresh (all p) ∷ [])
     in
-    is ∙ (λ p. doc_of (fs2 p) (es2 p) (all p))
+    is ∙ (λ p. doc_of (fs2 p) (es p) (all p))
 
 -- the plan, from its parts
 pub plan_so : (net : Net) (V : View) (drafts : List StreamDraft) (run : ℕ) (cut : Seen) (carried : List ℕ)

@@ -1,9 +1,9 @@
 -- An index of names, one job or stream further.
 use Rattle.std.proofs.Common.{[], ℕ, ◌&&◌, ◌+◌, ◌++◌, ◌<◌, ◌∙◌, ◌∷◌, ◌≡◌, Bool, Bor, List, None, Option, Some}
-use Rattle.std.proofs.Common.{ap, arith, bytes_eq, cond, drop, eqb, false, find, get_or, inl, inr, length, map, refl}
-use Rattle.std.proofs.Common.{option_and_then, option_map, subst, sym, take, true}
+use Rattle.std.proofs.Common.{ap, arith, bytes_eq, cond, drop, eqb, false, filter_map, find, get_or, inl, inr, length}
+use Rattle.std.proofs.Common.{map, option_and_then, option_map, refl, subst, sym, take, true}
 use Rattle.std.proofs.lemmas.Bool.Decides.{eqb_tells}
-use Rattle.std.proofs.lemmas.List.{drop_more, map-append, reverse-append, take_more}
+use Rattle.std.proofs.lemmas.List.{drop_more, map-append, reverse-append}
 use Rattle.std.specs.List.{enumerate_from}
 use Rattle.std.specs.Prelude.{reverse}
 use Rattle.std.specs.Map.{lookup}
@@ -12,10 +12,13 @@ use Rattle.indexmap.specs.IndexMap.{insert_entry}
 use Rattle.name_keys.proofs.Inserted.{are_one_key, key_inserted, key_of, name_inserted}
 use Rattle.model.specs.Types.{JobDoc, JobDraft, StreamDoc}
 use Rattle.model.specs.Equalities.{text_eq}
+use Rattle.model.specs.History.{View}
+use Rattle.model.specs.Catalogue.{stream}
 use Rattle.model.specs.NewPlan.{Fresh, Named, NamedJob, is_named, named_doc, named_fresh, resolve_job, resolve_stream}
-use Rattle.carry_forward.specs.Known.{AreJobsOf, IsIndexOf, IsTarget, Told, docs_of, job_at, named_job}
+use Rattle.carry_forward.specs.Known.{AreJobsOf, IsIndexOf, IsTarget, Told, job_at, named_job}
 use Rattle.carry_forward.specs.Known.{named_jobs, numbered_jobs, told_at, told_named, told_target}
 use Rattle.carry_forward.specs.declared.names.Target.{Target}
+use Rattle.carry_forward.proofs.Counts.{made_none, made_some}
 
 eqb_flip : (a b : ℕ) → eqb a b ≡ eqb b a
 eqb_flip a b =
@@ -120,19 +123,25 @@ module _ (es new : List ((ℕ × Bor (List ℕ)) × Target)) (k : ℕ × Bor (Li
       go false e = e
 
 -- the earlier streams up to a place are those before it and that at the place
-pub earlier_at : (es new : List ((ℕ × Bor (List ℕ)) × Target)) (docs : List (Bor StreamDoc)) (i : ℕ) (d : Bor StreamDoc)
-    → i < length docs → d ≡ get_or docs i d
-    → ((earlier : List Named) → IsIndexOf es [] earlier → IsIndexOf new [] (earlier ++ named_doc d.now ∷ []))
-    → IsIndexOf es [] (map named_doc (docs_of (take i docs)))
-    → IsIndexOf new [] (map named_doc (docs_of (take (i + 1) docs)))
-earlier_at es new docs i d low at more h =
+pub earlier_at : (es new : List ((ℕ × Bor (List ℕ)) × Target)) (V : View) (ss : List ℕ) (i s : ℕ)
+    (o : Option StreamDoc) (d : StreamDoc) → i < length ss → s ≡ get_or ss i s → o ≡ stream V s → o ≡ Some d
+    → ((earlier : List Named) → IsIndexOf es [] earlier → IsIndexOf new [] (earlier ++ named_doc d ∷ []))
+    → IsIndexOf es [] (map named_doc (filter_map (stream V) (take i ss)))
+    → IsIndexOf new [] (map named_doc (filter_map (stream V) (take (i + 1) ss)))
+earlier_at es new V ss i s o d low at found is more h =
     subst (λ (l : List Named). IsIndexOf new [] l)
-    (sym
-    (ap (λ (l : List (Bor StreamDoc)). map named_doc (docs_of l))
-    (take_more docs i d low ∙ (λ p. take i docs ++ sym at p ∷ []))
-    ∙ (ap (map named_doc) (map-append (λ (b : Bor StreamDoc). b.now) (take i docs) (d ∷ []))
-    ∙ map-append named_doc (docs_of (take i docs)) (d.now ∷ []))))
-    (more (map named_doc (docs_of (take i docs))) h)
+    (sym (map-append named_doc (filter_map (stream V) (take i ss)) (d ∷ []))
+    ∙ ap (map named_doc) (made_some (stream V) ss i s o d low at found is))
+    (more (map named_doc (filter_map (stream V) (take i ss))) h)
+
+-- and only those before it where the catalogue lacks that at the place
+pub earlier_past : (es : List ((ℕ × Bor (List ℕ)) × Target)) (V : View) (ss : List ℕ) (i s : ℕ)
+    (o : Option StreamDoc) → i < length ss → s ≡ get_or ss i s → o ≡ stream V s → o ≡ None
+    → IsIndexOf es [] (map named_doc (filter_map (stream V) (take i ss)))
+    → IsIndexOf es [] (map named_doc (filter_map (stream V) (take (i + 1) ss)))
+earlier_past es V ss i s o low at found is h =
+    subst (λ (l : List StreamDoc). IsIndexOf es [] (map named_doc l))
+    (made_none (stream V) ss i s o low at found is) h
 
 -- the fresh streams from a place on are that at the place and those from the next on
 pub fresh_at : (es new : List ((ℕ × Bor (List ℕ)) × Target)) (xs : List Fresh) (i n : ℕ) (x : Fresh)

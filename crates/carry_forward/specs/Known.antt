@@ -3,7 +3,7 @@ use Rattle.std.specs.Map.{lookup}
 use Rattle.std.specs.Borrow.{Bor}
 use Rattle.std.specs.Prelude.{ℕ, ◌&&◌, ◌==◌, ◌≡◌, List, Option, find, map, option_map}
 use Rattle.std.specs.Str.{bytes_eq}
-use Rattle.model.specs.Types.{JobDoc, JobDraft, StreamDoc}
+use Rattle.model.specs.Types.{JobDoc, JobDraft}
 use Rattle.model.specs.Equalities.{text_eq}
 use Rattle.model.specs.NewPlan.{Named, NamedJob, resolve_job, resolve_stream}
 use Rattle.carry_forward.specs.declared.names.Target.{Target}
@@ -12,10 +12,6 @@ use Rattle.carry_forward.specs.declared.names.Target.{Target}
 pub record Known : Type 0 where
   pub fresh : List Named
   pub earlier : List Named
-
--- the documents of references to them
-abbrev pub docs_of : List (Bor StreamDoc) → List StreamDoc
-docs_of docs = map (λ (d : Bor StreamDoc). d.now) docs
 
 -- a job as names see it
 abbrev pub named_job : List ℕ → ℕ → NamedJob

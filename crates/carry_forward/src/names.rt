@@ -1,13 +1,16 @@
 //! Streams and jobs by their names.
-ghost use Rattle.std.specs.Prelude.{◌≡◌, ◌+◌, ◌≤◌, ◌^◌, ◌++◌, ◌∷◌, [], IfOk, OnOk, List, length, map, option_map, option_and_then};
+ghost use Rattle.std.specs.Prelude.{◌≡◌, ◌+◌, ◌≤◌, ◌^◌, ◌++◌, ◌∷◌, [], IfOk, OnOk, List, filter_map, length, map, option_map, option_and_then};
 ghost use Rattle.std.specs.List.{enumerate_from};
+ghost use Rattle.model.specs.History.{view_of};
+ghost use Rattle.model.specs.Catalogue.{stream};
 ghost use Rattle.model.specs.NewPlan.{Named, NamedJob, named_doc, named_fresh, resolve_job, resolve_stream};
-ghost use Rattle.carry_forward.specs.Known.{AreJobsOf, IsIndexOf, IsTarget, docs_of, job_at, named_job, named_jobs};
+ghost use Rattle.carry_forward.specs.Known.{AreJobsOf, IsIndexOf, IsTarget, job_at, named_job, named_jobs};
 ghost use Rattle.carry_forward.specs.Known.{numbered_jobs, told_named, told_target};
 
 use crate::numbers::Fresh;
 use base_types::{JobDoc, JobDraft, JobNo, NoMemory, StreamDoc, StreamNo, Text, Ws};
 use indexmap::IndexMap;
+use owner_fold::Owners;
 use std::alloc::Global;
 use std::marker::Model;
 
@@ -116,14 +119,21 @@ fn earlier_target<'a>(alloc: Global, doc: &'a StreamDoc) -> Result<Target<'a>, N
     })
 }
 
-/// Earlier streams by workstation and name. Of one name the last counts.
-fn earlier_names<'a>(alloc: Global, earlier: &[&'a StreamDoc]) -> Result<StreamNames<'a>, NoMemory>
-    ensures { IfOk result (λ names. IsIndexOf names.entries [] (map named_doc (docs_of earlier.now))) }
+/// Earlier streams by workstation and name, without those that the catalogue lacks. Of one name the last counts.
+fn earlier_names<'a>(
+    alloc: Global,
+    o: &'a Owners,
+    earlier: &[StreamNo],
+) -> Result<StreamNames<'a>, NoMemory>
+    ensures { IfOk result (λ names. IsIndexOf names.entries []
+        (map named_doc (filter_map (stream (view_of o.now)) earlier.now))) }
 {
     let mut names = IndexMap::new(alloc);
-    for doc in earlier {
-        let target = earlier_target(alloc, *doc)?;
-        put_stream(&mut names, doc.ws.0, &doc.name, target)?;
+    for s in earlier {
+        if let Some(doc) = o.stream(*s) {
+            let target = earlier_target(alloc, doc)?;
+            put_stream(&mut names, doc.ws.0, &doc.name, target)?;
+        }
     }
     Ok(names)
 }
@@ -162,36 +172,46 @@ fn with_fresh<'a>(
 #[derive(Drop)]
 pub(crate) struct Names<'a> {
     fresh: &'a [Fresh<'a>],
-    earlier: &'a [&'a StreamDoc],
+    owners: &'a Owners,
+    earlier: &'a [StreamNo],
     streams: StreamNames<'a>,
 }
 
 impl<'a> Model for Names<'a> {
-    ghost use Rattle.std.specs.Prelude.{map};
+    ghost use Rattle.std.specs.Prelude.{filter_map, map};
+    ghost use Rattle.model.specs.History.{view_of};
+    ghost use Rattle.model.specs.Catalogue.{stream};
     ghost use Rattle.model.specs.NewPlan.{named_doc, named_fresh};
-    ghost use Rattle.carry_forward.specs.Known.{Known, IsIndexOf, docs_of};
+    ghost use Rattle.carry_forward.specs.Known.{Known, IsIndexOf};
 
     ghost Value = { Known };
 
-    ghost view = { λ n. record { fresh = map named_fresh n.fresh.now; earlier = map named_doc (docs_of n.earlier.now) } };
+    ghost view = { λ n. record {
+      fresh = map named_fresh n.fresh.now;
+      earlier = map named_doc (filter_map (stream (view_of n.owners.now)) n.earlier.now);
+    } };
 
-    ghost invariant = { λ n. IsIndexOf n.streams.entries (map named_fresh n.fresh.now) (map named_doc (docs_of n.earlier.now)) };
+    ghost invariant = { λ n. IsIndexOf n.streams.entries (map named_fresh n.fresh.now)
+        (map named_doc (filter_map (stream (view_of n.owners.now)) n.earlier.now)) };
 }
 
 impl<'a> Names<'a> {
-    /// The names of these streams.
+    /// The names of these streams, without earlier ones that the catalogue lacks.
     pub(crate) fn of(
         alloc: Global,
         fresh: &'a [Fresh<'a>],
-        earlier: &'a [&'a StreamDoc],
+        o: &'a Owners,
+        earlier: &'a [StreamNo],
     ) -> Result<Names<'a>, NoMemory>
         ensures fresh { IfOk result (λ n. n.fresh ≡ map named_fresh fresh.now) }
-        ensures earlier { IfOk result (λ n. n.earlier ≡ map named_doc (docs_of earlier.now)) }
+        ensures earlier { IfOk result (λ n.
+            n.earlier ≡ map named_doc (filter_map (stream (view_of o.now)) earlier.now)) }
     {
-        let names = earlier_names(alloc, earlier)?;
+        let names = earlier_names(alloc, o, earlier)?;
         let streams = with_fresh(alloc, names, fresh)?;
         Ok(Names {
             fresh,
+            owners: o,
             earlier,
             streams,
         })

@@ -1,11 +1,9 @@
 //! The plan of a new day, and the document of a submitted stream.
-ghost use Rattle.std.specs.Prelude.{◌≡◌, ◌≢◌, IfOk, IsOk, None, Some, Err, filter_map, length, ◌+◌, ◌<◌, ◌^◌};
+ghost use Rattle.std.specs.Prelude.{◌≡◌, ◌≢◌, IfOk, IsOk, None, Some, Err, length, ◌+◌, ◌<◌, ◌^◌};
 ghost use Rattle.model.specs.History.{view_of};
-ghost use Rattle.model.specs.Catalogue.{stream};
 ghost use Rattle.model.specs.NewPlan as spec;
 ghost use Rattle.model.specs.NewPlan.{plan_of, jobs_in_drafts};
 ghost use Rattle.carry_forward.specs.Faults.{plan_fault, submit_fault, room_fault};
-ghost use Rattle.carry_forward.specs.Known.{docs_of};
 
 use crate::carried_streams::{carried_streams, cut};
 use crate::documents::{document, documents};
@@ -14,30 +12,13 @@ use crate::names::Names;
 use crate::numbers::{Fresh, are_spent, fresh_streams, last_job, last_stream};
 use crate::rooms::{are_jobs_too_many, are_streams_too_many};
 use base_types::{
-    Body, Items, MOST_JOBS, MOST_STREAMS, NoMemory, StreamDoc, StreamDocs, StreamDraft,
-    StreamDrafts, StreamNo,
+    Body, MOST_JOBS, MOST_STREAMS, NoMemory, StreamDoc, StreamDocs, StreamDraft, StreamDrafts,
+    StreamNo,
 };
 use network_tree::Network;
 use owner_fold::Owners;
 use std::alloc::Global;
 use std::slice::from_ref;
-
-/// The documents of these streams, without those that the catalogue lacks.
-fn docs_of_streams<'a>(
-    alloc: Global,
-    o: &'a Owners,
-    streams: &[StreamNo],
-) -> Result<Items<&'a StreamDoc>, NoMemory>
-    ensures { IfOk result (λ docs. docs_of docs ≡ filter_map (stream (view_of o.now)) streams.now) }
-{
-    let mut docs = Items::new(alloc);
-    for s in streams {
-        if let Some(doc) = o.stream(*s) {
-            docs.push(doc)?;
-        }
-    }
-    Ok(docs)
-}
 
 /// Why these streams and the drafts are no plan, if they are none: too many streams, or else too many jobs.
 fn room_fault(
@@ -69,10 +50,8 @@ fn fresh_documents(
     ensures { IfOk result (λ docs. docs ≡ spec.documents (view_of o.now) earlier.now drafts.now) }
 {
     let fresh = fresh_streams(alloc, last_stream(o), last_job(o), drafts)?;
-    let known = docs_of_streams(alloc, o, earlier)?;
-    let names = Names::of(alloc, fresh.as_slice(), known.as_slice())?;
-    let docs = documents(alloc, &names, fresh.as_slice())?;
-    Ok(docs)
+    let names = Names::of(alloc, fresh.as_slice(), o, earlier)?;
+    documents(alloc, &names, fresh.as_slice())
 }
 
 /// The plan of a new day: its run, the counts of events at which it cuts, the unfinished streams that the network's
@@ -133,9 +112,7 @@ pub fn numbered(alloc: Global, o: &Owners, draft: &StreamDraft) -> Result<Stream
         first_job: 1 + u64::from(last_job),
         draft,
     };
-    let known = docs_of_streams(alloc, o, members)?;
-    let one = from_ref(&fresh);
-    let names = Names::of(alloc, one, known.as_slice())?;
+    let names = Names::of(alloc, from_ref(&fresh), o, members)?;
     let doc = document(alloc, &names, &fresh)?;
     Ok(doc)
 }

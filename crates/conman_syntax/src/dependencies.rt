@@ -11,7 +11,7 @@ use crate::references::{cut, job_or_stream, resource_names};
 use crate::values::{number_u16, passed};
 use base_types::{NoMemory, OnUntil};
 use std::alloc::Global;
-use syntax::{name, number_u64, quoted};
+use syntax::{is, name, number_u64, quoted};
 
 /// The dependency that argument 2 is, or arguments 2 and 3, with nothing behind it.
 #[tactic(auto, unfolding(crate::specs::Dependencies::dependency_of))]
@@ -20,10 +20,12 @@ pub fn dependency(alloc: Global, left: &str) -> Result<DepRef, ArgumentFault>
 {
     let (argument, rest) = take_argument(left, ';');
     let (key, value) = cut(argument, '=');
-    if key == "until" {
+    if is(key, "until") {
         return until(left);
     }
-    let dep = dep_by_key(alloc, key, value)?.ok_or(ArgumentFault::BadArgument(2))?;
+    let Some(dep) = dep_by_key(alloc, key, value)? else {
+        return Err(ArgumentFault::BadArgument(2));
+    };
     ended(rest, dep)
 }
 
@@ -33,12 +35,16 @@ fn until(left: &str) -> Result<DepRef, ArgumentFault>
     ensures { Gives result (until_from left.now) }
 {
     let (argument, left) = take_argument(left, ';');
-    let time = number_u64(cut(argument, '=').1).ok_or(ArgumentFault::BadArgument(2))?;
+    let Some(time) = number_u64(cut(argument, '=').1) else {
+        return Err(ArgumentFault::BadArgument(2));
+    };
     if left.is_empty() {
         return Ok(DepRef::Until(time, OnUntil::Suppr));
     }
     let (argument, left) = take_argument(left, ';');
-    let passed = on_until(argument).ok_or(ArgumentFault::BadArgument(3))?;
+    let Some(passed) = on_until(argument) else {
+        return Err(ArgumentFault::BadArgument(3));
+    };
     ended(left, DepRef::Until(time, passed))
 }
 
@@ -47,7 +53,7 @@ fn on_until(argument: &str) -> Option<OnUntil>
     ensures { result ≡ on_until_of argument.now }
 {
     let (key, value) = cut(argument, '=');
-    if key != "onuntil" {
+    if !is(key, "onuntil") {
         return None;
     }
     passed(value)
@@ -57,13 +63,13 @@ fn on_until(argument: &str) -> Option<OnUntil>
 fn dep_by_key(alloc: Global, key: &str, value: &str) -> Result<Option<DepRef>, NoMemory>
     ensures { IfOk result (λ o. o ≡ dep_by_key key.now value.now) }
 {
-    if key == "follows" {
+    if is(key, "follows") {
         Ok(job_or_stream(alloc, value)?.map(follows))
-    } else if key == "needs" {
+    } else if is(key, "needs") {
         needs(alloc, value)
-    } else if key == "prompt" {
+    } else if is(key, "prompt") {
         prompt(alloc, value)
-    } else if key == "at" {
+    } else if is(key, "at") {
         Ok(number_u64(value).map(DepRef::At))
     } else {
         Ok(None)

@@ -116,33 +116,26 @@ pub enum Line {
 impl Drop for Line {
     fn drop(self) {
         match self {
-            Line::AddDep(_a, _b) => {}
-            Line::DelDep(_a, _b) => {}
-            Line::Release(_a) => {}
-            Line::AltPri(_a, _b) => {}
-            Line::Cancel(_a) => {}
-            Line::Confirm(_a) => {}
-            Line::Kill(_a) => {}
-            Line::Rerun(_a) => {}
-            Line::Fence(_a, _b) => {}
-            Line::CpuLimit(_a, _b) => {}
-            Line::StreamLimit(_a, _b) => {}
-            Line::Resource(_a, _b, _c) => {}
-            Line::ReplyGlobal(_a, _b) => {}
-            Line::ReplyOwn(_a, _b, _c) => {}
-            Line::Start(_a) => {}
-            Line::Stop(_a) => {}
-            Line::Submit(_a, _b, _c, _d) => {}
-            Line::SwitchMgr(_a, _b) => {}
-            Line::ShowJobs(_a) => {}
-            Line::ShowSchedules(_a) => {}
-            Line::ShowCpus(_a) => {}
-            Line::ShowPrompts(_a) => {}
-            Line::ShowResources(_a) => {}
-            Line::Link(_a) => {}
-            Line::Unlink(_a) => {}
-            Line::Shutdown => {}
-            Line::JNextPlan(_a) => {}
+            Line::AddDep(_a, _b) | Line::DelDep(_a, _b) => {}
+            Line::Release(_a) | Line::Cancel(_a) | Line::AltPri(_a, _) => {}
+            Line::ReplyOwn(_a, _, _) => {}
+            Line::Confirm(_a) | Line::Kill(_a) | Line::Rerun(_a) => {}
+            Line::Start(_a)
+            | Line::Stop(_a)
+            | Line::Link(_a)
+            | Line::Unlink(_a)
+            | Line::Fence(_a, _)
+            | Line::CpuLimit(_a, _)
+            | Line::ReplyGlobal(_a, _) => {}
+            Line::StreamLimit(_a, _) => {}
+            Line::Resource(_a, _b, _) | Line::SwitchMgr(_a, _b) => {}
+            Line::Submit(_a, _b, _c, _) => {}
+            Line::ShowJobs(_a)
+            | Line::ShowSchedules(_a)
+            | Line::ShowCpus(_a)
+            | Line::ShowPrompts(_a)
+            | Line::ShowResources(_a) => {}
+            Line::Shutdown | Line::JNextPlan(_) => {}
         }
     }
 }

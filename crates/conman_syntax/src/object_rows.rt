@@ -16,7 +16,9 @@ pub fn add_dep(alloc: Global, what: Option<What>, left: &str) -> Result<Line, Ar
     ensures { Gives result (spec.add_dep what left.now) }
 {
     let (argument, left) = take_argument(left, ' ');
-    let object = object(alloc, what, argument)?.ok_or(ArgumentFault::BadArgument(1))?;
+    let Some(object) = object(alloc, what, argument)? else {
+        return Err(ArgumentFault::BadArgument(1));
+    };
     Ok(Line::AddDep(object, dependency(alloc, left)?))
 }
 
@@ -25,7 +27,9 @@ pub fn del_dep(alloc: Global, what: Option<What>, left: &str) -> Result<Line, Ar
     ensures { Gives result (spec.del_dep what left.now) }
 {
     let (argument, left) = take_argument(left, ' ');
-    let object = object(alloc, what, argument)?.ok_or(ArgumentFault::BadArgument(1))?;
+    let Some(object) = object(alloc, what, argument)? else {
+        return Err(ArgumentFault::BadArgument(1));
+    };
     Ok(Line::DelDep(object, dependency(alloc, left)?))
 }
 
@@ -34,7 +38,9 @@ pub fn release(alloc: Global, what: Option<What>, left: &str) -> Result<Line, Ar
     ensures { Gives result (spec.release what left.now) }
 {
     let (argument, left) = take_argument(left, ' ');
-    let object = object(alloc, what, argument)?.ok_or(ArgumentFault::BadArgument(1))?;
+    let Some(object) = object(alloc, what, argument)? else {
+        return Err(ArgumentFault::BadArgument(1));
+    };
     ended(left, Line::Release(object))
 }
 
@@ -43,7 +49,9 @@ pub fn cancel(alloc: Global, what: Option<What>, left: &str) -> Result<Line, Arg
     ensures { Gives result (spec.cancel what left.now) }
 {
     let (argument, left) = take_argument(left, ' ');
-    let object = object(alloc, what, argument)?.ok_or(ArgumentFault::BadArgument(1))?;
+    let Some(object) = object(alloc, what, argument)? else {
+        return Err(ArgumentFault::BadArgument(1));
+    };
     ended(left, Line::Cancel(object))
 }
 
@@ -52,9 +60,13 @@ pub fn alt_pri(alloc: Global, left: &str) -> Result<Line, ArgumentFault>
     ensures { Gives result (spec.alt_pri left.now) }
 {
     let (argument, left) = take_argument(left, ' ');
-    let object = job_or_stream(alloc, argument)?.ok_or(ArgumentFault::BadArgument(1))?;
+    let Some(object) = job_or_stream(alloc, argument)? else {
+        return Err(ArgumentFault::BadArgument(1));
+    };
     let (argument, left) = take_argument(left, ';');
-    let priority = priority(argument).ok_or(ArgumentFault::BadArgument(2))?;
+    let Some(priority) = priority(argument) else {
+        return Err(ArgumentFault::BadArgument(2));
+    };
     ended(left, Line::AltPri(object, priority))
 }
 
@@ -63,7 +75,9 @@ pub fn confirm(alloc: Global, left: &str) -> Result<Line, ArgumentFault>
     ensures { Gives result (spec.confirm left.now) }
 {
     let (argument, left) = take_argument(left, ' ');
-    let job = job(alloc, argument)?.ok_or(ArgumentFault::BadArgument(1))?;
+    let Some(job) = job(alloc, argument)? else {
+        return Err(ArgumentFault::BadArgument(1));
+    };
     let (argument, left) = take_argument(left, ';');
     if argument != "succ" {
         return Err(ArgumentFault::BadArgument(2));
@@ -76,7 +90,9 @@ pub fn kill(alloc: Global, left: &str) -> Result<Line, ArgumentFault>
     ensures { Gives result (spec.kill left.now) }
 {
     let (argument, left) = take_argument(left, ' ');
-    let job = job(alloc, argument)?.ok_or(ArgumentFault::BadArgument(1))?;
+    let Some(job) = job(alloc, argument)? else {
+        return Err(ArgumentFault::BadArgument(1));
+    };
     ended(left, Line::Kill(job))
 }
 
@@ -85,6 +101,8 @@ pub fn rerun(alloc: Global, left: &str) -> Result<Line, ArgumentFault>
     ensures { Gives result (spec.rerun left.now) }
 {
     let (argument, left) = take_argument(left, ' ');
-    let job = job(alloc, argument)?.ok_or(ArgumentFault::BadArgument(1))?;
+    let Some(job) = job(alloc, argument)? else {
+        return Err(ArgumentFault::BadArgument(1));
+    };
     ended(left, Line::Rerun(job))
 }

@@ -9,7 +9,7 @@ use crate::heads::What;
 use crate::lines::{JobRef, ObjRef, StreamRef};
 use base_types::{NoMemory, Text};
 use std::alloc::Global;
-use syntax::{name, number_u32, quoted};
+use syntax::{is, name, number_u32, quoted};
 
 /// Whose limit a line sets.
 #[derive(Drop)]
@@ -86,9 +86,9 @@ pub fn job_or_stream(alloc: Global, text: &str) -> Result<Option<ObjRef>, NoMemo
     ensures { IfOk result (λ o. o ≡ job_or_stream_of text.now) }
 {
     if has(text, '.') {
-        Ok(job(alloc, text)?.map(ObjRef::Job))
+        object_from(alloc, What::Job, text)
     } else {
-        Ok(stream(alloc, text)?.map(ObjRef::Stream))
+        object_from(alloc, What::Sched, text)
     }
 }
 
@@ -141,24 +141,19 @@ pub fn resource_names(alloc: Global, text: &str) -> Result<Option<(Text, Text)>,
 fn stream_at(alloc: Global, ws: Option<Text>, text: &str) -> Result<Option<StreamRef>, NoMemory>
     ensures { IfOk result (λ o. o ≡ spec.stream_at ws text.now) }
 {
-    if !has(text, '[') {
-        let Some(name) = name(alloc, text)? else {
+    let (spelled, no) = if has(text, '[') {
+        let (called, rest) = cut(text, '[');
+        let Some(no) = bracketed(rest) else {
             return Ok(None);
         };
-        return Ok(Some(StreamRef { ws, name, no: None }));
-    }
-    let (called, rest) = cut(text, '[');
-    let Some(name) = name(alloc, called)? else {
+        (called, Some(no))
+    } else {
+        (text, None)
+    };
+    let Some(name) = name(alloc, spelled)? else {
         return Ok(None);
     };
-    let Some(no) = bracketed(rest) else {
-        return Ok(None);
-    };
-    Ok(Some(StreamRef {
-        ws,
-        name,
-        no: Some(no),
-    }))
+    Ok(Some(StreamRef { ws, name, no }))
 }
 
 /// A number and the closing bracket.
@@ -199,13 +194,13 @@ fn named_by(what: Option<What>, argument: &str) -> &str
 fn second_word(word: &str) -> Option<What>
     ensures { result ≡ spec.second_word word.now }
 {
-    if word == "job" {
+    if is(word, "job") {
         Some(What::Job)
-    } else if word == "sched" {
+    } else if is(word, "sched") {
         Some(What::Sched)
-    } else if word == "cpu" {
+    } else if is(word, "cpu") {
         Some(What::Cpu)
-    } else if word == "docommand" {
+    } else if is(word, "docommand") {
         Some(What::DoCommand)
     } else {
         None

@@ -17,16 +17,20 @@ use crate::values::{number_u16, pattern, priority, yes};
 use base_types::{NoMemory, Text};
 use calendars::read_date;
 use std::alloc::Global;
-use syntax::name;
+use syntax::{is, name};
 
 #[tactic(auto, unfolding(crate::specs::Rows::fence))]
 pub fn fence(alloc: Global, left: &str) -> Result<Line, ArgumentFault>
     ensures { Gives result (spec.fence left.now) }
 {
     let (argument, left) = take_argument(left, ' ');
-    let ws = name(alloc, argument)?.ok_or(ArgumentFault::BadArgument(1))?;
+    let Some(ws) = name(alloc, argument)? else {
+        return Err(ArgumentFault::BadArgument(1));
+    };
     let (argument, left) = take_argument(left, ';');
-    let priority = priority(argument).ok_or(ArgumentFault::BadArgument(2))?;
+    let Some(priority) = priority(argument) else {
+        return Err(ArgumentFault::BadArgument(2));
+    };
     ended(left, Line::Fence(ws, priority))
 }
 
@@ -35,9 +39,13 @@ pub fn limit(alloc: Global, what: Option<What>, left: &str) -> Result<Line, Argu
     ensures { Gives result (spec.limit what left.now) }
 {
     let (argument, left) = take_argument(left, ' ');
-    let whose = limit_target(alloc, what, argument)?.ok_or(ArgumentFault::BadArgument(1))?;
+    let Some(whose) = limit_target(alloc, what, argument)? else {
+        return Err(ArgumentFault::BadArgument(1));
+    };
     let (argument, left) = take_argument(left, ';');
-    let n = number_u16(argument).ok_or(ArgumentFault::BadArgument(2))?;
+    let Some(n) = number_u16(argument) else {
+        return Err(ArgumentFault::BadArgument(2));
+    };
     ended(left, limit_line(whose, n))
 }
 
@@ -55,9 +63,13 @@ pub fn resource(alloc: Global, left: &str) -> Result<Line, ArgumentFault>
     ensures { Gives result (spec.resource left.now) }
 {
     let (argument, left) = take_argument(left, ' ');
-    let (ws, called) = resource_names(alloc, argument)?.ok_or(ArgumentFault::BadArgument(1))?;
+    let Some((ws, called)) = resource_names(alloc, argument)? else {
+        return Err(ArgumentFault::BadArgument(1));
+    };
     let (argument, left) = take_argument(left, ';');
-    let n = number_u16(argument).ok_or(ArgumentFault::BadArgument(2))?;
+    let Some(n) = number_u16(argument) else {
+        return Err(ArgumentFault::BadArgument(2));
+    };
     ended(left, Line::Resource(ws, called, n))
 }
 
@@ -66,7 +78,9 @@ pub fn reply(alloc: Global, left: &str) -> Result<Line, ArgumentFault>
     ensures { Gives result (spec.reply left.now) }
 {
     let (argument, left) = take_argument(left, ' ');
-    let target = reply_target(alloc, argument)?.ok_or(ArgumentFault::BadArgument(1))?;
+    let Some(target) = reply_target(alloc, argument)? else {
+        return Err(ArgumentFault::BadArgument(1));
+    };
     reply_to(target, left)
 }
 
@@ -83,7 +97,9 @@ fn reply_global(name: Text, left: &str) -> Result<Line, ArgumentFault>
     ensures { Gives result (spec.reply_to (replied.Prompt name) left.now) }
 {
     let (argument, left) = take_argument(left, ';');
-    let yes = yes(argument).ok_or(ArgumentFault::BadArgument(2))?;
+    let Some(yes) = yes(argument) else {
+        return Err(ArgumentFault::BadArgument(2));
+    };
     ended(left, Line::ReplyGlobal(name, yes))
 }
 
@@ -91,9 +107,13 @@ fn reply_own(object: ObjRef, left: &str) -> Result<Line, ArgumentFault>
     ensures { Gives result (spec.reply_to (replied.Own object) left.now) }
 {
     let (argument, left) = take_argument(left, ';');
-    let i = number_u16(argument).ok_or(ArgumentFault::BadArgument(2))?;
+    let Some(i) = number_u16(argument) else {
+        return Err(ArgumentFault::BadArgument(2));
+    };
     let (argument, left) = take_argument(left, ';');
-    let yes = yes(argument).ok_or(ArgumentFault::BadArgument(3))?;
+    let Some(yes) = yes(argument) else {
+        return Err(ArgumentFault::BadArgument(3));
+    };
     ended(left, Line::ReplyOwn(object, i, yes))
 }
 
@@ -103,7 +123,9 @@ pub fn one_name(alloc: Global, left: &str) -> Result<Text, ArgumentFault>
     ensures { Gives result (spec.one_name left.now) }
 {
     let (argument, left) = take_argument(left, ' ');
-    let name = name(alloc, argument)?.ok_or(ArgumentFault::BadArgument(1))?;
+    let Some(name) = name(alloc, argument)? else {
+        return Err(ArgumentFault::BadArgument(1));
+    };
     ended(left, name)
 }
 
@@ -112,7 +134,9 @@ pub fn submit(alloc: Global, what: Option<What>, left: &str) -> Result<Line, Arg
     ensures { Gives result (spec.submit what left.now) }
 {
     let (argument, left) = take_argument(left, ' ');
-    let (ws, text) = work(alloc, what, argument)?.ok_or(ArgumentFault::BadArgument(1))?;
+    let Some((ws, text)) = work(alloc, what, argument)? else {
+        return Err(ArgumentFault::BadArgument(1));
+    };
     let (alias, priority) = behind_work(alloc, left)?;
     Ok(Line::Submit(ws, text, alias, priority))
 }
@@ -133,7 +157,7 @@ fn alias(alloc: Global, argument: &str) -> Result<Option<Text>, NoMemory>
     ensures { IfOk result (λ o. o ≡ spec.alias_of argument.now) }
 {
     let (key, value) = cut(argument, '=');
-    if key != "alias" {
+    if !is(key, "alias") {
         return Ok(None);
     }
     name(alloc, value)
@@ -148,7 +172,9 @@ fn last_priority(number: u32, left: &str) -> Result<Option<u8>, ArgumentFault>
         return Ok(None);
     }
     let (argument, left) = take_argument(left, ';');
-    let priority = priority_part(argument).ok_or(ArgumentFault::BadArgument(number))?;
+    let Some(priority) = priority_part(argument) else {
+        return Err(ArgumentFault::BadArgument(number));
+    };
     ended(left, Some(priority))
 }
 
@@ -157,7 +183,7 @@ fn priority_part(argument: &str) -> Option<u8>
     ensures { result ≡ spec.priority_part_of argument.now }
 {
     let (key, value) = cut(argument, '=');
-    if key != "priority" {
+    if !is(key, "priority") {
         return None;
     }
     priority(value)
@@ -168,9 +194,13 @@ pub fn switch_mgr(alloc: Global, left: &str) -> Result<Line, ArgumentFault>
     ensures { Gives result (spec.switch_mgr left.now) }
 {
     let (argument, left) = take_argument(left, ' ');
-    let domain = name(alloc, argument)?.ok_or(ArgumentFault::BadArgument(1))?;
+    let Some(domain) = name(alloc, argument)? else {
+        return Err(ArgumentFault::BadArgument(1));
+    };
     let (argument, left) = take_argument(left, ';');
-    let ws = name(alloc, argument)?.ok_or(ArgumentFault::BadArgument(2))?;
+    let Some(ws) = name(alloc, argument)? else {
+        return Err(ArgumentFault::BadArgument(2));
+    };
     ended(left, Line::SwitchMgr(domain, ws))
 }
 
@@ -183,7 +213,9 @@ pub fn last_pattern(alloc: Global, left: &str) -> Result<Option<Text>, ArgumentF
         return ended(left, None);
     }
     let (argument, left) = take_argument(left, ' ');
-    let pattern = pattern(alloc, argument)?.ok_or(ArgumentFault::BadArgument(1))?;
+    let Some(pattern) = pattern(alloc, argument)? else {
+        return Err(ArgumentFault::BadArgument(1));
+    };
     ended(left, Some(pattern))
 }
 

@@ -6,7 +6,7 @@ ghost use Rattle.conman_syntax.specs.Values as spec;
 
 use base_types::{NoMemory, OnUntil, Text};
 use std::alloc::Global;
-use syntax::number_u32;
+use syntax::{is, number_u32};
 
 /// A number of 8 bits.
 #[tactic(auto, unfolding(syntax::specs::Numbers::number_of))]
@@ -29,9 +29,9 @@ pub fn number_u16(word: &str) -> Option<u16>
 pub fn priority(word: &str) -> Option<u8>
     ensures { result ≡ spec.priority_of word.now }
 {
-    if word == "hi" {
+    if is(word, "hi") {
         Some(100)
-    } else if word == "go" {
+    } else if is(word, "go") {
         Some(101)
     } else {
         number_u8(word)
@@ -43,9 +43,9 @@ pub fn priority(word: &str) -> Option<u8>
 pub fn yes(word: &str) -> Option<bool>
     ensures { result ≡ spec.yes_of word.now }
 {
-    if word == "yes" {
+    if is(word, "yes") {
         Some(true)
-    } else if word == "no" {
+    } else if is(word, "no") {
         Some(false)
     } else {
         None
@@ -57,11 +57,11 @@ pub fn yes(word: &str) -> Option<bool>
 pub fn passed(word: &str) -> Option<OnUntil>
     ensures { result ≡ spec.passed_of word.now }
 {
-    if word == "suppr" {
+    if is(word, "suppr") {
         Some(OnUntil::Suppr)
-    } else if word == "cont" {
+    } else if is(word, "cont") {
         Some(OnUntil::Cont)
-    } else if word == "canc" {
+    } else if is(word, "canc") {
         Some(OnUntil::Canc)
     } else {
         None

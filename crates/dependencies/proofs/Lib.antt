@@ -5,3 +5,4 @@ pub mod Lowest
 pub mod Timed
 mod Better
 mod Both
+mod Walked

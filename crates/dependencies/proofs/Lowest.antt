@@ -1,9 +1,10 @@
 -- The lowest number of those that pass, one item further.
 use Rattle.std.proofs.Common.{◌≡◌, ◌∙◌, ◌∷◌, [], ℕ, Bool, List, None, Option, Some, ap, arith, cond, false, map, refl}
 use Rattle.std.proofs.Common.{sym, true}
+use Rattle.std.proofs.lemmas.Bool.{eqb-true}
 use Rattle.std.proofs.lemmas.Bool.Decides.{nat_tests}
 use Rattle.std.specs.List.{AllByRecursion}
-use Rattle.std.specs.Prelude.{◌&&◌, filter, nat_lt}
+use Rattle.std.specs.Prelude.{◌&&◌, ◌==◌, IfSome, filter, nat_lt}
 use Rattle.model.specs.Words.{least, lesser}
 
 -- the lower of two numbers that may be there
@@ -54,6 +55,23 @@ no_more {X} p q r number x xs h = go (p x) (q x) (r (number x)) refl refl refl h
     go true false c e f g h = rw (e, f) refl
     go false b c e f g h = rw e refl
 
+-- of two tests that hold the first holds, and says that two numbers are one
+pub first_passes : (n m : ℕ) (a b : Bool) → a ≡ ((n == m) && b) → a ≡ true → n ≡ m
+first_passes n m a b test h = eqb-true n m (go (n == m) (sym test ∙ h))
+  where
+    go : (a : Bool) → (a && b) ≡ true → a ≡ true
+    go true k = refl
+    go false k = k
+
+-- the lower of two has what both have
+pub lower_has : (P : ℕ → Type 0) (x : ℕ) (before : Option ℕ) → P x → IfSome before P → P (lesser x before)
+lower_has P x None here h = here
+lower_has P x (Some a) here h = go (nat_lt a x)
+  where
+    go : (b : Bool) → P (cond b a x)
+    go true = h
+    go false = here
+
 -- an item that passes
 pub lowest_with : {X : Type 0} (p q : X → Bool) (r : ℕ → Bool) (number : X → ℕ) (x : X) (xs : List X)
     (all before : Option ℕ) → (p x && (q x && r (number x))) ≡ true
@@ -70,6 +88,25 @@ pub lowest_without : {X : Type 0} (p q : X → Bool) (r : ℕ → Bool) (number 
     → all ≡ lower_of before (least (numbers_of p q r number xs))
 lowest_without p q r number x xs all before h e =
     e ∙ ap (λ (l : List ℕ). lower_of before (least l)) (no_more p q r number x xs h)
+
+-- the first item of a walk, where a call tells that it passes
+pub lowest_taken : {X : Type 0} (p q : X → Bool) (r : ℕ → Bool) (number : X → ℕ) (x : X) (whole xs : List X)
+    (all before : Option ℕ) (n : ℕ) (b : Bool) → whole ≡ x ∷ xs → b ≡ (p x && (q x && r (number x))) → b ≡ true
+    → n ≡ lesser (number x) before → all ≡ lower_of before (least (numbers_of p q r number whole))
+    → all ≡ lower_of (Some n) (least (numbers_of p q r number xs))
+lowest_taken {X} p q r number x whole xs all before n b is test h lower e =
+    lowest_with p q r number x xs all before (sym test ∙ h)
+    (e ∙ ap (λ (l : List X). lower_of before (least (numbers_of p q r number l))) is)
+    ∙ ap (λ (m : ℕ). lower_of (Some m) (least (numbers_of p q r number xs))) (sym lower)
+
+-- and where it tells that it does not
+pub lowest_passed : {X : Type 0} (p q : X → Bool) (r : ℕ → Bool) (number : X → ℕ) (x : X) (whole xs : List X)
+    (all before : Option ℕ) (b : Bool) → whole ≡ x ∷ xs → b ≡ (p x && (q x && r (number x))) → b ≡ false
+    → all ≡ lower_of before (least (numbers_of p q r number whole))
+    → all ≡ lower_of before (least (numbers_of p q r number xs))
+lowest_passed {X} p q r number x whole xs all before b is test h e =
+    lowest_without p q r number x xs all before (sym test ∙ h)
+    (e ∙ ap (λ (l : List X). lower_of before (least (numbers_of p q r number l))) is)
 
 -- among those whom another test lets pass too, where each that counts passes it
 pub numbers_among : {X : Type 0} (P : X → Type 0) (p q : X → Bool) (r : ℕ → Bool) (number : X → ℕ) (s : X → Bool)

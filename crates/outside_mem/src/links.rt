@@ -21,7 +21,7 @@ use std::alloc::Global;
 use std::marker::Model;
 
 /// Bytes were to be sent; they stand beside it.
-#[derive(Clone, Copy, Debug, PartialEq, Eq)]
+#[derive(Clone, Copy, PartialEq, Eq)]
 pub struct SentTo {
     pub to: Ws,
     /// Whether the call succeeded.
@@ -29,7 +29,7 @@ pub struct SentTo {
 }
 
 /// A link was asked to begin or to end.
-#[derive(Clone, Copy, Debug, PartialEq, Eq)]
+#[derive(Clone, Copy, PartialEq, Eq)]
 pub enum Ask {
     Raise(Ws),
     Close(Ws),

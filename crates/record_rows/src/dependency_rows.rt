@@ -7,10 +7,10 @@ ghost use Rattle.record_rows.specs.declared.rows.DepRow.TheVariants as dep;
 
 use crate::quotes::text;
 use crate::rows::DepRow;
-use crate::words::{is, moment, number_up_to};
+use crate::words::{moment, number_up_to};
 use base_types::{NoMemory, OnUntil, Text};
 use std::alloc::Global;
-use syntax::{first_word, name};
+use syntax::{first_word, is, name};
 
 /// `suppr`, `cont`, `canc`
 fn passed(word: &str) -> Option<OnUntil>

@@ -10,10 +10,10 @@ ghost use Rattle.record_rows.specs.declared.rows.Row.TheVariants as row;
 use crate::pairs::two_names;
 use crate::quotes::text;
 use crate::rows::{Row, StationRow};
-use crate::words::{is, number_up_to};
+use crate::words::number_up_to;
 use base_types::{Carry, NoMemory, Text};
 use std::alloc::Global;
-use syntax::{first_word, name, words};
+use syntax::{first_word, is, name, words};
 
 /// `manager`, `on`
 fn flag(word: &str) -> Option<(bool, bool)>

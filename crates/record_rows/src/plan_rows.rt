@@ -11,10 +11,10 @@ ghost use Rattle.record_rows.specs.Rows.{plan_row};
 use crate::pairs::two_names;
 use crate::quotes::text;
 use crate::rows::{JobRow, PartRow, Ranged, Row, StreamRow};
-use crate::words::{is, number_up_to, priority};
+use crate::words::{number_up_to, priority};
 use base_types::{DEFAULT_PRIORITY, NoMemory, Recovery, Text};
 use std::alloc::Global;
-use syntax::words;
+use syntax::{is, words};
 
 /// `[prio N]`, and what is left of the words. None where the number is none.
 fn given_priority<'a>(words: &'a [&'a str]) -> Option<(Ranged<u8>, &'a [&'a str])>

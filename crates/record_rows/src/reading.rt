@@ -11,10 +11,9 @@ use crate::network_rows::network_row;
 use crate::plan_rows::{object_row, part};
 use crate::rows::Row;
 use crate::step_rows::step;
-use crate::words::is;
 use base_types::{Items, NoMemory};
 use std::alloc::Global;
-use syntax::{first_word, lines};
+use syntax::{first_word, is, lines};
 
 /// A line that is a header.
 fn header(text: &str) -> Option<Row>

@@ -13,12 +13,12 @@ ghost use Rattle.record_rows.specs.declared.rows.StepRow.TheVariants as step;
 
 use crate::pairs::pair;
 use crate::rows::{CutRow, ObjRow, OwnRow, Ranged, StepRow};
-use crate::words::{code, count, dep_no, is, job_no, moment, stream_no};
+use crate::words::{code, count, dep_no, job_no, moment, stream_no};
 use base_types::{NoMemory, Text};
 use calendars::read_date;
 use conman_syntax::{CommandFault, Line, parse_command};
 use std::alloc::Global;
-use syntax::{first_word, name, words};
+use syntax::{first_word, is, name, words};
 
 /// `J RC`
 fn ended(rest: &str) -> Option<OwnRow>

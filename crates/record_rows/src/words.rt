@@ -1,7 +1,6 @@
 //! The words of a line: those that it must have, and numbers.
 ghost use Rattle.std.specs.Prelude.{◌≡◌};
 ghost use Rattle.std.specs.List.{list_all};
-ghost use Rattle.std.specs.Str.{bytes_eq};
 ghost use Rattle.std.specs.Char.{is_ascii_digit};
 ghost use Rattle.syntax.specs.Numbers as numbers;
 ghost use Rattle.record_rows.specs.Words as spec;
@@ -10,13 +9,6 @@ ghost use Rattle.record_rows.specs.Words.{sized, up_to, code_of};
 use crate::rows::Ranged;
 use base_types::{JobNo, Moment, StreamNo};
 use syntax::{number_i32, number_u32, number_u64};
-
-/// Whether a word is this one.
-pub(crate) fn is(word: &str, this: &str) -> bool
-    ensures { result ≡ bytes_eq word.now this.now }
-{
-    word == this
-}
 
 /// A time. None where the word is no number.
 #[tactic(auto, unfolding(crate::specs::Words::sized))]

@@ -12,4 +12,4 @@ mod splits;
 pub use names::name;
 pub use numbers::{number_i32, number_u32, number_u64};
 pub use quotes::quoted;
-pub use splits::{first_word, lines, words};
+pub use splits::{first_word, is, lines, words};

@@ -1,5 +1,6 @@
 //! A text's lines, and a line's words.
 ghost use Rattle.std.specs.Prelude.{◌≡◌, map, IfOk};
+ghost use Rattle.std.specs.Str.{bytes_eq};
 ghost use Rattle.syntax.specs.Splits as spec;
 ghost use Rattle.syntax.specs.Splits.{lines_of, words_of, after_word};
 
@@ -43,4 +44,11 @@ pub fn first_word(line: &str) -> (&str, &str)
         Some((first, rest)) => (first, rest),
         None => (line, ""),
     }
+}
+
+/// Whether a word is spelled so. A chain of these is proved in half the time of one that compares the texts itself.
+pub fn is(word: &str, spelling: &str) -> bool
+    ensures { result ≡ bytes_eq word.now spelling.now }
+{
+    word == spelling
 }

@@ -1,9 +1,7 @@
-use Rattle.std.proofs.Common.{[], ◌+◌, ◌∙◌, ◌∷◌, ◌≡◌, Bor, List, Some, ap, filter_map, map}
-use Rattle.model.specs.Types.{StreamDoc}
+use Rattle.std.proofs.Common.{[], ℕ, ◌+◌, ◌∙◌, ◌∷◌, ◌≡◌, List, Some, ap, filter_map, map}
 use Rattle.model.specs.History.{view_of}
 use Rattle.model.specs.Catalogue.{stream}
 use Rattle.model.specs.NewPlan.{named_doc, named_fresh}
-use Rattle.carry_forward.specs.Known.{docs_of}
 use Rattle.carry_forward.specs.declared.faults.CarryFault.TheVariants.{NumbersSpent}
 use Rattle.carry_forward.proofs.Causes.{numbered_so, spent_so, stream_room, submit_numbers}
 use Rattle.carry_forward.proofs.plans.numbered.Goals as goal
@@ -36,17 +34,17 @@ pub returns-clause-value : goal.returns-clause-value
 returns-clause-value c =
     numbered_so (view_of c.args.o.now) c.args.draft.now c.last_stream-last_stream.result c.last_job-last_job.result
     (record { number = 1 + c.last_stream-last_stream.result; first_job = 1 + c.from.result; draft = c.args.draft.now })
-    (docs_of c.in_ok-known.known) c.in_ok-names.names.fresh c.in_ok-names.names.earlier c.in_ok-doc.doc
-    c.last_stream-last_stream.ensures c.last_job-last_job.ensures
+    c.in_ok-names.names.fresh c.in_ok-names.names.earlier c.in_ok-doc.doc c.last_stream-last_stream.ensures
+    c.last_job-last_job.ensures
     (λ p. record {
       number = 1 + c.last_stream-last_stream.result;
       first_job = 1 + c.from.ensures p;
       draft = c.args.draft.now;
     })
-    (c.in_ok-known.ensures
-    ∙ ap (filter_map (stream (view_of c.args.o.now))) (c.as_slice-members.ensures ∙ c.members.ensures))
-    (c.in_ok-names.ensures.fresh ∙ ap (map named_fresh) c.from_ref-one.ensures.value)
-    (c.in_ok-names.ensures.earlier ∙ ap (λ (l : List (Bor StreamDoc)). map named_doc (docs_of l)) c.as_slice.ensures)
+    (c.in_ok-names.ensures.fresh ∙ ap (map named_fresh) c.from_ref.ensures.value)
+    (c.in_ok-names.ensures.earlier
+    ∙ ap (λ (l : List ℕ). map named_doc (filter_map (stream (view_of c.args.o.now)) l))
+    (c.as_slice-members.ensures ∙ c.members.ensures))
     c.in_ok-doc.ensures
 
 pub returns-clause-accepted : goal.returns-clause-accepted

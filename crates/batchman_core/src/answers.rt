@@ -9,10 +9,10 @@ ghost use Rattle.model.specs.Turn as spec;
 ghost use Rattle.carry_forward.specs.Faults.{submit_fault};
 ghost use Rattle.batchman_core.specs.Told.{HasDocument};
 
-use crate::issuers::next_order;
 use base_types::{Body, Cmd, Copied, NoMemory, StreamDraft, Ws};
 use carry_forward::{CarryFault, numbered};
 use conman_orders::{Verdict, judge};
+use decision_rules::next_order;
 use network_tree::Network;
 use owner_fold::Owners;
 use std::alloc::Global;

@@ -5,7 +5,7 @@ ghost use Rattle.model.specs.Types.{Events, Job, Stream};
 ghost use Rattle.model.specs.Network.{node_count};
 ghost use Rattle.model.specs.History.{view_of};
 ghost use Rattle.model.specs.Catalogue.{owner};
-ghost use Rattle.model.specs.Facts.{is_due, launches, open_launch};
+ghost use Rattle.model.specs.Facts.{is_due, launches};
 ghost use Rattle.model.specs.Dependencies.{dep};
 ghost use Rattle.model.specs.OwnMembers.{UntilTime, until_in};
 ghost use Rattle.model.specs.Turn as spec;
@@ -16,6 +16,7 @@ use crate::choices::{Choice, turn_choice};
 use crate::faults::TurnFault;
 use crate::witnesses::{seen_by_end, seen_by_object};
 use base_types::{Body, Dep, Feed, JobNo, Live, Moment, NoMemory, Obj, StreamNo, Ws};
+use decision_rules::lost;
 use dependencies::Readiness;
 use network_tree::Network;
 use owner_fold::Owners;
@@ -66,17 +67,6 @@ fn body_of(
         Choice::End(s) => Ok(Some(ended(alloc, o, me, *s)?)),
         Choice::Launch(j) => Ok(Some(launched(alloc, o, me, *j)?)),
         Choice::Nothing => Ok(None),
-    }
-}
-
-/// The loss of the open launch of a job of w. None where no launch is open.
-fn lost(o: &Owners, w: Ws, j: JobNo) -> Option<Body>
-    requires { owner (view_of o.now) (Job j) ≡ Some w }
-    ensures { result ≡ option_map (types.Lost j) (open_launch j (view_of o.now (Events w))) }
-{
-    match o.open_launch(j) {
-        None => None,
-        Some(number) => Some(Body::Lost(j, number)),
     }
 }
 

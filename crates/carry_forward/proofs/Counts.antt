@@ -1,16 +1,15 @@
 -- Counts over lists, one item further.
 use Rattle.std.proofs.Common.{[], if◌then◌else◌, ℕ, ◌+◌, ◌++◌, ◌<◌, ◌∙◌, ◌∷◌, ◌≡◌, ◌≢◌, ◌||◌, ◌⊎◌, Bool, List}
-use Rattle.std.proofs.Common.{ap, arith, cond, drop, eqb, false, filter, get_or, inl, inr, length, map, nat_lt}
-use Rattle.std.proofs.Common.{None, Option, Some, filter_map, refl, suc, sym, take, true, zero}
+use Rattle.std.proofs.Common.{ap, drop, eqb, false, get_or, inl, inr, length}
+use Rattle.std.proofs.Common.{None, Option, Some, filter_map, refl, sym, take, true}
 use Rattle.std.proofs.lemmas.Bool.Decides.{eqb_tells}
 use Rattle.std.specs.List.{cons_option, list_any}
-use Rattle.std.proofs.lemmas.List.{append-nil, drop_more, map-append, take_more}
-use Rattle.std.proofs.lemmas.List.Elements.{filter-append, filter_map-append}
+use Rattle.std.proofs.lemmas.List.{append-nil, drop_more, take_more}
+use Rattle.std.proofs.lemmas.List.Elements.{filter_map-append}
 use Rattle.std.proofs.lemmas.List.Sums.{sum_by-cons}
-use Rattle.model.specs.Types.{Events, StreamDraft}
-use Rattle.model.specs.Words.{below, has, numbers_from}
-use Rattle.model.specs.History.{View}
-use Rattle.model.specs.NewPlan.{jobs_in_drafts, seen_of}
+use Rattle.model.specs.Types.{StreamDraft}
+use Rattle.model.specs.Words.{has}
+use Rattle.model.specs.NewPlan.{jobs_in_drafts}
 
 -- the jobs of the drafts from a place on
 pub drafts_more : (drafts : List StreamDraft) (i : ℕ) (draft : StreamDraft) → i < length drafts
@@ -19,44 +18,6 @@ pub drafts_more : (drafts : List StreamDraft) (i : ℕ) (draft : StreamDraft) �
 drafts_more drafts i draft low at =
     ap jobs_in_drafts (drop_more drafts i draft low ∙ (λ p. sym at p ∷ drop (i + 1) drafts))
     ∙ sum_by-cons (λ (d : StreamDraft). length d.jobs) draft (drop (i + 1) drafts)
-
-numbers_more : (from n : ℕ) → numbers_from from (suc n) ≡ numbers_from from n ++ (from + n) ∷ []
-numbers_more from zero =
-    let e : from ≡ from + 0 = omega arith in
-    ap (λ (k : ℕ). k ∷ []) e
-numbers_more from (suc n) =
-    let e : from + 1 + n ≡ from + suc n = omega arith in
-    ap (λ (l : List ℕ). from ∷ l)
-    (numbers_more (from + 1) n ∙ ap (λ (k : ℕ). numbers_from (from + 1) n ++ k ∷ []) e)
-
-below_more : (n : ℕ) → below (n + 1) ≡ below n ++ n ∷ []
-below_more n =
-    let next : n + 1 ≡ suc n = omega arith in
-    let here : 0 + n ≡ n = omega arith in
-    ap (λ (k : ℕ). numbers_from 0 k) next
-    ∙ (numbers_more 0 n ∙ ap (λ (k : ℕ). numbers_from 0 n ++ k ∷ []) here)
-
--- the counts of one more workstation
-pub seen_more : (V : View) (w : ℕ)
-    → seen_of V (below (w + 1))
-    ≡ cond (nat_lt 0 (length (V (Events w)))) (seen_of V (below w) ++ (w, length (V (Events w))) ∷ [])
-    (seen_of V (below w))
-unfolding seen_of
-seen_more V w =
-    ap (λ (l : List ℕ). filter some (map counted l)) (below_more w)
-    ∙ (ap (filter some) (map-append counted (below w) (w ∷ []))
-    ∙ (filter-append some (map counted (below w)) (counted w ∷ []) ∙ go (some (counted w))))
-  where
-    some : ℕ × ℕ → Bool
-    some p = nat_lt 0 p.1
-
-    counted : ℕ → ℕ × ℕ
-    counted v = (v, length (V (Events v)))
-
-    go : (b : Bool) → filter some (map counted (below w)) ++ cond b (counted w ∷ []) []
-        ≡ cond b (filter some (map counted (below w)) ++ counted w ∷ []) (filter some (map counted (below w)))
-    go true = refl
-    go false = append-nil (filter some (map counted (below w)))
 
 -- what is made of one more item
 pub made_more : {X Y : Type 0} (make : X → Option Y) (xs : List X) (i : ℕ) (x : X) → i < length xs → x ≡ get_or xs i x

@@ -5,7 +5,7 @@ ghost use Rattle.model.specs.NewPlan as spec;
 ghost use Rattle.model.specs.NewPlan.{plan_of, jobs_in_drafts};
 ghost use Rattle.carry_forward.specs.Faults.{plan_fault, submit_fault, room_fault};
 
-use crate::carried_streams::{carried_streams, cut};
+use crate::carried_streams::carried_streams;
 use crate::documents::{document, documents};
 use crate::faults::CarryFault;
 use crate::names::Names;
@@ -15,6 +15,7 @@ use base_types::{
     Body, MOST_JOBS, MOST_STREAMS, NoMemory, StreamDoc, StreamDocs, StreamDraft, StreamDrafts,
     StreamNo,
 };
+use decision_rules::cut;
 use network_tree::Network;
 use owner_fold::Owners;
 use std::alloc::Global;

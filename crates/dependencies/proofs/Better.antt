@@ -8,7 +8,7 @@ use Rattle.model.specs.Catalogue.{StreamJob, jobs, jobs_of}
 use Rattle.model.specs.Readiness.{best, better_of, is_better, is_ready, is_ready_in}
 use Rattle.dependencies.specs.Planned.{IsPlannedJob}
 use Rattle.dependencies.specs.Ranks.{better_rank, rank_of}
-use Rattle.dependencies.specs.declared.candidates.Rank.{Rank}
+use Rattle.decision_rules.specs.declared.Rank.{Rank}
 
 -- the ready jobs of w among these
 abbrev pub ready_among : Net → View → ℕ → List StreamJob → List StreamJob

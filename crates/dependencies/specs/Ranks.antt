@@ -1,9 +1,10 @@
 -- What decides between two ready jobs.
-use Rattle.std.specs.Prelude.{if◌then◌else◌, Bool, None, Option, Some, nat_lt}
+use Rattle.std.specs.Prelude.{if◌then◌else◌, None, Option, Some}
 use Rattle.model.specs.History.{View}
 use Rattle.model.specs.Catalogue.{StreamJob}
-use Rattle.model.specs.Readiness.{higher, job_priority, stream_priority}
-use Rattle.dependencies.specs.declared.candidates.Rank.{Rank}
+use Rattle.model.specs.Readiness.{job_priority, stream_priority}
+use Rattle.decision_rules.specs.Ranks.{comes_before}
+use Rattle.decision_rules.specs.declared.Rank.{Rank}
 
 -- the rank of a job
 abbrev pub rank_of : View → StreamJob → Rank
@@ -13,10 +14,6 @@ rank_of V p =
       job = job_priority V p;
       number = p.doc.no;
     }
-
--- a comes before b
-abbrev pub comes_before : Rank → Rank → Bool
-comes_before a b = higher a.stream b.stream (higher a.job b.job (nat_lt a.number b.number))
 
 -- the better of the best so far and the next
 abbrev pub better_rank : Option Rank → Rank → Rank

@@ -5,13 +5,13 @@ ghost use Rattle.model.specs.Network.{node_count};
 ghost use Rattle.model.specs.History.{view_of};
 ghost use Rattle.model.specs.Readiness as spec;
 ghost use Rattle.dependencies.specs.Planned.{IsPlannedJob};
-ghost use Rattle.dependencies.specs.Ranks as ranks;
 ghost use Rattle.dependencies.specs.Ranks.{better_rank, rank_of};
 ghost use Rattle.owner_fold.specs.DocPlaces.{stream_job};
 
 use crate::launches::is_ready_in;
 use crate::priorities::{job_priority, stream_priority};
 use base_types::{Entry, JobDoc, JobNo, NoMemory, StreamDoc, Ws};
+use decision_rules::{Rank, comes_before};
 use network_tree::Network;
 use owner_fold::Owners;
 
@@ -64,14 +64,6 @@ impl Readiness for Scan {
     }
 }
 
-/// What decides between two ready jobs: the priority of the stream, the job's own, and the job's number.
-#[derive(Clone, Copy)]
-struct Rank {
-    stream: u8,
-    job: u8,
-    number: u32,
-}
-
 /// The rank of a job of the catalogue.
 fn ranked(o: &Owners, parent: &StreamDoc, doc: &JobDoc) -> Rank
     requires { IsPlannedJob (view_of o.now) (stream_job parent.now doc.now) }
@@ -82,19 +74,6 @@ fn ranked(o: &Owners, parent: &StreamDoc, doc: &JobDoc) -> Rank
         job: job_priority(o, parent, doc),
         number: doc.no.0,
     }
-}
-
-/// Whether a comes before b.
-fn comes_before(a: &Rank, b: &Rank) -> bool
-    ensures { result ≡ ranks.comes_before a.now b.now }
-{
-    if a.stream != b.stream {
-        return a.stream > b.stream;
-    }
-    if a.job != b.job {
-        return a.job > b.job;
-    }
-    a.number < b.number
 }
 
 /// The better of the best so far and the next.

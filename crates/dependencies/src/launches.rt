@@ -13,6 +13,7 @@ use crate::limits::{is_open, is_within_limit, is_within_workstation_limit};
 use crate::priorities::job_priority;
 use crate::waits::all_satisfied;
 use base_types::{JobDoc, JobNo, Obj, StreamDoc, Ws};
+use decision_rules::passes_fence;
 use network_tree::Network;
 use owner_fold::Owners;
 
@@ -85,7 +86,7 @@ fn is_let_through(o: &Owners, w: Ws, parent: &StreamDoc, doc: &JobDoc) -> bool
         ∷ []) }
 {
     let priority = job_priority(o, parent, doc);
-    priority > o.fence(w)
+    passes_fence(o, w, priority)
         && is_within_workstation_limit(o, w, priority)
         && is_within_limit(o, w, parent)
 }

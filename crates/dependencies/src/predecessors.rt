@@ -9,6 +9,7 @@ ghost use Rattle.dependencies.specs.Planned.{IsPlannedJob};
 ghost use Rattle.owner_fold.specs.DocPlaces.{stream_job};
 
 use base_types::{JobDoc, JobNo, Obj, StreamDoc, StreamNo};
+use decision_rules::is_good_or_cancelled;
 use owner_fold::Owners;
 
 /// Whether a job is good or cancelled, or its stream is cancelled. One outside the catalogue is none of these.
@@ -38,7 +39,7 @@ pub(crate) fn lets_stream_end(o: &Owners, parent: &StreamDoc, doc: &JobDoc) -> b
     requires { IsPlannedJob (view_of o.now) (stream_job parent.now doc.now) }
     ensures { result ≡ own.lets_stream_end (view_of o.now) (stream_job parent.now doc.now) }
 {
-    o.is_good(doc.no) || o.is_cancelled(Obj::Job(doc.no))
+    is_good_or_cancelled(o, doc.ws, doc.no)
 }
 
 /// Whether a stream is ended or cancelled. One outside the catalogue is neither.

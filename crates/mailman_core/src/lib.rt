@@ -10,10 +10,9 @@
 //! feed of events is asked for its way only where something of it is not acknowledged.
 #![tactic(auto)]
 
-mod accepting;
 mod mails;
 mod sends;
 mod tables;
 
-pub use accepting::{accepts, acknowledgement};
+pub use mail_rules::{accepts, acknowledgement};
 pub use mails::Mail;

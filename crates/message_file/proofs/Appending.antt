@@ -12,7 +12,7 @@ use Rattle.outside.specs.Files.{Only, Told}
 use Rattle.outside.specs.Stops.{LeavesOnly}
 use Rattle.message_file.specs.Files.{kept_of, record_of, records, place_behind, IsAtRest, KeepsAtLeast}
 use Rattle.message_file.specs.State.{kept_in, StandsBehind, KeptLeft}
-use Rattle.message_file.specs.Steps.{IsStaged, StagedOf, EndsAt, Opened}
+use Rattle.gated_puts.specs.Steps.{IsStaged, StagedOf, EndsAt, Opened}
 use Rattle.message_file.proofs.Reading.{kept_is}
 use Rattle.message_file.proofs.Putting.{opened_rest, opened_file, staged_keeps}
 

@@ -1,5 +1,3 @@
-pub mod Moments
-pub mod Tears
 pub mod Reading
 pub mod Putting
 pub mod Appending

@@ -6,7 +6,7 @@ use Rattle.outside.specs.Kept.{Bodies, with_body}
 use Rattle.outside.specs.Files.{Told}
 use Rattle.message_file.specs.Attaching.{OnlyReads}
 use Rattle.message_file.specs.Files.{IsAtRest, IsFileOf}
-use Rattle.message_file.specs.Steps.{IsStaged, StagedOf, Opened}
+use Rattle.gated_puts.specs.Steps.{IsStaged, StagedOf, Opened}
 use Rattle.message_file.proofs.Putting.{staged_keeps}
 use Rattle.message_file.specs.State.{IsOwn, OwnFiles, KeptLeft}
 

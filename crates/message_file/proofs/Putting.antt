@@ -8,7 +8,7 @@ use Rattle.outside.specs.Records.{longest_body, longest_file, piece_of}
 use Rattle.outside.specs.Kept.{Bodies, with_body}
 use Rattle.outside.specs.Files.{Only}
 use Rattle.message_file.specs.Files.{head_of, record_of, records, place_behind, HasRoom, IsFileOf, IsAtRest, KeepsOrWith}
-use Rattle.message_file.specs.Steps.{IsStaged}
+use Rattle.gated_puts.specs.Steps.{IsStaged}
 use Rattle.message_file.proofs.Reading.{length-head, length-record}
 
 abbrev ShortBodies : Bodies → Type 0

@@ -1,4 +1,3 @@
-pub mod Steps
 pub mod Files
 pub mod State
 pub mod Attaching

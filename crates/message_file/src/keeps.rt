@@ -10,9 +10,9 @@ ghost use Rattle.message_file.specs.State.{kept_in, KeptLeft, OwnFiles};
 
 use crate::LONGEST_FILE;
 use crate::files::MessageFile;
-use crate::puts::put;
 use crate::reads::{Extent, ReadFault, fetch};
 use base_types::Bytes;
+use gated_puts::put;
 use outside::{Disk, Framed, KeepFault, Keeper};
 
 impl<D: Disk> Keeper for MessageFile<D> {

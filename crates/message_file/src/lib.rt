@@ -1,15 +1,14 @@
 //! A file of records, which keeps bodies on a disk that may stop at any moment.
 //!
 //! A record counts where its gate is open (1) and it is whole. Behind the last one stands a closed gate, on the disk
-//! before anything is written behind it: a record is written and synced behind the closed gate, and then that gate is
-//! opened by a write of its own and synced. So each stop leaves the bodies of before, or these and the new one.
+//! before anything is written behind it: `gated_puts` writes a record behind it, and then opens it. So each stop leaves
+//! the bodies of before, or these and the new one.
 #![tactic(auto)]
 
 mod attaches;
 mod files;
 mod keeps;
 mod laws;
-mod puts;
 mod reads;
 mod records;
 

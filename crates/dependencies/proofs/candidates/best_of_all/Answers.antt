@@ -5,7 +5,7 @@ use Rattle.owner_fold.specs.Left.{jobs_left}
 use Rattle.owner_fold.specs.DocPlaces.{stream_job}
 use Rattle.dependencies.specs.Planned.{ArePlannedJobs}
 use Rattle.dependencies.specs.Ranks.{better_rank}
-use Rattle.dependencies.specs.declared.candidates.Rank.{Rank}
+use Rattle.decision_rules.specs.declared.Rank.{Rank}
 use Rattle.dependencies.proofs.Better.{IsBestSoFar, further_by_other, further_by_ready, nothing_so_far}
 use Rattle.dependencies.proofs.Found.{jobs_left_planned}
 use Rattle.dependencies.proofs.candidates.best_of_all.Goals as goal

@@ -2,7 +2,7 @@ use Rattle.std.proofs.Common.{◌≡◌, ◌+◌, ◌<◌, ◌≤◌, ◌⊎◌,
 use Rattle.outside.specs.Kept.{Bodies, with_body, KeptOrWith, IsKept}
 use Rattle.outside.specs.Records.{longest_file, piece_of}
 use Rattle.outside.specs.Files.{Told}
-use Rattle.message_file.specs.Steps.{Opened, IsStaged, StagedOf}
+use Rattle.gated_puts.specs.Steps.{Opened, IsStaged, StagedOf}
 use Rattle.message_file.specs.Files.{IsAtRest}
 use Rattle.outside.specs.Stops.{LeavesOnly}
 use Rattle.message_file.specs.State.{FileState, kept_in, KeptLeft, OwnFiles}

@@ -1,0 +1,2 @@
+mod Moments
+pub mod Tears

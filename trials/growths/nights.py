@@ -19,7 +19,7 @@ from concurrent.futures import ThreadPoolExecutor
 
 SECONDS = 300
 OWN_WANT = b"no memory\n"
-# What its first growths end with, which read its input.
+# What its first growths end with, which read its word and its input.
 NO_START = b"it ends with status 1 and says Error: Kind(OutOfMemory)"
 # A question that the program does not know. Its answers part those of the others.
 PART, PARTED = "part", b"no such question\n"

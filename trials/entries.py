@@ -1,5 +1,5 @@
 #!/usr/bin/env python3
-"""Nights that can be read, for the program night_probe: what it is asked, and what it has to answer.
+"""Nights that can be read, for the word night of the program probes: what it is asked, and what it has to answer.
 
 A night is read from standard input. It has the lines of a network, `$QUESTIONS`, and then entries and questions in
 their order. A line that is empty or begins with `#` is skipped.

@@ -16,8 +16,8 @@
 #   world   the same night as steps of the whole network, then packets that come again, nodes that stop in a step, and
 #           the parts of a report
 # Two parts more need no such program:
-#   nights  the built program night_probe over nights of cases/ that make a node or a network, each growth from its start
-#           to its end refused. A question that is answered with want of memory is asked again
+#   nights  the built program probes over nights of cases/ that make a node or a network, each growth from its start to
+#           its end refused. A question that is answered with want of memory is asked again
 #   words   the built program tws over small cases of cases/, each growth from its start to its end refused. It ends with
 #           status 9 then and writes nothing, or as it does where nothing is refused
 # Around each call the program says by growths of odd sizes that growths count, and that they count no more.
@@ -127,7 +127,7 @@ if [ ${#built[@]} -gt 0 ]; then
   python3 trials/growths/judge.py "$program/out/growths" "$room/refuse.so" "${built[@]}" || status=1
 fi
 if [ -n "$has_nights" ]; then
-  python3 trials/growths/nights.py "${PROBE:-crates/night_probe/out/night_probe}" "$room/refuse.so" || status=1
+  python3 trials/growths/nights.py "${PROBE:-crates/probes/out/probes}" "$room/refuse.so" || status=1
 fi
 if [ -n "$has_words" ]; then
   python3 trials/growths/words.py "${TWS:-crates/tws_program/out/tws_program}" "$room/refuse.so" || status=1

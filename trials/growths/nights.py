@@ -1,7 +1,7 @@
 #!/usr/bin/env python3
-"""Asks the program night_probe about nights of cases/, each time with another growth of memory refused.
+"""Asks the program probes about nights of cases/, each time with another growth of memory refused.
 
-Usage: nights.py PROGRAM REFUSER [NAME..]. The nights are those of the cases of this program that make a node or a
+Usage: nights.py PROGRAM REFUSER [NAME..]. The nights are those of the cases night_* that make a node or a
 network, or of the cases named. A growth that is refused meets
 - a call of a node or of a network, which is answered with want of memory. The question is asked again then, and between
   the two the program tells what it tells where the question is not refused; or
@@ -19,7 +19,7 @@ from concurrent.futures import ThreadPoolExecutor
 
 SECONDS = 300
 OWN_WANT = b"no memory\n"
-# What its first growths end with, which read its input.
+# What its first growths end with, which read its word and its input.
 NO_START = b"it ends with status 1 and says Error: Kind(OutOfMemory)"
 # A question that the program does not know. Its answers part those of the others.
 PART, PARTED = "part", b"no such question\n"
@@ -49,7 +49,7 @@ class Night:
         env = {"LD_PRELOAD": self.refuser, "GROWTHS_FROM": "start", "GROWTHS_REFUSED": str(number)}
         how = {"capture_output": True, "env": env, "timeout": SECONDS, "check": False, "close_fds": False}
         try:
-            ran = subprocess.run([self.program], input=text.ljust(self.length, b"\n"), **how)
+            ran = subprocess.run([self.program, "night"], input=text.ljust(self.length, b"\n"), **how)
         except subprocess.TimeoutExpired:
             return b"it does not end\n", 0
         said = re.fullmatch(rb"growths (\d+) refused ([01]) begun 0\n", ran.stderr)
@@ -122,7 +122,7 @@ def nights_of(program, refuser, name):
 
 
 def makes_something(name):
-    """Whether a case is of this program, and makes a node or a network."""
+    """Whether a case is of a night, and makes a node or a network."""
     path = f"cases/{name}/night"
     if not os.path.isfile(path):
         return False

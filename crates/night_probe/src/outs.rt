@@ -7,12 +7,14 @@ use std::fmt::{Debug, Display, Write};
 /// What is answered.
 #[derive(Drop)]
 pub struct Out {
+    /// The allocator of the answers.
     pub alloc: Global,
     text: String,
     is_whole: bool,
 }
 
 impl Out {
+    /// Nothing is answered yet.
     pub fn new(alloc: Global) -> Out {
         Out {
             alloc,

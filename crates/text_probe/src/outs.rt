@@ -7,12 +7,14 @@ use std::fmt::{Debug, Display, Write};
 /// A line that is written.
 #[derive(Drop)]
 pub struct Out {
+    /// The allocator of the line.
     pub alloc: Global,
     text: String,
     is_whole: bool,
 }
 
 impl Out {
+    /// A line with nothing on it.
     pub fn new(alloc: Global) -> Out {
         Out {
             alloc,

@@ -1,5 +1,5 @@
-//! Asks the core of the scheduler about nights that are given as entries, and writes what it answers. The cases of the
-//! repository run it; it serves nothing else.
+//! Asks the core of the scheduler about nights that are given as entries, and tells what it answers. The program `probes`
+//! writes it, for the cases of the repository; it serves nothing else, and nothing is promised of it.
 //!
 //! The input has lines. Those of a network come first, then `$QUESTIONS`, then the questions in their order. `$NIGHT`
 //! begins anew. A network has the lines `ws NAME HOP MANAGER FULL`, `res W NAME TOTAL`, `prompt NAME TEXT` and
@@ -31,23 +31,16 @@ mod views;
 mod walks;
 mod worlds;
 
-use outs::Out;
+pub use outs::Out;
 use probes::Probe;
 use std::alloc::Global;
-use std::io;
 
 /// What is answered to a whole input.
-fn answers(alloc: Global, text: &str) -> Out {
+pub fn answers(alloc: Global, text: &str) -> Out {
     let mut out = Out::new(alloc);
     let mut probe = Probe::new(alloc);
     for line in text.split('\n') {
         probe.read(&mut out, line);
     }
     out
-}
-
-fn main(rt: HostRuntime) -> io::Result<()> {
-    let text = io::read_to_string(rt.alloc(), rt.reader())?;
-    let out = answers(rt.alloc(), text.as_str());
-    rt.print(out.text())
 }

@@ -1,7 +1,7 @@
-//! Asks public functions of the layers of languages, bytes, plans, records and histories, for the cases of the
-//! repository.
+//! Asks public functions of the layers of languages, bytes, plans, records and histories. The program `probes` writes what
+//! they give, for the cases of the repository.
 //!
-//! Each line of the input is a word, a space, and an argument up to the end of the line. The word names a function, and
+//! A question is a line: a word, a space, and an argument up to the end of the line. The word names a function, and
 //! the argument is what it is asked of; `\n`, `\r`, `\t`, `\\` and `\xNN` stand in it for a byte each. What the function
 //! gives is written as one line, with `\n`, `\r` and `\\` for these bytes: a text as it is, or between `<` and `>` beside
 //! others, bytes as digits in base 16, and numbers, marks and faults as Rust writes them. Nothing is promised of what is
@@ -31,9 +31,8 @@ mod workload_words;
 use arguments::numbers;
 use calendars::{LAST_DAY, read_date};
 use escapes::unescaped;
-use outs::Out;
+pub use outs::Out;
 use std::alloc::Global;
-use std::io::{self, BufRead, BufReader};
 use std::str;
 use syntax::{first_word, number_i32, number_u32, number_u64};
 use time_zones::east_of;
@@ -143,7 +142,7 @@ fn tell_of(out: &mut Out, word: &str, argument: &[u8]) {
 }
 
 /// The line that answers a line.
-fn answer(alloc: Global, line: &str) -> Out {
+pub fn answer(alloc: Global, line: &str) -> Out {
     let (word, rest) = first_word(line);
     let mut told = Out::new(alloc);
     let argument = unescaped(&mut told, rest);
@@ -151,15 +150,4 @@ fn answer(alloc: Global, line: &str) -> Out {
     let mut out = Out::new(alloc);
     out.escaped(told.text());
     out
-}
-
-fn main(rt: HostRuntime) -> io::Result<()> {
-    let alloc = rt.alloc();
-    let input = BufReader::new(alloc, rt.reader())?;
-    for line in input.lines(alloc) {
-        let line = line?;
-        let answer = answer(alloc, line.as_str());
-        rt.println(answer.text())?;
-    }
-    Ok(())
 }

@@ -114,35 +114,15 @@ fn is_prompt(a: &PromptRef, dep: &Dep) -> bool
 pub fn is_same(a: &Dep, b: &Dep) -> bool
     ensures { result ≡ dep_eq a.now b.now }
 {
-    match a {
-        Dep::FollowsJob(j) => match b {
-            Dep::FollowsJob(k) => j.0 == k.0,
-            _ => false,
-        },
-        Dep::FollowsStream(s) => match b {
-            Dep::FollowsStream(t) => s.0 == t.0,
-            _ => false,
-        },
-        Dep::Needs(r, n) => match b {
-            Dep::Needs(q, m) => *r == *q && *n == *m,
-            _ => false,
-        },
-        Dep::Prompt(asked) => is_prompt(asked, b),
-        Dep::At(t) => match b {
-            Dep::At(u) => t.0 == u.0,
-            _ => false,
-        },
-        Dep::Until(t, mark) => match b {
-            Dep::Until(u, other) => t.0 == u.0 && is_same_mark(mark, other),
-            _ => false,
-        },
-        Dep::Outside(path) => match b {
-            Dep::Outside(other) => is_same_text(path.as_str(), other.as_str()),
-            _ => false,
-        },
-        Dep::Deadline(t) => match b {
-            Dep::Deadline(u) => t.0 == u.0,
-            _ => false,
-        },
+    match (a, b) {
+        (Dep::FollowsJob(j), Dep::FollowsJob(k)) => j.0 == k.0,
+        (Dep::FollowsStream(s), Dep::FollowsStream(t)) => s.0 == t.0,
+        (Dep::Needs(r, n), Dep::Needs(q, m)) => *r == *q && *n == *m,
+        (Dep::Prompt(asked), _) => is_prompt(asked, b),
+        (Dep::At(t), Dep::At(u)) => t.0 == u.0,
+        (Dep::Until(t, mark), Dep::Until(u, other)) => t.0 == u.0 && is_same_mark(mark, other),
+        (Dep::Outside(path), Dep::Outside(other)) => is_same_text(path.as_str(), other.as_str()),
+        (Dep::Deadline(t), Dep::Deadline(u)) => t.0 == u.0,
+        _ => false,
     }
 }

@@ -1,5 +1,5 @@
 //! What the names of a line stand for. No look-up takes memory, but for the text that a dependency brings along.
-ghost use Rattle.std.specs.Prelude.{◌≡◌, ◌≤◌, ◌∷◌, ◌==◌, ℕ, List, IfOk, drop, false, length, option_map};
+ghost use Rattle.std.specs.Prelude.{◌≡◌, ◌≤◌, ◌∷◌, ◌==◌, ℕ, List, IfOk, drop, false, length, option_map, Some};
 ghost use Rattle.std.specs.Prelude.{slice_get};
 ghost use Rattle.std.specs.Option.{IfSome, option_map_or, option_or};
 ghost use Rattle.model.specs.Words.{has};
@@ -265,20 +265,54 @@ pub fn object(network: &Network, o: &Owners, me: Ws, typed: &ObjRef) -> Option<O
     }
 }
 
+/// A dependency on a job.
+fn follows_job(network: &Network, o: &Owners, me: Ws, typed: &JobRef) -> Option<Dep>
+    ensures { result ≡ option_map Dep.FollowsJob (spec.job_named network.now (view_of o.now) me typed.now) }
+{
+    match job(network, o, me, typed) {
+        Some(j) => Some(Dep::FollowsJob(j)),
+        None => None,
+    }
+}
+
+/// A dependency on a stream.
+fn follows_stream(network: &Network, o: &Owners, me: Ws, typed: &StreamRef) -> Option<Dep>
+    ensures { result ≡ option_map Dep.FollowsStream (spec.stream_named network.now (view_of o.now) me typed.now) }
+{
+    match stream(network, o, me, typed) {
+        Some(s) => Some(Dep::FollowsStream(s)),
+        None => None,
+    }
+}
+
 /// A dependency on units of a resource.
 fn needs(network: &Network, units: u16, ws: &str, name: &str) -> Option<Dep>
     ensures { result ≡ option_map (λ q. Dep.Needs q.1 units) (spec.resource_named network.now ws.now name.now) }
 {
-    let (_, number) = resource(network, ws, name)?;
-    Some(Dep::Needs(number, units))
+    match resource(network, ws, name) {
+        Some((_, number)) => Some(Dep::Needs(number, units)),
+        None => None,
+    }
 }
 
 /// A dependency on a prompt of the network.
 fn asks(network: &Network, name: &str) -> Option<Dep>
     ensures { result ≡ option_map (λ p. Dep.Prompt (PromptRef.Global p)) (spec.prompt_named network.now name.now) }
 {
-    let number = prompt(network, name)?;
-    Some(Dep::Prompt(PromptRef::Global(number)))
+    match prompt(network, name) {
+        Some(number) => Some(Dep::Prompt(PromptRef::Global(number))),
+        None => None,
+    }
+}
+
+/// A dependency on a prompt of its own.
+fn asks_own(text: &Text) -> Result<Option<Dep>, NoMemory>
+    ensures { IfOk result (λ d. d ≡ Some (Dep.Prompt (PromptRef.Own text.now))) }
+{
+    match text.copy() {
+        Ok(text) => Ok(Some(Dep::Prompt(PromptRef::Own(text)))),
+        Err(error) => Err(error),
+    }
 }
 
 /// The dependency that is typed so at the workstation `me`.
@@ -287,11 +321,11 @@ pub fn dep(network: &Network, o: &Owners, me: Ws, typed: &DepRef) -> Result<Opti
     ensures { IfOk result (λ d. d ≡ spec.dep_named network.now (view_of o.now) me typed.now) }
 {
     match typed {
-        DepRef::FollowsJob(typed) => Ok(job(network, o, me, typed).map(Dep::FollowsJob)),
-        DepRef::FollowsStream(typed) => Ok(stream(network, o, me, typed).map(Dep::FollowsStream)),
+        DepRef::FollowsJob(typed) => Ok(follows_job(network, o, me, typed)),
+        DepRef::FollowsStream(typed) => Ok(follows_stream(network, o, me, typed)),
         DepRef::Needs(units, ws, name) => Ok(needs(network, *units, ws.as_str(), name.as_str())),
         DepRef::PromptName(name) => Ok(asks(network, name.as_str())),
-        DepRef::PromptText(text) => Ok(Some(Dep::Prompt(PromptRef::Own(text.copy()?)))),
+        DepRef::PromptText(text) => asks_own(text),
         DepRef::At(moment) => Ok(Some(Dep::At(Moment(*moment)))),
         DepRef::Until(moment, mark) => Ok(Some(Dep::Until(Moment(*moment), *mark))),
     }

@@ -1,9 +1,12 @@
 //! The command that a line gives, and the workstation that it goes to.
-ghost use Rattle.std.specs.Prelude.{◌≡◌, ◌↔◌, ℕ, IfOk, codes, unwrap_or};
+ghost use Rattle.std.specs.Prelude.{◌≡◌, ◌↔◌, ◌∷◌, [], ℕ, IfOk, codes, option_and_then, unwrap_or};
 ghost use Rattle.std.specs.Result.{IsErrOf};
-ghost use Rattle.model.specs.Types.{AltPri, Cancel, Cmd as Cmds, Confirm, Kill, Release, ReplyOwn, Rerun, StreamLimit};
+ghost use Rattle.model.specs.Types.{AltPri, Cancel, Cmd as Cmds, Command, Confirm, Kill, Release, ReplyOwn, Rerun, StreamLimit};
+ghost use Rattle.base_types.specs.declared.Recovery.TheVariants as recovery;
 ghost use Rattle.model.specs.History.{view_of};
 ghost use Rattle.model.specs.Catalogue.{owner as spec_owner};
+ghost use Rattle.conman_orders.specs.Equals.{first_equal};
+ghost use Rattle.conman_orders.specs.Names.{dep_named};
 ghost use Rattle.conman_orders.specs.Orders as spec;
 ghost use Rattle.conman_orders.specs.Orders.{Gives, GivesNoCommand, HadMemory, HasUnknownName, IsFitOrder, IsOrder};
 ghost use Rattle.conman_orders.specs.Orders.{due_order};
@@ -13,8 +16,8 @@ ghost use Rattle.conman_orders.specs.declared.orders.ResolveFault.TheVariants as
 use crate::names::{dep, is_domain_of, job, object, prompt, resource, stream, workstation};
 use crate::object_verdicts::equal_dep;
 use base_types::{
-    Cmd, Copied, Items, JobDraft, JobNo, NoMemory, Obj, Recovery, StreamDraft, StreamNo, Text,
-    Work, Ws,
+    Cmd, Copied, Items, JobDraft, JobDrafts, JobNo, NoMemory, Obj, Recovery, StreamDraft, StreamNo,
+    Text, Work, Ws,
 };
 use conman_syntax::{DepRef, JobRef, Line, ObjRef, StreamRef};
 use network_tree::Network;
@@ -22,7 +25,7 @@ use owner_fold::Owners;
 use std::alloc::Global;
 
 /// Why a line gives no command.
-#[derive(Clone, Copy, Debug, PartialEq, Eq)]
+#[derive(Clone, Copy, Debug)]
 pub enum ResolveFault {
     /// The argument of this number, from 1, names what is not there. The first such argument counts; of `switchmgr`
     /// the workstation, argument 2, is looked up before the domain, which is named by that workstation's manager.
@@ -88,9 +91,31 @@ fn add_dep(
 ) -> Result<Order, ResolveFault>
     ensures { Gives result (spec.add_dep network.now (view_of o.now) me object.now added.now) }
 {
-    let (to, object) = owned_object(network, o, me, object).ok_or(ResolveFault::UnknownName(1))?;
-    let dep = dep(network, o, me, added)?.ok_or(ResolveFault::UnknownName(2))?;
-    Ok((to, Cmd::AddDep(object, dep)))
+    let Some((to, object)) = owned_object(network, o, me, object) else {
+        return Err(ResolveFault::UnknownName(1));
+    };
+    match dep(network, o, me, added)? {
+        Some(dep) => Ok((to, Cmd::AddDep(object, dep))),
+        None => Err(ResolveFault::UnknownName(2)),
+    }
+}
+
+/// The number of the first dependency of the object that equals the one that is typed so and is not waived.
+fn equal_to(
+    network: &Network,
+    o: &Owners,
+    me: Ws,
+    object: &Obj,
+    typed: &DepRef,
+) -> Result<Option<u16>, NoMemory>
+    ensures { IfOk result (λ i. i
+        ≡ option_and_then (first_equal (view_of o.now) object.now) (dep_named network.now (view_of o.now) me typed.now)) }
+{
+    match dep(network, o, me, typed) {
+        Ok(Some(dep)) => Ok(equal_dep(o, object, &dep)),
+        Ok(None) => Ok(None),
+        Err(error) => Err(error),
+    }
 }
 
 #[tactic(auto, unfolding(crate::specs::Orders::del_dep))]
@@ -103,18 +128,23 @@ fn del_dep(
 ) -> Result<Order, ResolveFault>
     ensures { Gives result (spec.del_dep network.now (view_of o.now) me object.now waived.now) }
 {
-    let (to, object) = owned_object(network, o, me, object).ok_or(ResolveFault::UnknownName(1))?;
-    let dep = dep(network, o, me, waived)?.ok_or(ResolveFault::UnknownName(2))?;
-    let i = equal_dep(o, &object, &dep).ok_or(ResolveFault::UnknownName(2))?;
-    Ok((to, Cmd::DelDep(object, i)))
+    let Some((to, object)) = owned_object(network, o, me, object) else {
+        return Err(ResolveFault::UnknownName(1));
+    };
+    match equal_to(network, o, me, &object, waived)? {
+        Some(i) => Ok((to, Cmd::DelDep(object, i))),
+        None => Err(ResolveFault::UnknownName(2)),
+    }
 }
 
 #[tactic(auto, unfolding(crate::specs::Orders::on_object))]
 fn release(network: &Network, o: &Owners, me: Ws, object: &ObjRef) -> Result<Order, ResolveFault>
     ensures { result ≡ spec.on_object network.now (view_of o.now) me object.now Release }
 {
-    let (to, object) = owned_object(network, o, me, object).ok_or(ResolveFault::UnknownName(1))?;
-    Ok((to, Cmd::Release(object)))
+    match owned_object(network, o, me, object) {
+        Some((to, object)) => Ok((to, Cmd::Release(object))),
+        None => Err(ResolveFault::UnknownName(1)),
+    }
 }
 
 #[tactic(auto, unfolding(crate::specs::Orders::on_object))]
@@ -127,16 +157,20 @@ fn alt_pri(
 ) -> Result<Order, ResolveFault>
     ensures { result ≡ spec.on_object network.now (view_of o.now) me object.now (λ x. AltPri x priority) }
 {
-    let (to, object) = owned_object(network, o, me, object).ok_or(ResolveFault::UnknownName(1))?;
-    Ok((to, Cmd::AltPri(object, priority)))
+    match owned_object(network, o, me, object) {
+        Some((to, object)) => Ok((to, Cmd::AltPri(object, priority))),
+        None => Err(ResolveFault::UnknownName(1)),
+    }
 }
 
 #[tactic(auto, unfolding(crate::specs::Orders::on_object))]
 fn cancel(network: &Network, o: &Owners, me: Ws, object: &ObjRef) -> Result<Order, ResolveFault>
     ensures { result ≡ spec.on_object network.now (view_of o.now) me object.now Cancel }
 {
-    let (to, object) = owned_object(network, o, me, object).ok_or(ResolveFault::UnknownName(1))?;
-    Ok((to, Cmd::Cancel(object)))
+    match owned_object(network, o, me, object) {
+        Some((to, object)) => Ok((to, Cmd::Cancel(object))),
+        None => Err(ResolveFault::UnknownName(1)),
+    }
 }
 
 #[tactic(auto, unfolding(crate::specs::Orders::on_object))]
@@ -150,32 +184,40 @@ fn reply_own(
 ) -> Result<Order, ResolveFault>
     ensures { result ≡ spec.on_object network.now (view_of o.now) me object.now (λ x. ReplyOwn x i yes) }
 {
-    let (to, object) = owned_object(network, o, me, object).ok_or(ResolveFault::UnknownName(1))?;
-    Ok((to, Cmd::ReplyOwn(object, i, yes)))
+    match owned_object(network, o, me, object) {
+        Some((to, object)) => Ok((to, Cmd::ReplyOwn(object, i, yes))),
+        None => Err(ResolveFault::UnknownName(1)),
+    }
 }
 
 #[tactic(auto, unfolding(crate::specs::Orders::on_job))]
 fn confirm(network: &Network, o: &Owners, me: Ws, job: &JobRef) -> Result<Order, ResolveFault>
     ensures { result ≡ spec.on_job network.now (view_of o.now) me job.now Confirm }
 {
-    let (to, j) = owned_job(network, o, me, job).ok_or(ResolveFault::UnknownName(1))?;
-    Ok((to, Cmd::Confirm(j)))
+    match owned_job(network, o, me, job) {
+        Some((to, j)) => Ok((to, Cmd::Confirm(j))),
+        None => Err(ResolveFault::UnknownName(1)),
+    }
 }
 
 #[tactic(auto, unfolding(crate::specs::Orders::on_job))]
 fn kill(network: &Network, o: &Owners, me: Ws, job: &JobRef) -> Result<Order, ResolveFault>
     ensures { result ≡ spec.on_job network.now (view_of o.now) me job.now Kill }
 {
-    let (to, j) = owned_job(network, o, me, job).ok_or(ResolveFault::UnknownName(1))?;
-    Ok((to, Cmd::Kill(j)))
+    match owned_job(network, o, me, job) {
+        Some((to, j)) => Ok((to, Cmd::Kill(j))),
+        None => Err(ResolveFault::UnknownName(1)),
+    }
 }
 
 #[tactic(auto, unfolding(crate::specs::Orders::on_job))]
 fn rerun(network: &Network, o: &Owners, me: Ws, job: &JobRef) -> Result<Order, ResolveFault>
     ensures { result ≡ spec.on_job network.now (view_of o.now) me job.now Rerun }
 {
-    let (to, j) = owned_job(network, o, me, job).ok_or(ResolveFault::UnknownName(1))?;
-    Ok((to, Cmd::Rerun(j)))
+    match owned_job(network, o, me, job) {
+        Some((to, j)) => Ok((to, Cmd::Rerun(j))),
+        None => Err(ResolveFault::UnknownName(1)),
+    }
 }
 
 #[tactic(auto, unfolding(crate::specs::Orders::on_stream))]
@@ -188,33 +230,40 @@ fn stream_limit(
 ) -> Result<Order, ResolveFault>
     ensures { result ≡ spec.on_stream network.now (view_of o.now) me stream.now (λ s. StreamLimit s limit) }
 {
-    let (to, s) = owned_stream(network, o, me, stream).ok_or(ResolveFault::UnknownName(1))?;
-    Ok((to, Cmd::StreamLimit(s, limit)))
+    match owned_stream(network, o, me, stream) {
+        Some((to, s)) => Ok((to, Cmd::StreamLimit(s, limit))),
+        None => Err(ResolveFault::UnknownName(1)),
+    }
 }
 
 #[tactic(auto, unfolding(crate::specs::Orders::on_workstation))]
 fn on_workstation(network: &Network, ws: &Text, cmd: Cmd) -> Result<Order, ResolveFault>
     ensures { result ≡ spec.on_workstation network.now ws.now cmd }
 {
-    let to = workstation(network, ws.as_str()).ok_or(ResolveFault::UnknownName(1))?;
-    Ok((to, cmd))
+    match workstation(network, ws.as_str()) {
+        Some(to) => Ok((to, cmd)),
+        None => Err(ResolveFault::UnknownName(1)),
+    }
 }
 
 #[tactic(auto, unfolding(crate::specs::Orders::total))]
 fn total(network: &Network, ws: &Text, name: &Text, units: u16) -> Result<Order, ResolveFault>
     ensures { result ≡ spec.total network.now ws.now name.now units }
 {
-    let found = resource(network, ws.as_str(), name.as_str());
-    let (to, number) = found.ok_or(ResolveFault::UnknownName(1))?;
-    Ok((to, Cmd::Total(number, units)))
+    match resource(network, ws.as_str(), name.as_str()) {
+        Some((to, number)) => Ok((to, Cmd::Total(number, units))),
+        None => Err(ResolveFault::UnknownName(1)),
+    }
 }
 
 #[tactic(auto, unfolding(crate::specs::Orders::reply_global))]
 fn reply_global(network: &Network, name: &Text, yes: bool) -> Result<Order, ResolveFault>
     ensures { result ≡ spec.reply_global network.now name.now yes }
 {
-    let number = prompt(network, name.as_str()).ok_or(ResolveFault::UnknownName(1))?;
-    Ok((Ws(0), Cmd::ReplyGlobal(number, yes)))
+    match prompt(network, name.as_str()) {
+        Some(number) => Ok((Ws(0), Cmd::ReplyGlobal(number, yes))),
+        None => Err(ResolveFault::UnknownName(1)),
+    }
 }
 
 /// The name of a submitted stream and of its job.
@@ -224,6 +273,40 @@ fn submitted_name(alloc: Global, alias: &Option<Text>) -> Result<Text, NoMemory>
     match alias {
         Some(name) => name.copy(),
         None => Text::of(alloc, "ADHOC"),
+    }
+}
+
+/// The job of a submitted stream, as the list that it makes.
+fn submitted_jobs(alloc: Global, job: JobDraft) -> Result<JobDrafts, NoMemory>
+    ensures { IfOk result (λ jobs. jobs ≡ job ∷ []) }
+{
+    let mut jobs = Items::new(alloc);
+    jobs.push(job)?;
+    Ok(jobs)
+}
+
+/// The job of a submitted stream.
+fn submitted_job(alloc: Global, w: Ws, name: Text, text: Text, priority: u8) -> JobDraft
+    ensures { result ≡ record {
+      ws = w;
+      name = name;
+      priority = priority;
+      work = Command text;
+      logon = [];
+      cond = [];
+      recovery = recovery.Stop;
+      deps = [];
+    } }
+{
+    JobDraft {
+        ws: w,
+        name,
+        priority,
+        work: Work::Command(text),
+        logon: Text::new(alloc),
+        cond: Items::new(alloc),
+        recovery: Recovery::Stop,
+        deps: Items::new(alloc),
     }
 }
 
@@ -238,17 +321,9 @@ fn submitted(
 ) -> Result<StreamDraft, NoMemory>
     ensures { IfOk result (λ draft. draft ≡ spec.submitted w text.now alias.now priority) }
 {
-    let mut jobs = Items::new(alloc);
-    jobs.push(JobDraft {
-        ws: w,
-        name: submitted_name(alloc, alias)?,
-        priority: priority.unwrap_or(10),
-        work: Work::Command(text.copy()?),
-        logon: Text::new(alloc),
-        cond: Items::new(alloc),
-        recovery: Recovery::Stop,
-        deps: Items::new(alloc),
-    })?;
+    let name = submitted_name(alloc, alias)?;
+    let job = submitted_job(alloc, w, name, text.copy()?, priority.unwrap_or(10));
+    let jobs = submitted_jobs(alloc, job)?;
     Ok(StreamDraft {
         ws: w,
         name: submitted_name(alloc, alias)?,
@@ -271,11 +346,11 @@ fn submit(
 ) -> Result<Order, ResolveFault>
     ensures { Gives result (spec.submit network.now ws.now text.now alias.now priority) }
 {
-    let w = workstation(network, ws.as_str()).ok_or(ResolveFault::UnknownName(1))?;
-    Ok((
-        Ws(0),
-        Cmd::Submit(submitted(alloc, w, text, alias, priority)?),
-    ))
+    let Some(w) = workstation(network, ws.as_str()) else {
+        return Err(ResolveFault::UnknownName(1));
+    };
+    let draft = submitted(alloc, w, text, alias, priority)?;
+    Ok((Ws(0), Cmd::Submit(draft)))
 }
 
 /// The workstation is argument 2. It is looked up first, since the domain is known by it.
@@ -283,7 +358,9 @@ fn submit(
 fn switch_mgr(network: &Network, domain: &Text, ws: &Text) -> Result<Order, ResolveFault>
     ensures { result ≡ spec.switch_mgr network.now domain.now ws.now }
 {
-    let w = workstation(network, ws.as_str()).ok_or(ResolveFault::UnknownName(2))?;
+    let Some(w) = workstation(network, ws.as_str()) else {
+        return Err(ResolveFault::UnknownName(2));
+    };
     if !is_domain_of(network.net(), w, domain.as_str()) {
         return Err(ResolveFault::UnknownName(1));
     }

@@ -17,7 +17,7 @@ use network_tree::{Network, is_only_shown};
 use owner_fold::Owners;
 
 /// What comes of a command.
-#[derive(Clone, Copy, Debug, PartialEq, Eq)]
+#[derive(Clone, Copy, Debug)]
 pub enum Verdict {
     Obey,
     /// For the first reason that applies.

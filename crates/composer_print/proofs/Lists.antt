@@ -1,7 +1,8 @@
 -- Texts of a list, part by part.
-use Rattle.std.proofs.Common.{◌≡◌, ◌<◌, ◌+◌, ℕ, Bool, true, false, List, [], ◌∷◌, ◌++◌, length, get_or, drop, flat_map, refl, ap, sym, ◌∙◌, append_assoc, append-nil, codes, Option}
-use Rattle.std.proofs.lemmas.List.{drop_more}
+use Rattle.std.proofs.Common.{◌≡◌, ◌<◌, ◌≤◌, ◌+◌, ℕ, Bool, true, false, eqb, List, [], ◌∷◌, ◌++◌, length, get_or, drop, flat_map, map, refl, ap, sym, ◌∙◌, append_assoc, append-nil, codes, Option}
+use Rattle.std.proofs.lemmas.List.{drop_all, drop_more}
 use Rattle.base_types.specs.declared.network.Carry.{Carry}
+use Rattle.composer_print.specs.Groups.{header}
 use Rattle.composer_print.specs.Texts.{lead, texts_from, begun_after}
 use Rattle.composer_print.specs.Stations.{start_texts, zone_texts, carry_texts, options_of, options_text, ended}
 
@@ -18,6 +19,35 @@ pub begun_joined : (begun : Bool) (xs ys : List (List ℕ)) → begun_after begu
 begun_joined begun [] ys = refl
 begun_joined begun (x ∷ xs) ys = begun_joined true xs ys
 
+-- one part more of a text that is written part by part
+pub part_more : {A : Type 0} (whole : List A → List ℕ) (text : A → List ℕ)
+    → ((y : A) (ys : List A) → whole (y ∷ ys) ≡ text y ++ whole ys) → (all out new : List ℕ) (xs : List A) (i : ℕ) (x : A)
+    → i < length xs → x ≡ get_or xs i x → new ≡ out ++ text x → all ≡ out ++ whole (drop i xs)
+    → all ≡ new ++ whole (drop (i + 1) xs)
+part_more {A = A} whole text step all out new xs i x low at written sofar =
+    let rest : List A = drop (i + 1) xs in
+    let cut : drop i xs ≡ x ∷ rest = drop_more xs i x low ∙ ap (λ (y : A). y ∷ rest) (sym at) in
+    sofar ∙ ap (λ (ys : List A). out ++ whole ys) cut ∙ ap (λ t. out ++ t) (step x rest)
+    ∙ sym (append_assoc out (text x) (whole rest)) ∙ ap (λ t. t ++ whole rest) (sym written)
+
+pub parts_all : {A : Type 0} (whole : List A → List ℕ) → whole [] ≡ [] → (all out : List ℕ) (xs : List A) (i : ℕ)
+    → length xs ≤ i → all ≡ out ++ whole (drop i xs) → out ≡ all
+parts_all {A = A} whole none all out xs i end sofar =
+    sym
+    (sofar ∙ ap (λ (ys : List A). out ++ whole ys) (drop_all i xs end) ∙ ap (λ t. out ++ t) none ∙ append-nil out)
+
+-- a group that has something, behind its header
+headed : {A B : Type 0} (word : List ℕ) (f : A → B) (xs : List A) → eqb (length xs) 0 ≡ false → header word (map f xs) ≡ word
+headed word f [] some = cc
+headed word f (x ∷ xs) some = refl
+
+pub group_all : {A B : Type 0} (whole : List A → List ℕ) → whole [] ≡ [] → (f : A → B) (word old begun out : List ℕ)
+    (xs : List A) (i : ℕ) → eqb (length xs) 0 ≡ false → begun ≡ old ++ word → length xs ≤ i
+    → begun ++ whole xs ≡ out ++ whole (drop i xs) → out ≡ old ++ (header word (map f xs) ++ whole xs)
+group_all whole none f word old begun out xs i some begins end sofar =
+    parts_all whole none (begun ++ whole xs) out xs i end sofar ∙ ap (λ t. t ++ whole xs) begins
+    ∙ append_assoc old word (whole xs) ∙ ap (λ t. old ++ (t ++ whole xs)) (sym (headed word f xs some))
+
 -- one more of the clauses that add to a list
 pub joined_more : {A : Type 0} (texts : A → List (List ℕ)) (s b all out new : List ℕ) (begun stands : Bool) (cs : List A)
     (i : ℕ) (x : A) → i < length cs → x ≡ get_or cs i x → new ≡ out ++ texts_from s b begun (texts x)
@@ -31,6 +61,11 @@ joined_more {A = A} texts s b all out new begun stands cs i x low at text begins
     ∙ sym
     (append_assoc out (texts_from s b begun (texts x)) (texts_from s b (begun_after begun (texts x)) (flat_map texts rest)))
     ∙ (λ j. sym text j ++ texts_from s b (sym begins j) (flat_map texts rest))
+
+pub joined_all : {A : Type 0} (texts : A → List (List ℕ)) (s b all out : List ℕ) (begun : Bool) (cs : List A) (i : ℕ)
+    → length cs ≤ i → all ≡ out ++ texts_from s b begun (flat_map texts (drop i cs)) → out ≡ all
+joined_all {A = A} texts s b all out begun cs i end sofar =
+    sym (sofar ∙ ap (λ (ys : List A). out ++ texts_from s b begun (flat_map texts ys)) (drop_all i cs end) ∙ append-nil out)
 
 -- one option
 pub option_line : (out a b c word text : List ℕ) (begun : Bool)

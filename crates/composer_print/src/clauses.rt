@@ -1,5 +1,6 @@
 //! The clauses of an object.
-ghost use Rattle.std.specs.Prelude.{◌≡◌, ◌++◌, OnOk, flat_map};
+ghost use Rattle.std.specs.Prelude.{◌≡◌, ◌++◌, OnOk, codes, flat_map};
+ghost use Rattle.std.specs.Fmt.{decimal};
 ghost use Rattle.composer_parser.specs.Clauses.{is_at, is_until, is_deadline, is_limit, is_carry};
 ghost use Rattle.composer_print.specs.Clauses as spec;
 ghost use Rattle.composer_print.specs.Scopes as scope;
@@ -32,6 +33,14 @@ fn write_moment(out: &mut Vec<u8>, minutes: u16, days: &Option<u32>) -> io::Resu
     write_plus(out, days)
 }
 
+/// Writes a moment behind its keyword.
+fn write_timed(out: &mut Vec<u8>, keyword: &str, minutes: u16, days: &Option<u32>) -> io::Result<()>
+    ensures { OnOk result (out.new.items ≡ out.old.items ++ (keyword.now ++ spec.moment_text minutes days.now)) }
+{
+    write!(out, "{keyword}")?;
+    write_moment(out, minutes, days)
+}
+
 #[tactic(auto, unfolding(crate::specs::Clauses::until_text))]
 fn write_action(out: &mut Vec<u8>, action: OnUntil) -> io::Result<()>
     ensures { OnOk result (out.new.items ≡ out.old.items ++ spec.until_text action) }
@@ -41,6 +50,19 @@ fn write_action(out: &mut Vec<u8>, action: OnUntil) -> io::Result<()>
         OnUntil::Cont => write!(out, " ONUNTIL CONT"),
         OnUntil::Canc => write!(out, " ONUNTIL CANC"),
     }
+}
+
+fn write_until(
+    out: &mut Vec<u8>,
+    minutes: u16,
+    days: &Option<u32>,
+    action: OnUntil,
+) -> io::Result<()>
+    ensures { OnOk result (out.new.items ≡ out.old.items
+        ++ (codes " UNTIL " ++ spec.moment_text minutes days.now ++ spec.until_text action)) }
+{
+    write_timed(out, " UNTIL ", minutes, days)?;
+    write_action(out, action)
 }
 
 #[tactic(auto, unfolding(crate::specs::Clauses::priority_text))]
@@ -56,30 +78,31 @@ fn write_priority(out: &mut Vec<u8>, n: u32) -> io::Result<()>
     write!(out, "{n}")
 }
 
+/// Writes a priority behind its keyword.
+fn write_ranked(out: &mut Vec<u8>, n: u32) -> io::Result<()>
+    ensures { OnOk result (out.new.items ≡ out.old.items ++ (codes " PRIORITY " ++ spec.priority_text n)) }
+{
+    write!(out, " PRIORITY ")?;
+    write_priority(out, n)
+}
+
+fn write_limit(out: &mut Vec<u8>, n: u32) -> io::Result<()>
+    ensures { OnOk result (out.new.items ≡ out.old.items ++ (codes " LIMIT " ++ decimal n)) }
+{
+    write!(out, " LIMIT {n}")
+}
+
 /// Writes a clause that stands once, and nothing of another.
 #[tactic(auto, unfolding(crate::specs::Steps::single_text))]
 fn write_single(out: &mut Vec<u8>, clause: &Clause) -> io::Result<()>
     ensures { OnOk result (out.new.items ≡ out.old.items ++ single_text clause.now) }
 {
     match clause {
-        Clause::At(minutes, days) => {
-            write!(out, " AT ")?;
-            write_moment(out, *minutes, days)
-        }
-        Clause::Until(minutes, days, action) => {
-            write!(out, " UNTIL ")?;
-            write_moment(out, *minutes, days)?;
-            write_action(out, *action)
-        }
-        Clause::Deadline(minutes, days) => {
-            write!(out, " DEADLINE ")?;
-            write_moment(out, *minutes, days)
-        }
-        Clause::Priority(n) => {
-            write!(out, " PRIORITY ")?;
-            write_priority(out, *n)
-        }
-        Clause::Limit(n) => write!(out, " LIMIT {}", *n),
+        Clause::At(minutes, days) => write_timed(out, " AT ", *minutes, days),
+        Clause::Until(minutes, days, action) => write_until(out, *minutes, days, *action),
+        Clause::Deadline(minutes, days) => write_timed(out, " DEADLINE ", *minutes, days),
+        Clause::Priority(n) => write_ranked(out, *n),
+        Clause::Limit(n) => write_limit(out, *n),
         Clause::CarryForward => write!(out, " CARRYFORWARD"),
         Clause::Follows(_) | Clause::Needs(_) | Clause::Prompt(_) | Clause::Opens(_) => Ok(()),
     }

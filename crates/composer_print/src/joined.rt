@@ -160,7 +160,6 @@ fn write_added<'a>(
 }
 
 /// Writes one clause with all that the clauses of a kind name, where there is any.
-#[tactic(auto, using(crate::proofs::Lists::from_joined), unfolding(crate::specs::Steps::joined_text))]
 pub(crate) fn write_joined<'a>(
     out: &mut Vec<u8>,
     kind: Joined,

@@ -69,13 +69,27 @@ fn write_offset(out: &mut Vec<u8>, offset: &Option<Offset>) -> io::Result<()>
     }
 }
 
+fn write_weekday(out: &mut Vec<u8>, n: u8) -> io::Result<()>
+    ensures { OnOk result (out.new.items ≡ out.old.items ++ spec.weekday_text n) }
+{
+    write!(out, "{}", weekday_text(n))
+}
+
+/// Writes a calendar by its name, with its offset.
+fn write_calendar(out: &mut Vec<u8>, name: &Text, offset: &Option<Offset>) -> io::Result<()>
+    ensures { OnOk result (out.new.items ≡ out.old.items ++ (name.now ++ spec.offset_text offset.now)) }
+{
+    write!(out, "{}", name.as_str())?;
+    write_offset(out, offset)
+}
+
 /// Writes days on which a stream runs.
 #[tactic(auto, unfolding(crate::specs::Streams::item_text))]
 fn write_item(out: &mut Vec<u8>, item: &OnItem) -> io::Result<()>
     ensures { OnOk result (out.new.items ≡ out.old.items ++ spec.item_text item.now) }
 {
     match item {
-        OnItem::Weekday(n) => write!(out, "{}", weekday_text(*n)),
+        OnItem::Weekday(n) => write_weekday(out, *n),
         OnItem::EveryDay => write!(out, "EVERYDAY"),
         OnItem::Weekdays => write!(out, "WEEKDAYS"),
         OnItem::Workdays => write!(out, "WORKDAYS"),
@@ -83,10 +97,7 @@ fn write_item(out: &mut Vec<u8>, item: &OnItem) -> io::Result<()>
         OnItem::Request => write!(out, "REQUEST"),
         OnItem::Date(day) => write_date(out, *day),
         OnItem::Rule(rule) => write_quoted(out, rule),
-        OnItem::Calendar(name, offset) => {
-            write!(out, "{}", name.as_str())?;
-            write_offset(out, offset)
-        }
+        OnItem::Calendar(name, offset) => write_calendar(out, name, offset),
     }
 }
 

@@ -1,6 +1,6 @@
 //! What an entry says.
 ghost use Rattle.std.specs.Prelude.{◌≡◌, ◌++◌, OnOk, codes, map};
-ghost use Rattle.std.specs.Fmt.{decimal};
+ghost use Rattle.std.specs.Fmt.{decimal, signed_decimal};
 ghost use Rattle.base_types.specs.declared.StreamDoc.{StreamDoc};
 ghost use Rattle.report_text.specs.Names.{name_of};
 ghost use Rattle.report_text.specs.Lists.{numbers_text, seen_text};
@@ -9,10 +9,11 @@ ghost use Rattle.report_text.specs.Commands.{cmd_text};
 ghost use Rattle.report_text.specs.Bodies as spec;
 
 use crate::commands::write_cmd;
-use crate::dependencies::{until_word, write_obj};
+use crate::dependencies::{until_word, write_obj_number};
 use crate::lists::{write_numbers, write_numbers_of, write_seen};
 use crate::names::name;
-use base_types::{Body, Cmd, Net, Obj, OnUntil, Seen, StreamDocs, StreamNos, Why, Ws};
+use crate::words::{write_number, write_time, write_two, write_words};
+use base_types::{Body, Cmd, Net, Obj, OnUntil, Seen, StreamDoc, StreamDocs, StreamNos, Why, Ws};
 use std::io::{self, Write};
 
 /// Writes what an entry says.
@@ -24,31 +25,23 @@ pub(crate) fn write_body(out: &mut Vec<u8>, net: &Net, body: &Body) -> io::Resul
         Body::NewPlan(run, cut, carried, streams) => {
             write_new_plan(out, net, *run, cut, carried, streams)
         }
-        Body::Added(from, place, stream) => {
-            let no = stream.no.0;
-            write!(out, "added {} {place} stream {no}", name(net, from))
-        }
-        Body::Clock(time) => write!(out, "clock {}", time.0),
+        Body::Added(from, place, stream) => write_added(out, net, from, *place, stream),
+        Body::Clock(time) => write_time(out, "clock ", time),
         Body::Released(no, seen) => write_with_seen(out, net, "released ", no.0, seen),
         Body::StreamEnded(no, seen) => write_with_seen(out, net, "streamended ", no.0, seen),
         Body::UntilPassed(obj, number, then) => {
             write_passed(out, "untilpassed ", obj, *number, *then)
         }
         Body::Launched(job, number, seen) => write_launched(out, net, job.0, *number, seen),
-        Body::Started(job, number) => write!(out, "started {} {number}", job.0),
-        Body::Failed(job, number) => write!(out, "failed {} {number}", job.0),
-        Body::Ended(job, number, rc, good) => {
-            write!(out, "ended {} {number} rc {rc} {}", job.0, end_word(*good))
-        }
-        Body::Lost(job, number) => write!(out, "lost {} {number}", job.0),
-        Body::Fulfilled(obj, number) => write_with_dep(out, "fulfilled ", obj, *number),
+        Body::Started(job, number) => write_two(out, "started ", job.0, *number),
+        Body::Failed(job, number) => write_two(out, "failed ", job.0, *number),
+        Body::Ended(job, number, rc, good) => write_ended(out, job.0, *number, *rc, *good),
+        Body::Lost(job, number) => write_two(out, "lost ", job.0, *number),
+        Body::Fulfilled(obj, number) => write_obj_number(out, "fulfilled ", obj, " dep ", *number),
         Body::Obeyed(from, place, cmd) => write_obeyed(out, net, from, *place, cmd),
-        Body::Declined(from, place, why) => {
-            let why = why_word(*why);
-            write!(out, "declined {} {place} {why}", name(net, from))
-        }
-        Body::Order(cmd) => write_order(out, net, cmd),
-        Body::Late(obj, number) => write_with_dep(out, "late ", obj, *number),
+        Body::Declined(from, place, why) => write_declined(out, net, from, *place, *why),
+        Body::Order(cmd) => write_with_cmd(out, net, "order ", cmd),
+        Body::Late(obj, number) => write_obj_number(out, "late ", obj, " dep ", *number),
     }
 }
 
@@ -66,12 +59,25 @@ fn write_new_plan(
         ++ codes " carried " ++ numbers_text carried.now
         ++ codes " fresh " ++ numbers_text (map (λ (s : StreamDoc). s.no) streams.now))) }
 {
-    write!(out, "newplan {run} cut ")?;
-    write_seen(out, net, cut.as_slice())?;
-    write!(out, " carried ")?;
-    write_numbers(out, carried.as_slice())?;
-    write!(out, " fresh ")?;
-    write_numbers_of(out, streams.as_slice())
+    write_number(out, "newplan ", run)?;
+    write_seen(out, net, " cut ", cut.as_slice())?;
+    write_numbers(out, " carried ", carried.as_slice())?;
+    write_numbers_of(out, " fresh ", streams.as_slice())
+}
+
+fn write_added(
+    out: &mut Vec<u8>,
+    net: &Net,
+    from: &Ws,
+    place: u32,
+    stream: &StreamDoc,
+) -> io::Result<()>
+    ensures { OnOk result (out.new.items ≡ out.old.items ++
+        (codes "added " ++ name_of net.now from.now ++ codes " " ++ decimal place
+        ++ codes " stream " ++ decimal stream.now.no)) }
+{
+    write_order_of(out, net, "added ", from, place)?;
+    write_number(out, " stream ", stream.no.0)
 }
 
 fn write_with_seen(
@@ -84,8 +90,8 @@ fn write_with_seen(
     ensures { OnOk result (out.new.items ≡ out.old.items ++
         (word.now ++ decimal stream ++ codes " seen " ++ seen_text net.now seen.now)) }
 {
-    write!(out, "{word}{stream} seen ")?;
-    write_seen(out, net, seen.as_slice())
+    write_number(out, word, stream)?;
+    write_seen(out, net, " seen ", seen.as_slice())
 }
 
 fn write_launched(
@@ -99,8 +105,17 @@ fn write_launched(
         (codes "launched " ++ decimal job ++ codes " " ++ decimal number
         ++ codes " seen " ++ seen_text net.now seen.now)) }
 {
-    write!(out, "launched {job} {number} seen ")?;
-    write_seen(out, net, seen.as_slice())
+    write_two(out, "launched ", job, number)?;
+    write_seen(out, net, " seen ", seen.as_slice())
+}
+
+fn write_ended(out: &mut Vec<u8>, job: u32, number: u32, rc: i32, good: bool) -> io::Result<()>
+    ensures { OnOk result (out.new.items ≡ out.old.items ++
+        (codes "ended " ++ decimal job ++ codes " " ++ decimal number
+        ++ codes " rc " ++ signed_decimal rc ++ codes " " ++ spec.end_word good)) }
+{
+    write_two(out, "ended ", job, number)?;
+    write!(out, " rc {rc} {}", end_word(good))
 }
 
 fn write_passed(
@@ -113,17 +128,8 @@ fn write_passed(
     ensures { OnOk result (out.new.items ≡ out.old.items ++
         (word.now ++ obj_text obj.now ++ codes " dep " ++ decimal number ++ codes " " ++ until_text then)) }
 {
-    write_with_dep(out, word, obj, number)?;
-    write!(out, " {}", until_word(then))
-}
-
-fn write_with_dep(out: &mut Vec<u8>, word: &str, obj: &Obj, number: u16) -> io::Result<()>
-    ensures { OnOk result (out.new.items ≡ out.old.items ++
-        (word.now ++ obj_text obj.now ++ codes " dep " ++ decimal number)) }
-{
-    write!(out, "{word}")?;
-    write_obj(out, obj)?;
-    write!(out, " dep {number}")
+    write_obj_number(out, word, obj, " dep ", number)?;
+    write_words(out, " ", until_word(then))
 }
 
 fn write_obeyed(out: &mut Vec<u8>, net: &Net, from: &Ws, place: u32, cmd: &Cmd) -> io::Result<()>
@@ -131,14 +137,31 @@ fn write_obeyed(out: &mut Vec<u8>, net: &Net, from: &Ws, place: u32, cmd: &Cmd) 
         (codes "obeyed " ++ name_of net.now from.now ++ codes " " ++ decimal place
         ++ codes " " ++ cmd_text net.now cmd.now)) }
 {
-    write!(out, "obeyed {} {place} ", name(net, from))?;
-    write_cmd(out, net, cmd)
+    write_order_of(out, net, "obeyed ", from, place)?;
+    write_with_cmd(out, net, " ", cmd)
 }
 
-fn write_order(out: &mut Vec<u8>, net: &Net, cmd: &Cmd) -> io::Result<()>
-    ensures { OnOk result (out.new.items ≡ out.old.items ++ (codes "order " ++ cmd_text net.now cmd.now)) }
+fn write_declined(out: &mut Vec<u8>, net: &Net, from: &Ws, place: u32, why: Why) -> io::Result<()>
+    ensures { OnOk result (out.new.items ≡ out.old.items ++
+        (codes "declined " ++ name_of net.now from.now ++ codes " " ++ decimal place
+        ++ codes " " ++ spec.why_word why)) }
 {
-    write!(out, "order ")?;
+    write_order_of(out, net, "declined ", from, place)?;
+    write_words(out, " ", why_word(why))
+}
+
+/// Writes a word, the issuer of an order and its place.
+fn write_order_of(out: &mut Vec<u8>, net: &Net, word: &str, from: &Ws, place: u32) -> io::Result<()>
+    ensures { OnOk result (out.new.items ≡ out.old.items ++
+        (word.now ++ name_of net.now from.now ++ codes " " ++ decimal place)) }
+{
+    write!(out, "{word}{} {place}", name(net, from))
+}
+
+fn write_with_cmd(out: &mut Vec<u8>, net: &Net, word: &str, cmd: &Cmd) -> io::Result<()>
+    ensures { OnOk result (out.new.items ≡ out.old.items ++ (word.now ++ cmd_text net.now cmd.now)) }
+{
+    write!(out, "{word}")?;
     write_cmd(out, net, cmd)
 }
 

@@ -1,21 +1,37 @@
 //! Jobs, streams and dependencies.
 ghost use Rattle.std.specs.Prelude.{◌≡◌, ◌++◌, OnOk, codes};
-ghost use Rattle.report_text.specs.Quotes.{quoted_text};
+ghost use Rattle.std.specs.Fmt.{decimal};
 ghost use Rattle.report_text.specs.Dependencies as spec;
 
 use crate::quotes::write_quoted;
-use base_types::{Dep, Obj, OnUntil, PromptRef, Text};
+use crate::words::{write_number, write_time, write_two};
+use base_types::{Dep, Moment, Obj, OnUntil, PromptRef, Text};
 use std::io::{self, Write};
 
-/// Writes a job or a stream by its number.
+/// Writes a word and a job or a stream by its number.
 #[tactic(auto, unfolding(crate::specs::Dependencies::obj_text))]
-pub(crate) fn write_obj(out: &mut Vec<u8>, obj: &Obj) -> io::Result<()>
-    ensures { OnOk result (out.new.items ≡ out.old.items ++ spec.obj_text obj.now) }
+pub(crate) fn write_obj(out: &mut Vec<u8>, word: &str, obj: &Obj) -> io::Result<()>
+    ensures { OnOk result (out.new.items ≡ out.old.items ++ (word.now ++ spec.obj_text obj.now)) }
 {
     match obj {
-        Obj::Job(job) => write!(out, "job {}", job.0),
-        Obj::Stream(stream) => write!(out, "stream {}", stream.0),
+        Obj::Job(job) => write!(out, "{word}job {}", job.0),
+        Obj::Stream(stream) => write!(out, "{word}stream {}", stream.0),
     }
+}
+
+/// Writes a word, a job or a stream, and a number behind another word.
+pub(crate) fn write_obj_number(
+    out: &mut Vec<u8>,
+    word: &str,
+    obj: &Obj,
+    between: &str,
+    number: u16,
+) -> io::Result<()>
+    ensures { OnOk result (out.new.items ≡ out.old.items ++
+        (word.now ++ spec.obj_text obj.now ++ between.now ++ decimal number)) }
+{
+    write_obj(out, word, obj)?;
+    write_number(out, between, u32::from(number))
 }
 
 /// The word for what comes when a time has passed.
@@ -35,28 +51,25 @@ pub(crate) fn write_dep(out: &mut Vec<u8>, dep: &Dep) -> io::Result<()>
     ensures { OnOk result (out.new.items ≡ out.old.items ++ spec.dep_text dep.now) }
 {
     match dep {
-        Dep::FollowsJob(job) => write!(out, "follows job {}", job.0),
-        Dep::FollowsStream(stream) => write!(out, "follows stream {}", stream.0),
-        Dep::Needs(resource, units) => write!(out, "needs {resource} {units}"),
-        Dep::Prompt(PromptRef::Global(prompt)) => write!(out, "prompt {prompt}"),
-        Dep::Prompt(PromptRef::Own(text)) => write_prompt(out, text),
-        Dep::At(time) => write!(out, "at {}", time.0),
-        Dep::Until(time, then) => write!(out, "until {} {}", time.0, until_word(*then)),
-        Dep::Outside(path) => write_outside(out, path),
-        Dep::Deadline(time) => write!(out, "deadline {}", time.0),
+        Dep::FollowsJob(job) => write_number(out, "follows job ", job.0),
+        Dep::FollowsStream(stream) => write_number(out, "follows stream ", stream.0),
+        Dep::Needs(resource, units) => {
+            write_two(out, "needs ", u32::from(*resource), u32::from(*units))
+        }
+        Dep::Prompt(PromptRef::Global(prompt)) => {
+            write_number(out, "prompt ", u32::from(*prompt))
+        }
+        Dep::Prompt(PromptRef::Own(text)) => write_quoted(out, "prompt ", text),
+        Dep::At(time) => write_time(out, "at ", time),
+        Dep::Until(time, then) => write_until(out, time, *then),
+        Dep::Outside(path) => write_quoted(out, "outside ", path),
+        Dep::Deadline(time) => write_time(out, "deadline ", time),
     }
 }
 
-fn write_prompt(out: &mut Vec<u8>, text: &Text) -> io::Result<()>
-    ensures { OnOk result (out.new.items ≡ out.old.items ++ (codes "prompt " ++ quoted_text text.now)) }
+fn write_until(out: &mut Vec<u8>, time: &Moment, then: OnUntil) -> io::Result<()>
+    ensures { OnOk result (out.new.items ≡ out.old.items ++
+        (codes "until " ++ decimal time.now ++ codes " " ++ spec.until_word then)) }
 {
-    write!(out, "prompt ")?;
-    write_quoted(out, text)
-}
-
-fn write_outside(out: &mut Vec<u8>, path: &Text) -> io::Result<()>
-    ensures { OnOk result (out.new.items ≡ out.old.items ++ (codes "outside " ++ quoted_text path.now)) }
-{
-    write!(out, "outside ")?;
-    write_quoted(out, path)
+    write!(out, "until {} {}", time.0, until_word(then))
 }

@@ -16,6 +16,7 @@ mod quotes;
 mod reports;
 mod states;
 mod summaries;
+mod words;
 
 pub use names::name;
 pub use reports::print_report;

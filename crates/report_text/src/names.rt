@@ -2,6 +2,7 @@
 ghost use Rattle.std.specs.Prelude.{◌≡◌, ◌++◌, OnOk};
 ghost use Rattle.report_text.specs.Names as spec;
 
+use crate::words::write_words;
 use base_types::{Feed, Net, Ws};
 use std::io::{self, Write};
 
@@ -22,7 +23,7 @@ pub(crate) fn write_feed(out: &mut Vec<u8>, net: &Net, feed: &Feed) -> io::Resul
     ensures { OnOk result (out.new.items ≡ out.old.items ++ spec.feed_text net.now feed.now) }
 {
     match feed {
-        Feed::Events(ws) => write!(out, "{}", name(net, ws)),
+        Feed::Events(ws) => write_words(out, "", name(net, ws)),
         Feed::Orders(from, to) => write!(out, "{}>{}", name(net, from), name(net, to)),
     }
 }

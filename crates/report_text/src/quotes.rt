@@ -6,12 +6,12 @@ ghost use Rattle.report_text.specs.Quotes as spec;
 use base_types::Text;
 use std::io::{self, Write};
 
-/// Writes the text in quotes, each quote and each backslash of it behind a backslash.
+/// Writes a word and the text in quotes, each quote and each backslash of it behind a backslash.
 #[tactic(auto, unfolding(crate::specs::Quotes::quoted_text))]
-pub(crate) fn write_quoted(out: &mut Vec<u8>, text: &Text) -> io::Result<()>
-    ensures { OnOk result (out.new.items ≡ out.old.items ++ spec.quoted_text text.now) }
+pub(crate) fn write_quoted(out: &mut Vec<u8>, word: &str, text: &Text) -> io::Result<()>
+    ensures { OnOk result (out.new.items ≡ out.old.items ++ (word.now ++ spec.quoted_text text.now)) }
 {
-    write!(out, "\"")?;
+    write!(out, "{word}\"")?;
     for byte in text.as_str().as_bytes() {
         write_byte(out, *byte)?;
     }

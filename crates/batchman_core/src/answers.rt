@@ -9,6 +9,7 @@ ghost use Rattle.model.specs.Turn as spec;
 ghost use Rattle.carry_forward.specs.Faults.{submit_fault};
 ghost use Rattle.batchman_core.specs.Told.{HasDocument};
 
+use crate::bodies::kept;
 use base_types::{Body, Cmd, Copied, NoMemory, StreamDraft, Ws};
 use carry_forward::{CarryFault, numbered};
 use conman_orders::{Verdict, judge};
@@ -30,7 +31,7 @@ pub(crate) fn answer(
 {
     match next_order(o, me, a) {
         None => Ok(None),
-        Some((place, cmd)) => Ok(Some(answer_to(alloc, net, o, me, a, place, cmd)?)),
+        Some((place, cmd)) => kept(answer_to(alloc, net, o, me, a, place, cmd)),
     }
 }
 

@@ -39,8 +39,10 @@ pub fn turn_body<R: Readiness>(
     ensures { IfOk result (λ b. b ≡ spec.turn_body net.now (view_of o.now) me live.now t) }
 {
     let choice = turn_choice(net, o, r, me, live, t);
-    let body = body_of(alloc, net, o, me, t, &choice)?;
-    Ok(body)
+    match body_of(alloc, net, o, me, t, &choice) {
+        Ok(body) => Ok(body),
+        Err(_) => Err(TurnFault::NoMemory),
+    }
 }
 
 /// The body that a choice keeps.
@@ -63,10 +65,20 @@ fn body_of(
         Choice::Answer(a) => answer(alloc, net, o, me, *a),
         Choice::Until(obj, i) => Ok(until_passed(o, obj, *i)),
         Choice::Late(obj, i) => Ok(Some(Body::Late(*obj, *i))),
-        Choice::Release(s) => Ok(Some(released(alloc, o, me, *s)?)),
-        Choice::End(s) => Ok(Some(ended(alloc, o, me, *s)?)),
-        Choice::Launch(j) => Ok(Some(launched(alloc, o, me, *j)?)),
+        Choice::Release(s) => kept(released(alloc, o, me, *s)),
+        Choice::End(s) => kept(ended(alloc, o, me, *s)),
+        Choice::Launch(j) => kept(launched(alloc, o, me, *j)),
         Choice::Nothing => Ok(None),
+    }
+}
+
+/// The body that is kept, where there was memory for it.
+pub(crate) fn kept(body: Result<Body, NoMemory>) -> Result<Option<Body>, NoMemory>
+    ensures { (due : types.Body) → IfOk body (λ b. b ≡ due) → IfOk result (λ b. b ≡ Some due) }
+{
+    match body {
+        Ok(body) => Ok(Some(body)),
+        Err(error) => Err(error),
     }
 }
 

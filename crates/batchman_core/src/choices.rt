@@ -15,7 +15,7 @@ use network_tree::Network;
 use owner_fold::Owners;
 
 /// A rule of a turn, and what it applies to.
-#[derive(Clone, Copy, Debug, PartialEq, Eq)]
+#[derive(Clone, Copy, Debug)]
 pub enum Choice {
     /// The time of an own member's AT, UNTIL or DEADLINE has come by the reading, and the clock is kept.
     Clock,

@@ -2,7 +2,7 @@
 use base_types::NoMemory;
 
 /// Why there is no body of a turn.
-#[derive(Clone, Copy, Debug, PartialEq, Eq)]
+#[derive(Clone, Copy)]
 pub enum TurnFault {
     /// Memory ran out.
     NoMemory,

@@ -10,7 +10,7 @@ ghost use Rattle.model.specs.NewPlan.{seen_of};
 ghost use Rattle.model.specs.Turn as spec;
 ghost use Rattle.batchman_core.specs.Gathered.{with_all};
 
-use base_types::{Dep, Feed, NoMemory, Obj, PromptRef, Seen, StreamNo, Ws};
+use base_types::{Dep, Feed, JobNo, NoMemory, Obj, PromptRef, Seen, StreamNo, Ws};
 use owner_fold::Owners;
 use std::alloc::Global;
 use std::collections::BTreeSet;
@@ -66,17 +66,23 @@ impl Witnesses {
     }
 }
 
+/// The counts of w, of the master and of these workstations.
+fn seen_by(alloc: Global, o: &Owners, w: Ws, mut found: Witnesses) -> Result<Seen, NoMemory>
+    ensures { IfOk result (λ seen. seen ≡ seen_of (view_of o.now) (insert_once w (insert_once 0 found))) }
+{
+    found.add(MASTER)?;
+    found.add(w)?;
+    found.counts(alloc, o)
+}
+
 /// The counts of a launch or a release at w: of w, of the master, of the stream's owner, and of whom the object's
 /// dependencies cite.
 #[tactic(auto, unfolding(model::specs::Turn::seen_for, model::specs::Turn::witnesses))]
 pub(crate) fn seen_by_object(alloc: Global, o: &Owners, w: Ws, obj: &Obj) -> Result<Seen, NoMemory>
     ensures { let V = view_of o.now in IfOk result (λ seen. seen ≡ spec.seen_for V (spec.witnesses V w obj.now)) }
 {
-    let mut found = stream_witnesses(alloc, o, obj)?;
-    found.add(MASTER)?;
-    found.add(w)?;
-    let seen = found.counts(alloc, o)?;
-    Ok(seen)
+    let found = stream_witnesses(alloc, o, obj)?;
+    seen_by(alloc, o, w, found)
 }
 
 /// The counts of a stream's end at w: of w, of the master, and of the owners of the stream's jobs.
@@ -84,11 +90,8 @@ pub(crate) fn seen_by_object(alloc: Global, o: &Owners, w: Ws, obj: &Obj) -> Res
 pub(crate) fn seen_by_end(alloc: Global, o: &Owners, w: Ws, s: StreamNo) -> Result<Seen, NoMemory>
     ensures { let V = view_of o.now in IfOk result (λ seen. seen ≡ spec.seen_for V (spec.end_witnesses V w s)) }
 {
-    let mut found = job_owners(alloc, o, s)?;
-    found.add(MASTER)?;
-    found.add(w)?;
-    let seen = found.counts(alloc, o)?;
-    Ok(seen)
+    let found = job_owners(alloc, o, s)?;
+    seen_by(alloc, o, w, found)
 }
 
 /// The owner of the object's stream and whom the object's dependencies cite. Nobody outside the catalogue.
@@ -138,27 +141,46 @@ fn cited(alloc: Global, o: &Owners, obj: &Obj) -> Result<Witnesses, NoMemory>
     Ok(found)
 }
 
+/// Adds whom a dependency on a job cites.
+#[tactic(auto, unfolding(model::specs::Dependencies::dep_cites))]
+fn add_cited_job(o: &Owners, j: JobNo, found: &mut Witnesses) -> Result<(), NoMemory>
+    ensures { OnOk result (found.new ≡ with_all (dep_cites (view_of o.now) (Dep.FollowsJob j)) found.old) }
+{
+    match o.planned_job(j) {
+        None => Ok(()),
+        Some((parent, doc)) => {
+            found.add(parent.ws)?;
+            found.add(doc.ws)
+        }
+    }
+}
+
+/// Adds whom a dependency on a stream cites.
+#[tactic(auto, unfolding(model::specs::Dependencies::dep_cites))]
+fn add_cited_stream(o: &Owners, s: StreamNo, found: &mut Witnesses) -> Result<(), NoMemory>
+    ensures { OnOk result (found.new ≡ with_all (dep_cites (view_of o.now) (Dep.FollowsStream s)) found.old) }
+{
+    match o.stream(s) {
+        None => Ok(()),
+        Some(doc) => found.add(doc.ws),
+    }
+}
+
 /// Adds whom a dependency cites.
 #[tactic(auto, unfolding(model::specs::Dependencies::dep_cites))]
 fn add_cited(o: &Owners, dep: &Dep, found: &mut Witnesses) -> Result<(), NoMemory>
     ensures { OnOk result (found.new ≡ with_all (dep_cites (view_of o.now) dep.now) found.old) }
 {
     match dep {
-        Dep::FollowsJob(j) => match o.planned_job(*j) {
-            None => Ok(()),
-            Some((parent, doc)) => {
-                found.add(parent.ws)?;
-                found.add(doc.ws)
-            }
-        },
-        Dep::FollowsStream(s) => match o.stream(*s) {
-            None => Ok(()),
-            Some(doc) => found.add(doc.ws),
-        },
+        Dep::FollowsJob(j) => add_cited_job(o, *j, found),
+        Dep::FollowsStream(s) => add_cited_stream(o, *s, found),
         Dep::Prompt(PromptRef::Global(_)) => found.add(MASTER),
-        Dep::Prompt(PromptRef::Own(_)) => Ok(()),
-        Dep::Needs(_, _) | Dep::At(_) | Dep::Until(_, _) | Dep::Outside(_) => Ok(()),
-        Dep::Deadline(_) => Ok(()),
+        Dep::Prompt(PromptRef::Own(_))
+        | Dep::Needs(_, _)
+        | Dep::At(_)
+        | Dep::Until(_, _)
+        | Dep::Outside(_)
+        | Dep::Deadline(_) => Ok(()),
     }
 }
 

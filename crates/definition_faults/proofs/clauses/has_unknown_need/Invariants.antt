@@ -6,4 +6,5 @@ use Rattle.definition_faults.proofs.clauses.has_unknown_need.Given as goal
 
 abbrev pub invariant-loop-need : goal.invariant-loop-need
 invariant-loop-need l =
-    list_any (is_unknown_need l.names (option_copied l.ws)) l.needs ≡ list_any (is_unknown_need l.names (option_copied l.ws)) (drop l.need-index l.needs)
+    list_any (is_unknown_need l.names (option_copied l.ws)) l.needs
+    ≡ list_any (is_unknown_need l.names (option_copied l.ws)) (drop l.need-index l.needs)

@@ -5,4 +5,5 @@ use Rattle.definition_faults.proofs.clauses.has_unknown_pred.Given as goal
 
 abbrev pub invariant-loop-pred : goal.invariant-loop-pred
 invariant-loop-pred l =
-    list_any (is_unknown_pred l.names l.stream l.inside) l.preds ≡ list_any (is_unknown_pred l.names l.stream l.inside) (drop l.pred-index l.preds)
+    list_any (is_unknown_pred l.names l.stream l.inside) l.preds
+    ≡ list_any (is_unknown_pred l.names l.stream l.inside) (drop l.pred-index l.preds)

@@ -6,4 +6,5 @@ use Rattle.definition_faults.proofs.items.has_top.Given as goal
 
 abbrev pub invariant-loop-domain : goal.invariant-loop-domain
 invariant-loop-domain l =
-    list_any (λ (x : Lined DomainDef). is_none x.item.parent) l.domains ≡ list_any (λ (x : Lined DomainDef). is_none x.item.parent) (drop l.domain-index l.domains)
+    list_any (λ (x : Lined DomainDef). is_none x.item.parent) l.domains
+    ≡ list_any (λ (x : Lined DomainDef). is_none x.item.parent) (drop l.domain-index l.domains)

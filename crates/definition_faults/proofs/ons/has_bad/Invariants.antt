@@ -5,4 +5,5 @@ use Rattle.definition_faults.proofs.ons.has_bad.Given as goal
 
 abbrev pub invariant-loop-item : goal.invariant-loop-item
 invariant-loop-item l =
-    list_any (is_bad_item l.has_first) l.items ≡ list_any (is_bad_item l.has_first) (drop l.item-index l.items)
+    list_any (is_bad_item l.has_first) l.items
+    ≡ list_any (is_bad_item l.has_first) (drop l.item-index l.items)

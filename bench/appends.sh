@@ -9,13 +9,22 @@ trap 'rm -rf "$copy"' EXIT
 
 cp crates.txt HANDLES "$copy"
 mkdir -p "$copy/crates/appends_bench/src"
-for crate in base_types model outside byte_fields message_file; do
+# below NAME: the crates of the repository that a crate stands on, and the crate itself behind them
+below() {
+  local crate
+  for crate in $(sed -n "s/^$1: *//p" crates.txt); do
+    [ ! -d "crates/$crate" ] || below "$crate"
+  done
+  echo "$1"
+}
+: > "$copy/crates.txt"
+for crate in $(below message_file | awk '!seen[$0]++'); do
   mkdir "$copy/crates/$crate"
   for part in src specs proofs; do
     [ ! -d "crates/$crate/$part" ] || cp -r "crates/$crate/$part" "$copy/crates/$crate"
   done
+  grep -E "^$crate:" crates.txt >> "$copy/crates.txt"
 done
-grep -E '^(base_types|model|outside|byte_fields|message_file):' crates.txt > "$copy/crates.txt"
 echo 'appends_bench: base_types outside message_file' >> "$copy/crates.txt"
 
 cat > "$copy/crates/appends_bench/src/disks.rt" <<'PROGRAM'

@@ -8,13 +8,22 @@ trap 'rm -rf "$copy"' EXIT
 
 cp crates.txt HANDLES "$copy"
 mkdir -p "$copy/crates/plans_bench/src"
-for crate in base_types model owner_rows owner_fold network_tree carry_forward; do
+# below NAME: the crates of the repository that a crate stands on, and the crate itself behind them
+below() {
+  local crate
+  for crate in $(sed -n "s/^$1: *//p" crates.txt); do
+    [ ! -d "crates/$crate" ] || below "$crate"
+  done
+  echo "$1"
+}
+: > "$copy/crates.txt"
+for crate in $(below carry_forward | awk '!seen[$0]++'); do
   mkdir "$copy/crates/$crate"
   for part in src specs proofs; do
     [ ! -d "crates/$crate/$part" ] || cp -r "crates/$crate/$part" "$copy/crates/$crate"
   done
+  grep -E "^$crate:" crates.txt >> "$copy/crates.txt"
 done
-grep -E '^(base_types|model|owner_rows|owner_fold|network_tree|carry_forward):' crates.txt > "$copy/crates.txt"
 echo 'plans_bench: base_types network_tree owner_fold carry_forward' >> "$copy/crates.txt"
 
 # four jobs a stream, and each job follows 64 jobs of streams that are spread over all

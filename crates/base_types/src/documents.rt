@@ -2,9 +2,14 @@
 //!
 //! A *draft* is what a plan is made of: it has no numbers yet, and follows others by their names. A *document* is a
 //! draft with its numbers, as it stands in the plan.
-use crate::lists::Items;
+ghost use Rattle.std.specs.Prelude.{◌≡◌, IfOk};
+
+use crate::lists::{Items, NoMemory};
 use crate::numbers::{JobNo, Moment, StreamNo, Ws};
 use crate::texts::Text;
+use std::alloc::Global;
+use std::marker::Model;
+use std::rc::Rc;
 
 /// A condition on a return code, in postfix order. The empty one asks for the return code 0.
 pub type Cond = Items<CondOp>;
@@ -252,5 +257,62 @@ impl Drop for StreamDraft {
             deps: _deps,
             jobs: _jobs,
         } = self;
+    }
+}
+
+/// The documents of a plan, which every copy of the plan shares. A contract sees it as the list of the documents.
+pub struct SharedDocs {
+    docs: Rc<StreamDocs>,
+}
+
+/// Written out, so that dropping one is a call for whoever owns it.
+impl Drop for SharedDocs {
+    fn drop(self) {
+        let SharedDocs { docs: _docs } = self;
+    }
+}
+
+impl Model for SharedDocs {
+    ghost use Rattle.std.specs.Prelude.{List};
+    ghost use Rattle.base_types.specs.declared.documents.StreamDoc.{StreamDoc as Doc};
+
+    ghost Value = { List Doc };
+
+    ghost view = { λ s. s.docs.value };
+}
+
+impl SharedDocs {
+    /// Takes the documents, which nobody can change from then on.
+    pub fn of(alloc: Global, docs: StreamDocs) -> Result<SharedDocs, NoMemory>
+        ensures { IfOk result (λ s. s ≡ docs) }
+    {
+        match Rc::new(alloc, docs) {
+            Ok(docs) => Ok(SharedDocs { docs }),
+            Err(_) => Err(NoMemory),
+        }
+    }
+
+    /// The documents.
+    pub fn docs(&self) -> &StreamDocs
+        ensures { result.now ≡ self.now }
+    {
+        self.docs.as_ref()
+    }
+
+    /// The documents, in order.
+    pub fn as_slice(&self) -> &[StreamDoc]
+        ensures { result.now ≡ self.now }
+    {
+        self.docs.as_ref().as_slice()
+    }
+
+    /// The same documents once more. None of them is copied.
+    pub fn shared(&self) -> Result<SharedDocs, NoMemory>
+        ensures { IfOk result (λ s. s ≡ self.now) }
+    {
+        match self.docs.clone() {
+            Ok(docs) => Ok(SharedDocs { docs }),
+            Err(_) => Err(NoMemory),
+        }
     }
 }

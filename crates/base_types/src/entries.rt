@@ -1,6 +1,6 @@
 //! The entries of the feeds, and the packets that carry them.
 use crate::commands::{Cmd, Why};
-use crate::documents::{Obj, OnUntil, StreamDoc, StreamDocs, StreamNos};
+use crate::documents::{Obj, OnUntil, SharedDocs, StreamDoc, StreamNos};
 use crate::lists::Items;
 use crate::numbers::{JobNo, Moment, StreamNo, Ws};
 use crate::sightings::Seen;
@@ -19,7 +19,7 @@ pub enum Feed {
 /// What an entry says. The number of a launch counts from 1 for each job.
 pub enum Body {
     /// The run, what the master knew, the carried streams and the fresh ones.
-    NewPlan(u32, Seen, StreamNos, StreamDocs),
+    NewPlan(u32, Seen, StreamNos, SharedDocs),
     /// The issuer and the place of the order that submitted this stream.
     Added(Ws, u32, StreamDoc),
     Clock(Moment),

@@ -24,7 +24,8 @@ pub use commands::{Cmd, Why};
 pub use copied::Copied;
 pub use documents::{
     Cond, CondOp, Dep, Deps, DraftDep, DraftDeps, JobDoc, JobDraft, JobDrafts, Jobs, Obj, OnUntil,
-    PromptRef, Recovery, Rel, StreamDoc, StreamDocs, StreamDraft, StreamDrafts, StreamNos, Work,
+    PromptRef, Recovery, Rel, SharedDocs, StreamDoc, StreamDocs, StreamDraft, StreamDrafts,
+    StreamNos, Work,
 };
 pub use entries::{Body, Entries, Entry, Feed, Packet};
 pub use growing::Growing;

@@ -12,8 +12,8 @@ use crate::names::Names;
 use crate::numbers::{Fresh, are_spent, fresh_streams, last_job, last_stream};
 use crate::rooms::{are_jobs_too_many, are_streams_too_many};
 use base_types::{
-    Body, MOST_JOBS, MOST_STREAMS, NoMemory, StreamDoc, StreamDocs, StreamDraft, StreamDrafts,
-    StreamNo,
+    Body, MOST_JOBS, MOST_STREAMS, NoMemory, SharedDocs, StreamDoc, StreamDocs, StreamDraft,
+    StreamDrafts, StreamNo,
 };
 use decision_rules::cut;
 use network_tree::Network;
@@ -85,6 +85,7 @@ pub fn next_plan(
     }
     let docs = fresh_documents(alloc, o, carried.as_slice(), drafts.as_slice())?;
     let cut = cut(alloc, net, o)?;
+    let docs = SharedDocs::of(alloc, docs)?;
     Ok(Body::NewPlan(1 + run, cut, carried, docs))
 }
 

@@ -6,7 +6,7 @@ ghost use Rattle.entry_sizes.specs.Left.{Takes};
 
 use crate::documents::{stream_doc, stream_docs, stream_draft};
 use crate::parts::{bytes, dep, feed, numbers, seen};
-use base_types::{Body, Cmd, Entry, LONGEST_ENTRY, Seen, StreamDocs, StreamNos};
+use base_types::{Body, Cmd, Entry, LONGEST_ENTRY, Seen, SharedDocs, StreamNos};
 
 fn cmd(left: u32, c: &Cmd) -> Option<u32>
     ensures { Takes left (spec.cmd_size c.now) result }
@@ -50,12 +50,12 @@ fn plan_head(left: u32, cut: &Seen, carried: &StreamNos) -> Option<u32>
 }
 
 /// A plan behind its run.
-fn plan(left: u32, cut: &Seen, carried: &StreamNos, docs: &StreamDocs) -> Option<u32>
+fn plan(left: u32, cut: &Seen, carried: &StreamNos, docs: &SharedDocs) -> Option<u32>
     ensures { Takes left (4 + spec.seen_size cut.now + spec.list_size (λ s. 4) carried.now
         + spec.list_size spec.stream_doc_size docs.now) result }
 {
     let rest = plan_head(left, cut, carried)?;
-    stream_docs(rest, docs)
+    stream_docs(rest, docs.docs())
 }
 
 fn body(left: u32, b: &Body) -> Option<u32>

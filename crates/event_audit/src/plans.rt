@@ -13,7 +13,7 @@ use crate::carried_streams::carries_exactly;
 use crate::follows::follow_what_is_meant;
 use crate::numbers::are_numbered_on;
 use crate::prefixes::has_the_counts;
-use base_types::{Seen, StreamDoc, StreamDocs, StreamNo, StreamNos, Ws};
+use base_types::{Seen, SharedDocs, StreamDoc, StreamNo, StreamNos, Ws};
 use counted_decisions::Sight;
 use counted_facts::CountedFacts;
 use network_tree::Network;
@@ -52,7 +52,7 @@ pub(crate) fn is_right_plan(
     run: u32,
     cut: &Seen,
     carried: &StreamNos,
-    docs: &StreamDocs,
+    docs: &SharedDocs,
 ) -> bool
     requires { AreCountedFacts owners.now facts.now }
     ensures { Decides result

@@ -5,7 +5,7 @@ ghost use Rattle.model.specs.Workstations as spec;
 ghost use Rattle.named_workstations.specs.Inside.{are_inside};
 
 use crate::drafts::is_cmd_inside;
-use base_types::{Body, Entry, Feed, Jobs, Seen, StreamDoc, StreamDocs, Ws};
+use base_types::{Body, Entry, Feed, Jobs, Seen, SharedDocs, StreamDoc, Ws};
 
 fn is_feed_inside(count: u16, feed: &Feed) -> bool
     ensures { result ≡ are_inside count (spec.ws_in_feed feed.now) }
@@ -44,7 +44,7 @@ fn is_doc_inside(count: u16, doc: &StreamDoc) -> bool
     doc.ws.0 < count && are_jobs_inside(count, &doc.jobs)
 }
 
-fn are_docs_inside(count: u16, docs: &StreamDocs) -> bool
+fn are_docs_inside(count: u16, docs: &SharedDocs) -> bool
     ensures { result ≡ are_inside count (flat_map spec.ws_in_doc docs.now) }
 {
     for item in docs.as_slice() {
@@ -55,7 +55,7 @@ fn are_docs_inside(count: u16, docs: &StreamDocs) -> bool
     true
 }
 
-fn is_plan_inside(count: u16, cut: &Seen, docs: &StreamDocs) -> bool
+fn is_plan_inside(count: u16, cut: &Seen, docs: &SharedDocs) -> bool
     ensures { result ≡ are_inside count (spec.ws_in_seen cut.now ++ flat_map spec.ws_in_doc docs.now) }
 {
     are_counts_inside(count, cut) && are_docs_inside(count, docs)

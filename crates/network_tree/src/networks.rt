@@ -12,12 +12,13 @@ use crate::{hops, rows};
 use base_types::{Copied, Items, Net, NoMemory, Ws};
 use std::alloc::Global;
 use std::marker::Model;
+use std::rc::Rc;
 
 /// A net without faults. Its workstations are a tree, with the master at the root.
 pub struct Network {
-    net: Net,
+    net: Rc<Net>,
     /// By the number of a workstation, the ways to it.
-    ways: Items<Items<Ws>>,
+    ways: Rc<Items<Items<Ws>>>,
 }
 
 /// Written out, so that dropping one is a call for whoever owns it.
@@ -38,9 +39,9 @@ impl Model for Network {
 
     ghost Value = { Seen };
 
-    ghost view = { λ n. n.net };
+    ghost view = { λ n. n.net.value };
 
-    ghost invariant = { λ n. (net_fault n.net ≡ None) × (n.ways ≡ table n.net) };
+    ghost invariant = { λ n. (net_fault n.net.value ≡ None) × (n.ways.value ≡ table n.net.value) };
 }
 
 impl Network {
@@ -56,6 +57,14 @@ impl Network {
     {
         check(alloc, &net)?;
         let ways = rows::table(alloc, &net)?;
+        let net = match Rc::new(alloc, net) {
+            Ok(net) => net,
+            Err(_) => return Err(NetFault::NoMemory),
+        };
+        let ways = match Rc::new(alloc, ways) {
+            Ok(ways) => ways,
+            Err(_) => return Err(NetFault::NoMemory),
+        };
         Ok(Network { net, ways })
     }
 
@@ -65,7 +74,7 @@ impl Network {
         ensures faultless { net_fault self.now ≡ None }
         ensures tree { IsTree self.now }
     {
-        &self.net
+        self.net.as_ref()
     }
 
     /// How many workstations there are, from 1 to 256.
@@ -106,6 +115,7 @@ impl Network {
         ensures faultless { net_fault self.now ≡ None }
     {
         self.ways
+            .as_ref()
             .get(usize::from(b.0))?
             .get(usize::from(a.0))
             .copied()
@@ -134,8 +144,8 @@ impl Network {
 impl Copied for Network {
     fn copy(&self) -> Result<Network, NoMemory> {
         Ok(Network {
-            net: self.net.copy()?,
-            ways: self.ways.copy()?,
+            net: self.net.clone()?,
+            ways: self.ways.clone()?,
         })
     }
 }

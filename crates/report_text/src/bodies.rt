@@ -13,7 +13,7 @@ use crate::dependencies::{until_word, write_obj_number};
 use crate::lists::{write_numbers, write_numbers_of, write_seen};
 use crate::names::name;
 use crate::words::{write_number, write_time, write_two, write_words};
-use base_types::{Body, Cmd, Net, Obj, OnUntil, Seen, StreamDoc, StreamDocs, StreamNos, Why, Ws};
+use base_types::{Body, Cmd, Net, Obj, OnUntil, Seen, SharedDocs, StreamDoc, StreamNos, Why, Ws};
 use std::io::{self, Write};
 
 /// Writes what an entry says.
@@ -51,7 +51,7 @@ fn write_new_plan(
     run: u32,
     cut: &Seen,
     carried: &StreamNos,
-    streams: &StreamDocs,
+    streams: &SharedDocs,
 ) -> io::Result<()>
     ensures { OnOk result (out.new.items ≡ out.old.items ++
         (codes "newplan " ++ decimal run

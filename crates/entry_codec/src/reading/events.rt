@@ -11,7 +11,8 @@ ghost use Rattle.entry_codec.specs.Entries.{why_at};
 use crate::EntryFault;
 use crate::reading::lists::Read;
 use base_types::{
-    Body, Cmd, JobNo, Obj, OnUntil, Seen, StreamDoc, StreamDocs, StreamNo, StreamNos, Why, Ws,
+    Body, Cmd, JobNo, Obj, OnUntil, Seen, SharedDocs, StreamDoc, StreamDocs, StreamNo, StreamNos,
+    Why, Ws,
 };
 use std::alloc::Global;
 
@@ -30,7 +31,10 @@ pub(crate) fn read_new_plan(
     let ((((run, cut), carried), docs), next) = <(((u32, Seen), StreamNos), StreamDocs)>::read(
         alloc, second, from, at,
     )?;
-    Ok((Body::NewPlan(run, cut, carried, docs), next))
+    match SharedDocs::of(alloc, docs) {
+        Ok(docs) => Ok((Body::NewPlan(run, cut, carried, docs), next)),
+        Err(_) => Err(EntryFault::NoMemory),
+    }
 }
 
 /// A submitted stream: its order and its document.

@@ -25,7 +25,7 @@ pub(crate) fn put_body(out: &mut Bytes, body: &Body) -> Result<(), NoMemory>
             put_numbered(out, 1, *run)?;
             put_seen(out, cut)?;
             put_list(out, carried)?;
-            put_list(out, docs)
+            put_list(out, docs.docs())
         }
         Body::Added(issuer, order, doc) => {
             put_answer(out, 2, issuer, *order)?;

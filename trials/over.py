@@ -13,48 +13,16 @@ Usage: trials/over.py NAME [FLAG..]          checks the crate; the flags are tho
                                              over what the last check proved. It ends with 1 where one is not refused.
 """
 import os
-import shutil
-import subprocess
 import sys
 
 sys.dont_write_bytecode = True
-from kit import crates_here, rt_of_kit
+from kit import begun_of, check, crates_here, libraries_that_lack, rt_of_kit
 
 
-def libraries_that_lack(rt, crate, crates):
-    """Gives the libraries below the crate to this checkout, and names those that are not kept, or stand on such."""
-    kept, lacking = rt.Kept(list(crates.values())), []
-    for library in crate.below():
-        if any(one.name in lacking for one in library.below()):
-            lacking.append(library.name)
-            continue
-        key, folder = kept.key(library), f"{library.folder}/out/rlib"
-        note = f"{folder}/given"
-        if not (os.path.isfile(note) and rt.rtlib.text_of(note) == key and os.path.isdir(f"{folder}/{library.name}.rlib")):
-            # a library is never given into a folder that has one
-            if not os.path.isdir(kept.place(library, False, key)):
-                lacking.append(library.name)
-                continue
-            shutil.rmtree(folder, ignore_errors=True)
-            if not kept.give(library, False, key):
-                lacking.append(library.name)
-                continue
-            with open(note, "w", encoding="utf-8") as file:
-                file.write(key)
-        kept.is_built(library)
-    return lacking
-
-
-def check(rt, crate, flags, begun):
-    jobs = [] if any(flag.startswith("--jobs") for flag in flags) else ["--jobs", "1"]
-    words = [rt.rtlib.RATTLE, "check", *crate.words([*jobs, *flags], keeps=False), "--incremental", begun]
-    return subprocess.run([*rt.rtlib.guarded(), *words], cwd=crate.folder, stdin=subprocess.DEVNULL).returncode
-
-
-def try_edits(rt, crate, files, begun):
+def try_edits(rt, crate, files):
     status = 0
     for file in files or rt.edits_of(crate)[0]:
-        kind, said = rt.must_fail(crate, file, ["--jobs", "1"], begun)
+        kind, said = rt.must_fail(crate, file, ["--jobs", "1"], begun_of(crate))
         print(said, flush=True)
         status |= kind != rt.REFUSED
     return status
@@ -74,9 +42,9 @@ def main():
     if lacking:
         print("not kept yet:", *lacking)
         return 4
-    begun = f"{crate.folder}/out/incremental"
-    os.makedirs(begun, exist_ok=True)
-    return try_edits(rt, crate, files, begun) if flags[:1] == ["--must-fail"] else check(rt, crate, flags, begun)
+    if flags[:1] == ["--must-fail"]:
+        return try_edits(rt, crate, files)
+    return check(rt, crate, flags)
 
 
 sys.exit(main())

@@ -5,7 +5,7 @@ ghost use Rattle.node_inputs.specs.declared.ends.NodeEnd.TheVariants.{NoMemory a
 use base_types::{LimitName, NoMemory};
 
 /// Why a run ended.
-#[derive(Clone, Copy, Debug, PartialEq, Eq)]
+#[derive(Clone, Copy)]
 pub enum NodeEnd {
     /// A client asked for it, and was answered.
     Shutdown,

@@ -17,7 +17,7 @@ pub use standard_streams::{StdSink, StdSource};
 use std::alloc::{AllocError, Global};
 
 /// Why an input was not read to its end.
-#[derive(Clone, Copy, Debug, PartialEq, Eq)]
+#[derive(Clone, Copy)]
 pub enum ReadError {
     /// The source failed.
     Fault,

@@ -1,4 +1,5 @@
-use Rattle.told_launches.proofs.Telling.{after_ok, told_further}
+use Rattle.lemmas.proofs.Results.{after_ok}
+use Rattle.told_launches.proofs.Telling.{told_further}
 use Rattle.told_launches.proofs.rows.ToldLaunches.tell.Goals as goal
 
 pub returns : goal.returns

@@ -2,13 +2,13 @@
 use Rattle.std.proofs.Common.{[], ◌++◌, ◌≡◌, ◌≤◌, ◌∙◌, ◌∷◌, ℕ, List, ap, append_assoc, arith, inl, inr, refl, sym}
 use Rattle.std.specs.List.{AllByRecursion}
 use Rattle.model_laws.proofs.Answered.{answered-append}
-use Rattle.node_keeping.proofs.Lasting.{kept-append}
+use Rattle.node_inputs.proofs.Lasting.{kept-append}
 use Rattle.model.specs.Types.{Body, Entry, Feed}
 use Rattle.model.specs.Facts.{answered}
 use Rattle.model.specs.History.{list_of}
 use Rattle.model_laws.proofs.Feeds.{feed_cases, list_of-append}
 use Rattle.agent_core.specs.Nodes.{NodeState}
-use Rattle.node_keeping.specs.Traces.{Event, Trace, kept}
+use Rattle.node_inputs.specs.Traces.{Event, Trace, kept}
 use Rattle.run_laws.specs.Held.{held_after}
 
 -- one more entry, and what was kept behind it

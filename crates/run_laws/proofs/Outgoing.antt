@@ -4,7 +4,7 @@ use Rattle.std.specs.List.{AllByRecursion}
 use Rattle.std.specs.Option.{option_map_or, option_to_list}
 use Rattle.std.specs.Prelude.{filter, flat_map, if◌then◌else◌, option_map, ◌&&◌}
 use Rattle.lemmas.proofs.Lists.{all_append, all_left, all_middle, no_middle}
-use Rattle.node_keeping.proofs.Lasting.{kept-append}
+use Rattle.node_inputs.proofs.Lasting.{kept-append}
 use Rattle.model.specs.Types.{Ack, Body, Entry, Events, Feed, Fulfil, Input, Kill, Launch, Launched, Linked, Local, Mail, Net, Next, Obeyed, Out, Packet, Send, StartFailed}
 use Rattle.model.specs.Types.{Turn, Typed, Unlinked}
 use Rattle.model.specs.Words.{below, nth}
@@ -25,8 +25,8 @@ use Rattle.agent_core.proofs.Holding.{view_later}
 use Rattle.agent_core.specs.Nodes.{NodeState, session_in, view_in}
 use Rattle.agent_core.specs.Steps.{IsTaken, effect_in}
 use Rattle.agent_core.specs.declared.faults.Step.{Step}
-use Rattle.node_keeping.specs.Traces.{Event, Trace, kept}
-use Rattle.node_keeping.specs.declared.ends.NodeEnd.{NodeEnd}
+use Rattle.node_inputs.specs.Traces.{Event, Trace, kept}
+use Rattle.node_inputs.specs.declared.ends.NodeEnd.{NodeEnd}
 use Rattle.node_inputs.specs.Actions.{Action, IfThere, Nothing, Then}
 use Rattle.node_inputs.specs.Inputs.{Carried, Carry, CarryOut, IsKeeping, Keep, SendFrame, frame_of, is_lost}
 use Rattle.run_laws.specs.Held.{held_after}

@@ -2,14 +2,14 @@
 use Rattle.std.proofs.Common.{[], ◌++◌, ◌≡◌, ◌∙◌, ◌∷◌, List, None, Option, Some, ap, inl, inr, refl, subst, sym}
 use Rattle.std.specs.List.{AllByRecursion}
 use Rattle.std.specs.Option.{option_to_list}
-use Rattle.node_keeping.proofs.Lasting.{kept-append}
+use Rattle.node_inputs.proofs.Lasting.{kept-append}
 use Rattle.lemmas.proofs.Lists.{all_append, no_middle}
 use Rattle.model.specs.Types.{Entry, Input, Out}
 use Rattle.agent_core.specs.Nodes.{NodeState}
-use Rattle.node_keeping.specs.Keeping.{IsRefusal}
-use Rattle.node_keeping.specs.Traces.{Event, Trace, kept}
-use Rattle.node_keeping.specs.declared.ends.NodeEnd.{NodeEnd}
-use Rattle.node_keeping.specs.declared.ends.NodeEnd.TheVariants.{NoMemory}
+use Rattle.node_inputs.specs.Keeping.{IsRefusal}
+use Rattle.node_inputs.specs.Traces.{Event, Trace, kept}
+use Rattle.node_inputs.specs.declared.ends.NodeEnd.{NodeEnd}
+use Rattle.node_inputs.specs.declared.ends.NodeEnd.TheVariants.{NoMemory}
 use Rattle.node_inputs.specs.Actions.{Then}
 use Rattle.node_inputs.specs.Inputs.{IsKeeping, Keep}
 use Rattle.run_laws.proofs.Given.{IsGiven, carry_gives}

@@ -6,8 +6,8 @@ use Rattle.base_types.specs.declared.LimitName.{LimitName}
 use Rattle.base_types.specs.declared.LimitName.TheVariants.{File}
 use Rattle.conman_client.specs.declared.ends.AskEnd.{AskEnd}
 use Rattle.conman_client.specs.declared.ends.AskEnd.TheVariants as ask
-use Rattle.node_keeping.specs.declared.ends.NodeEnd.{NodeEnd}
-use Rattle.node_keeping.specs.declared.ends.NodeEnd.TheVariants as run
+use Rattle.node_inputs.specs.declared.ends.NodeEnd.{NodeEnd}
+use Rattle.node_inputs.specs.declared.ends.NodeEnd.TheVariants as run
 use Rattle.node_restart.specs.declared.faults.RestartFault.{RestartFault}
 use Rattle.node_restart.specs.declared.faults.RestartFault.TheVariants as made
 use Rattle.node_service.specs.declared.services.ServiceEnd.{ServiceEnd}

@@ -3,7 +3,7 @@ use Rattle.std.proofs.Common.{◌≡◌, ◌≤◌, ◌⊎◌, ◌∙◌, ℕ, L
 use Rattle.lemmas.proofs.Options.{none_some}
 use Rattle.composer_parser.specs.declared.Defs.{Defs}
 use Rattle.definition_texts.specs.Refusals.{AreChecked}
-use Rattle.node_keeping.specs.declared.ends.NodeEnd.TheVariants as run
+use Rattle.node_inputs.specs.declared.ends.NodeEnd.TheVariants as run
 use Rattle.node_restart.specs.declared.faults.RestartFault.TheVariants as made
 use Rattle.node_service.specs.declared.services.ServiceEnd.TheVariants.{Ran, Unmade}
 use Rattle.outside.specs.Causes.{Rose}

@@ -3,7 +3,7 @@ use Rattle.std.proofs.Common.{◌≡◌, ◌⊎◌, ◌∙◌, ℕ, Err, List, O
 use Rattle.std.specs.Io.KnownBytes.{Appends}
 use Rattle.conman_client.specs.declared.ends.AskEnd.TheVariants.{NoAnswer}
 use Rattle.node_inputs.specs.Tellings.{Told}
-use Rattle.node_keeping.specs.declared.ends.NodeEnd.TheVariants as run
+use Rattle.node_inputs.specs.declared.ends.NodeEnd.TheVariants as run
 use Rattle.node_restart.specs.declared.faults.RestartFault.TheVariants as made
 use Rattle.node_service.specs.declared.services.ServiceEnd.TheVariants.{Ran, Unmade}
 use Rattle.outside.specs.Calls.{LinkCalls}

@@ -11,7 +11,7 @@ use Rattle.definition_texts.specs.declared.refusals.Refusal.{Refusal}
 use Rattle.exit_statuses.specs.Statuses.{number_of as number_of_status}
 use Rattle.exit_statuses.specs.Texts.{definitions_line, limit_line, limit_word}
 use Rattle.exit_statuses.specs.declared.statuses.Status.{Status}
-use Rattle.node_keeping.specs.declared.ends.NodeEnd.TheVariants as run
+use Rattle.node_inputs.specs.declared.ends.NodeEnd.TheVariants as run
 use Rattle.node_restart.specs.declared.faults.RestartFault.TheVariants as made
 use Rattle.node_service.specs.declared.services.ServiceEnd.TheVariants.{Ran, Unmade}
 use Rattle.outside.specs.Causes.{Rose}

@@ -9,14 +9,14 @@ use Rattle.std.proofs.lemmas.Option.{slice_get_within}
 use Rattle.std.proofs.lemmas.Slice.Eq.{bytes_eq-Decides}
 use Rattle.lemmas.proofs.Texts.{bytes_turned}
 use Rattle.lemmas.proofs.Lists.{all_get, got_below}
-use Rattle.network_lines.proofs.Named.{name_there}
+use Rattle.history_laws.proofs.Named.{name_there}
 use Rattle.network_tree.proofs.Trees.{none_repeats}
 use Rattle.model.specs.Network.{node_count}
 use Rattle.model.specs.Types.{Net, Node}
 use Rattle.network_tree.specs.Faults.{have_one_name, net_fault}
 use Rattle.report_text.specs.Names.{name_of}
 use Rattle.history_script.specs.Histories.{ws_of}
-use Rattle.network_lines.specs.Printables.{IsKeptName, IsNamedNode, as_printed, node_as_printed}
+use Rattle.history_laws.specs.Printables.{IsKeptName, IsNamedNode, as_printed, node_as_printed}
 
 -- The first that passes.
 

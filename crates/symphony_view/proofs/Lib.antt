@@ -4,3 +4,4 @@ mod Belows
 pub mod FitStreams
 mod Numbered
 mod Joins
+pub mod Totals

@@ -10,7 +10,7 @@ use Rattle.std.proofs.lemmas.List.{take_at, drop_at}
 use Rattle.std.proofs.lemmas.Bool.Decides.{nat_tests}
 use Rattle.std.proofs.lemmas.Str.{IsUtf8-append, IsUtf8-from_ascii, IsUtf8-from_is_utf8, is_utf8-from_IsUtf8, IsUtf8-take, IsUtf8-drop, IsCharBoundary-before_ascii}
 use Rattle.std.proofs.lemmas.Str.Ascii.{IsAscii-cons, IsAscii-nil}
-use Rattle.syntax.specs.Quotes.{is_escaped}
+use Rattle.syntax.specs.Quotes.{is_escaped, escaped, quoted_text}
 use Rattle.base_types.specs.declared.reports.Token.{Token}
 use Rattle.base_types.specs.declared.reports.TokenKind.{TokenKind}
 use Rattle.base_types.specs.declared.reports.TokenKind.TheVariants as kind
@@ -18,7 +18,6 @@ use Rattle.composer_lexer.specs.Tokens.{front, token, before, tokens_from, text_
 use Rattle.composer_lexer.proofs.Walks.{at_piece, at_space, at_line_end}
 use Rattle.composer_parser.specs.Kinds.{Shape, mark, quoted, word, Spelled}
 use Rattle.composer_parser.specs.Tokens.{as_text, piece, shape_of, spelled, all_spelled}
-use Rattle.composer_print.specs.Texts.{escaped, quoted_text}
 use Rattle.composer_print.proofs.Spelling.{quoted_back}
 use Rattle.composer_laws.specs.Written.{IsText, is_no_feed}
 

@@ -19,8 +19,7 @@ use Rattle.model.specs.Spelling.{entry_bytes}
 use Rattle.model.specs.Types.{Carry, Entry, Net, Node, PromptDef, Resource, Start}
 use Rattle.plan_listing.specs.Networks.{carry_line, hop_gap, hop_name, mark, network_text, node_line, prompt_line, resource_line}
 use Rattle.report_text.specs.Names.{name_of}
-use Rattle.report_text.specs.Quotes.{escaped, quoted_text}
-use Rattle.syntax.specs.Quotes.{is_escaped}
+use Rattle.syntax.specs.Quotes.{escaped, quoted_text, is_escaped}
 use Rattle.history_script.specs.Digits.{digit, digits_of, is_byte}
 use Rattle.history_script.specs.Printed.{IsStartInRange, entry_line, head_text, history_text, start_line}
 use Rattle.history_laws.specs.Printables.{IsKeptName, IsNamedNode, IsNamedPrompt, IsNamedResource, IsPrintable}

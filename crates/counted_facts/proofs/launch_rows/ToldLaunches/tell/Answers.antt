@@ -1,4 +1,5 @@
-use Rattle.counted_facts.proofs.LaunchTelling.{after_ok, told_further}
+use Rattle.lemmas.proofs.Results.{after_ok}
+use Rattle.counted_facts.proofs.LaunchTelling.{told_further}
 use Rattle.counted_facts.proofs.launch_rows.ToldLaunches.tell.Goals as goal
 
 pub returns : goal.returns

@@ -2,7 +2,7 @@
 use Rattle.std.proofs.Common.{◌≡◌, ◌<◌, ◌≤◌, ◌+◌, ◌/◌, ◌%◌, ◌^◌, ℕ, zero, suc, Bool, true, false, ◌&&◌, ltb, leb, List}
 use Rattle.std.proofs.Common.{[]}
 use Rattle.std.proofs.Common.{◌∷◌, ◌++◌, length, get_or, flat_map, codes, Option, Some, None, slice_get, is_none, IsUtf8}
-use Rattle.std.proofs.Common.{refl, arith, append_assoc, decimal, if◌then◌else◌}
+use Rattle.std.proofs.Common.{refl, arith, decimal, if◌then◌else◌}
 use Rattle.std.specs.List.{AllByRecursion, list_all}
 use Rattle.std.specs.Option.{option_map_or}
 use Rattle.std.specs.Str.{is_utf8}
@@ -21,7 +21,7 @@ use Rattle.model.specs.Spelling.{entry_bytes}
 use Rattle.model.specs.Types.{Carry, Entry, Net, Node, PromptDef, Resource, Start}
 use Rattle.plan_listing.specs.Networks.{carry_line, hop_gap, hop_name, mark, network_text, node_line, prompt_line, resource_line}
 use Rattle.report_text.specs.Names.{name_of}
-use Rattle.syntax.specs.Quotes.{escaped, quoted_text, is_escaped}
+use Rattle.syntax.specs.Quotes.{escaped, quoted_text}
 use Rattle.history_script.specs.Digits.{digit, digits_of, is_byte}
 use Rattle.history_script.specs.Printed.{IsStartInRange, entry_line, head_text, history_text, start_line}
 use Rattle.history_laws.specs.Printables.{IsKeptName, IsNamedNode, IsNamedPrompt, IsNamedResource, IsPrintable}

@@ -32,6 +32,7 @@ const REPLY: u8 = 4;
 /// The greatest lengths that a frame may tell, which count its kind and its content.
 const LONGEST_MAIL: u32 = 4_194_305;
 
-const LONGEST_COMMAND: u32 = 4_097;
+/// That of a command.
+pub const LONGEST_COMMAND: u32 = 4_097;
 
 const LONGEST_REPLY: u32 = 1_048_577;

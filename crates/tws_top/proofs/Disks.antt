@@ -9,9 +9,9 @@ use Rattle.node_service.specs.declared.services.ServiceEnd.TheVariants.{Ran, Unm
 use Rattle.outside.specs.Calls.{LinkCalls}
 use Rattle.outside.specs.Causes.{Rose}
 use Rattle.outside.specs.Streams.{Stream}
-use Rattle.service_words.specs.Ends.{other_file_line}
-use Rattle.service_words.specs.Forms.{Request, request_of}
-use Rattle.service_words.specs.Services.{AskedBy, IsAsked, IsServed, ServedBy}
+use Rattle.node_commands.specs.Ends.{other_file_line}
+use Rattle.node_commands.specs.Forms.{Request, request_of}
+use Rattle.node_commands.specs.Services.{AskedBy, IsAsked, IsServed, ServedBy}
 use Rattle.tws_top.specs.Rows.{FindsOtherFile, HasNoAnswer}
 
 module _ {D : Type 0} (seen : D → Option (List ℕ)) (faults moment : D → ℕ) (may_leave : D → List ℕ → Type 0)

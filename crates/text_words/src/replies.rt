@@ -41,7 +41,7 @@ impl Reply {
 }
 
 /// Why nothing is said.
-#[derive(Clone, Copy, Debug, PartialEq, Eq)]
+#[derive(Clone, Copy)]
 pub enum Silence {
     SourceFailed,
     NoMemory,

@@ -8,7 +8,7 @@ use definition_replies::Wish;
 use syntax::number_u32;
 
 /// What is told of a night.
-#[derive(Clone, Copy, Debug, PartialEq, Eq)]
+#[derive(Clone, Copy)]
 pub enum Telling {
     /// All of it.
     Report,

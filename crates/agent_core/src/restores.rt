@@ -18,7 +18,7 @@ use owner_fold::Owners;
 use std::alloc::Global;
 
 /// Why no node is made of entries, in the order in which the causes are tested.
-#[derive(Clone, Copy, Debug, PartialEq, Eq)]
+#[derive(Clone, Copy, Debug)]
 pub enum RestoreFault {
     /// The workstation is outside the network.
     NotInNetwork,

@@ -5,7 +5,7 @@ ghost use Rattle.node_keeping.specs.declared.ends.NodeEnd.TheVariants.{NoMemory 
 use base_types::{LimitName, NoMemory};
 
 /// Why a run ended.
-#[derive(Clone, Copy, Debug, PartialEq, Eq)]
+#[derive(Clone, Copy)]
 pub enum NodeEnd {
     /// A client asked for it, and was answered.
     Shutdown,

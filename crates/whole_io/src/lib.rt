@@ -13,7 +13,7 @@ use outside::{Failed, Sink, Source};
 use std::alloc::{AllocError, Global};
 
 /// Why an input was not read to its end.
-#[derive(Clone, Copy, Debug, PartialEq, Eq)]
+#[derive(Clone, Copy)]
 pub enum ReadError {
     /// The source failed.
     Fault,

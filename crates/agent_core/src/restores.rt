@@ -11,8 +11,8 @@ ghost use Rattle.agent_core.specs.declared.restores.RestoreFault.TheVariants.{No
 use crate::agents::Agent;
 use crate::trackers::Tracker;
 use base_types::{Copied, Entries, Entry, Items, NoMemory, Ws};
+use entry_checks::is_entry_inside;
 use mailman_core::Mail;
-use named_workstations::is_entry_inside;
 use network_tree::Network;
 use owner_fold::Owners;
 use std::alloc::Global;

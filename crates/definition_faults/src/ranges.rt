@@ -7,7 +7,7 @@ ghost use Rattle.definition_faults.specs.Ranges as spec;
 use crate::kinds::{Fault, Kind};
 use base_types::Text;
 use composer_parser::{Clause, Defs, Need};
-use time_zones::east_of;
+use plan_times::east_of;
 
 /// The fault of a TIMEZONE that is no offset.
 #[tactic(auto, unfolding(crate::specs::Ranges::zone_faults))]

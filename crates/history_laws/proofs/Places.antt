@@ -14,7 +14,7 @@ use Rattle.network_tree.specs.declared.faults.NetFault.{NetFault}
 use Rattle.network_tree.proofs.Belows.{nothing_found}
 use Rattle.report_text.specs.Names.{name_of}
 use Rattle.history_script.specs.Histories.{ws_of}
-use Rattle.network_lines.specs.Printables.{IsKeptName, IsNamedNode, as_printed, node_as_printed}
+use Rattle.history_laws.specs.Printables.{IsKeptName, IsNamedNode, as_printed, node_as_printed}
 
 -- what stands at a place below the length
 pub there : {A : Type 0} (xs : List A) (w : ℕ) → w < length xs → (x : A) × (slice_get xs w ≡ Some x)

@@ -24,9 +24,9 @@ use Rattle.history_script.specs.Rows.{form_of, row_of, start_row}
 use Rattle.history_script.specs.declared.rows.HistoryRow.{HistoryRow}
 use Rattle.history_script.specs.declared.rows.HistoryRow.TheVariants as row
 use Rattle.history_script.proofs.Returns.{digits_back}
-use Rattle.network_lines.specs.Printables.{IsKeptName}
-use Rattle.network_lines.proofs.Lines.{Lacks, lacks_append, some_left, split_here, split_whole}
-use Rattle.network_lines.proofs.Words.{name_lacks_feed, name_lacks_space, number_lacks_feed, number_lacks_space}
+use Rattle.history_laws.specs.Printables.{IsKeptName}
+use Rattle.history_laws.proofs.Lines.{Lacks, lacks_append, some_left, split_here, split_whole}
+use Rattle.history_laws.proofs.Words.{name_lacks_feed, name_lacks_space, number_lacks_feed, number_lacks_space}
 use Rattle.history_laws.proofs.Bytes.{entry_small, entry_some}
 
 -- a row by its first word and what follows it

@@ -23,9 +23,9 @@ use Rattle.report_text.specs.Quotes.{escaped, quoted_text}
 use Rattle.syntax.specs.Quotes.{is_escaped}
 use Rattle.history_script.specs.Digits.{digit, digits_of, is_byte}
 use Rattle.history_script.specs.Printed.{IsStartInRange, entry_line, head_text, history_text, start_line}
-use Rattle.network_lines.specs.Printables.{IsKeptName, IsNamedNode, IsNamedPrompt, IsNamedResource, IsPrintable}
-use Rattle.network_lines.proofs.Accepted.{IsGood}
-use Rattle.network_lines.proofs.Words.{kept_form}
+use Rattle.history_laws.specs.Printables.{IsKeptName, IsNamedNode, IsNamedPrompt, IsNamedResource, IsPrintable}
+use Rattle.history_laws.proofs.Accepted.{IsGood}
+use Rattle.history_laws.proofs.Words.{kept_form}
 use Rattle.history_laws.proofs.Bytes.{AreBytes, entry_small}
 use Rattle.history_laws.proofs.Places.{holds_there}
 

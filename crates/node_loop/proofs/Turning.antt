@@ -10,17 +10,17 @@ use Rattle.file_watch.specs.Circle.{DepPlace}
 use Rattle.mail_frames.specs.declared.frames.Frame.{Frame}
 use Rattle.mail_frames.specs.Spelling.{IsFrame}
 use Rattle.outside.specs.Kept.{Bodies}
-use Rattle.node_keeping.specs.Keeping.{IsReady}
-use Rattle.node_keeping.specs.Traces.{Event, Trace}
-use Rattle.node_keeping.specs.declared.ends.NodeEnd.{NodeEnd}
-use Rattle.node_keeping.specs.declared.ends.NodeEnd.TheVariants.{NoMemory}
+use Rattle.node_inputs.specs.Keeping.{IsReady}
+use Rattle.node_inputs.specs.Traces.{Event, Trace}
+use Rattle.node_inputs.specs.declared.ends.NodeEnd.{NodeEnd}
+use Rattle.node_inputs.specs.declared.ends.NodeEnd.TheVariants.{NoMemory}
 use Rattle.node_inputs.specs.Actions.{Action, Call, IfThere, Then}
 use Rattle.node_inputs.specs.Doings.{Does, DoesOutside}
 use Rattle.node_inputs.specs.Inputs.{Lose, Take}
 use Rattle.node_inputs.specs.Tellings.{Told}
 use Rattle.node_inputs.proofs.Doing.{Completing, did_as, did_end, did_outside, did_then, out_as, out_stop}
 use Rattle.node_inputs.proofs.Telling.{nothing_told}
-use Rattle.link_streams.specs.Heard.{Completes, Heard}
+use Rattle.node_loop.specs.Heard.{Completes, Heard}
 use Rattle.node_loop.specs.Frames.{Frames, input_of}
 use Rattle.node_loop.specs.Runs.{Hears, On, Run, Running, TurnOf, running_with}
 

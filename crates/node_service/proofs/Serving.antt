@@ -13,10 +13,10 @@ use Rattle.outside.specs.Kept.{Bodies}
 use Rattle.outside.specs.Stops.{LeavesOnly}
 use Rattle.message_file.specs.Attaching.{LeftAttaching}
 use Rattle.message_file.specs.State.{FileState, KeepsOf, KeptLeft, OwnFiles, kept_in}
-use Rattle.node_keeping.specs.Keeping.{IsCause, IsLeft, IsLeftAtEnd, IsRefusal, KeeperTells, bodies}
-use Rattle.node_keeping.specs.Traces.{Trace, kept, refusals}
-use Rattle.node_keeping.specs.declared.ends.NodeEnd.{NodeEnd}
-use Rattle.node_keeping.specs.declared.ends.NodeEnd.TheVariants.{DiskFault}
+use Rattle.node_inputs.specs.Keeping.{IsCause, IsLeft, IsLeftAtEnd, IsRefusal, KeeperTells, bodies}
+use Rattle.node_inputs.specs.Traces.{Trace, kept, refusals}
+use Rattle.node_inputs.specs.declared.ends.NodeEnd.{NodeEnd}
+use Rattle.node_inputs.specs.declared.ends.NodeEnd.TheVariants.{DiskFault}
 use Rattle.node_inputs.specs.Stepping.{AreKeepable, IsKeepable}
 use Rattle.node_restart.specs.Reading.{AreShortEntries, IsShort}
 use Rattle.node_restart.specs.Stopping.{AreOwn, KeptSince, StayOwn, StaysOwn}

@@ -9,8 +9,8 @@ use Rattle.model.specs.History.{View}
 use Rattle.model.specs.NewEntry.{makes, next_entry, own_entry}
 use Rattle.agent_core.specs.Nodes.{NodeState, present_in, session_in, view_in}
 use Rattle.recovery_watch.specs.Advice.{advice}
-use Rattle.node_keeping.specs.Traces.{Event, Trace}
-use Rattle.node_keeping.specs.declared.ends.NodeEnd.{NodeEnd}
+use Rattle.node_inputs.specs.Traces.{Event, Trace}
+use Rattle.node_inputs.specs.declared.ends.NodeEnd.{NodeEnd}
 use Rattle.node_inputs.specs.Actions.{Action, IfThere, Nothing}
 use Rattle.node_inputs.specs.Inputs.{Take}
 use Rattle.run_laws.specs.Alone.{alone_with}

@@ -14,8 +14,8 @@ use Rattle.model.specs.Words.{least}
 use Rattle.model_laws.proofs.Feeds.{list_of_elsewhere, list_of_here}
 use Rattle.recovery_watch.specs.Advice.{advice, advised_at, needs_advice}
 use Rattle.agent_core.specs.Nodes.{NodeState}
-use Rattle.node_keeping.specs.Traces.{Event, Trace, kept}
-use Rattle.node_keeping.specs.declared.ends.NodeEnd.{NodeEnd}
+use Rattle.node_inputs.specs.Traces.{Event, Trace, kept}
+use Rattle.node_inputs.specs.declared.ends.NodeEnd.{NodeEnd}
 use Rattle.run_laws.specs.Held.{held_after}
 use Rattle.run_laws.proofs.Given.{all_append}
 use Rattle.run_laws.proofs.Marks.{Marks}

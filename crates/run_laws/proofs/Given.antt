@@ -7,8 +7,8 @@ use Rattle.model.specs.Types.{Launch, Out, Packet, Send, Work}
 use Rattle.mail_frames.specs.declared.frames.Frame.{Frame}
 use Rattle.outside.specs.Calls.{StartCall}
 use Rattle.agent_core.specs.Nodes.{NodeState}
-use Rattle.node_keeping.specs.Traces.{Event, Trace, starts, start_of}
-use Rattle.node_keeping.specs.declared.ends.NodeEnd.{NodeEnd}
+use Rattle.node_inputs.specs.Traces.{Event, Trace, starts, start_of}
+use Rattle.node_inputs.specs.declared.ends.NodeEnd.{NodeEnd}
 use Rattle.node_inputs.specs.Actions.{Action, IfThere, Nothing}
 use Rattle.node_inputs.specs.Inputs.{Carried, Carry, CarryOut, SendFrame, SendIt, StartIt, frame_of, is_lost}
 use Rattle.run_laws.specs.Launches.{launches_started}

@@ -7,7 +7,7 @@ use Rattle.model.specs.Facts.{answered}
 use Rattle.model.specs.History.{list_of}
 use Rattle.model_laws.proofs.Feeds.{feed_cases, list_of-append}
 use Rattle.agent_core.specs.Nodes.{NodeState}
-use Rattle.node_keeping.specs.Traces.{Event, Trace, kept}
+use Rattle.node_inputs.specs.Traces.{Event, Trace, kept}
 use Rattle.run_laws.specs.Held.{held_after}
 use Rattle.run_laws.proofs.Tracing.{kept-append}
 

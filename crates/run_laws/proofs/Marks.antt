@@ -5,9 +5,9 @@ use Rattle.std.specs.List.{AllByRecursion}
 use Rattle.model.specs.Types.{Entry, Input}
 use Rattle.model.specs.History.{view_of}
 use Rattle.agent_core.specs.Nodes.{NodeState, view_in}
-use Rattle.node_keeping.specs.Keeping.{IsRefusal}
-use Rattle.node_keeping.specs.Traces.{Event, Trace, kept}
-use Rattle.node_keeping.specs.declared.ends.NodeEnd.{NodeEnd}
+use Rattle.node_inputs.specs.Keeping.{IsRefusal}
+use Rattle.node_inputs.specs.Traces.{Event, Trace, kept}
+use Rattle.node_inputs.specs.declared.ends.NodeEnd.{NodeEnd}
 use Rattle.node_inputs.specs.Actions.{Action}
 use Rattle.run_laws.specs.Held.{held_after}
 use Rattle.run_laws.proofs.Rules.{EndsFree, IsJoined}

@@ -23,8 +23,8 @@ use Rattle.agent_core.proofs.Holding.{view_later}
 use Rattle.agent_core.specs.Nodes.{NodeState, session_in, view_in}
 use Rattle.agent_core.specs.Steps.{IsTaken, effect_in}
 use Rattle.agent_core.specs.declared.faults.Step.{Step}
-use Rattle.node_keeping.specs.Traces.{Event, Trace, kept}
-use Rattle.node_keeping.specs.declared.ends.NodeEnd.{NodeEnd}
+use Rattle.node_inputs.specs.Traces.{Event, Trace, kept}
+use Rattle.node_inputs.specs.declared.ends.NodeEnd.{NodeEnd}
 use Rattle.node_inputs.specs.Actions.{Action, IfThere, Nothing, Then}
 use Rattle.node_inputs.specs.Inputs.{Carried, Carry, CarryOut, IsKeeping, Keep, SendFrame, frame_of, is_lost}
 use Rattle.run_laws.specs.Held.{held_after}

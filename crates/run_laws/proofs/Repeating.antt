@@ -11,8 +11,8 @@ use Rattle.model.specs.History.{Seen, list_of}
 use Rattle.model_laws.proofs.Feeds.{feed_cases, list_of_here}
 use Rattle.model_laws.proofs.Growth.{launches-append}
 use Rattle.agent_core.specs.Nodes.{NodeState}
-use Rattle.node_keeping.specs.Traces.{Event, Trace}
-use Rattle.node_keeping.specs.declared.ends.NodeEnd.{NodeEnd}
+use Rattle.node_inputs.specs.Traces.{Event, Trace}
+use Rattle.node_inputs.specs.declared.ends.NodeEnd.{NodeEnd}
 use Rattle.run_laws.specs.Held.{held_after}
 use Rattle.run_laws.specs.Launches.{launch_in, launch_of, launches_kept}
 use Rattle.run_laws.proofs.Splits.{same_head, same_tail, not_empty}

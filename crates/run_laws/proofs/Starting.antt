@@ -8,8 +8,8 @@ use Rattle.std.specs.Prelude.{filter_map}
 use Rattle.model.specs.Types.{Entry, Input}
 use Rattle.outside.specs.Calls.{StartCall}
 use Rattle.agent_core.specs.Nodes.{NodeState}
-use Rattle.node_keeping.specs.Traces.{Event, Trace, kept, start_of, starts}
-use Rattle.node_keeping.specs.declared.ends.NodeEnd.{NodeEnd}
+use Rattle.node_inputs.specs.Traces.{Event, Trace, kept, start_of, starts}
+use Rattle.node_inputs.specs.declared.ends.NodeEnd.{NodeEnd}
 use Rattle.node_inputs.specs.Actions.{Then}
 use Rattle.node_inputs.specs.Inputs.{IsKeeping, Keep}
 use Rattle.run_laws.specs.Launches.{launch_of, launches_kept, launches_started}

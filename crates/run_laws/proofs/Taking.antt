@@ -18,9 +18,9 @@ use Rattle.agent_core.specs.Steps.{IsTaken, effect_in}
 use Rattle.agent_core.specs.declared.faults.Step.{Step}
 use Rattle.agent_core.specs.declared.faults.StepFault.{StepFault}
 use Rattle.agent_core.specs.declared.faults.StepFault.TheVariants as fault
-use Rattle.node_keeping.specs.Traces.{Event, Trace}
-use Rattle.node_keeping.specs.declared.ends.NodeEnd.{NodeEnd}
-use Rattle.node_keeping.specs.declared.ends.NodeEnd.TheVariants.{Limit, NoMemory}
+use Rattle.node_inputs.specs.Traces.{Event, Trace}
+use Rattle.node_inputs.specs.declared.ends.NodeEnd.{NodeEnd}
+use Rattle.node_inputs.specs.declared.ends.NodeEnd.TheVariants.{Limit, NoMemory}
 use Rattle.base_types.specs.declared.LimitName.TheVariants.{Places}
 use Rattle.node_inputs.specs.Actions.{Action, Call, Each, EndsBefore, If, Nothing, Then}
 use Rattle.node_inputs.specs.Inputs.{Carried, Carry, Follow, Give, IsKeeping, Keep, Lose, LoseAll, LoseIf, PassOver, Raise}

@@ -5,10 +5,10 @@ use Rattle.std.specs.List.{AllByRecursion}
 use Rattle.std.specs.Option.{option_to_list}
 use Rattle.model.specs.Types.{Entry, Input, Out}
 use Rattle.agent_core.specs.Nodes.{NodeState}
-use Rattle.node_keeping.specs.Keeping.{IsRefusal}
-use Rattle.node_keeping.specs.Traces.{Event, Trace, kept, kept_by}
-use Rattle.node_keeping.specs.declared.ends.NodeEnd.{NodeEnd}
-use Rattle.node_keeping.specs.declared.ends.NodeEnd.TheVariants.{NoMemory}
+use Rattle.node_inputs.specs.Keeping.{IsRefusal}
+use Rattle.node_inputs.specs.Traces.{Event, Trace, kept, kept_by}
+use Rattle.node_inputs.specs.declared.ends.NodeEnd.{NodeEnd}
+use Rattle.node_inputs.specs.declared.ends.NodeEnd.TheVariants.{NoMemory}
 use Rattle.node_inputs.specs.Actions.{Then}
 use Rattle.node_inputs.specs.Inputs.{IsKeeping, Keep}
 use Rattle.run_laws.proofs.Given.{IsGiven, all_append, carry_gives}

@@ -5,3 +5,4 @@ mod Belows
 pub mod FitStreams
 mod Numbered
 mod Joins
+pub mod Totals

@@ -1,10 +1,10 @@
 use Rattle.std.proofs.Common.{◌+◌, ◌<◌, ◌≡◌, ◌≤◌, [], Err, Option, Some, drop, get_or, length, refl, rules, subst, sym, ℕ, Bool}
-use Rattle.node_keeping.specs.declared.ends.NodeEnd.TheVariants.{NoMemory}
+use Rattle.node_inputs.specs.declared.ends.NodeEnd.TheVariants.{NoMemory}
 use Rattle.node_inputs.specs.Actions.{Each}
 use Rattle.node_inputs.specs.Doings.{DoesOutside}
 use Rattle.node_inputs.specs.Inputs.{Carry, CarryOut, carried_with, nothing_carried}
 use Rattle.node_inputs.specs.Tellings.{told_by}
-use Rattle.node_keeping.specs.declared.ends.NodeEnd.{NodeEnd}
+use Rattle.node_inputs.specs.declared.ends.NodeEnd.{NodeEnd}
 use Rattle.node_inputs.proofs.Doing.{CompletingOutside}
 use Rattle.node_inputs.proofs.Looping.{each_out_done, each_out_more, next_item, no_item, outside_all, outside_end, outside_one}
 use Rattle.node_inputs.proofs.outputs.carry_all.Goals as goal

@@ -3,8 +3,8 @@ use Rattle.std.specs.Prelude.{if◌then◌else◌, is_ok, option_map, List, ℕ}
 use Rattle.mail_frames.specs.Spelling.{frame_bytes}
 use Rattle.mail_frames.specs.declared.frames.Frame.{Frame}
 use Rattle.outside.specs.Calls.{Sends, Sent}
-use Rattle.node_keeping.specs.Traces.{Event}
-use Rattle.node_keeping.specs.declared.ends.NodeEnd.TheVariants.{NoMemory}
+use Rattle.node_inputs.specs.Traces.{Event}
+use Rattle.node_inputs.specs.declared.ends.NodeEnd.TheVariants.{NoMemory}
 use Rattle.node_inputs.specs.Actions.{IfThere, Nothing, Wants}
 use Rattle.node_inputs.specs.Doings.{end_of}
 use Rattle.node_inputs.specs.Inputs.{SendFrame, carried_with, frame_of, is_lost}

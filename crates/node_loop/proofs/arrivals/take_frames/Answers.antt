@@ -1,5 +1,5 @@
 use Rattle.std.proofs.Common.{◌+◌, ◌<◌, ◌≡◌, ◌≤◌, ◌∙◌, Err, false, None, Some, ap, drop, get_or, length, rules, sym}
-use Rattle.node_keeping.specs.declared.ends.NodeEnd.TheVariants.{NoMemory}
+use Rattle.node_inputs.specs.declared.ends.NodeEnd.TheVariants.{NoMemory}
 use Rattle.node_inputs.specs.Doings.{end_of}
 use Rattle.node_inputs.specs.Inputs.{Lose}
 use Rattle.node_inputs.specs.Tellings.{told_by}

@@ -1,7 +1,7 @@
 use Rattle.std.proofs.Common.{◌≡◌, ◌∙◌, None, Option, Some, ap, arith, false, inl, inr, refl, subst, sym, true, ⊎_elim}
 use Rattle.std.specs.Prelude.{IsSome}
-use Rattle.service_words.specs.Forms.{AskOf, NodeFor, Request, request_of, service_in}
-use Rattle.text_words.specs.Words.{asked_of, asks_record}
+use Rattle.node_commands.specs.Forms.{AskOf, NodeFor, Request, request_of, service_in}
+use Rattle.input_commands.specs.Words.{asked_of, asks_record}
 use Rattle.tws_top.specs.Rows.{PassesLimit}
 use Rattle.tws_top.proofs.Completeness.{ask_alone, ask_done, node_done}
 use Rattle.tws_top.proofs.Disks.{disk_rose, no_answer_given, other_file_found}

@@ -1,13 +1,12 @@
 -- What one more entry tells of launches.
 use Rattle.std.proofs.Common.{[], ℕ, ◌&&◌, ◌+◌, ◌++◌, ◌<◌, ◌∙◌, ◌∷◌, ◌≡◌, ◌^◌, ◌||◌, Bool, List, None, Option, Some, ap, arith}
 use Rattle.std.proofs.Common.{cond, false, inl, inr, is_some, length, refl, subst, sym, true}
-use Rattle.std.proofs.lemmas.Bool.Decides.{eqb_tells}
 use Rattle.std.proofs.lemmas.List.Folds.{list_any-append}
 use Rattle.std.proofs.lemmas.List.Sums.{count_by-le-length}
 use Rattle.std.specs.Bool.{then_some}
 use Rattle.std.specs.List.{list_any}
 use Rattle.std.specs.Map.{lookup}
-use Rattle.std.specs.Prelude.{◌==◌, Err, Ok, OnOk, Result, count_by, nat_eq, unwrap_or}
+use Rattle.std.specs.Prelude.{◌==◌, count_by, nat_eq, unwrap_or}
 use Rattle.indexmap.specs.IndexMap.{get}
 use Rattle.indexmap.specs.IndexSet.{contains}
 use Rattle.model.specs.Types.{Added, Body, Clock, Declined, Ended, Entry, Events, Failed, Feed, Fulfilled, Late, Launched}
@@ -18,31 +17,14 @@ use Rattle.model.specs.Words.{some_is}
 use Rattle.model.specs.Facts.{is_launch_of}
 use Rattle.model.specs.Sound.{is_numbered_launch}
 use Rattle.std.proofs.Math.Nat.{add_comm}
+use Rattle.lemmas.proofs.Booleans.{and_false, or_false, or_turned}
+use Rattle.lemmas.proofs.Numbers.{eq_turned}
 use Rattle.owner_rows.proofs.Further.{count_with}
 use Rattle.owner_rows.proofs.Feeds.{feed_cases, list_with, list_without}
 use Rattle.counted_facts.specs.Keys.{Key, end_in, ends_launch, job_in, key_at, launch_in, same_key}
 use Rattle.counted_facts.specs.Marks.{CountsOne, MarksOne, is_key}
 use Rattle.counted_facts.specs.Launches.{AreTold}
 use Rattle.counted_facts.specs.declared.launch_rows.ToldLaunches.{ToldLaunches}
-
-turned : (a b : ℕ) → (a == b) ≡ (b == a)
-turned a b = elim (eqb_tells a b) [ inl t ↦ same t.0 t.1 | inr t ↦ other t.0 t.1 ]
-  where
-    same : (a == b) ≡ true → a ≡ b → (a == b) ≡ (b == a)
-    same yes_ e = elim (eqb_tells b a) [ inl u ↦ yes_ ∙ sym u.0 | inr u ↦ absurd (u.1 (sym e)) ]
-
-    other : (a == b) ≡ false → (a ≡ b → ⊥) → (a == b) ≡ (b == a)
-    other not_ apart = elim (eqb_tells b a) [ inl u ↦ absurd (apart (sym u.1)) | inr u ↦ not_ ∙ sym u.0 ]
-
-or_none : (b : Bool) → (b || false) ≡ b
-or_none true = refl
-or_none false = refl
-
-or_turned : (a b : Bool) → (a || b) ≡ (b || a)
-or_turned true true = refl
-or_turned true false = refl
-or_turned false true = refl
-or_turned false false = refl
 
 -- one more in the list of w, or none
 pub any_further : (G : List Entry) (e : Entry) (w : ℕ) (test : Body → Bool)
@@ -51,7 +33,7 @@ pub any_further : (G : List Entry) (e : Entry) (w : ℕ) (test : Body → Bool)
 any_further G e w test = elim (feed_cases (Events w) e.feed) [
   | inl c ↦ ap (λ (l : List Body). list_any test l) (list_with G e (Events w) c.0)
       ∙ list_any-append test (list_of G (Events w)) (e.body ∷ [])
-      ∙ ap (λ (b : Bool). list_any test (list_of G (Events w)) || b) (or_none (test e.body))
+      ∙ ap (λ (b : Bool). list_any test (list_of G (Events w)) || b) (or_false (test e.body))
       ∙ or_turned (list_any test (list_of G (Events w))) (test e.body)
       ∙ ap (λ (b : Bool). (b && test e.body) || list_any test (list_of G (Events w))) (sym c.0)
   | inr c ↦ ap (λ (l : List Body). list_any test l) (list_without G e (Events w) c)
@@ -64,11 +46,7 @@ here v w None j n = false
 here v w (Some q) j n = same_key (v, q) (w, (j, n))
 
 three_turned : (v w k j m n : ℕ) → ((w == v) && ((j == k) && (n == m))) ≡ ((v == w) && ((k == j) && (m == n)))
-three_turned v w k j m n = rw (turned w v, turned j k, turned n m) refl
-
-and_false : (b : Bool) → (b && false) ≡ false
-and_false true = refl
-and_false false = refl
+three_turned v w k j m n = rw (eq_turned w v, eq_turned j k, eq_turned n m) refl
 
 launch_here : (f : Feed) (b : Body) (w j n : ℕ)
     → (feed_eq (Events w) f && is_numbered_launch j n b) ≡ is_key (key_at f (launch_in b)) (w, (j, n))
@@ -123,7 +101,7 @@ count_further : (G : List Entry) (e : Entry) (test : Entry → Bool)
 count_further G e test = count_with test G e ∙ add_comm (count_by test G) (cond (test e) 1 0)
 
 job_here : (b : Body) (j : ℕ) → some_is (job_in b) j ≡ is_launch_of j b
-job_here (Launched k m seen) j = turned k j
+job_here (Launched k m seen) j = eq_turned k j
 job_here (NewPlan run cut carried docs) j = refl
 job_here (Added a k doc) j = refl
 job_here (Clock t) j = refl
@@ -187,8 +165,3 @@ pub launched_at : (t : ToldLaunches) (G : List Entry) (v w k j n : ℕ) (b : Boo
     → b ≡ contains same_key t.launched (v, (k, n)) → AreTold G t
     → b ≡ list_any (is_numbered_launch j n) (list_of G (Events w))
 launched_at t G v w k j n b e f is h = is ∙ rw (e, f) (h.launched w j n)
-
--- what is told after a call that went well
-pub after_ok : {X E P Q : Type 0} (r : Result X E) → OnOk r P → (P → Q) → OnOk r Q
-after_ok (Ok x) h f = f h
-after_ok (Err e) h f = h

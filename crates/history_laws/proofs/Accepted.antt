@@ -1,28 +1,26 @@
 -- What is known of a network that is accepted.
-use Rattle.std.proofs.Common.{◌≡◌, ◌<◌, ◌≤◌, ℕ, suc, Bool, true, false, ◌||◌, List, [], ◌∷◌, ◌++◌}
-use Rattle.std.proofs.Common.{Option, Some, None, length, take, slice_get, refl, ap, sym, ◌∙◌, arith, length-append, option_and_then, option_map}
+use Rattle.std.proofs.Common.{◌≡◌, ◌<◌, ◌≤◌, ℕ, suc, Bool, true, false, List, [], ◌∷◌, ◌++◌}
+use Rattle.std.proofs.Common.{Option, Some, None, length, take, slice_get, refl, ap, sym, ◌∙◌, arith, length-append}
+use Rattle.std.proofs.Common.{option_and_then}
 use Rattle.std.specs.Prelude.{nat_le, nat_lt}
-use Rattle.std.specs.Bool.{then_some}
 use Rattle.std.specs.List.{AllByRecursion, list_any}
 use Rattle.std.specs.Option.{option_map_or}
 use Rattle.std.proofs.Math.Seq.{take-append_seam}
 use Rattle.std.proofs.lemmas.Bool.Decides.{nat_tests}
 use Rattle.std.proofs.lemmas.Option.{slice_get_within}
+use Rattle.lemmas.proofs.Booleans.{neither}
+use Rattle.lemmas.proofs.Options.{map_none, then_none}
 use Rattle.model.specs.Network.{IsTree, is_manager, node_count}
 use Rattle.model.specs.Types.{Net, Node, Resource}
 use Rattle.model.specs.Words.{below}
-use Rattle.network_tree.specs.Faults.{are_one_prompt, are_one_resource, first_there, have_one_name, is_bad_resource}
+use Rattle.network_tree.specs.Faults.{are_one_prompt, are_one_resource, have_one_name, is_bad_resource}
 use Rattle.network_tree.specs.Faults.{net_fault, net_faults, repeats_a_name}
 use Rattle.network_tree.specs.Repeats.{has_repeat, stands_before}
 use Rattle.network_tree.specs.declared.faults.NetFault.{NetFault}
 use Rattle.network_tree.proofs.Belows.{any_here, nothing_found}
-use Rattle.network_tree.proofs.Trees.{few, manager_within, tree}
+use Rattle.network_tree.proofs.Trees.{few, manager_within, tree, none_there}
 use Rattle.record_script.specs.Counted.{AreNew}
 use Rattle.record_script.proofs.Trees.{got_there}
-
-pub neither : (a b : Bool) → (a || b) ≡ false → (a ≡ false) × (b ≡ false)
-neither true b e = absurd (cc)
-neither false b e = (refl, e)
 
 -- Lists in which nothing stands twice.
 
@@ -49,19 +47,6 @@ never_before same xs none before behind x whole =
 
 -- The faults that it has not.
 
-none_there : {X : Type 0} (os : List (Option X)) → first_there os ≡ None → AllByRecursion (λ (o : Option X). o ≡ None) os
-none_there [] h = tt
-none_there (None ∷ os) h = (refl, none_there os h)
-none_there (Some x ∷ os) h = absurd (cc)
-
-not_then : {X : Type 0} (b : Bool) (x : X) → then_some b x ≡ None → b ≡ false
-not_then true x h = absurd (cc)
-not_then false x h = refl
-
-not_mapped : {X Y : Type 0} (f : X → Y) (o : Option X) → option_map f o ≡ None → o ≡ None
-not_mapped f None h = refl
-not_mapped f (Some x) h = absurd (cc)
-
 at_most : (n most : ℕ) → nat_lt most n ≡ false → n ≤ most
 at_most n most e = grind (arith, nat_tests)
 
@@ -79,7 +64,7 @@ unfolding net_fault
 accepted net none =
     let all : AllByRecursion (λ (o : Option NetFault). o ≡ None) (net_faults net) = none_there (net_faults net) none in
     let most = few net none in
-    let out = not_then _ _ all.1.1.1.1.1.0 in
+    let out = then_none _ _ all.1.1.1.1.1.0 in
     let fifth = neither _ (has_repeat are_one_prompt net.prompts) out in
     let fourth = neither _ (has_repeat are_one_resource net.resources) fifth.0 in
     let third = neither _ (list_any (is_bad_resource net) net.resources) fourth.0 in
@@ -92,7 +77,7 @@ accepted net none =
           record {
             few = omega (arith, most.1);
             once = never_before have_one_name net.nodes
-                (λ w low. nothing_found (repeats_a_name net) 0 (node_count net) w (not_mapped _ _ all.1.1.0) (omega arith) (omega (arith, low)));
+                (λ w low. nothing_found (repeats_a_name net) 0 (node_count net) w (map_none _ _ all.1.1.0) (omega arith) (omega (arith, low)));
           };
       resources =
           record {

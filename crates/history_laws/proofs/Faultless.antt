@@ -6,6 +6,8 @@ use Rattle.std.specs.List.{AllByRecursion, list_any}
 use Rattle.std.specs.Option.{option_map_or}
 use Rattle.std.proofs.lemmas.List.{length-map}
 use Rattle.std.proofs.lemmas.List.Folds.{list_any-append}
+use Rattle.lemmas.proofs.Lists.{all_middle}
+use Rattle.record_script.proofs.Distinct.{prompt_each, resource_each, ws_each}
 use Rattle.model.specs.Types.{Net, Node, PromptDef, Resource}
 use Rattle.plan_listing.specs.Networks.{hop_name}
 use Rattle.report_text.specs.Names.{name_of}
@@ -24,7 +26,7 @@ use Rattle.history_laws.proofs.Accepted.{Accepted, Headed, IsGood, IsHung, good_
 use Rattle.history_laws.proofs.Named.{ends, key_of, keys_other, known_name, label, manages, title}
 use Rattle.history_laws.proofs.Printed.{told}
 use Rattle.history_laws.proofs.Sections.{all_picked, below_others, below_resources, net_rows, none_picked, prompt_row, resource_row, some_below, station_row}
-use Rattle.history_laws.proofs.Walking.{clean, end_walk, head_passes, master_passes, not_beyond, not_last, prompt_each, resource_each, walked, ws_each}
+use Rattle.history_laws.proofs.Walking.{clean, end_walk, head_passes, master_passes, not_beyond, not_last, walked}
 
 -- Lists.
 
@@ -32,10 +34,6 @@ all_front : {A : Type 0} (P : A → Type 0) (before behind : List A) (x : A) →
     → AllByRecursion P before
 all_front P [] behind x all = tt
 all_front P (b ∷ before) behind x all = (all.0, all_front P before behind x all.1)
-
-all_middle : {A : Type 0} (P : A → Type 0) (before behind : List A) (x : A) → AllByRecursion P (before ++ x ∷ behind) → P x
-all_middle P [] behind x all = all.0
-all_middle P (b ∷ before) behind x all = all_middle P before behind x all.1
 
 any_mapped : {A B : Type 0} (p : B → Bool) (f : A → B) (xs : List A) → list_any p (map f xs) ≡ list_any (λ x. p (f x)) xs
 any_mapped p f [] = refl

@@ -6,10 +6,11 @@ use Rattle.std.specs.List.{list_all}
 use Rattle.std.proofs.lemmas.Bool.Decides.{nat_tests}
 use Rattle.std.proofs.lemmas.Str.Ascii.{uppercase-uppercase}
 use Rattle.std.proofs.lemmas.List.{length-map}
+use Rattle.lemmas.proofs.Booleans.{and_parts, three_true}
+use Rattle.syntax.proofs.Digits.{name_byte_upper}
 use Rattle.base_types.specs.Name.{is_name_byte, is_name_of, starts_with_letter}
 use Rattle.syntax.specs.Names.{name_of}
 use Rattle.history_laws.specs.Printables.{IsKeptName}
-use Rattle.history_laws.proofs.Lines.{both_true}
 
 abbrev upper : List ℕ → List ℕ
 upper w = map to_ascii_uppercase w
@@ -22,24 +23,18 @@ upper_letter : (w : List ℕ) → starts_with_letter w ≡ true → starts_with_
 upper_letter [] h = h
 upper_letter (b ∷ w) h = grind (arith, nat_tests)
 
-upper_byte : (b : ℕ) → is_name_byte b ≡ true → is_name_byte (to_ascii_uppercase b) ≡ true
-upper_byte b h = grind (arith, nat_tests)
-
 upper_bytes : (w : List ℕ) → list_all is_name_byte w ≡ true → list_all is_name_byte (upper w) ≡ true
 upper_bytes [] e = refl
 upper_bytes (b ∷ w) e =
-    let parts = both_true (is_name_byte b) (list_all is_name_byte w) e in
-    ap (λ t. t && list_all is_name_byte (upper w)) (upper_byte b parts.0) ∙ upper_bytes w parts.1
-
-three : (a b c : Bool) → a ≡ true → b ≡ true → c ≡ true → (a && b && c) ≡ true
-three a b c p q r = rw (p, q, r) refl
+    let parts = and_parts (is_name_byte b) (list_all is_name_byte w) e in
+    ap (λ t. t && list_all is_name_byte (upper w)) (name_byte_upper b parts.0) ∙ upper_bytes w parts.1
 
 upper_name : (w : List ℕ) → is_name_of w ≡ true → is_name_of (upper w) ≡ true
 upper_name w h =
-    let front = both_true (starts_with_letter w && leb (length w) 40) (list_all is_name_byte w) h in
-    let parts = both_true (starts_with_letter w) (leb (length w) 40) front.0 in
+    let front = and_parts (starts_with_letter w && leb (length w) 40) (list_all is_name_byte w) h in
+    let parts = and_parts (starts_with_letter w) (leb (length w) 40) front.0 in
     let same : length (upper w) ≡ length w = length-map w to_ascii_uppercase in
-    three (starts_with_letter (upper w)) (leb (length (upper w)) 40) (list_all is_name_byte (upper w)) (upper_letter w parts.0)
+    three_true (starts_with_letter (upper w)) (leb (length (upper w)) 40) (list_all is_name_byte (upper w)) (upper_letter w parts.0)
     (ap (λ k. leb k 40) same ∙ parts.1) (upper_bytes w front.1)
 
 pub name_kept : (w n : List ℕ) → name_of w ≡ Some n → IsKeptName n

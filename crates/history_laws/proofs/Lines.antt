@@ -1,9 +1,10 @@
 -- Texts cut at line feeds, and lines at spaces.
-use Rattle.std.proofs.Common.{◌≡◌, ◌+◌, ◌-◌, ℕ, suc, Bool, true, false, ◌&&◌, not, cond, eqb, List, [], ◌∷◌, ◌++◌}
+use Rattle.std.proofs.Common.{◌≡◌, ◌+◌, ◌-◌, ℕ, suc, Bool, true, false, not, cond, eqb, List, [], ◌∷◌, ◌++◌}
 use Rattle.std.proofs.Common.{length, take, get_or, refl, ap, sym, ◌∙◌, arith, append_assoc, append-nil, flat_map, map}
 use Rattle.std.specs.List.{AllByRecursion, after_first, before_first, list_all, onto_first, position_or_len, prefix_len, slice_split}
 use Rattle.std.proofs.Math.Seq.{drop-append-add, take-append_seam}
-use Rattle.std.proofs.lemmas.Bool.Decides.{nat_tests}
+use Rattle.lemmas.proofs.Booleans.{and_parts}
+use Rattle.lemmas.proofs.Numbers.{number_itself, suc_not_zero}
 use Rattle.syntax.specs.Splits.{lines_of, without_last_feed}
 
 -- The byte does not stand in these.
@@ -14,15 +15,11 @@ pub lacks_append : (c : ℕ) (a b : List ℕ) → Lacks c a → Lacks c b → La
 lacks_append c [] b h g = g
 lacks_append c (x ∷ a) b h g = (h.0, lacks_append c a b h.1 g)
 
-pub both_true : (a b : Bool) → (a && b) ≡ true → (a ≡ true) × (b ≡ true)
-both_true true b h = (refl, h)
-both_true false b h = absurd (cc)
-
 pub lacks_by : (c : ℕ) (p : ℕ → Bool) → ((b : ℕ) → p b ≡ true → eqb b c ≡ false) → (w : List ℕ) → list_all p w ≡ true
     → Lacks c w
 lacks_by c p each [] e = tt
 lacks_by c p each (b ∷ w) e =
-    let parts = both_true (p b) (list_all p w) e in (each b parts.0, lacks_by c p each w parts.1)
+    let parts = and_parts (p b) (list_all p w) e in (each b parts.0, lacks_by c p each w parts.1)
 
 -- Texts one behind the other.
 
@@ -37,13 +34,10 @@ left_six a b c d e f = append_assoc (((a ++ b) ++ c) ++ d) e f ∙ left_five a b
 
 -- Cut at a byte.
 
-same_byte : (c : ℕ) → eqb c c ≡ true
-same_byte c = grind (arith, nat_tests)
-
 pub split_here : (c : ℕ) (w rest : List ℕ) → Lacks c w
     → slice_split (λ b. eqb b c) (w ++ c ∷ rest) ≡ w ∷ slice_split (λ b. eqb b c) rest
 split_here c [] rest h =
-    ap (λ t. cond t ([] ∷ slice_split (λ b. eqb b c) rest) (onto_first c (slice_split (λ b. eqb b c) rest))) (same_byte c)
+    ap (λ t. cond t ([] ∷ slice_split (λ b. eqb b c) rest) (onto_first c (slice_split (λ b. eqb b c) rest))) (number_itself c)
 split_here c (x ∷ w) rest h =
     ap (λ t. cond t ([] ∷ slice_split (λ b. eqb b c) (w ++ c ∷ rest)) (onto_first x (slice_split (λ b. eqb b c) (w ++ c ∷ rest)))) h.0
     ∙ ap (onto_first x) (split_here c w rest h.1)
@@ -55,7 +49,7 @@ split_whole c (x ∷ w) h =
     ∙ ap (onto_first x) (split_whole c w h.1)
 
 place_here : (c : ℕ) (w rest : List ℕ) → Lacks c w → position_or_len (λ b. eqb b c) (w ++ c ∷ rest) ≡ length w
-place_here c [] rest h = ap (λ t. cond (not t) (1 + prefix_len (λ b. not (eqb b c)) rest) 0) (same_byte c)
+place_here c [] rest h = ap (λ t. cond (not t) (1 + prefix_len (λ b. not (eqb b c)) rest) 0) (number_itself c)
 place_here c (x ∷ w) rest h =
     ap (λ t. cond (not t) (1 + prefix_len (λ b. not (eqb b c)) (w ++ c ∷ rest)) 0) h.0
     ∙ ap (λ k. 1 + k) (place_here c w rest h.1) ∙ omega arith
@@ -68,12 +62,9 @@ after_here c w rest h = rw (place_here c w rest h) (drop-append-add w (c ∷ res
 
 -- Cut into lines.
 
-pub some_left : (n : ℕ) → eqb (suc n) 0 ≡ false
-some_left n = grind (arith, nat_tests)
-
 some_length : {A : Type 0} (xs rest : List A) (x : A) → eqb (length (xs ++ x ∷ rest)) 0 ≡ false
-some_length [] rest x = some_left (length rest)
-some_length (y ∷ xs) rest x = some_left (length (xs ++ x ∷ rest))
+some_length [] rest x = suc_not_zero (length rest)
+some_length (y ∷ xs) rest x = suc_not_zero (length (xs ++ x ∷ rest))
 
 by_test : (t : Bool) (x : ℕ) (a b : List ℕ) → cond t (x ∷ a) (x ∷ b) ≡ x ∷ cond t a b
 by_test true x a b = refl
@@ -107,7 +98,7 @@ line_first line (r ∷ rs) h =
     ∙ ap (slice_split (λ b. eqb b 10)) (feed_behind line 10 (r ∷ rs) ∙ ap (λ l. line ++ l) (one_behind 10 r rs))
     ∙ split_here 10 line (without_last_feed (r ∷ rs)) h
     ∙ ap (λ l. line ∷ l)
-    (sym (ap (λ t. cond t [] (slice_split (λ b. eqb b 10) (without_last_feed (r ∷ rs)))) (some_left (length rs))))
+    (sym (ap (λ t. cond t [] (slice_split (λ b. eqb b 10) (without_last_feed (r ∷ rs)))) (suc_not_zero (length rs))))
 
 -- texts that are a line each
 pub each_line : {A : Type 0} (P : A → Type 0) (f g : A → List ℕ) → ((x : A) → f x ≡ g x ++ 10 ∷ [])

@@ -5,6 +5,7 @@ use Rattle.std.specs.Prelude.{filter_map, nat_lt}
 use Rattle.std.specs.List.{AllByRecursion, list_all, position_or_len}
 use Rattle.std.specs.Option.{option_map_or}
 use Rattle.std.proofs.lemmas.Bool.Decides.{nat_tests}
+use Rattle.lemmas.proofs.Booleans.{and_false}
 use Rattle.base_types.specs.declared.network.Carry.{Carry}
 use Rattle.base_types.specs.declared.network.Carry.TheVariants as carry
 use Rattle.model.specs.Types.{Net, Node, PromptDef, Resource}
@@ -51,10 +52,6 @@ same_map P f g same (x ∷ xs) all = ap (λ y. y ∷ map f xs) (same x all.0) �
 map_itself : {A : Type 0} (xs : List A) → map (λ x. x) xs ≡ xs
 map_itself [] = refl
 map_itself (x ∷ xs) = ap (λ l. x ∷ l) (map_itself xs)
-
-and_false : (b : Bool) → (b && false) ≡ false
-and_false true = refl
-and_false false = refl
 
 -- its carry option
 first_past : {A B : Type 0} (other : B) (pick : Row → Option B) (g : A → Row) → ((x : A) → pick (g x) ≡ None) → (xs : List A)

@@ -8,6 +8,9 @@ use Rattle.std.specs.Option.{option_map_or}
 use Rattle.std.proofs.lemmas.Bool.Decides.{nat_tests}
 use Rattle.std.proofs.lemmas.List.{length-map}
 use Rattle.std.proofs.lemmas.Slice.Eq.{bytes_eq-Decides}
+use Rattle.lemmas.proofs.Booleans.{neither, or_true}
+use Rattle.lemmas.proofs.Texts.{text_itself}
+use Rattle.lemmas.proofs.Lists.{all_get, got_below}
 use Rattle.model.specs.Network.{hop, is_manager, node_count}
 use Rattle.model.specs.Types.{Net, Node, Resource}
 use Rattle.network_tree.specs.Faults.{are_one_resource, have_one_name}
@@ -21,24 +24,7 @@ use Rattle.record_script.specs.Numbers.{place_of}
 use Rattle.network_tree.proofs.Chains.{short}
 use Rattle.record_script.proofs.Trees.{bytes_sym}
 use Rattle.history_laws.specs.Printables.{IsKeptName, IsNamedNode}
-use Rattle.history_laws.proofs.Accepted.{Accepted, IsGood, neither}
-
-pub same_bytes : (w : List ℕ) → bytes_eq w w ≡ true
-same_bytes w = (bytes_eq-Decides w w).1 refl
-
-or_true : (b : Bool) → (b || true) ≡ true
-or_true true = refl
-or_true false = refl
-
-pub got : {A : Type 0} (xs : List A) (w : ℕ) → w < length xs → (a : A) × (slice_get xs w ≡ Some a)
-got [] w h = absurd (omega (arith, h))
-got (x ∷ xs) zero h = (x, refl)
-got (x ∷ xs) (suc w) h = got xs w (omega (arith, h))
-
-pub all_get : {A : Type 0} (P : A → Type 0) (xs : List A) (w : ℕ) (a : A) → AllByRecursion P xs → slice_get xs w ≡ Some a → P a
-all_get P [] w a all e = absurd (cc)
-all_get P (x ∷ xs) zero a all e = let same : x ≡ a = cc in subst P same all.0
-all_get P (x ∷ xs) (suc w) a all e = all_get P xs w a all.1 e
+use Rattle.history_laws.proofs.Accepted.{Accepted, IsGood}
 
 -- both sides of a place
 pub cut : {A : Type 0} (xs : List A) (w : ℕ) (a : A) → slice_get xs w ≡ Some a
@@ -54,16 +40,16 @@ title net n = record { name = n.name; hop = option_map (name_of net) n.hop; mana
 abbrev pub label : Node → List ℕ
 label n = n.name
 
-pub named : (net : Net) (w : ℕ) (n : Node) → slice_get net.nodes w ≡ Some n → name_of net w ≡ n.name
+pub name_there : (net : Net) (w : ℕ) (n : Node) → slice_get net.nodes w ≡ Some n → name_of net w ≡ n.name
 unfolding name_of
-named net w n e = ap (λ o. option_map_or (λ (x : Node). x.name) o []) e
+name_there net w n e = ap (λ o. option_map_or (λ (x : Node). x.name) o []) e
 
 -- One whose name does not stand before is found by its name.
 
 find_there : (net : Net) (n : Node) (before behind : List Node) → list_any (have_one_name n) before ≡ false
     → station_at (map (title net) (before ++ n ∷ behind)) n.name ≡ Some (title net n)
 find_there net n [] behind free =
-    ap (λ t. cond t (Some (title net n)) (station_at (map (title net) behind) n.name)) (same_bytes n.name)
+    ap (λ t. cond t (Some (title net n)) (station_at (map (title net) behind) n.name)) (text_itself n.name)
 find_there net n (b ∷ before) behind free =
     let parts = neither (bytes_eq n.name b.name) (list_any (have_one_name n) before) free in
     ap (λ t. cond t (Some (title net b)) (station_at (map (title net) (before ++ n ∷ behind)) n.name))
@@ -71,14 +57,14 @@ find_there net n (b ∷ before) behind free =
     ∙ find_there net n before behind parts.1
 
 any_there : (net : Net) (n : Node) (before behind : List Node) → is_station (map (title net) (before ++ n ∷ behind)) n.name ≡ true
-any_there net n [] behind = ap (λ t. t || is_station (map (title net) behind) n.name) (same_bytes n.name)
+any_there net n [] behind = ap (λ t. t || is_station (map (title net) behind) n.name) (text_itself n.name)
 any_there net n (b ∷ before) behind =
     ap (λ t. bytes_eq b.name n.name || t) (any_there net n before behind) ∙ or_true (bytes_eq b.name n.name)
 
 place_there : (n : Node) (before behind : List Node) → list_any (have_one_name n) before ≡ false
     → position_or_len (bytes_eq n.name) (map label (before ++ n ∷ behind)) ≡ length before
 place_there n [] behind free =
-    ap (λ t. cond (not t) (1 + prefix_len (λ x. not (bytes_eq n.name x)) (map label behind)) 0) (same_bytes n.name)
+    ap (λ t. cond (not t) (1 + prefix_len (λ x. not (bytes_eq n.name x)) (map label behind)) 0) (text_itself n.name)
 place_there n (b ∷ before) behind free =
     let parts = neither (bytes_eq n.name b.name) (list_any (have_one_name n) before) free in
     ap (λ t. cond (not t) (1 + prefix_len (λ x. not (bytes_eq n.name x)) (map label (before ++ n ∷ behind))) 0) parts.0
@@ -106,22 +92,22 @@ module _ (net : Net) (a : Accepted net) where
       → station_at (map (title net) net.nodes) (name_of net w) ≡ Some (title net n)
   found w n e =
       let c = cut net.nodes w n e in
-      ap (station_at (map (title net) net.nodes)) (named net w n e)
+      ap (station_at (map (title net) net.nodes)) (name_there net w n e)
       ∙ ap (λ l. station_at (map (title net) l) n.name) c.2
       ∙ find_there net n c.0 c.1 (a.names.once c.0 c.1 n c.2)
 
   pub known_name : (w : ℕ) → w < node_count net → is_station (map (title net) net.nodes) (name_of net w) ≡ true
   known_name w low =
-      let g = got net.nodes w low in
+      let g = got_below net.nodes w low in
       let c = cut net.nodes w g.0 g.1 in
-      ap (is_station (map (title net) net.nodes)) (named net w g.0 g.1)
+      ap (is_station (map (title net) net.nodes)) (name_there net w g.0 g.1)
       ∙ ap (λ l. is_station (map (title net) l) g.0.name) c.2 ∙ any_there net g.0 c.0 c.1
 
   pub number : (w : ℕ) → w < node_count net → place_of (map label net.nodes) (name_of net w) ≡ w
   number w low =
-      let g = got net.nodes w low in
+      let g = got_below net.nodes w low in
       let c = cut net.nodes w g.0 g.1 in
-      ap (place_of (map label net.nodes)) (named net w g.0 g.1)
+      ap (place_of (map label net.nodes)) (name_there net w g.0 g.1)
       ∙ ap (λ l. place_of (map label l) g.0.name) c.2
       ∙ number_there g.0 c.0 c.1 (a.names.once c.0 c.1 g.0 c.2) ∙ c.3
 
@@ -131,7 +117,7 @@ module _ (net : Net) (a : Accepted net) where
 
   pub manages : (w : ℕ) → is_manager net w ≡ true → known.is_manager (map (title net) net.nodes) (name_of net w) ≡ true
   manages w e =
-      let g = got net.nodes w (manager_within net w e) in
+      let g = got_below net.nodes w (manager_within net w e) in
       ap (λ o. option_map_or (λ (s : Station). s.manager) o false) (found w g.0 g.1)
       ∙ sym (ap (λ o. option_map_or (λ (n : Node). n.manager) o false) g.1) ∙ e
 
@@ -152,7 +138,7 @@ module _ (net : Net) (a : Accepted net) where
   reach j zero w e less low = absurd (omega (arith, less))
   reach zero (suc k) w e less low =
       let top : w ≡ 0 = cc in
-      let g = got net.nodes w low in
+      let g = got_below net.nodes w low in
       reaches_by k w g.0 None g.1 (ap (hop net) top ∙ a.tree.top)
   reach (suc j) (suc k) w e less low = go (hop net w) refl (λ h. reach j k h)
     where
@@ -164,7 +150,7 @@ module _ (net : Net) (a : Accepted net) where
           let stuck : up net (suc j) w ≡ None = ap (option_and_then (up net j)) is in absurd (cc)
       go (Some h) is each =
           let on : up net j h ≡ Some 0 = sym (ap (option_and_then (up net j)) is) ∙ e in
-          let g = got net.nodes w low in
+          let g = got_below net.nodes w low in
           reaches_by k w g.0 (Some h) g.1 is ∙ each h on (omega (arith, less)) (hop_inside net a.tree w h is)
 
   pub ends : (w : ℕ) → w < node_count net → ends_at_master (map (title net) net.nodes) (name_of net w) ≡ true
@@ -200,5 +186,5 @@ module _ (net : Net) (a : Accepted net) where
 -- A name of the network is one of the language.
 pub kept_at : (net : Net) → AllByRecursion IsNamedNode net.nodes → (w : ℕ) → w < node_count net → IsKeptName (name_of net w)
 kept_at net all w low =
-    let g = got net.nodes w low in
-    subst IsKeptName (sym (named net w g.0 g.1)) (all_get IsNamedNode net.nodes w g.0 all g.1)
+    let g = got_below net.nodes w low in
+    subst IsKeptName (sym (name_there net w g.0 g.1)) (all_get IsNamedNode net.nodes w g.0 all g.1)

@@ -4,6 +4,9 @@ use Rattle.std.proofs.Common.{Option, refl, ap, sym, ◌∙◌, arith, bytes_eq,
 use Rattle.std.specs.List.{list_any, position_or_len, prefix_len}
 use Rattle.std.specs.Option.{option_map_or}
 use Rattle.std.proofs.lemmas.List.{length-map}
+use Rattle.lemmas.proofs.Booleans.{neither}
+use Rattle.lemmas.proofs.Lists.{got_below}
+use Rattle.lemmas.proofs.Texts.{text_itself}
 use Rattle.model.specs.Network.{node_count}
 use Rattle.model.specs.Types.{Net, Node}
 use Rattle.network_tree.specs.Faults.{have_one_name, net_fault}
@@ -11,9 +14,9 @@ use Rattle.report_text.specs.Names.{name_of}
 use Rattle.record_script.proofs.Trees.{bytes_sym}
 use Rattle.history_script.specs.Histories.{ws_of}
 use Rattle.history_laws.specs.Printables.{as_printed, node_as_printed}
-use Rattle.history_laws.proofs.Accepted.{accepted, neither}
+use Rattle.history_laws.proofs.Accepted.{accepted}
 use Rattle.history_laws.proofs.Histories.{found_by}
-use Rattle.history_laws.proofs.Named.{cut, got, named, same_bytes}
+use Rattle.history_laws.proofs.Named.{cut, name_there}
 
 pub count_printed : (net : Net) → node_count (as_printed net) ≡ node_count net
 count_printed net = length-map net.nodes node_as_printed
@@ -37,7 +40,7 @@ place_there : (n : Node) (before behind : List Node) → list_any (have_one_name
     → position_or_len (λ (x : Node). bytes_eq x.name n.name) (map node_as_printed (before ++ n ∷ behind)) ≡ length before
 place_there n [] behind free =
     ap (λ t. cond (not t) (1 + prefix_len (λ (x : Node). not (bytes_eq x.name n.name)) (map node_as_printed behind)) 0)
-    (same_bytes n.name)
+    (text_itself n.name)
 place_there n (b ∷ before) behind free =
     let parts = neither (bytes_eq n.name b.name) (list_any (have_one_name n) before) free in
     ap (λ t. cond (not t)
@@ -56,9 +59,9 @@ pub ws_of_name : (net : Net) → net_fault net ≡ None → (w : ℕ) → w < no
     → ws_of (as_printed net) (name_of net w) ≡ Some w
 ws_of_name net none w low =
     let a = accepted net none in
-    let g = got net.nodes w low in
+    let g = got_below net.nodes w low in
     let c = cut net.nodes w g.0 g.1 in
-    ap (ws_of (as_printed net)) (named net w g.0 g.1)
+    ap (ws_of (as_printed net)) (name_there net w g.0 g.1)
     ∙ found_by (position_or_len (λ (x : Node). bytes_eq x.name g.0.name) (map node_as_printed net.nodes)) w
     (length (map node_as_printed net.nodes))
     (ws_there g.0 c.0 c.1 (a.names.once c.0 c.1 g.0 c.2) (map node_as_printed net.nodes) (ap (map node_as_printed) c.2) ∙ c.3)

@@ -5,6 +5,7 @@ use Rattle.std.proofs.Common.{is_none, if◌then◌else◌}
 use Rattle.std.specs.Fmt.{decimal}
 use Rattle.std.specs.List.{slice_split}
 use Rattle.std.specs.Option.{option_map_or}
+use Rattle.lemmas.proofs.Numbers.{suc_not_zero}
 use Rattle.model.specs.Types.{Carry, Net, Node, PromptDef, Resource}
 use Rattle.base_types.specs.declared.Carry.TheVariants as carry
 use Rattle.plan_listing.specs.Networks.{hop_gap, hop_name, mark, node_line, prompt_line, resource_line}
@@ -16,7 +17,7 @@ use Rattle.record_rows.specs.declared.rows.Row.TheVariants as row
 use Rattle.record_rows.specs.declared.rows.Ranged.TheVariants.{Within}
 use Rattle.record_rows.specs.Rows.{flags_of, form_below, form_of, header_of, network_row, prompt_of, resource_of, row_of, station_of}
 use Rattle.history_laws.specs.Printables.{IsKeptName, IsLineText}
-use Rattle.history_laws.proofs.Lines.{Lacks, after_here, before_here, lacks_append, left_five, left_four, left_six, some_left}
+use Rattle.history_laws.proofs.Lines.{Lacks, after_here, before_here, lacks_append, left_five, left_four, left_six}
 use Rattle.history_laws.proofs.Lines.{split_here, split_whole}
 use Rattle.history_laws.proofs.Words.{name_lacks_feed, name_lacks_space, number_lacks_feed, number_lacks_space}
 use Rattle.history_laws.proofs.Words.{plain_first, plain_lacks_feed, text_back, text_lacks_feed, total_back}
@@ -117,7 +118,7 @@ line_row c w rest r plain other free is =
     let here : network_row (first_word text) (after_word text) ≡ Some r =
     ap (λ x. network_row x (after_word text)) (before_here 32 (c ∷ w) rest free)
     ∙ ap (network_row (c ∷ w)) (after_here 32 (c ∷ w) rest free) ∙ is in
-    rw (some_left (length (w ++ 32 ∷ rest)), plain, header_none c (w ++ 32 ∷ rest) other, here) refl
+    rw (suc_not_zero (length (w ++ 32 ∷ rest)), plain, header_none c (w ++ 32 ∷ rest) other, here) refl
 
 ws_row : (rest : List ℕ) → network_row (codes "ws") rest ≡ station_of (words_of rest)
 unfolding network_row

@@ -3,6 +3,7 @@ use Rattle.std.proofs.Common.{◌≡◌, ℕ, Bool, true, false, ◌&&◌, not, 
 use Rattle.std.proofs.Common.{Option, Some, None, length, refl, ap, ◌∙◌, map}
 use Rattle.std.specs.Prelude.{filter_map}
 use Rattle.std.specs.List.{cons_option, list_all}
+use Rattle.lemmas.proofs.Numbers.{suc_not_zero}
 use Rattle.model.specs.Types.{Carry, Net, Node, PromptDef, Resource}
 use Rattle.plan_listing.specs.Networks.{hop_name}
 use Rattle.report_text.specs.Names.{name_of}
@@ -11,7 +12,6 @@ use Rattle.record_rows.specs.declared.rows.Row.TheVariants as row
 use Rattle.record_rows.specs.declared.rows.Ranged.TheVariants.{Within}
 use Rattle.record_faults.specs.declared.places.Place.TheVariants as place
 use Rattle.record_faults.specs.Places.{below_row, fate_of, may_stand, placed_from, row_at}
-use Rattle.history_laws.proofs.Lines.{some_left}
 use Rattle.history_laws.proofs.Printed.{told}
 
 abbrev pub station_row : Net → Node → Row
@@ -65,7 +65,7 @@ all_pass p g each (x ∷ xs) rest e =
 -- something stands below
 pub some_below : {A : Type 0} (xs rest : List A) → eqb (length rest) 0 ≡ false → eqb (length (xs ++ rest)) 0 ≡ false
 some_below [] rest e = e
-some_below (x ∷ xs) rest e = some_left (length (xs ++ rest))
+some_below (x ∷ xs) rest e = suc_not_zero (length (xs ++ rest))
 
 -- The rows of a network stand where they are.
 

@@ -1,18 +1,19 @@
 -- Rows without a fault, one after the other.
-use Rattle.std.proofs.Common.{◌≡◌, ◌<◌, ℕ, Bool, true, false, ◌&&◌, ◌||◌, not, cond, eqb, List, [], ◌∷◌, ◌++◌}
+use Rattle.std.proofs.Common.{◌≡◌, ◌<◌, ℕ, false, ◌&&◌, not, eqb, List, [], ◌∷◌, ◌++◌}
 use Rattle.std.proofs.Common.{None, length, refl, ap, sym, subst, ◌∙◌, arith, map, append_assoc, append-nil}
 use Rattle.std.specs.Prelude.{nat_le}
-use Rattle.std.specs.List.{cons_option, list_any}
+use Rattle.std.specs.List.{list_any}
 use Rattle.std.proofs.lemmas.Bool.Decides.{nat_tests}
+use Rattle.lemmas.proofs.Booleans.{or_true}
+use Rattle.lemmas.proofs.Lists.{any_with}
 use Rattle.base_types.specs.declared.network.Carry.{Carry}
 use Rattle.base_types.specs.declared.network.Carry.TheVariants as carry
 use Rattle.record_rows.specs.declared.rows.Row.{Row}
 use Rattle.record_rows.specs.declared.rows.Row.TheVariants as row
 use Rattle.record_rows.specs.Ranges.{in_range}
-use Rattle.record_faults.specs.Known.{Named, above_of, is_carry, is_prompt, is_resource, is_steps, is_ws, prompt_of, resource_of, station_name}
+use Rattle.record_faults.specs.Known.{Named, above_of, is_carry, is_steps}
 use Rattle.record_faults.specs.Faults.{Placed, ends_too_soon, fault_from, fault_of, is_bad_line, is_bad_tree, is_beyond, is_duplicate}
 use Rattle.record_faults.specs.Faults.{lacks_condition, lacks_item, lacks_station}
-use Rattle.record_faults.proofs.Sets.{any_more}
 use Rattle.record_faults.proofs.Walks.{row_without}
 use Rattle.record_script.proofs.Walked.{Passes}
 use Rattle.history_laws.proofs.Printed.{told}
@@ -43,19 +44,6 @@ pub not_last : (above below : List Row) (r : Row) → eqb (length below) 0 ≡ f
 not_last above below r e = ap (λ b. b && not (list_any is_steps (above ++ r ∷ []))) e
 
 -- Counts of rows, by what is picked of them.
-
-pub ws_each : (r : Row) → cond (is_ws r) 1 0 ≡ length (cons_option (station_name r) [])
-ws_each (row.Master n) = refl
-ws_each (row.Station s) = refl
-ws_each r = refl
-
-pub resource_each : (r : Row) → cond (is_resource r) 1 0 ≡ length (cons_option (resource_of r) [])
-resource_each (row.Resource w n t) = refl
-resource_each r = refl
-
-pub prompt_each : (r : Row) → cond (is_prompt r) 1 0 ≡ length (cons_option (prompt_of r) [])
-prompt_each (row.Prompt n t) = refl
-prompt_each r = refl
 
 pub not_beyond : (most n k : ℕ) → n ≡ k → k < most → nat_le most n ≡ false
 not_beyond most n k e low = grind (arith, nat_tests)
@@ -113,15 +101,11 @@ carry_passes n above below c none some =
       plan = refl;
     }
 
-or_true : (b : Bool) → (b || true) ≡ true
-or_true true = refl
-or_true false = refl
-
 steps_pass : (n : Named) (above : List Row) → Passes n (record { above = above; here = row.Steps; below = [] })
 unfolding is_bad_line is_duplicate lacks_station lacks_item in_range lacks_condition is_beyond is_bad_tree
 steps_pass n above =
     record {
-      whole = ap not (any_more is_steps above row.Steps ∙ or_true (list_any is_steps above));
+      whole = ap not (any_with is_steps above row.Steps ∙ or_true (list_any is_steps above));
       form = refl;
       once = refl;
       station = refl;

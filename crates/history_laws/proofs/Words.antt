@@ -1,13 +1,14 @@
 -- Names, numbers and texts that are read back, and the bytes that they lack.
 use Rattle.std.proofs.Common.{◌≡◌, ◌≤◌, ◌<◌, ◌^◌, ℕ, Bool, true, false, ◌&&◌, eqb, leb, List, [], ◌∷◌, ◌++◌, length}
-use Rattle.std.proofs.Common.{Some, None, refl, ap, ◌∙◌, arith, rules, flat_map, map, codes, option_map, if◌then◌else◌}
+use Rattle.std.proofs.Common.{Some, None, refl, ap, ◌∙◌, arith, flat_map, map, codes, option_map, if◌then◌else◌}
 use Rattle.std.specs.Char.{is_ascii_digit, to_ascii_uppercase}
 use Rattle.std.specs.Fmt.{decimal}
 use Rattle.std.specs.List.{list_all}
 use Rattle.std.specs.Str.Parse.{digits_value}
 use Rattle.std.proofs.lemmas.Bool.Decides.{nat_tests}
 use Rattle.std.proofs.lemmas.Fmt.{digits_decimal, digits_value-decimal}
-use Rattle.std.proofs.lemmas.Str.Parse.{IsNumeralModel, numerals_by_value}
+use Rattle.lemmas.proofs.Texts.{decimal_digits}
+use Rattle.lemmas.proofs.Booleans.{and_parts}
 use Rattle.base_types.specs.Name.{is_name_byte, is_name_of, starts_with_letter}
 use Rattle.composer_print.proofs.Spelling.{number_back, unquoted_back}
 use Rattle.report_text.specs.Quotes.{escaped, quoted_text}
@@ -16,7 +17,7 @@ use Rattle.syntax.specs.Quotes.{is_escaped}
 use Rattle.record_rows.specs.declared.rows.Ranged.TheVariants.{Within, OutOfRange}
 use Rattle.record_rows.specs.Words.{limited, text_of, up_to}
 use Rattle.history_laws.specs.Printables.{IsKeptName, IsLineText, is_no_feed}
-use Rattle.history_laws.proofs.Lines.{Lacks, both_true, lacks_append, lacks_by}
+use Rattle.history_laws.proofs.Lines.{Lacks, lacks_append, lacks_by}
 
 -- Names.
 
@@ -30,7 +31,7 @@ kept_form n h = go (is_name_of n) refl h
 
 name_bytes : (n : List ℕ) → IsKeptName n → list_all is_name_byte n ≡ true
 name_bytes n h =
-    (both_true (starts_with_letter n && leb (length n) 40) (list_all is_name_byte n) (kept_form n h)).1
+    (and_parts (starts_with_letter n && leb (length n) 40) (list_all is_name_byte n) (kept_form n h)).1
 
 no_space : (b : ℕ) → is_name_byte b ≡ true → eqb b 32 ≡ false
 no_space b h = grind (arith, nat_tests)
@@ -46,9 +47,6 @@ name_lacks_feed n h = lacks_by 10 is_name_byte no_feed n (name_bytes n h)
 
 -- Numbers.
 
-own : IsNumeralModel (λ ds. list_all is_ascii_digit ds ≡ true) (digits_value 10)
-own = numerals_by_value _ (search rules)
-
 digit_no_feed : (b : ℕ) → is_ascii_digit b ≡ true → eqb b 10 ≡ false
 digit_no_feed b h = grind (arith, nat_tests)
 
@@ -56,10 +54,10 @@ digit_no_space : (b : ℕ) → is_ascii_digit b ≡ true → eqb b 32 ≡ false
 digit_no_space b h = grind (arith, nat_tests)
 
 pub number_lacks_feed : (n : ℕ) → n < 2 ^ 64 → Lacks 10 (decimal n)
-number_lacks_feed n h = lacks_by 10 is_ascii_digit digit_no_feed (decimal n) (digits_decimal own n h)
+number_lacks_feed n h = lacks_by 10 is_ascii_digit digit_no_feed (decimal n) (digits_decimal decimal_digits n h)
 
 pub number_lacks_space : (n : ℕ) → n < 2 ^ 64 → Lacks 32 (decimal n)
-number_lacks_space n h = lacks_by 32 is_ascii_digit digit_no_space (decimal n) (digits_decimal own n h)
+number_lacks_space n h = lacks_by 32 is_ascii_digit digit_no_space (decimal n) (digits_decimal decimal_digits n h)
 
 by_value : (v n most : ℕ) → v ≡ n → n ≤ most → Some (if leb v most then Within v else OutOfRange) ≡ Some (Within n)
 by_value v n most e h =
@@ -71,7 +69,7 @@ unfolding up_to
 total_back n most low h =
     ap (λ b. if b then Some (if leb (digits_value 10 (decimal n)) most then Within (digits_value 10 (decimal n)) else OutOfRange)
     else None) (number_back n h)
-    ∙ by_value (digits_value 10 (decimal n)) n most (digits_value-decimal own n h) low
+    ∙ by_value (digits_value 10 (decimal n)) n most (digits_value-decimal decimal_digits n h) low
 
 -- Texts in quotes.
 
@@ -103,7 +101,7 @@ escaped_lacks_feed b h = go (is_escaped b)
 inside_lacks_feed : (t : List ℕ) → list_all is_no_feed t ≡ true → Lacks 10 (flat_map escaped t)
 inside_lacks_feed [] h = tt
 inside_lacks_feed (b ∷ t) h =
-    let parts = both_true (is_no_feed b) (list_all is_no_feed t) h in
+    let parts = and_parts (is_no_feed b) (list_all is_no_feed t) h in
     lacks_append 10 (escaped b) (flat_map escaped t) (escaped_lacks_feed b parts.0) (inside_lacks_feed t parts.1)
 
 pub text_lacks_feed : (t : List ℕ) → IsLineText t → Lacks 10 (quoted_text t)

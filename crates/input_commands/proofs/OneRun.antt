@@ -1,19 +1,18 @@
 -- Each day of a record has one answer, and so the run of a record has one end.
 use Rattle.std.proofs.Common.{◌≡◌, ◌∙◌, ◌<◌, ℕ, Bool, true, false, List, [], ◌∷◌, Option, Some, None, Result, Ok, Err}
-use Rattle.std.proofs.Common.{inl, inr, refl, sym, ap, subst, length, slice_get}
+use Rattle.std.proofs.Common.{refl, sym, ap, length, slice_get}
 use Rattle.std.specs.Option.{option_or}
 use Rattle.std.specs.Prelude.{All, nat_le, nat_lt, option_map}
 use Rattle.std.proofs.lemmas.List.Elements.{All-head, All-tail}
-use Rattle.base_types.specs.declared.Recovery.TheVariants.{Stop}
-use Rattle.base_types.specs.declared.Work.TheVariants.{Command}
+use Rattle.record_laws.proofs.Drafts.{run_there}
+use Rattle.lemmas.proofs.Lists.{got_below}
 use Rattle.calendars.specs.Dates.{last_day}
 use Rattle.composer_parser.specs.declared.Defs.{Defs}
 use Rattle.composer_parser.specs.declared.EntryDef.{EntryDef}
 use Rattle.composer_parser.specs.declared.Lined.{Lined}
 use Rattle.composer_parser.specs.declared.ScheduleDef.{ScheduleDef}
-use Rattle.composer_parser.specs.declared.WorkDef.{WorkDef}
 use Rattle.definition_names.specs.Stations.{ws_of_entry, ws_of_stream}
-use Rattle.model.specs.Types.{CondOp, JobDraft, StreamDraft}
+use Rattle.model.specs.Types.{JobDraft, StreamDraft}
 use Rattle.model.specs.Words.{first_of_these, least}
 use Rattle.night_records.specs.Days.{ArePlans, Gives, GivesDay}
 use Rattle.night_records.specs.declared.Record.{Record}
@@ -23,52 +22,21 @@ use Rattle.plan_builder.specs.Dependencies as dependencies
 use Rattle.plan_builder.specs.Drafts.{AreDraftsOf, AreJobDrafts, IsDraftAt, IsJobDraft, IsStreamDraft, number_or_master}
 use Rattle.plan_builder.specs.Limits.{job_count, plan_fault, running, timeless_lines}
 use Rattle.plan_builder.specs.Times.{plan_day}
-use Rattle.plan_builder.specs.Works.{IsCondOf, IsRunOf, logon_of, work_of}
+use Rattle.plan_builder.specs.Works.{work_of}
 use Rattle.plan_builder.specs.declared.PlanFault.{PlanFault}
 use Rattle.plan_builder.specs.declared.PlanFault.TheVariants.{Limit, OutOfRange, NoMemory}
 use Rattle.plan_builder.specs.declared.times.PlanDay.{PlanDay}
-use Rattle.plan_builder.specs.declared.works.Run.{Run}
-use Rattle.rc_conditions.proofs.Readings.{Cause as Caused, cause_is_read, read_has_cause}
-use Rattle.rc_conditions.specs.Machine.{read_of}
-use Rattle.rc_conditions.specs.declared.CondFault.{CondFault}
 use Rattle.record_runs.specs.Causes.{Cause, full_day, no_moment}
 use Rattle.record_runs.specs.Ends.{run_of_script}
 use Rattle.record_runs.specs.Lines.{Day}
 use Rattle.record_runs.specs.Runs.{End}
 use Rattle.input_commands.specs.Nights.{IsRun}
-use Rattle.workload_defs.proofs.Lists.{there}
-
--- the condition of a text, and what a job runs
-some_cond : (o : Option (List ℕ)) → (ops : List CondOp) × IsCondOf o ops
-some_cond None = ([], refl)
-some_cond (Some t) = go (read_of t) refl
-  where
-    go : (r : Result (List CondOp) CondFault) → read_of t ≡ r → (ops : List CondOp) × IsCondOf (Some t) ops
-    go (Ok ops) e =
-        (ops, inl (subst (λ (q : Result (List CondOp) CondFault). Caused t q) e (read_has_cause t)))
-    go (Err f) e = (
-      [],
-      inr (
-        λ more is.
-            let clash : ◌≡◌ {A = Result (List CondOp) CondFault} (Ok more) (Err f) =
-            sym (cause_is_read t (Ok more) is) ∙ e in cc,
-        refl,
-      ),
-    )
-
-some_run : (o : Option WorkDef) → (run : Run) × IsRunOf o run
-some_run None = (record { work = Command []; logon = []; cond = []; recovery = Stop }, refl)
-some_run (Some w) =
-    let c = some_cond w.cond in (
-      record { work = w.work; logon = logon_of w; cond = c.0; recovery = w.recovery },
-      record { work_ = refl; logon_ = refl; cond_ = c.1; recovery_ = refl },
-    )
 
 -- the drafts of a day
 module _ (d : Defs) (plan : PlanDay) where
   some_job : (n : ℕ) (s : ScheduleDef) (e : EntryDef) → (draft : JobDraft) × IsJobDraft d plan n s e draft
   some_job n s e =
-      let run = some_run (work_of d s e) in (
+      let run = run_there (work_of d s e) in (
         record {
           ws = number_or_master d (ws_of_entry d s e);
           name = e.name;
@@ -122,7 +90,7 @@ module _ (d : Defs) (plan : PlanDay) where
       → (drafts : List StreamDraft) × AreDraftsOf d plan ns drafts
   some_drafts [] low = ([], tt)
   some_drafts (n ∷ ns) low =
-      let at_ = there d.schedules n (All-head (λ (m : ℕ). m < length d.schedules) n ns low) in
+      let at_ = got_below d.schedules n (All-head (λ (m : ℕ). m < length d.schedules) n ns low) in
       let x = some_draft n (slice_get d.schedules n) at_.0 at_.1 in
       let xs = some_drafts ns (All-tail (λ (m : ℕ). m < length d.schedules) n ns low) in
       (x.0 ∷ xs.0, (x.1, xs.1))

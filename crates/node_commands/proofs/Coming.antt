@@ -1,6 +1,7 @@
 -- What a service came to, by its parts.
 use Rattle.std.proofs.Common.{[], ◌<◌, ◌≡◌, ◌≤◌, ◌∙◌, ◌∷◌, ℕ, Bool, List, None, Option, Some, ap, arith, bytes_eq, codes, false, get_or, inl, inr, length, nat_le, option_map, refl, subst, sym, true}
 use Rattle.std.proofs.lemmas.Bool.Decides.{nat_tests}
+use Rattle.lemmas.proofs.Options.{none_some, some_is}
 use Rattle.outside.specs.Causes.{Rose}
 use Rattle.outside.specs.Streams.{Stream}
 use Rattle.syntax.specs.Numbers.{number_of}
@@ -11,12 +12,6 @@ use Rattle.node_commands.specs.declared.forms.Service.{Service}
 use Rattle.node_commands.specs.declared.forms.Service.TheVariants.{Ask, Node}
 use Rattle.node_commands.specs.declared.reading.Unread.{Unread}
 use Rattle.node_commands.specs.declared.reading.Unread.TheVariants as unread
-
-some_is : {X : Type 0} {a b : X} → Some a ≡ Some b → a ≡ b
-some_is e = cc
-
-none_some : {X : Type 0} {b : X} → None ≡ Some b → ⊥
-none_some e = cc
 
 -- three words that ask for a service request it of the name
 pub request_is : (word name last : List ℕ) (service : Service) (request : Request)

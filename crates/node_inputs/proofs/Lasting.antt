@@ -103,7 +103,7 @@ pub at_most : (most size : ℕ) → (most < size → ⊥) → size ≤ most
 at_most most size h = elim (cases_lt most size) [ inl over ↦ absurd (h over) | inr fits ↦ fits ]
 
 -- a fault that rose in a part of a stretch rose in the whole
-rose_since : (before middle now : ℕ) → before ≤ middle → Rose middle now → Rose before now
+pub rose_since : (before middle now : ℕ) → before ≤ middle → Rose middle now → Rose before now
 rose_since before middle now le h =
     le_trans
     (le-min (le_trans (min-le_left (before + 1) (2 ^ 64 - 1)) (omega (arith, le))) (min-le_right (before + 1) (2 ^ 64 - 1))) h

@@ -1,5 +1,6 @@
 -- The first item of a list that passes a test, and what is found once the list has changed.
-use Rattle.std.proofs.Common.{[], ap, length, refl, ◌++◌, ℕ, ◌∙◌, ◌≡◌, ◌||◌, ◌∷◌, Bool, List, None, Option, Some, cond, false, suc, sym, take, true, zero}
+use Rattle.std.proofs.Common.{[], ap, refl, ℕ, ◌∙◌, ◌≡◌, ◌||◌, ◌∷◌, Bool, List, None, Option, Some, cond, false, suc}
+use Rattle.std.proofs.Common.{sym, take, true, zero}
 use Rattle.std.specs.List.{find, list_any}
 use Rattle.std.specs.Prelude.{slice_get, slice_set}
 
@@ -49,8 +50,3 @@ none_passes p (x ∷ xs) is = step (p x) x (find p xs) (list_any p xs) is (none_
         → (o ≡ None → rest ≡ false) → (b || rest) ≡ false
     step true x o rest is behind = cc
     step false x o rest is behind = behind is
-
--- an item at the end
-pub get_behind : {X : Type 0} (xs : List X) (y : X) → slice_get (xs ++ y ∷ []) (length xs) ≡ Some y
-get_behind [] y = refl
-get_behind (x ∷ xs) y = get_behind xs y

@@ -9,6 +9,8 @@ use Rattle.std.proofs.lemmas.Option.{get_or_from_slice_get}
 use Rattle.std.specs.List.{list_any}
 use Rattle.std.specs.Option.{option_or}
 use Rattle.std.specs.Prelude.{slice_set}
+use Rattle.lemmas.proofs.Numbers.{eq_apart}
+use Rattle.lemmas.proofs.Lists.{get_last}
 use Rattle.model.specs.Words.{with_at}
 use Rattle.mail_frames.specs.declared.decoders.Fed.{Fed}
 use Rattle.mail_frames.specs.declared.frames.Frame.{Frame}
@@ -17,10 +19,7 @@ use Rattle.mail_frames.specs.Streams.{AreFramesOf, IsBadAt}
 use Rattle.node_loop.specs.declared.streams.Stream.{Stream}
 use Rattle.node_loop.specs.Heard.{AreHeard, Completes, Heard, IsHeardBy, heard_more, nothing_heard, stream_of}
 use Rattle.node_loop.specs.Placed.{IsFirst}
-use Rattle.node_loop.proofs.Finding.{found_first, found_past, found_put, get_behind, none_passes}
-
-differs : (a b : ℕ) → a ≢ b → (a == b) ≡ false
-differs a b apart = elim (eqb_tells a b) [ inl e ↦ absurd (apart e.1) | inr e ↦ e.0 ]
+use Rattle.node_loop.proofs.Finding.{found_first, found_past, found_put, none_passes}
 
 -- its stream has taken this, and those of the others what was heard of them
 heard_with : (streams : List Stream) (x : ℕ) (more : Heard) (heard : ℕ → Heard) → IsHeardBy (stream_of streams x) more
@@ -44,7 +43,7 @@ heard_at streams x i s more heard first its took are =
     (λ v apart.
     subst (λ (o : Option Stream). IsHeardBy o (heard v))
     (sym (found_past (λ (t : Stream). t.ws == v) streams i first.stream s first.there
-    (differs first.stream.ws v (λ e. apart (sym e ∙ first.its))) (differs s.ws v (λ e. apart (sym e ∙ its)))))
+    (eq_apart first.stream.ws v (λ e. apart (sym e ∙ first.its))) (eq_apart s.ws v (λ e. apart (sym e ∙ its)))))
     (are v))
 
 -- the first stream of a workstation took what was heard of it
@@ -63,7 +62,7 @@ new_first streams x s none its =
     let p = λ (t : Stream). t.ws == x in
     record {
       stream = s;
-      there = get_behind streams s;
+      there = get_last streams s;
       its = its;
       none_before =
           subst (λ (l : List Stream). list_any p l ≡ false) (sym (take-append_seam streams (s ∷ [])))

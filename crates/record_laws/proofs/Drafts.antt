@@ -1,7 +1,9 @@
 -- A day has drafts: those of the streams that run.
-use Rattle.std.proofs.Common.{◌≡◌, ◌∙◌, ◌<◌, ℕ, suc, zero, List, [], ◌∷◌, Option, Some, None, Result, Ok, Err, arith, inl, inr, length, refl, slice_get, subst, sym, true, false}
+use Rattle.std.proofs.Common.{◌≡◌, ◌∙◌, ◌<◌, ℕ, List, [], ◌∷◌, Option, Some, None, Result, Ok, Err, inl, inr, length}
+use Rattle.std.proofs.Common.{refl, subst, sym, true, false}
 use Rattle.std.proofs.lemmas.List.Elements.{All-head, All-tail}
 use Rattle.std.specs.List.{All}
+use Rattle.lemmas.proofs.Lists.{got_below}
 use Rattle.base_types.specs.declared.Recovery.TheVariants.{Stop}
 use Rattle.base_types.specs.declared.Work.TheVariants.{Command}
 use Rattle.model.specs.Types.{CondOp, JobDraft, StreamDraft}
@@ -25,7 +27,7 @@ use Rattle.plan_builder.specs.declared.times.PlanDay.{PlanDay}
 use Rattle.plan_builder.specs.declared.works.Run.{Run}
 
 -- there is a condition for each text
-cond_there : (o : Option (List ℕ)) → (ops : List CondOp) × IsCondOf o ops
+pub cond_there : (o : Option (List ℕ)) → (ops : List CondOp) × IsCondOf o ops
 cond_there None = ([], refl)
 cond_there (Some text) = go (read_of text) refl (read_has_cause text)
   where
@@ -38,19 +40,13 @@ cond_there (Some text) = go (read_of text) refl (read_has_cause text)
         none more h = let both : Ok more ≡ Err fault = sym (cause_is_read text (Ok more) h) ∙ is in absurd (cc)
 
 -- and what an entry runs
-run_there : (o : Option WorkDef) → (run : Run) × IsRunOf o run
+pub run_there : (o : Option WorkDef) → (run : Run) × IsRunOf o run
 run_there None = (record { work = Command []; logon = []; cond = []; recovery = Stop }, refl)
 run_there (Some w) =
     let cond_ = cond_there w.cond in (
       record { work = w.work; logon = logon_of w; cond = cond_.0; recovery = w.recovery },
       record { work_ = refl; logon_ = refl; cond_ = cond_.1; recovery_ = refl },
     )
-
--- the element at a place of a list
-there : {X : Type 0} (xs : List X) (n : ℕ) → n < length xs → (x : X) × (slice_get xs n ≡ Some x)
-there [] n low = absurd (omega (arith, low))
-there (x ∷ xs) zero low = (x, refl)
-there (x ∷ xs) (suc n) low = there xs n (omega (arith, low))
 
 module _ (d : Defs) (plan : PlanDay) where
   job_there : (n : ℕ) (s : ScheduleDef) (e : EntryDef) → (draft : JobDraft) × IsJobDraft d plan n s e draft
@@ -96,7 +92,7 @@ module _ (d : Defs) (plan : PlanDay) where
       → (drafts : List StreamDraft) × AreDraftsOf d plan ns drafts
   streams_there [] low = ([], tt)
   streams_there (n ∷ ns) low =
-      let s = there d.schedules n (All-head (λ (k : ℕ). k < length d.schedules) n ns low) in
+      let s = got_below d.schedules n (All-head (λ (k : ℕ). k < length d.schedules) n ns low) in
       let first = stream_there n s.0.item in
       let rest = streams_there ns (All-tail (λ (k : ℕ). k < length d.schedules) n ns low) in
       (first.0 ∷ rest.0, (subst (λ (o : Option (Lined ScheduleDef)). IsDraftAt d plan n o first.0) (sym s.1) first.1, rest.1))

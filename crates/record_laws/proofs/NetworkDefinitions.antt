@@ -1,6 +1,7 @@
 -- The network of definitions.
-use Rattle.std.proofs.Common.{Bool, true, false, cond, List, [], ◌∷◌, ◌++◌, filter, map}
+use Rattle.std.proofs.Common.{Bool, true, false, cond, List, [], ◌∷◌, filter, map}
 use Rattle.std.specs.List.{AllByRecursion}
+use Rattle.composer_laws.proofs.Normals.{each_both}
 use Rattle.base_types.specs.declared.PromptDef.{PromptDef}
 use Rattle.composer_laws.specs.Written.{AreDefs, Each, IsCpu, IsPrompt, IsResource}
 use Rattle.composer_parser.specs.declared.CpuDef.{CpuDef}
@@ -27,14 +28,10 @@ passing P p (x ∷ xs) all = go (p x) (passing P p xs all.1)
     go true rest = (all.0, rest)
     go false rest = rest
 
-joined : {A : Type 0} (P : A → Type 0) (xs ys : List A) → Each P xs → Each P ys → Each P (xs ++ ys)
-joined P [] ys h k = k
-joined P (x ∷ xs) ys h k = (h.0, joined P xs ys h.1 k)
-
 stations_are : (d : Defs) → AreDefs d → Each IsCpu (stations d)
 unfolding stations
 stations_are d are =
-    joined IsCpu (those d true d.cpus) (those d false d.cpus) (passing IsCpu (is_that d true) (items d.cpus) are.cpus)
+    each_both IsCpu (those d true d.cpus) (those d false d.cpus) (passing IsCpu (is_that d true) (items d.cpus) are.cpus)
     (passing IsCpu (is_that d false) (items d.cpus) are.cpus)
 
 resources_are : (all : List CpuDef) (rs : List (Lined ResourceDef)) → Each IsResource (items rs)

@@ -7,10 +7,9 @@ use Rattle.std.specs.Str.{is_utf8}
 use Rattle.std.specs.Str.Lossy.{utf8_valid_len, valid_len_up_to}
 use Rattle.std.proofs.Math.Seq.{take-length}
 use Rattle.std.proofs.lemmas.Bool.{eqb-true, leb-true}
-use Rattle.std.proofs.lemmas.List.Splits.{length-slice_split}
-use Rattle.std.proofs.lemmas.Str.{IsCharBoundary-after_ascii, IsCharBoundary-before_ascii, IsUtf8-drop, IsUtf8-from_is_utf8}
+use Rattle.std.proofs.lemmas.Str.{IsCharBoundary-before_ascii, IsUtf8-from_is_utf8}
 use Rattle.std.proofs.lemmas.Str.{IsUtf8-nil, IsUtf8-take, is_utf8-from_IsUtf8}
-use Rattle.composer_laws.proofs.Cuts.{utf8_before}
+use Rattle.lemmas.proofs.Texts.{some_parts, utf8_after, utf8_before}
 use Rattle.definition_texts.specs.Refusals.{IsText}
 use Rattle.syntax.specs.Quotes.{is_escaped, unquoted}
 use Rattle.syntax.specs.Splits.{lines_of, without_last_feed}
@@ -52,9 +51,6 @@ text_utf8 bytes h = whole_front bytes (length bytes) refl h
 
 -- Cut at a byte that is a character.
 
-utf8_after : (b : ℕ) (ys : List ℕ) → b < 128 → IsUtf8 (b ∷ ys) → IsUtf8 ys
-utf8_after b ys h u = IsUtf8-drop (b ∷ ys) 1 u (IsCharBoundary-after_ascii (b ∷ ys) 0 u (omega arith) h)
-
 glued : List ℕ → List (List ℕ) → List (List ℕ)
 glued front [] = []
 glued front (part ∷ parts) = (front ++ part) ∷ parts
@@ -69,9 +65,6 @@ unglued : (parts : List (List ℕ)) → AllByRecursion IsUtf8 (glued [] parts) �
 unfolding glued
 unglued [] all = tt
 unglued (part ∷ parts) all = all
-
-some_parts : (p : ℕ → Bool) (xs : List ℕ) → 0 < length (slice_split p xs)
-some_parts p xs = let e = length-slice_split p xs in omega (arith, e)
 
 split_utf8 : (c : ℕ) → c < 128 → (front xs : List ℕ) → IsUtf8 (front ++ xs)
     → AllByRecursion IsUtf8 (glued front (slice_split (λ b. eqb b c) xs))

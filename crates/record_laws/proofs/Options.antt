@@ -5,18 +5,7 @@ pub always : {A B : Type 0} (Q : B → Type 0) (o : Option A) (f : A → B) → 
 always Q None f h = tt
 always Q (Some a) f h = h a
 
-pub mapped : {A B : Type 0} (P : A → Type 0) (Q : B → Type 0) (o : Option A) (f : A → B) → IfSome o P
-    → ((a : A) → P a → Q (f a)) → IfSome (option_map f o) Q
-mapped P Q None f p h = tt
-mapped P Q (Some a) f p h = h a p
-
 pub chained : {A B : Type 0} (Q : B → Type 0) (o : Option A) (f : A → Option B) → ((a : A) → IfSome (f a) Q)
     → IfSome (option_and_then f o) Q
 chained Q None f h = tt
 chained Q (Some a) f h = h a
-
--- the second answer, of what the first one found
-pub followed : {A B : Type 0} (P : A → Type 0) (Q : B → Type 0) (o : Option A) (f : A → Option B) → IfSome o P
-    → ((a : A) → P a → IfSome (f a) Q) → IfSome (option_and_then f o) Q
-followed P Q None f p h = tt
-followed P Q (Some a) f p h = h a p

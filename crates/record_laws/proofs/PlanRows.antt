@@ -1,7 +1,9 @@
 -- The names and texts in the lines of a plan are no longer than an entry may have.
-use Rattle.std.proofs.Common.{[], ℕ, ◌==◌, ◌∷◌, ◌≤◌, arith, Bool, codes, if◌then◌else◌, IfSome, length, List, nat_le, refl, ◌≡◌}
+use Rattle.std.proofs.Common.{[], ℕ, ◌==◌, ◌∷◌, arith, Bool, codes, if◌then◌else◌, IfSome, length, List, nat_le, refl}
+use Rattle.std.proofs.Common.{◌≡◌}
 use Rattle.std.proofs.Common.{None, option_and_then, option_map, Option, Some, true, false, slice_index}
-use Rattle.std.proofs.lemmas.Bool.Decides.{nat_tests}
+use Rattle.lemmas.proofs.Numbers.{le_true_turned}
+use Rattle.lemmas.proofs.Options.{some_followed, some_mapped}
 use Rattle.syntax.specs.Names.{name_of}
 use Rattle.syntax.specs.Quotes.{unquoted}
 use Rattle.syntax.specs.Splits.{after_word, first_word}
@@ -17,7 +19,7 @@ use Rattle.record_rows.specs.declared.rows.JobRow.{JobRow}
 use Rattle.record_rows.specs.declared.rows.PartRow.TheVariants as part
 use Rattle.record_rows.specs.declared.rows.DepRow.TheVariants as dep
 use Rattle.record_laws.proofs.FitRows.{IsFitDepRow, IsFitPart, IsFitRanged}
-use Rattle.record_laws.proofs.Options.{always, chained, followed, mapped}
+use Rattle.record_laws.proofs.Options.{always, chained}
 
 name_short : (word : List ℕ) → IfSome (name_of word) IsFitText
 name_short word = go (name_of word) (name_fits word)
@@ -26,14 +28,11 @@ name_short word = go (name_of word) (name_fits word)
     go None h = tt
     go (Some name) h = omega (arith, h)
 
-at_most : (m n : ℕ) → nat_le n m ≡ true → n ≤ m
-at_most m n h = grind (arith, nat_tests)
-
 limited_fit : (value : List ℕ) → IsFitRanged (limited value)
 limited_fit value = go (nat_le (length value) 4096) refl
   where
     go : (b : Bool) → nat_le (length value) 4096 ≡ b → IsFitRanged (if b then Within value else OutOfRange)
-    go true h = at_most 4096 (length value) h
+    go true h = le_true_turned 4096 (length value) h
     go false h = tt
 
 text_fit : (rest : List ℕ) → IfSome (text_of rest) IsFitRanged
@@ -55,20 +54,20 @@ part_fit word rest =
         if c then option_map part.Logon (text_of rest) else
         if d then option_map part.Cond (text_of rest) else
         if e then option_map part.Recovery (recovery_of rest) else None) IsFitPart
-    go true b c d e = mapped IsFitRanged IsFitPart (text_of rest) part.Command (text_fit rest) (λ t h. h)
-    go false true c d e = mapped IsFitRanged IsFitPart (text_of rest) part.Script (text_fit rest) (λ t h. h)
-    go false false true d e = mapped IsFitRanged IsFitPart (text_of rest) part.Logon (text_fit rest) (λ t h. h)
+    go true b c d e = some_mapped IsFitRanged IsFitPart (text_of rest) part.Command (text_fit rest) (λ t h. h)
+    go false true c d e = some_mapped IsFitRanged IsFitPart (text_of rest) part.Script (text_fit rest) (λ t h. h)
+    go false false true d e = some_mapped IsFitRanged IsFitPart (text_of rest) part.Logon (text_fit rest) (λ t h. h)
     go false false false true e = always IsFitPart (text_of rest) part.Cond (λ t. tt)
     go false false false false true = always IsFitPart (recovery_of rest) part.Recovery (λ r. tt)
     go false false false false false = tt
 
 follows_on_fit : (ws word : List ℕ) → IfSome (follows_on ws word) IsFitDepRow
 follows_on_fit ws word =
-    followed IsFitText IsFitDepRow (name_of (before_byte 46 word)) _ (name_short (before_byte 46 word))
+    some_followed IsFitText IsFitDepRow (name_of (before_byte 46 word)) _ (name_short (before_byte 46 word))
     (λ s h.
     found IsFitDepRow (before_byte 46 word is word) (Some (dep.FollowsStream ws s))
     (option_map (dep.FollowsJob ws s) (name_of (after_byte 46 word))) h
-    (mapped IsFitText IsFitDepRow (name_of (after_byte 46 word)) (dep.FollowsJob ws s)
+    (some_mapped IsFitText IsFitDepRow (name_of (after_byte 46 word)) (dep.FollowsJob ws s)
     (name_short (after_byte 46 word)) (λ j k. (h, k))))
 
 follows_fit : (word : List ℕ) → IfSome (follows_of word) IsFitDepRow
@@ -76,7 +75,7 @@ unfolding follows_of
 follows_fit word =
     found IsFitDepRow (before_byte 35 word is word) (option_map dep.FollowsOwn (name_of word))
     (option_and_then (λ w. follows_on w (after_byte 35 word)) (name_of (before_byte 35 word)))
-    (mapped IsFitText IsFitDepRow (name_of word) dep.FollowsOwn (name_short word) (λ j h. h))
+    (some_mapped IsFitText IsFitDepRow (name_of word) dep.FollowsOwn (name_short word) (λ j h. h))
     (chained IsFitDepRow (name_of (before_byte 35 word)) (λ w. follows_on w (after_byte 35 word))
     (λ w. follows_on_fit w (after_byte 35 word)))
 
@@ -85,7 +84,7 @@ unfolding ask_of
 ask_fit rest =
     found IsFitDepRow (slice_index rest 0 == 34) (option_map dep.AskOwn (text_of rest))
     (option_map dep.AskGlobal (name_of rest))
-    (mapped IsFitRanged IsFitDepRow (text_of rest) dep.AskOwn (text_fit rest) (λ t h. h))
+    (some_mapped IsFitRanged IsFitDepRow (text_of rest) dep.AskOwn (text_fit rest) (λ t h. h))
     (always IsFitDepRow (name_of rest) dep.AskGlobal (λ p. tt))
 
 until_fit : (rest : List ℕ) → IfSome (until_of rest) IsFitDepRow
@@ -121,7 +120,7 @@ dep_fit word rest =
     go false false false false true f g = needs_fit rest
     go false false false false false true g = ask_fit rest
     go false false false false false false true =
-        mapped IsFitRanged IsFitDepRow (text_of rest) dep.Opens (text_fit rest) (λ t h. h)
+        some_mapped IsFitRanged IsFitDepRow (text_of rest) dep.Opens (text_fit rest) (λ t h. h)
     go false false false false false false false = tt
 
 pub stream_named : (words : List (List ℕ)) → IfSome (stream_of words) (λ (s : StreamRow). IsFitText s.name)
@@ -131,7 +130,7 @@ stream_named (ws ∷ []) = tt
 stream_named (ws ∷ name ∷ rest) =
     let Q : StreamRow → Type 0 = λ s. IsFitText s.name in
     chained Q (name_of ws) _ (λ w.
-    followed IsFitText Q (name_of name) _ (name_short name) (λ n h.
+    some_followed IsFitText Q (name_of name) _ (name_short name) (λ n h.
     chained Q (priority_of rest) _ (λ p.
     chained Q (limit_of p.1) _ (λ l.
     chained Q (carry_of l.1) _ (λ c. h)))))
@@ -143,5 +142,5 @@ job_named (ws ∷ []) = tt
 job_named (ws ∷ name ∷ rest) =
     let Q : JobRow → Type 0 = λ j. IsFitText j.name in
     chained Q (name_of ws) _ (λ w.
-    followed IsFitText Q (name_of name) _ (name_short name) (λ n h.
+    some_followed IsFitText Q (name_of name) _ (name_short name) (λ n h.
     chained Q (priority_of rest) _ (λ p. found Q (length p.1 == 0) (Some (record { ws = w; name = n; priority = p.0 })) None h tt)))

@@ -3,6 +3,7 @@ use Rattle.std.proofs.Common.{[], ℕ, ◌∷◌, Bool, codes, if◌then◌else�
 use Rattle.std.proofs.Common.{option_map, Option, Some, true, false, unwrap_or}
 use Rattle.std.proofs.lemmas.List.Elements.{All-cons, All-head, All-nil, All-tail}
 use Rattle.std.specs.List.{All}
+use Rattle.lemmas.proofs.Options.{some_mapped}
 use Rattle.syntax.specs.Names.{name_of}
 use Rattle.syntax.specs.Splits.{after_word, first_word, lines_of, words_of}
 use Rattle.model.specs.Fit.{IsFitText}
@@ -22,7 +23,7 @@ use Rattle.record_faults.specs.declared.places.Fate.{Fate}
 use Rattle.record_faults.specs.declared.places.Fate.TheVariants as fate
 use Rattle.record_script.specs.Scripts.{placed}
 use Rattle.record_laws.proofs.FitRows.{IsFitDepRow, IsFitPart, IsFitRow, IsFitStepRow}
-use Rattle.record_laws.proofs.Options.{always, chained, mapped}
+use Rattle.record_laws.proofs.Options.{always, chained}
 use Rattle.record_laws.proofs.PlanRows.{dep_fit, job_named, part_fit, stream_named}
 use Rattle.record_laws.proofs.StepRows.{step_fit}
 
@@ -96,10 +97,10 @@ plan_fit word rest = go (word is codes "stream") (word is codes "job")
         if a then option_map row.Stream (stream_of (words_of rest)) else
         if b then option_map row.Job (job_of (words_of rest)) else None) IsFitRow
     go true b =
-        mapped (λ (s : StreamRow). IsFitText s.name) IsFitRow (stream_of (words_of rest)) row.Stream
+        some_mapped (λ (s : StreamRow). IsFitText s.name) IsFitRow (stream_of (words_of rest)) row.Stream
         (stream_named (words_of rest)) (λ s h. h)
     go false true =
-        mapped (λ (j : JobRow). IsFitText j.name) IsFitRow (job_of (words_of rest)) row.Job
+        some_mapped (λ (j : JobRow). IsFitText j.name) IsFitRow (job_of (words_of rest)) row.Job
         (job_named (words_of rest)) (λ j h. h)
     go false false = tt
 
@@ -109,12 +110,12 @@ below_fit text =
     first_of_two (network_row (first_word text) (after_word text)) _ (network_fit (first_word text) (after_word text))
     (first_of_two (plan_row (first_word text) (after_word text)) _ (plan_fit (first_word text) (after_word text))
     (first_of_two (option_map row.Part (part_of (first_word text) (after_word text))) _
-    (mapped IsFitPart IsFitRow (part_of (first_word text) (after_word text)) row.Part
+    (some_mapped IsFitPart IsFitRow (part_of (first_word text) (after_word text)) row.Part
     (part_fit (first_word text) (after_word text)) (λ p h. h))
     (first_of_two (option_map row.Dep (dep_of (first_word text) (after_word text))) _
-    (mapped IsFitDepRow IsFitRow (dep_of (first_word text) (after_word text)) row.Dep
+    (some_mapped IsFitDepRow IsFitRow (dep_of (first_word text) (after_word text)) row.Dep
     (dep_fit (first_word text) (after_word text)) (λ d h. h))
-    (mapped IsFitStepRow IsFitRow (step_of text) row.Step (step_fit text) (λ s h. h)))))
+    (some_mapped IsFitStepRow IsFitRow (step_of text) row.Step (step_fit text) (λ s h. h)))))
 
 or_none : (o : Option Row) → IfSome o IsFitRow → IsFitRow (unwrap_or o row.NoForm)
 or_none None h = tt

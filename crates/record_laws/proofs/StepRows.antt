@@ -1,6 +1,7 @@
 -- The lines that are typed in steps are fit.
 use Rattle.std.proofs.Common.{[], ℕ, ◌∷◌, Bool, codes, Err, if◌then◌else◌, IfOk, IfSome, length, List}
 use Rattle.std.proofs.Common.{None, Ok, option_map, refl, Result, Some, true, false}
+use Rattle.lemmas.proofs.Options.{some_mapped}
 use Rattle.syntax.specs.Names.{name_of}
 use Rattle.syntax.specs.Splits.{after_word, first_word, words_of}
 use Rattle.calendars.specs.Written.{date_of}
@@ -18,7 +19,7 @@ use Rattle.record_rows.specs.declared.rows.CutRow.TheVariants as cut
 use Rattle.record_rows.specs.declared.rows.StepRow.TheVariants as step
 use Rattle.record_laws.proofs.Fits.{IsFitTyped}
 use Rattle.record_laws.proofs.FitRows.{IsFitCut, IsFitOwn, IsFitStepRow}
-use Rattle.record_laws.proofs.Options.{always, chained, mapped}
+use Rattle.record_laws.proofs.Options.{always, chained}
 
 command_fit : (most : ℕ) (r : Result Line CommandFault) → IfOk r (IsFitLine most) → IfSome (command_of r) IsFitTyped
 command_fit most (Ok line) h = found IsFitTyped (gives_command line) (Some line) None (most, h) tt
@@ -42,7 +43,7 @@ own_fit word rest =
     go false false false true e =
         chained IsFitOwn (sized 32 (first_word rest)) _ (λ j. always IsFitOwn _ (own.Ended j) (λ t. tt))
     go false false false false true =
-        mapped IsFitTyped IsFitOwn (command_of (due_line rest)) own.Typed
+        some_mapped IsFitTyped IsFitOwn (command_of (due_line rest)) own.Typed
         (command_fit (length rest) (due_line rest) (answer_fits rest (due_line rest) (λ m. refl))) (λ line h. h)
     go false false false false false = tt
 
@@ -50,7 +51,7 @@ own_step_fit : (word rest : List ℕ) → IfSome (own_step word rest) IsFitStepR
 unfolding own_step
 own_step_fit word rest =
     chained IsFitStepRow (name_of (first_word rest)) (λ w. option_map (step.Own w) (own_of word (after_word rest)))
-    (λ w. mapped IsFitOwn IsFitStepRow (own_of word (after_word rest)) (step.Own w) (own_fit word (after_word rest))
+    (λ w. some_mapped IsFitOwn IsFitStepRow (own_of word (after_word rest)) (step.Own w) (own_fit word (after_word rest))
     (λ o h. h))
 
 own_cut_fit : (w word rest : List ℕ) → IfSome (own_cut w word rest) IsFitCut
@@ -60,7 +61,7 @@ own_cut_fit w word rest =
     (λ v. if v is w then option_map cut.Own (own_of word (after_word rest)) else None)
     (λ v.
     found IsFitCut (v is w) (option_map cut.Own (own_of word (after_word rest))) None
-    (mapped IsFitOwn IsFitCut (own_of word (after_word rest)) cut.Own (own_fit word (after_word rest)) (λ o h. h)) tt)
+    (some_mapped IsFitOwn IsFitCut (own_of word (after_word rest)) cut.Own (own_fit word (after_word rest)) (λ o h. h)) tt)
 
 packet_cut_fit : (w rest : List ℕ) → IfSome (packet_cut w rest) IsFitCut
 unfolding packet_cut
@@ -92,7 +93,7 @@ crash_fit rest =
     (chained IsFitStepRow (kept_of (first_word (after_word rest)))
     (λ k. option_map (step.CrashIn w k) (cut_of w (after_word (after_word rest))))
     (λ k.
-    mapped IsFitCut IsFitStepRow (cut_of w (after_word (after_word rest))) (step.CrashIn w k)
+    some_mapped IsFitCut IsFitStepRow (cut_of w (after_word (after_word rest))) (step.CrashIn w k)
     (cut_fit w (after_word (after_word rest))) (λ c h. h))))
 
 fulfil_fit : (words : List (List ℕ)) → IfSome (fulfil_of words) IsFitStepRow

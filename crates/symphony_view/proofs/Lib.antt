@@ -1,5 +1,4 @@
 mod Shown
-mod Few
 mod Tables
 mod Belows
 pub mod FitStreams

@@ -1,5 +1,6 @@
 -- What services answer where nothing fails.
 use Rattle.std.proofs.Common.{◌≡◌, ◌≤◌, ◌⊎◌, ◌∙◌, ℕ, List, Option, Some, ap, inl, inr, length, subst, sym}
+use Rattle.lemmas.proofs.Options.{none_some}
 use Rattle.composer_parser.specs.declared.Defs.{Defs}
 use Rattle.definition_texts.specs.Refusals.{AreChecked}
 use Rattle.node_inputs.specs.declared.ends.NodeEnd.TheVariants as run
@@ -11,7 +12,7 @@ use Rattle.node_commands.specs.Forms.{AskOf, NodeFor}
 use Rattle.node_commands.specs.Services.{Asking, IsServed, IsService, Serving}
 use Rattle.workload_defs.specs.Stations.{number_of}
 use Rattle.tws_top.proofs.Numbers.{Came, at_limit, by_5, came, failed, other_file, refused, replied, row_5, shut_down, source_failed, spent, starved, too_long, unanswered, unknown, unread}
-use Rattle.tws_top.proofs.Services.{long_short, none_some, refuses_checked, same_defs}
+use Rattle.tws_top.proofs.Services.{long_short, refuses_checked, same_defs}
 
 -- a node and an ask are two requests
 two_requests : (name other command : List ℕ) (turns : ℕ) → NodeFor name turns ≡ AskOf other command → ⊥

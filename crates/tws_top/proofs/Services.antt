@@ -1,5 +1,6 @@
 -- What a service came to, by the status.
 use Rattle.std.proofs.Common.{◌<◌, ◌≡◌, ◌≢◌, ◌≤◌, ◌∙◌, ℕ, List, None, Option, Some, ap, arith, inl, inr, length, refl, subst, sym}
+use Rattle.lemmas.proofs.Options.{none_some}
 use Rattle.composer_parser.specs.declared.Defs.{Defs}
 use Rattle.definition_texts.proofs.Readings.{not_refused, one_checked, one_refusal}
 use Rattle.definition_texts.specs.Kinds.{word_of}
@@ -19,12 +20,6 @@ use Rattle.whole_io.proofs.Lefts.{left_long, left_read}
 use Rattle.whole_io.specs.Whole.{TakesCount}
 use Rattle.workload_defs.specs.Stations.{number_of as number_of_station}
 use Rattle.tws_top.specs.Dues.{Due, IsAnswer, LeftCallsFor, ServiceCallsFor}
-
-some_is : {X : Type 0} {a b : X} → Some a ≡ Some b → a ≡ b
-some_is e = cc
-
-pub none_some : {X : Type 0} {b : X} → None ≡ Some b → ⊥
-none_some e = cc
 
 -- what was read of a source is what it had
 read_defs : (source : Stream) (new : Option Stream) (defs : Defs) → ReadsDefs defs (Some source) new

@@ -2,8 +2,9 @@
 use Rattle.std.proofs.Common.{[], ℕ, ◌&&◌, ◌∙◌, ◌∷◌, ◌≡◌, ◌≢◌, ◌⊎◌, Bool, Bor, List, Option, Some}
 use Rattle.std.proofs.Common.{ap, bytes_eq, cond, eqb, false, inl, inr, refl, sym, true}
 use Rattle.std.proofs.lemmas.Bool.Decides.{eqb_tells}
-use Rattle.std.specs.Cmp.Lexicographic.{bytes_decides}
 use Rattle.std.specs.Map.{lookup}
+use Rattle.lemmas.proofs.Booleans.{and_left, and_right}
+use Rattle.lemmas.proofs.Texts.{text_itself, text_tells}
 use Rattle.indexmap.specs.IndexMap.{insert_entry}
 
 -- a query finds what is inserted at its key, and all else that it found before
@@ -48,23 +49,8 @@ module _ {K X A : Type 0} (f : K → A) (same : A → A → Bool) (tells : (a b 
           ap (cond (same a (f e.0)) (Some e.1)) h
           ∙ swapped a k e.0 (Some e.1) (Some v) (lookup (λ (l : K). same a (f l)) es) q
 
--- names
-pub text_tells : (a b : List ℕ) → bytes_eq a b ≡ true → a ≡ b
-text_tells a b h = (bytes_decides a b).0 h
-
-pub text_itself : (a : List ℕ) → bytes_eq a a ≡ true
-text_itself a = (bytes_decides a a).1 refl
-
 abbrev pub text_of : Bor (List ℕ) → List ℕ
 text_of k = k.now
-
-first_so : (p q : Bool) → (p && q) ≡ true → p ≡ true
-first_so true q h = refl
-first_so false q h = cc
-
-second_so : (p q : Bool) → (p && q) ≡ true → q ≡ true
-second_so true q h = h
-second_so false q h = cc
 
 pub name_inserted : {X : Type 0} (es : List (Bor (List ℕ) × X)) (k : Bor (List ℕ)) (v : X) (name : List ℕ)
     → lookup (λ (l : Bor (List ℕ)). bytes_eq name l.now)
@@ -81,8 +67,8 @@ are_one_pair a b = bytes_eq a.0 b.0 && bytes_eq a.1 b.1
 
 pair_tells : (a b : List ℕ × List ℕ) → are_one_pair a b ≡ true → a ≡ b
 pair_tells a b h =
-    let one : a.0 ≡ b.0 = text_tells a.0 b.0 (first_so (bytes_eq a.0 b.0) (bytes_eq a.1 b.1) h) in
-    let other : a.1 ≡ b.1 = text_tells a.1 b.1 (second_so (bytes_eq a.0 b.0) (bytes_eq a.1 b.1) h) in
+    let one : a.0 ≡ b.0 = text_tells a.0 b.0 (and_left (bytes_eq a.0 b.0) (bytes_eq a.1 b.1) h) in
+    let other : a.1 ≡ b.1 = text_tells a.1 b.1 (and_right (bytes_eq a.0 b.0) (bytes_eq a.1 b.1) h) in
     λ j. (one j, other j)
 
 pair_itself : (a : List ℕ × List ℕ) → are_one_pair a a ≡ true
@@ -107,8 +93,8 @@ key_tells : (a b : ℕ × List ℕ) → are_one_key a b ≡ true → a ≡ b
 key_tells a b h = go (eqb_tells a.0 b.0)
   where
     go : ((eqb a.0 b.0 ≡ true) × (a.0 ≡ b.0)) ⊎ ((eqb a.0 b.0 ≡ false) × (a.0 ≢ b.0)) → a ≡ b
-    go (inl e) = λ j. (e.1 j, text_tells a.1 b.1 (second_so (eqb a.0 b.0) (bytes_eq a.1 b.1) h) j)
-    go (inr e) = absurd (let t : eqb a.0 b.0 ≡ true = first_so (eqb a.0 b.0) (bytes_eq a.1 b.1) h in cc)
+    go (inl e) = λ j. (e.1 j, text_tells a.1 b.1 (and_right (eqb a.0 b.0) (bytes_eq a.1 b.1) h) j)
+    go (inr e) = absurd (let t : eqb a.0 b.0 ≡ true = and_left (eqb a.0 b.0) (bytes_eq a.1 b.1) h in cc)
 
 key_itself : (a : ℕ × List ℕ) → are_one_key a a ≡ true
 key_itself a = go (eqb_tells a.0 a.0)

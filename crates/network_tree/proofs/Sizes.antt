@@ -1,26 +1,17 @@
 -- A network without faults has no more workstations, resources and prompts than their numbers tell.
-use Rattle.std.proofs.Common.{[], ℕ, ◌||◌, ◌∷◌, ◌≡◌, ◌≤◌, Bool, List, None, Option, Some, arith, false, length, nat_lt}
+use Rattle.std.proofs.Common.{ℕ, ◌||◌, ◌≡◌, ◌≤◌, Bool, None, Option, arith, false, length, nat_lt}
 use Rattle.std.proofs.Common.{refl, true}
 use Rattle.std.proofs.lemmas.Bool.Decides.{nat_tests}
-use Rattle.std.specs.Bool.{then_some}
 use Rattle.std.specs.List.{AllByRecursion, list_any}
+use Rattle.lemmas.proofs.Options.{then_none}
+use Rattle.network_tree.proofs.Trees.{in_range, none_there}
 use Rattle.model.specs.Network.{node_count}
 use Rattle.model.specs.Types.{Net}
 use Rattle.network_tree.specs.Repeats.{has_repeat}
-use Rattle.network_tree.specs.Faults.{are_one_prompt, are_one_resource, first_there, is_bad_resource}
-use Rattle.network_tree.specs.Faults.{is_out_of_range, net_fault, net_faults}
+use Rattle.network_tree.specs.Faults.{are_one_prompt, are_one_resource, is_bad_resource}
+use Rattle.network_tree.specs.Faults.{net_fault, net_faults}
 use Rattle.network_tree.specs.declared.faults.NetFault.{NetFault}
-use Rattle.network_tree.specs.declared.faults.NetFault.TheVariants.{OutOfRange, TooMany}
-
-none_there : {X : Type 0} (os : List (Option X)) → first_there os ≡ None
-    → AllByRecursion (λ (o : Option X). o ≡ None) os
-none_there [] h = tt
-none_there (None ∷ os) h = (refl, none_there os h)
-none_there (Some x ∷ os) h = cc
-
-not_then : {X : Type 0} (b : Bool) (x : X) → then_some b x ≡ None → b ≡ false
-not_then true x h = cc
-not_then false x h = refl
+use Rattle.network_tree.specs.declared.faults.NetFault.TheVariants.{TooMany}
 
 parts : (a b c d e : Bool) → (a || b || c || d || e) ≡ false → (a ≡ false) × (b ≡ false)
 parts true b c d e h = cc
@@ -34,13 +25,7 @@ pub few_nodes : (net : Net) → net_fault net ≡ None → length net.nodes ≤ 
 unfolding net_fault
 few_nodes net none =
     let all : AllByRecursion (λ (o : Option NetFault). o ≡ None) (net_faults net) = none_there (net_faults net) none in
-    at_most 256 (node_count net) (not_then (nat_lt 256 (node_count net)) TooMany all.1.0)
-
-in_range : (net : Net) → net_fault net ≡ None → is_out_of_range net ≡ false
-unfolding net_fault
-in_range net none =
-    let all : AllByRecursion (λ (o : Option NetFault). o ≡ None) (net_faults net) = none_there (net_faults net) none in
-    not_then (is_out_of_range net) OutOfRange all.1.1.1.1.1.0
+    at_most 256 (node_count net) (then_none (nat_lt 256 (node_count net)) TooMany all.1.0)
 
 few_both : (net : Net) → net_fault net ≡ None
     → (nat_lt 65535 (length net.resources) ≡ false) × (nat_lt 65535 (length net.prompts) ≡ false)

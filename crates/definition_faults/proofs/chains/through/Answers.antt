@@ -1,7 +1,7 @@
 use Rattle.std.proofs.Common.{◌++◌, ◌∙◌, ◌∷◌, [], ap, get_or}
 use Rattle.std.proofs.lemmas.List.{get_or_default}
 use Rattle.definition_faults.specs.Chains.{place_in}
-use Rattle.definition_faults.proofs.Walks.{mapped_more}
+use Rattle.lemmas.proofs.Lists.{mapped_more}
 use Rattle.definition_faults.proofs.chains.through.Goals as goal
 
 pub loop-place-preserved : goal.loop-place-preserved

@@ -1,6 +1,6 @@
 use Rattle.std.proofs.Common.{◌++◌, ◌∙◌, ◌∷◌, [], ap, true}
 use Rattle.definition_faults.specs.Graphs.{entry_object, followed, object}
-use Rattle.definition_faults.proofs.Walks.{mapped_more}
+use Rattle.lemmas.proofs.Lists.{mapped_more}
 use Rattle.definition_faults.proofs.graphs.put_entries.Goals as goal
 
 pub loop-entry-preserved : goal.loop-entry-preserved

@@ -1,5 +1,5 @@
 use Rattle.definition_faults.specs.Graphs.{followed_by}
-use Rattle.definition_faults.proofs.Walks.{filtered_more}
+use Rattle.lemmas.proofs.Lists.{filtered_more}
 use Rattle.definition_faults.proofs.graphs.put_preds.Goals as goal
 
 pub loop-pred-preserved : goal.loop-pred-preserved

@@ -1,6 +1,6 @@
 use Rattle.std.proofs.Common.{◌++◌, ◌∙◌, ◌∷◌, [], ap}
 use Rattle.plan_builder.specs.Dependencies.{prompt_of}
-use Rattle.plan_builder.proofs.Walks.{mapped_more}
+use Rattle.lemmas.proofs.Lists.{mapped_more}
 use Rattle.plan_builder.proofs.dependencies.put_asks.Goals as goal
 
 pub loop-prompt-preserved : goal.loop-prompt-preserved

@@ -1,6 +1,6 @@
 use Rattle.std.proofs.Common.{◌++◌, ◌∙◌, ◌∷◌, [], ap}
 use Rattle.plan_builder.specs.Dependencies.{file_of}
-use Rattle.plan_builder.proofs.Walks.{mapped_more}
+use Rattle.lemmas.proofs.Lists.{mapped_more}
 use Rattle.plan_builder.proofs.dependencies.put_paths.Goals as goal
 
 pub loop-path-preserved : goal.loop-path-preserved

@@ -1,5 +1,5 @@
 use Rattle.plan_builder.specs.Dependencies.{follows_of}
-use Rattle.plan_builder.proofs.Walks.{filtered_more}
+use Rattle.lemmas.proofs.Lists.{filtered_more}
 use Rattle.plan_builder.proofs.dependencies.put_preds.Goals as goal
 
 pub loop-pred-preserved : goal.loop-pred-preserved

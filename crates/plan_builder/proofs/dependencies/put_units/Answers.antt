@@ -1,7 +1,7 @@
 use Rattle.std.proofs.Common.{◌++◌, ◌∙◌, ◌∷◌, [], ap}
 use Rattle.std.specs.Option.{option_copied}
 use Rattle.plan_builder.specs.Dependencies.{need_of}
-use Rattle.plan_builder.proofs.Walks.{mapped_more}
+use Rattle.lemmas.proofs.Lists.{mapped_more}
 use Rattle.plan_builder.proofs.dependencies.put_units.Goals as goal
 
 pub loop-need-preserved : goal.loop-need-preserved

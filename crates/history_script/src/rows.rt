@@ -1,9 +1,9 @@
 //! The lines behind `$HISTORY`, each read by itself.
-ghost use Rattle.std.specs.Prelude.{◌≡◌, IfOk, Some, map};
+ghost use Rattle.std.specs.Prelude.{◌≡◌, IfOk, Some, map, option_and_then};
 ghost use Rattle.std.specs.List.{list_all};
 ghost use Rattle.std.specs.Char.{is_ascii_digit};
 ghost use Rattle.record_rows.specs.Rows.{is_skipped as is_skipped_line};
-ghost use Rattle.record_rows.specs.Words.{◌>>=◌, sized};
+ghost use Rattle.record_rows.specs.Words.{sized};
 ghost use Rattle.syntax.specs.Numbers.{is_number as is_number_word};
 ghost use Rattle.history_script.specs.Rows as spec;
 ghost use Rattle.history_script.specs.Rows.{row_of};
@@ -95,7 +95,7 @@ fn entry_row(alloc: Global, rest: &str) -> Result<Option<HistoryRow>, NoMemory>
 
 /// `JOB NUMBER`, behind the name of the workstation
 fn start_at(ws: Text, job: &str, number: &str) -> Option<HistoryRow>
-    ensures { result ≡ (sized 32 job.now >>= λ j. sized 32 number.now >>= λ n. Some (row.Start ws j n)) }
+    ensures { result ≡ option_and_then (λ j. option_and_then (λ n. Some (row.Start ws j n)) (sized 32 number.now)) (sized 32 job.now) }
 {
     let job = job_no(job)?;
     let number = count(number)?;

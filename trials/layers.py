@@ -58,7 +58,7 @@ def layers_of_map():
 
 def rows_of_map():
     """The rows of the table of the crates: the crates of each, and the files of specs/ that it names."""
-    rows = [line.split("|") for line in lines_of(MAP) if re.match(r"\| `[a-z0-9_]+`", line)]
+    rows = [line.split("|") for line in lines_of(MAP) if re.match(r"\|\s*`[a-z0-9_]+`", line)]
     return [(re.findall(r"`([a-z0-9_]+)`", row[1]), re.findall(r"`([A-Z]\w+)`", row[2])) for row in rows]
 
 

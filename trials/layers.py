@@ -3,7 +3,8 @@
 
 The drawing is the first block between ``` in docs/MAP.md. What stands there at the left edge is the name of a layer,
 and the words to the right of it, and on the lines below up to the next name, are its crates. Strokes are skipped.
-The table of the crates there has a row for each crate. In crates.txt a comment that is the name of a layer begins it.
+The table of the crates there has a row for each crate, with files of its specs/. In crates.txt a comment that is the
+name of a layer begins it.
 
 Usage: trials/layers.py           says where a crate stands on one of a higher layer, where the map lacks a crate or
                                   names one that is not there, and where crates.txt has another order than the map.
@@ -56,22 +57,26 @@ def layers_of_map():
 
 
 def rows_of_map():
-    """The crates in the first column of the table of the crates."""
-    rows = [line.split("|")[1] for line in lines_of(MAP) if re.match(r"\| `[a-z0-9_]+`", line)]
-    return [name for row in rows for name in re.findall(r"`([a-z0-9_]+)`", row)]
+    """The rows of the table of the crates: the crates of each, and the files of specs/ that it names."""
+    rows = [line.split("|") for line in lines_of(MAP) if re.match(r"\|\s*`[a-z0-9_]+`", line)]
+    return [(re.findall(r"`([a-z0-9_]+)`", row[1]), re.findall(r"`([A-Z]\w+)`", row[2])) for row in rows]
 
 
 def faults():
     crates, layers, rows = crates_of_repository(), layers_of_map(), rows_of_map()
     heights = {name: height for height, names in enumerate(layers.values()) for name in names}
     drawn = [name for names in layers.values() for name in names]
-    for where, names in (("drawing", drawn), ("table", rows)):
+    for where, names in (("drawing", drawn), ("table", [name for row in rows for name in row[0]])):
         for name in crates:
             if names.count(name) != 1:
                 yield f"the {where} of docs/MAP.md has the crate {name} {names.count(name)} times"
         for name in names:
             if name not in crates:
                 yield f"the {where} of docs/MAP.md names {name}, which is no crate"
+    for names, files in rows:
+        for file in files:
+            if not os.path.isfile(f"{TOP}/crates/{names[0]}/specs/{file}.antt"):
+                yield f"docs/MAP.md names {file} of {names[0]}, which is no file of its specs/"
     for name, (_, below, _) in crates.items():
         for one in below:
             if one in heights and heights[one] < heights.get(name, 0):

@@ -135,8 +135,8 @@ is_own_word word =
     || (word is codes "failed")
 
 -- the words of the steps that a long record has most of
-abbrev pub is_step_word : List ℕ → Bool
-is_step_word word =
+abbrev pub is_frequent : List ℕ → Bool
+is_frequent word =
     (word is codes "flow") || (word is codes "reap") || (word is codes "deliver") || is_own_word word
 
 -- `next` has no word behind it, and no blank

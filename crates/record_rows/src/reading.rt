@@ -1,9 +1,10 @@
 //! The rows of a text's lines.
-ghost use Rattle.std.specs.Prelude.{◌≡◌, ◌==◌, ◌++◌, ◌∷◌, [], IfOk, OnOk, map, option_map};
+ghost use Rattle.std.specs.Prelude.{◌≡◌, ◌==◌, ◌++◌, ◌∷◌, [], IfOk, OnOk, map, option_map, true};
 ghost use Rattle.std.specs.List.{slice_split};
 ghost use Rattle.record_rows.specs.Plans.{dep_of, part_of};
 ghost use Rattle.record_rows.specs.Rows as spec;
 ghost use Rattle.record_rows.specs.Rows.{◌else_◌, plan_row, row_of, rows_of};
+ghost use Rattle.record_rows.specs.Steps as steps;
 ghost use Rattle.record_rows.specs.Steps.{step_of};
 ghost use Rattle.record_rows.specs.declared.rows.Row.TheVariants as row;
 
@@ -11,7 +12,7 @@ use crate::dependency_rows::dep;
 use crate::network_rows::network_row;
 use crate::plan_rows::{object_row, part};
 use crate::rows::Row;
-use crate::step_rows::{is_step_word, step};
+use crate::step_rows::{frequent_step, is_frequent, step};
 use base_types::{Items, NoMemory};
 use std::alloc::Global;
 use syntax::{first_word, is};
@@ -38,6 +39,18 @@ fn step_row(alloc: Global, text: &str) -> Result<Option<Row>, NoMemory>
     ensures { IfOk result (λ o. o ≡ option_map row.Step (step_of text.now)) }
 {
     match step(alloc, text) {
+        Ok(Some(step)) => Ok(Some(Row::Step(step))),
+        Ok(None) => Ok(None),
+        Err(error) => Err(error),
+    }
+}
+
+/// One of the steps that a long record has most of, by its first word and what follows it.
+fn frequent_row(alloc: Global, word: &str, rest: &str) -> Result<Option<Row>, NoMemory>
+    requires { steps.is_frequent word.now ≡ true }
+    ensures { IfOk result (λ o. o ≡ option_map row.Step (steps.step_of_word word.now rest.now)) }
+{
+    match frequent_step(alloc, word, rest) {
         Ok(Some(step)) => Ok(Some(Row::Step(step))),
         Ok(None) => Ok(None),
         Err(error) => Err(error),
@@ -91,13 +104,13 @@ fn object_or_behind(
 }
 
 /// A line that is no header. None where it has no form. Most lines of a long record are steps, and are told first.
-#[tactic(auto, unfolding(crate::specs::Rows::form_below), using(crate::proofs::StepWords::step_form))]
+#[tactic(auto, unfolding(crate::specs::Rows::form_below), using(crate::proofs::StepWords::frequent_form))]
 fn form_below(alloc: Global, text: &str) -> Result<Option<Row>, NoMemory>
     ensures { IfOk result (λ o. o ≡ spec.form_below text.now) }
 {
     let (word, rest) = first_word(text);
-    if is_step_word(word) {
-        return step_row(alloc, text);
+    if is_frequent(word) {
+        return frequent_row(alloc, word, rest);
     }
     match network_row(alloc, word, rest) {
         Ok(Some(row)) => Ok(Some(row)),

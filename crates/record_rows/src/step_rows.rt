@@ -1,5 +1,5 @@
 //! The lines that are steps.
-ghost use Rattle.std.specs.Prelude.{◌≡◌, IfOk, Ok, map, option_map};
+ghost use Rattle.std.specs.Prelude.{◌≡◌, IfOk, Ok, map, option_map, true};
 ghost use Rattle.std.specs.Str.{bytes_eq};
 ghost use Rattle.syntax.specs.Names.{name_of};
 ghost use Rattle.syntax.specs.Splits.{words_of};
@@ -402,6 +402,34 @@ fn recover(alloc: Global, rest: &str) -> Result<Option<StepRow>, NoMemory>
     }
 }
 
+/// A step by its first word and what follows it.
+#[tactic(auto, unfolding(crate::specs::Steps::step_of_word))]
+fn step_of_word(alloc: Global, word: &str, rest: &str) -> Result<Option<StepRow>, NoMemory>
+    ensures { IfOk result (λ o. o ≡ spec.step_of_word word.now rest.now) }
+{
+    if is(word, "next") {
+        Ok(read_date(rest).map(StepRow::NextDay))
+    } else if is(word, "link") {
+        link(alloc, rest)
+    } else if is(word, "unlink") {
+        unlink(alloc, rest)
+    } else if is(word, "deliver") {
+        deliver(alloc, rest)
+    } else if is(word, "flow") {
+        flow(alloc, rest)
+    } else if is(word, "reap") {
+        reap(alloc, rest)
+    } else if is(word, "crash") {
+        crash(alloc, rest)
+    } else if is(word, "fulfil") {
+        fulfil_in(alloc, rest)
+    } else if is(word, "recover") {
+        recover(alloc, rest)
+    } else {
+        own_step(alloc, word, rest)
+    }
+}
+
 /// Whether a step that is a workstation's own begins with this word.
 fn is_own_word(word: &str) -> bool
     ensures { result ≡ spec.is_own_word word.now }
@@ -414,37 +442,28 @@ fn is_own_word(word: &str) -> bool
 }
 
 /// Whether one of the steps that a long record has most of begins with this word.
-pub(crate) fn is_step_word(word: &str) -> bool
-    ensures { result ≡ spec.is_step_word word.now }
+pub(crate) fn is_frequent(word: &str) -> bool
+    ensures { result ≡ spec.is_frequent word.now }
 {
     is(word, "flow") || is(word, "reap") || is(word, "deliver") || is_own_word(word)
 }
 
-/// A step by its first word and what follows it. Those that a long record has most of are told first.
-#[tactic(auto, unfolding(crate::specs::Steps::step_of_word), using(crate::proofs::StepWords::own_first, crate::proofs::StepWords::flow_first, crate::proofs::StepWords::reap_first, crate::proofs::StepWords::deliver_first))]
-fn step_of_word(alloc: Global, word: &str, rest: &str) -> Result<Option<StepRow>, NoMemory>
+/// One of the steps that a long record has most of, by its first word and what follows it. Few words are compared.
+#[tactic(auto, using(crate::proofs::StepWords::flow_first, crate::proofs::StepWords::reap_first, crate::proofs::StepWords::deliver_first, crate::proofs::StepWords::own_first))]
+pub(crate) fn frequent_step(
+    alloc: Global,
+    word: &str,
+    rest: &str,
+) -> Result<Option<StepRow>, NoMemory>
+    requires { spec.is_frequent word.now ≡ true }
     ensures { IfOk result (λ o. o ≡ spec.step_of_word word.now rest.now) }
 {
-    if is_own_word(word) {
-        own_step(alloc, word, rest)
-    } else if is(word, "flow") {
+    if is(word, "flow") {
         flow(alloc, rest)
     } else if is(word, "reap") {
         reap(alloc, rest)
     } else if is(word, "deliver") {
         deliver(alloc, rest)
-    } else if is(word, "next") {
-        Ok(read_date(rest).map(StepRow::NextDay))
-    } else if is(word, "link") {
-        link(alloc, rest)
-    } else if is(word, "unlink") {
-        unlink(alloc, rest)
-    } else if is(word, "crash") {
-        crash(alloc, rest)
-    } else if is(word, "fulfil") {
-        fulfil_in(alloc, rest)
-    } else if is(word, "recover") {
-        recover(alloc, rest)
     } else {
         own_step(alloc, word, rest)
     }

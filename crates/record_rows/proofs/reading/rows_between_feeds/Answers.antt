@@ -1,8 +1,11 @@
-use Rattle.std.proofs.Common.{lit<, ap, ◌∙◌}
+use Rattle.std.proofs.Common.{lit<, ap, map, ◌∙◌}
 use Rattle.std.proofs.lemmas.Iterator.Consumers.{YieldsList-end}
 use Rattle.std.proofs.lemmas.Iterator.Splits.{YieldsList-from_str_split}
 use Rattle.record_rows.specs.Rows.{row_of}
 use Rattle.record_rows.proofs.reading.rows_between_feeds.Goals as goal
 
 pub returns : goal.returns
-returns c = ?
+returns c =
+    let all = YieldsList-end (YieldsList-from_str_split 10 c.args.text.now (lit< tt) cc cc cc) c.loop-line.yielded _
+    c.loop-line.yielded_by _ _ c.in-None.is c.next.ensures.steps in
+    c.loop-line.invariant ∙ ap (map row_of) all.0

@@ -9,7 +9,6 @@ use Rattle.record_rows.specs.Rows.{◌else_◌, network_row, plan_row, form_belo
 use Rattle.record_rows.specs.Steps.{is_own_word, is_frequent, own_step, pair_of, packet_of, reap_of, step_of, step_of_word}
 use Rattle.record_rows.specs.declared.rows.Row.{Row}
 use Rattle.record_rows.specs.declared.rows.Row.TheVariants as row
-use Rattle.record_rows.specs.declared.rows.StepRow.{StepRow}
 use Rattle.record_rows.specs.declared.rows.StepRow.TheVariants as step
 
 by_word : {A : Type 0} (f g : List ℕ → A) (word k : List ℕ) → f k ≡ g k → bytes_eq word k ≡ true → f word ≡ g word

@@ -1,0 +1,10 @@
+use Rattle.std.proofs.Common.{◌≡◌, drop, eqb, length}
+use Rattle.std.specs.List.{slice_split}
+use Rattle.night_records.specs.Composers.{definitions_from}
+use Rattle.night_records.proofs.composers.find_definitions.Given as goal
+
+abbrev pub invariant-loop-line : goal.invariant-loop-line
+invariant-loop-line l =
+    (l.place ≡ length l.yielded)
+    × (definitions_from 0 (slice_split (λ b. eqb b 10) l.text)
+    ≡ definitions_from l.place (drop l.place (slice_split (λ b. eqb b 10) l.text)))

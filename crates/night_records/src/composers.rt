@@ -14,24 +14,30 @@ fn is_skipped(line: &str) -> bool
     line.is_empty() || line.as_bytes()[0] == b'#'
 }
 
-/// The place of the line `$DEFINITIONS` among the lines of a text, from 0, where the text begins with it but for empty
-/// lines and comments. Nothing behind the first other line is looked at.
-pub(crate) fn find_definitions(text: &str) -> Option<usize>
-    requires { length text.now < 2 ^ 32 }
-    ensures { result ≡ spec.definitions_place text.now }
+/// The place of the first line that is not skipped, where it is `$DEFINITIONS`.
+fn place_among(texts: &[&str]) -> Option<usize>
+    ensures { result ≡ spec.definitions_from 0 (map (λ x. x.now) texts.now) }
 {
-    let mut place = 0;
-    for line in text.split('\n') {
+    for (i, line) in texts.iter().enumerate() {
         if !is_skipped(line) {
-            return if line == "$DEFINITIONS" {
-                Some(place)
+            return if *line == "$DEFINITIONS" {
+                Some(i)
             } else {
                 None
             };
         }
-        place += 1;
     }
     None
+}
+
+/// The place of the line `$DEFINITIONS` among the lines of a text, from 0, where the text begins with it but for empty
+/// lines and comments.
+#[tactic(auto, unfolding(crate::specs::Composers::definitions_place))]
+pub(crate) fn find_definitions(alloc: Global, text: &str) -> Result<Option<usize>, NoMemory>
+    ensures { IfOk result (λ o. o ≡ spec.definitions_place text.now) }
+{
+    let texts = lines(alloc, text)?;
+    Ok(place_among(&texts))
 }
 
 /// Puts a line with its line feed behind others.

@@ -8,8 +8,10 @@ and definitions, which may grow but not change. Constants, imports, attributes a
 crates/NAME/edits/seen has in its first line short sums of what the crate said when its edits were last seen refused, and
 a line for each edit with the sum of its text and its function.
 
-Usage: trials/edits.py          says which edits were not tried on what they stand on, and ends with 1 where one was not.
-                                It proves nothing.
+trials/untried.txt lists the edits that wait to be tried again after a large change, a line each: a crate and an edit.
+
+Usage: trials/edits.py          says which edits were not tried on what they stand on, and ends with 1 where one was not
+                                and is not listed as waiting, or where one that was tried is listed. It proves nothing.
        trials/edits.py NAME..   tries those of these crates, and writes the sums of those that were refused. It checks each
                                 crate first, over the libraries that `rt ci` kept on this machine, as trials/over.py does.
 """
@@ -136,8 +138,16 @@ def tried_and_untried(crate):
     return tried, {name: made for name, made in sums.items() if name not in tried}
 
 
+def waiting():
+    """The edits that are listed as waiting, as pairs of a crate and an edit."""
+    path = f"{TOP}/trials/untried.txt"
+    if not os.path.exists(path):
+        return set()
+    return {tuple(line.split()) for line in text_of(path).splitlines() if line.strip() and not line.startswith("#")}
+
+
 def look():
-    status, edits, crates = 0, 0, 0
+    status, edits, crates, listed = 0, 0, 0, waiting()
     for name in sorted(os.listdir(f"{TOP}/crates")):
         crate = f"{TOP}/crates/{name}"
         if not os.path.isdir(f"{crate}/edits"):
@@ -145,9 +155,16 @@ def look():
         tried, untried = tried_and_untried(crate)
         crates, edits = crates + 1, edits + len(tried) + len(untried)
         for edit in sorted(untried):
+            if (name, edit) in listed:
+                listed.remove((name, edit))
+                continue
             print(f"{name}: {edit} was not tried on what it stands on", file=sys.stderr)
             status = 1
-    print(f"edits: {edits} of {crates} crates looked at")
+    left = len(waiting()) - len(listed)
+    for name, edit in sorted(listed):
+        print(f"{name}: {edit} is listed as waiting, and does not wait", file=sys.stderr)
+        status = 1
+    print(f"edits: {edits} of {crates} crates looked at, {left} wait to be tried again")
     return status
 
 

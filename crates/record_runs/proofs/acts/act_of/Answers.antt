@@ -2,7 +2,8 @@ use Rattle.std.proofs.Common.{◌∙◌, ap, sym, subst}
 use Rattle.std.specs.Prelude.{IfErr, IfOk, Ok}
 use Rattle.model.specs.Types.{Next}
 use Rattle.record_script.specs.declared.OneStep.{OneStep}
-use Rattle.record_runs.specs.Lines.{act}
+use Rattle.conman_syntax.specs.declared.Line.{Line}
+use Rattle.record_runs.specs.Lines.{act, order_at, typed}
 use Rattle.record_runs.specs.Taken.{IsMade, IsNotMade}
 use Rattle.record_runs.specs.declared.acts.Act.{Act}
 use Rattle.record_runs.specs.declared.acts.Act.TheVariants.{Own}
@@ -53,13 +54,17 @@ pub returns-in-Typed-clause-made : goal.returns-in-Typed-clause-made
 unfolding act
 returns-in-Typed-clause-made c = λ day.
     subst (λ (o : OneStep). IfOk c.typed.result (IsMade c.args.world.now
-    (λ x. act day c.args.world.now.net x c.args.plans.now o))) (sym c.in-Typed.is) c.typed.ensures.made
+    (λ x. act day c.args.world.now.net x c.args.plans.now o))) (sym c.in-Typed.is)
+    (subst (λ (l : Line). IfOk c.typed.result (IsMade c.args.world.now
+    (λ x. typed c.in-Typed.w (order_at c.args.world.now.net x c.in-Typed.w l)))) c.line.ensures c.typed.ensures.made)
 
 pub returns-in-Typed-clause-not_made : goal.returns-in-Typed-clause-not_made
 unfolding act
 returns-in-Typed-clause-not_made c = λ day.
     subst (λ (o : OneStep). IfErr c.typed.result (IsNotMade c.args.world.now
-    (λ x. act day c.args.world.now.net x c.args.plans.now o))) (sym c.in-Typed.is) c.typed.ensures.not_made
+    (λ x. act day c.args.world.now.net x c.args.plans.now o))) (sym c.in-Typed.is)
+    (subst (λ (l : Line). IfErr c.typed.result (IsNotMade c.args.world.now
+    (λ x. typed c.in-Typed.w (order_at c.args.world.now.net x c.in-Typed.w l)))) c.line.ensures c.typed.ensures.not_made)
 
 pub returns-in-Next-clause-made : goal.returns-in-Next-clause-made
 unfolding act

@@ -1,0 +1,436 @@
+-- Each entry that a turn makes lowers what is left of a world, and what can still come to the catalogue stays covered.
+use Rattle.std.proofs.Common.{◌≡◌, ◌≢◌, ℕ, zero, suc, ◌+◌, ◌<◌, ◌≤◌, true, false, ◌⊎◌, inl, inr}
+use Rattle.std.proofs.Common.{List, [], ◌∷◌, ◌++◌, length, take, map, length-append, refl, ap, sym, subst, ◌∙◌, arith, Option, Some, None}
+use Rattle.std.proofs.Math.Seq.{take-length}
+use Rattle.std.proofs.lemmas.Bool.Decides.{eqb_tells}
+use Rattle.std.proofs.lemmas.Bool.{eqb-true}
+use Rattle.std.specs.List.{AllByRecursion}
+use Rattle.std.specs.Prelude.{Ok, ◌==◌, flat_map, option_map, slice_get}
+use Rattle.model.specs.Types.{Body, Cmd, Deliver, Entry, Events, Feed, Input, Linked, Net, Order, Orders, Submit, Take, Turn, WorldStep}
+use Rattle.model.specs.Words.{below}
+use Rattle.model.specs.Network.{node_count}
+use Rattle.model.specs.Equalities.{feed_eq}
+use Rattle.model.specs.Forwarding.{feeds}
+use Rattle.model.specs.History.{list_of}
+use Rattle.model.specs.Catalogue.{docs_in}
+use Rattle.model.specs.Facts.{answered}
+use Rattle.model.specs.FreeSteps.{free_step, recounted}
+use Rattle.model.specs.Invariant.{Invariant}
+use Rattle.model.specs.NewEntry.{event_of, makes, next_entry, own_entry}
+use Rattle.model.specs.Step.{effect}
+use Rattle.model.specs.Turn.{next_order, turn_body}
+use Rattle.model.specs.World.{Origin, World, apply_effect, history_with, mark_delivered, view_at}
+use Rattle.model_laws.proofs.Feeds.{feed_cases, list_of-append, list_of_elsewhere, list_of_here, pushed_cases}
+use Rattle.model_laws.proofs.FreeRuns.{free_kept}
+use Rattle.model_laws.proofs.Growth.{owned_grows, view_grows}
+use Rattle.model_laws.proofs.Options.{there_if}
+use Rattle.model_laws.proofs.Orders.{next_is}
+use Rattle.model_laws.proofs.Turns.{TurnGives, turn_gives}
+use Rattle.model_laws.proofs.Steps.{step_of}
+use Rattle.model_laws.proofs.Orders.{slice_get_take}
+use Rattle.rest_laws.specs.Gains.{total}
+use Rattle.rest_laws.specs.Left.{Caps, Covers, done, entries, jobs_ahead, keeps_to, left, left_at, left_of, streams_ahead}
+use Rattle.rest_laws.specs.Rounds.{AreTaken}
+use Rattle.rest_laws.specs.Rest.{count_of, net_at}
+use Rattle.rest_laws.proofs.Ahead.{Jobs, Streams, draft_ahead, few_deps, none_ahead, owned_below, within}
+use Rattle.rest_laws.proofs.Falls.{hits, total_falls}
+use Rattle.rest_laws.proofs.Gains.{are_inside, feed_or_none, first_in}
+use Rattle.rest_laws.proofs.Leads.{came, took}
+use Rattle.rest_laws.proofs.Lowers.{Fits, turn_lowers}
+use Rattle.rest_laws.proofs.Quiets.{IsFeed}
+
+-- what stood in a front stands in the whole
+-- a node's view has its own events whole
+own_events : (net : Net) (x : World) (w : ℕ) → Invariant net x → view_at x w (Events w) ≡ list_of x.history (Events w)
+own_events net x w inv = rw (inv.own w (Events w) refl) (take-length (list_of x.history (Events w)))
+
+-- what a turn makes
+pub record Made (net : Net) (x z : World) (w t : ℕ) (b : Body) : Type 0 where
+  pub body : turn_body (net_at net x w) (view_at x w) w (x.sessions w).live t ≡ Some b
+  pub history : z.history ≡ x.history ++ next_entry (view_at x w) (Events w) b ∷ []
+
+pub turn_makes : (net : Net) (x z : World) (w t : ℕ) → free_step net x (Take w (Turn t)) ≡ Ok z
+    → (w < node_count net) × ((z.history ≡ x.history) ⊎ ((b : Body) × Made net x z w t b))
+unfolding free_step apply_effect effect makes own_entry event_of
+turn_makes net x z w t e =
+    let p = took net (recounted x) z w (Turn t) e in (
+      first_in net x w [] (are_inside net x w (Input.Local (Turn t)) p.0),
+      go (turn_body (net_at net x w) (view_at x w) w (x.sessions w).live t) refl (ap (λ (y : World). y.history) p.1),
+    )
+  where
+    go : (o : Option Body) → turn_body (net_at net x w) (view_at x w) w (x.sessions w).live t ≡ o
+        → history_with Origin.Own x.history
+        (option_map (next_entry (view_at x w) (Events w)) (turn_body (net_at net x w) (view_at x w) w (x.sessions w).live t)) ≡ z.history
+        → (z.history ≡ x.history) ⊎ ((b : Body) × Made net x z w t b)
+    go None f g =
+        inl (sym g ∙ ap (λ o. history_with Origin.Own x.history (option_map (next_entry (view_at x w) (Events w)) o)) f)
+    go (Some b) f g =
+        inr (
+          b,
+          record {
+            body = f;
+            history = sym g ∙ ap (λ o. history_with Origin.Own x.history (option_map (next_entry (view_at x w) (Events w)) o)) f;
+          },
+        )
+
+-- the order that a workstation answers next
+module _ (net : Net) (x : World) (w : ℕ) (inv : Invariant net x) where
+  next_given : (a : ℕ) (c : Cmd) → next_order (view_at x w) w a ≡ Some c
+      → slice_get (list_of x.history (Orders a w)) (answered a (list_of x.history (Events w))) ≡ Some (Order c)
+  unfolding next_order
+  next_given a c e =
+      slice_get_take (x.holdings w (Orders a w)) (list_of x.history (Orders a w)) _ (Order c)
+      (subst (λ (l : List Body). slice_get (view_at x w (Orders a w)) (answered a l) ≡ Some (Order c)) (own_events net x w inv)
+      (next_is (slice_get (view_at x w (Orders a w)) (answered a (view_at x w (Events w)))) c e))
+
+  issuer_in : (a k : ℕ) (b : Body) → slice_get (list_of x.history (Orders a w)) k ≡ Some b → a < node_count net
+  issuer_in a k b e = go (feed_or_none net x inv (Orders a w))
+    where
+      go : IsFeed net (Orders a w) ⊎ (count_of x (Orders a w) ≡ 0) → a < node_count net
+      go (inl h) = h.0
+      go (inr h) = absurd (omega (arith, h, within (list_of x.history (Orders a w)) k b e))
+
+  fits : (caps : Caps) → Covers net caps x → Fits caps (node_count net) (λ a. count_of x (Orders a w)) (view_at x w) w
+  unfolding streams_ahead jobs_ahead
+  fits caps covers =
+      record {
+        objects =
+            λ o mine. owned_below (list_of x.history) inv.numbers caps o w (omega (arith, covers.streams))
+            (omega (arith, covers.jobs_))
+            (owned_grows (view_at x w) (list_of x.history) o w (view_grows x.history (x.holdings w)) mine);
+        numbers = λ o i d e. omega (arith, covers.deps_, few_deps (view_at x w) o i d e);
+        orders =
+            λ a c e. (
+              issuer_in a _ (Order c) (next_given a c e),
+              subst (λ (l : List Body). answered a l < count_of x (Orders a w)) (sym (own_events net x w inv))
+                  (within (list_of x.history (Orders a w)) _ (Order c) (next_given a c e)),
+            );
+      }
+
+-- after an entry of w's own
+module _ (net : Net) (G : List Entry) (e : Entry) (w : ℕ) (here : e.feed ≡ Events w) where
+  abbrev H : List Entry
+  H = G ++ e ∷ []
+
+  orders_same : (a v : ℕ) → list_of H (Orders a v) ≡ list_of G (Orders a v)
+  orders_same a v = go (pushed_cases G e (Orders a v))
+    where
+      go : ((Orders a v ≡ e.feed) × (list_of H (Orders a v) ≡ list_of G (Orders a v) ++ e.body ∷ []))
+          ⊎ ((Orders a v ≢ e.feed) × (list_of H (Orders a v) ≡ list_of G (Orders a v)))
+          → list_of H (Orders a v) ≡ list_of G (Orders a v)
+      go (inl k) = absurd (other (k.0 ∙ here))
+        where
+          other : Orders a v ≡ Events w → ⊥
+          other f = cc
+      go (inr k) = k.1
+
+  events_same : (v : ℕ) → v ≢ w → list_of H (Events v) ≡ list_of G (Events v)
+  events_same v other = go (pushed_cases G e (Events v))
+    where
+      go : ((Events v ≡ e.feed) × (list_of H (Events v) ≡ list_of G (Events v) ++ e.body ∷ []))
+          ⊎ ((Events v ≢ e.feed) × (list_of H (Events v) ≡ list_of G (Events v)))
+          → list_of H (Events v) ≡ list_of G (Events v)
+      go (inl k) = absurd (other (same (k.0 ∙ here)))
+        where
+          same : Events v ≡ Events w → v ≡ w
+          same f = cc
+      go (inr k) = k.1
+
+  events_here : list_of H (Events w) ≡ list_of G (Events w) ++ e.body ∷ []
+  events_here = go (pushed_cases G e (Events w))
+    where
+      go : ((Events w ≡ e.feed) × (list_of H (Events w) ≡ list_of G (Events w) ++ e.body ∷ []))
+          ⊎ ((Events w ≢ e.feed) × (list_of H (Events w) ≡ list_of G (Events w)))
+          → list_of H (Events w) ≡ list_of G (Events w) ++ e.body ∷ []
+      go (inl k) = k.1
+      go (inr k) = absurd (k.0 (sym here))
+
+  all_orders_same : (v : ℕ) → ◌≡◌ {A = ℕ → List Body} (λ a. list_of H (Orders a v)) (λ a. list_of G (Orders a v))
+  all_orders_same v = λ i a. orders_same a v i
+
+  given_same : (v : ℕ) → ◌≡◌ {A = ℕ → ℕ} (λ a. length (list_of H (Orders a v))) (λ a. length (list_of G (Orders a v)))
+  given_same v = λ i a. length (orders_same a v i)
+
+pub left_same : (net : Net) (caps : Caps) (readings : ℕ → ℕ) (x z : World) → z.history ≡ x.history
+    → left net caps readings z ≡ left net caps readings x
+unfolding left
+left_same net caps readings x z e = rw e refl
+
+pub covers_same : (net : Net) (caps : Caps) (x z : World) → z.history ≡ x.history → Covers net caps x → Covers net caps z
+unfolding streams_ahead jobs_ahead
+covers_same net caps x z e h =
+    record { streams = rw e h.streams; jobs_ = rw e h.jobs_; deps_ = h.deps_ }
+
+module _ (net : Net) (caps : Caps) (readings : ℕ → ℕ) (x z : World) (w : ℕ) (inv : Invariant net x)
+    (covers : Covers net caps x) (b : Body) (made : Made net x z w (readings w) b) where
+  abbrev new : Entry
+  new = next_entry (view_at x w) (Events w) b
+
+  own_falls : left_at net caps readings z w + 1 ≤ left_at net caps readings x w
+  own_falls =
+      let low : left_of caps (node_count net) (readings w) (λ a. count_of x (Orders a w)) (list_of x.history (Events w) ++ b ∷ [])
+      < left_of caps (node_count net) (readings w) (λ a. count_of x (Orders a w)) (list_of x.history (Events w)) =
+      subst (λ (l : List Body). left_of caps (node_count net) (readings w) (λ a. count_of x (Orders a w)) (l ++ b ∷ [])
+      < left_of caps (node_count net) (readings w) (λ a. count_of x (Orders a w)) l) (own_events net x w inv)
+      (turn_lowers (net_at net x w) (view_at x w) w (x.sessions w).live (readings w) caps (node_count net)
+      (λ a. count_of x (Orders a w)) (fits net x w inv caps covers) b made.body) in
+      let same : left_at net caps readings z w
+      ≡ left_of caps (node_count net) (readings w) (λ a. count_of x (Orders a w)) (list_of x.history (Events w) ++ b ∷ []) =
+      ap (λ (G : List Entry). left_of caps (node_count net) (readings w) (λ a. length (list_of G (Orders a w))) (list_of G (Events w)))
+      made.history
+      ∙ ap (λ (g : ℕ → ℕ). left_of caps (node_count net) (readings w) g (list_of (x.history ++ new ∷ []) (Events w)))
+      (given_same net x.history new w refl w)
+      ∙ ap (left_of caps (node_count net) (readings w) (λ a. count_of x (Orders a w))) (events_here net x.history new w refl) in
+      omega (arith, low, same)
+
+  others_same : (v : ℕ) → v ≢ w → left_at net caps readings z v ≡ left_at net caps readings x v
+  others_same v other =
+      ap (λ (G : List Entry). left_of caps (node_count net) (readings v) (λ a. length (list_of G (Orders a v))) (list_of G (Events v)))
+      made.history
+      ∙ ap (λ (g : ℕ → ℕ). left_of caps (node_count net) (readings v) g (list_of (x.history ++ new ∷ []) (Events v)))
+      (given_same net x.history new w refl v)
+      ∙ ap (left_of caps (node_count net) (readings v) (λ a. count_of x (Orders a v))) (events_same net x.history new w refl v other)
+
+  none_rises : (v : ℕ) → left_at net caps readings z v ≤ left_at net caps readings x v
+  none_rises v =
+      elim (eqb_tells v w) [
+        | inl e ↦ subst (λ (v : ℕ). left_at net caps readings z v ≤ left_at net caps readings x v) (sym e.1)
+            (omega (arith, own_falls))
+        | inr e ↦ omega (arith, others_same v e.1)
+      ]
+
+  pub left_falls : w < node_count net → left net caps readings z < left net caps readings x
+  unfolding left
+  left_falls w_in =
+      omega (
+        arith,
+        total_falls (left_at net caps readings z) (left_at net caps readings x) 1 (node_count net) w none_rises w_in own_falls,
+      )
+
+-- what can still come to the catalogue
+module _ (net : Net) (caps : Caps) (x z : World) (w t : ℕ) (inv : Invariant net x)
+    (covers : Covers net caps x) (b : Body) (made : Made net x z w t b) where
+  abbrev given : ℕ → List Body
+  given a = list_of x.history (Orders a 0)
+
+  abbrev NoneAhead : List Body → Type 0
+  NoneAhead M =
+      (Streams (node_count net) given M b M ≤ Streams (node_count net) given M b (list_of x.history (Events 0)))
+      × (Jobs (node_count net) given M b M ≤ Jobs (node_count net) given M b (list_of x.history (Events 0)))
+
+  by_master : w ≡ 0 → NoneAhead (list_of x.history (Events 0) ++ b ∷ [])
+  by_master e = go b (there_if (TurnGives net_w (view_at x w) w (x.sessions w).live t) _ b (turn_gives net_w (view_at x w) w (x.sessions w).live t) made.body)
+    where
+      net_w : Net
+      net_w = net_at net x w
+
+      L : List Body
+      L = list_of x.history (Events 0)
+
+      none : (c : Body) → docs_in c ≡ [] → NoneAhead (L ++ c ∷ [])
+      none c k = none_ahead (node_count net) given L c k
+
+      go : (c : Body) → TurnGives net_w (view_at x w) w (x.sessions w).live t c → NoneAhead (L ++ c ∷ [])
+      go c (TurnGives.clocked g) = none _ refl
+      go c (TurnGives.lost j n f dead) = none _ refl
+      go c (TurnGives.declined a d why g) = none _ refl
+      go c (TurnGives.added a draft g v) =
+          let there : slice_get (given a) (answered a L) ≡ Some (Order (Submit draft)) =
+          subst (λ (w : ℕ). slice_get (list_of x.history (Orders a w)) (answered a (list_of x.history (Events w)))
+          ≡ Some (Order (Submit draft))) e (next_given net x w inv a (Submit draft) g) in
+          draft_ahead (node_count net) given L (view_at x w) a (1 + answered a (view_at x w (Events w))) draft
+          (issuer_in net x 0 inv a _ (Order (Submit draft)) there) there
+      go c (TurnGives.obeyed a d g) = none _ refl
+      go c (TurnGives.until o p u m g l) = none _ refl
+      go c (TurnGives.late o p m g) = none _ refl
+      go c (TurnGives.released s g) = none _ refl
+      go c (TurnGives.ended s g) = none _ refl
+      go c (TurnGives.launched j ready) = none _ refl
+
+covers_made : (net : Net) (caps : Caps) (x z : World) (w t : ℕ) → Invariant net x → Covers net caps x → (b : Body)
+    → Made net x z w t b → Covers net caps z
+unfolding streams_ahead jobs_ahead
+covers_made net caps x z w t inv covers b made = go (eqb_tells 0 w)
+  where
+    new : Entry
+    new = next_entry (view_at x w) (Events w) b
+
+    orders : ℕ → List Body
+    orders a = list_of x.history (Orders a 0)
+
+    -- of a longer list of the master
+    by_list : (M : List Body) → list_of (x.history ++ new ∷ []) (Events 0) ≡ M
+        → (Streams (node_count net) orders M b M ≤ Streams (node_count net) orders M b (list_of x.history (Events 0)))
+        × (Jobs (node_count net) orders M b M ≤ Jobs (node_count net) orders M b (list_of x.history (Events 0)))
+        → Covers net caps z
+    by_list M e h =
+        let streams : streams_ahead net z ≡ Streams (node_count net) orders M b M =
+        ap (λ (G : List Entry). Streams (node_count net) (λ a. list_of G (Orders a 0)) M b (list_of G (Events 0))) made.history
+        ∙ ap (λ (o : ℕ → List Body). Streams (node_count net) o M b (list_of (x.history ++ new ∷ []) (Events 0)))
+        (all_orders_same net x.history new w refl 0)
+        ∙ ap (Streams (node_count net) orders M b) e in
+        let jobs_ : jobs_ahead net z ≡ Jobs (node_count net) orders M b M =
+        ap (λ (G : List Entry). Jobs (node_count net) (λ a. list_of G (Orders a 0)) M b (list_of G (Events 0))) made.history
+        ∙ ap (λ (o : ℕ → List Body). Jobs (node_count net) o M b (list_of (x.history ++ new ∷ []) (Events 0)))
+        (all_orders_same net x.history new w refl 0)
+        ∙ ap (Jobs (node_count net) orders M b) e in
+        record {
+          streams = omega (arith, streams, h.0, covers.streams);
+          jobs_ = omega (arith, jobs_, h.1, covers.jobs_);
+          deps_ = covers.deps_;
+        }
+
+    go : (((0 == w) ≡ true) × (0 ≡ w)) ⊎ (((0 == w) ≡ false) × (0 ≢ w)) → Covers net caps z
+    go (inl e) =
+        by_list (list_of x.history (Events 0) ++ b ∷ [])
+        (subst (λ (v : ℕ). list_of (x.history ++ new ∷ []) (Events v) ≡ list_of x.history (Events v) ++ b ∷ []) (sym e.1)
+        (events_here net x.history new w refl))
+        (by_master net caps x z w t inv covers b made (sym e.1))
+    go (inr e) =
+        by_list (list_of x.history (Events 0)) (events_same net x.history new w refl 0 e.1)
+        (omega arith, omega arith)
+
+-- how many entries there are
+pub total_append : {X : Type 0} (f : X → ℕ) (xs ys : List X) → total f (xs ++ ys) ≡ total f xs + total f ys
+total_append f [] ys = omega arith
+total_append f (x ∷ xs) ys = omega (arith, total_append f xs ys)
+
+pub total_map : {X Y : Type 0} (f : Y → ℕ) (g : X → Y) (xs : List X) → total f (map g xs) ≡ total (λ x. f (g x)) xs
+total_map f g [] = refl
+total_map f g (x ∷ xs) = omega (arith, total_map f g xs)
+
+total_none : {X : Type 0} (f : X → ℕ) (xs : List X) → ((x : X) → f x ≡ 0) → total f xs ≡ 0
+total_none f [] h = refl
+total_none f (x ∷ xs) h = omega (arith, h x, total_none f xs h)
+
+flat_none : {X Y : Type 0} (f : Y → ℕ) (g : X → List Y) (xs : List X) → ((x : X) → total f (g x) ≡ 0)
+    → total f (flat_map g xs) ≡ 0
+flat_none f g [] h = refl
+flat_none f g (x ∷ xs) h = omega (arith, total_append f (g x) (flat_map g xs), h x, flat_none f g xs h)
+
+total_more : {X : Type 0} (f g h : X → ℕ) (xs : List X) → ((x : X) → f x ≤ g x + h x)
+    → total f xs ≤ total g xs + total h xs
+total_more f g h [] low = omega arith
+total_more f g h (x ∷ xs) low = omega (arith, low x, total_more f g h xs low)
+
+-- of the network's feeds one at most is this one
+feeds_once : (net : Net) (w : ℕ) → total (λ f. done (feed_eq f (Events w))) (feeds net) ≤ 1
+unfolding feeds
+feeds_once net w =
+    omega (
+      arith,
+      total_append (λ f. done (feed_eq f (Events w))) (map Events (below (node_count net)))
+          (flat_map (λ a. map (Orders a) (below (node_count net))) (below (node_count net))),
+      total_map (λ f. done (feed_eq f (Events w))) Events (below (node_count net)),
+      hits w 0 (node_count net),
+      flat_none (λ f. done (feed_eq f (Events w))) (λ a. map (Orders a) (below (node_count net))) (below (node_count net))
+          (λ a. total_map (λ f. done (feed_eq f (Events w))) (Orders a) (below (node_count net))
+          ∙ total_none (λ b. done (feed_eq (Orders a b) (Events w))) (below (node_count net)) (λ b. refl)),
+    )
+
+one_entry : (net : Net) (x z : World) (w t : ℕ) (b : Body) → Made net x z w t b → entries net z ≤ entries net x + 1
+unfolding entries
+one_entry net x z w t b made =
+    omega (
+      arith,
+      total_more (count_of z) (count_of x) (λ f. done (feed_eq f (Events w))) (feeds net) at_feed,
+      feeds_once net w,
+    )
+  where
+    new : Entry
+    new = next_entry (view_at x w) (Events w) b
+
+    at_feed : (f : Feed) → count_of z f ≤ count_of x f + done (feed_eq f (Events w))
+    at_feed f =
+        let whole : count_of z f ≡ length (list_of x.history f) + length (list_of (new ∷ []) f) =
+        ap (λ (G : List Entry). length (list_of G f)) made.history
+        ∙ ap length (list_of-append x.history (new ∷ []) f)
+        ∙ length-append (list_of x.history f) (list_of (new ∷ []) f) in
+        elim (feed_cases f (Events w)) [
+          | inl e ↦ omega (arith, whole, ap length (list_of_here new f e.0), ap done e.0)
+          | inr e ↦ omega (arith, whole, ap length (list_of_elsewhere new f e.0), ap done e.0)
+        ]
+
+entries_same : (net : Net) (x z : World) → z.history ≡ x.history → entries net z ≡ entries net x
+unfolding entries
+entries_same net x z e = rw e refl
+
+mailed_same : (G : List Entry) (o : Option Entry) → history_with Origin.Mailed G o ≡ G
+mailed_same G None = refl
+mailed_same G (Some e) = refl
+
+pub delivered_same : (net : Net) (x z : World) (a b k : ℕ) → free_step net x (Deliver a b k) ≡ Ok z → z.history ≡ x.history
+unfolding free_step apply_effect mark_delivered
+delivered_same net x z a b k e =
+    let p = came net (recounted x) z a b k e in
+    sym (ap (λ (y : World). y.history) p.2) ∙ mailed_same x.history (step_of net (recounted x) b p.0).made
+
+pub linked_same : (net : Net) (x z : World) (w v : ℕ) → free_step net x (Take w (Linked v)) ≡ Ok z → z.history ≡ x.history
+unfolding free_step apply_effect effect makes own_entry event_of
+linked_same net x z w v e = sym (ap (λ (y : World). y.history) (took net (recounted x) z w (Linked v) e).1)
+
+-- entries and what is left of them never grow together
+pub record Keeps (net : Net) (caps : Caps) (readings : ℕ → ℕ) (x z : World) : Type 0 where
+  pub bound : entries net z + left net caps readings z ≤ entries net x + left net caps readings x
+  pub covers : Covers net caps z
+
+keeps_same : (net : Net) (caps : Caps) (readings : ℕ → ℕ) (x z : World) → Covers net caps x → z.history ≡ x.history
+    → Keeps net caps readings x z
+keeps_same net caps readings x z covers e =
+    record {
+      bound = omega (arith, entries_same net x z e, left_same net caps readings x z e);
+      covers = covers_same net caps x z e covers;
+    }
+
+-- a turn at its reading keeps an entry and lowers what is left, or leaves both
+pub turn_left : (net : Net) (caps : Caps) (readings : ℕ → ℕ) (x z : World) (w : ℕ) → Invariant net x
+    → Covers net caps x → free_step net x (Take w (Turn (readings w))) ≡ Ok z
+    → (left net caps readings z < left net caps readings x) ⊎ (z.history ≡ x.history)
+turn_left net caps readings x z w inv covers e =
+    let made = turn_makes net x z w (readings w) e in go made.0 made.1
+  where
+    go : w < node_count net → ((z.history ≡ x.history) ⊎ ((b : Body) × Made net x z w (readings w) b))
+        → (left net caps readings z < left net caps readings x) ⊎ (z.history ≡ x.history)
+    go w_in (inl h) = inr h
+    go w_in (inr h) = inl (left_falls net caps readings x z w inv covers h.0 h.1 w_in)
+
+turn_keeps : (net : Net) (caps : Caps) (readings : ℕ → ℕ) (x z : World) (w : ℕ) → Invariant net x
+    → Covers net caps x → free_step net x (Take w (Turn (readings w))) ≡ Ok z → Keeps net caps readings x z
+turn_keeps net caps readings x z w inv covers e =
+    let made = turn_makes net x z w (readings w) e in go made.0 made.1
+  where
+    go : w < node_count net → ((z.history ≡ x.history) ⊎ ((b : Body) × Made net x z w (readings w) b))
+        → Keeps net caps readings x z
+    go w_in (inl h) = keeps_same net caps readings x z covers h
+    go w_in (inr h) =
+        record {
+          bound =
+              omega (
+                arith,
+                left_falls net caps readings x z w inv covers h.0 h.1 w_in,
+                one_entry net x z w (readings w) h.0 h.1,
+              );
+          covers = covers_made net caps x z w (readings w) inv covers h.0 h.1;
+        }
+
+pub step_keeps : (net : Net) (caps : Caps) (readings : ℕ → ℕ) (x z : World) (s : WorldStep) → Invariant net x
+    → Covers net caps x → keeps_to readings s ≡ true → free_step net x s ≡ Ok z → Keeps net caps readings x z
+step_keeps net caps readings x z (Take w (Turn t)) inv covers h e =
+    turn_keeps net caps readings x z w inv covers
+    (subst (λ (t : ℕ). free_step net x (Take w (Turn t)) ≡ Ok z) (eqb-true t (readings w) h) e)
+step_keeps net caps readings x z (Take w (Linked v)) inv covers h e =
+    keeps_same net caps readings x z covers (linked_same net x z w v e)
+step_keeps net caps readings x z (Deliver a b k) inv covers h e =
+    keeps_same net caps readings x z covers (delivered_same net x z a b k e)
+step_keeps net caps readings x z _ inv covers h e = cc
+
+pub steps_keep : (net : Net) (caps : Caps) (readings : ℕ → ℕ) (steps : List WorldStep) (x z : World) → Invariant net x
+    → Covers net caps x → AllByRecursion (λ s. keeps_to readings s ≡ true) steps → AreTaken net x steps z
+    → Keeps net caps readings x z
+steps_keep net caps readings [] x z inv covers each taken =
+    subst (Keeps net caps readings x) taken (record { bound = omega arith; covers = covers })
+steps_keep net caps readings (s ∷ steps) x z inv covers each taken =
+    let one : Keeps net caps readings x taken.0 = step_keeps net caps readings x taken.0 s inv covers each.0 taken.1 in
+    let rest : Keeps net caps readings taken.0 z =
+    steps_keep net caps readings steps taken.0 z (free_kept net x taken.0 s inv taken.1) one.covers each.1 taken.2 in
+    record { bound = omega (arith, one.bound, rest.bound); covers = rest.covers }

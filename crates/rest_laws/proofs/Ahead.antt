@@ -23,10 +23,10 @@ use Rattle.model_laws.proofs.Options.{find_passes, there_if}
 use Rattle.model_laws.proofs.Answered.{answered-append}
 use Rattle.model_laws.proofs.Inside.{find_all}
 use Rattle.model_laws.proofs.Numbers.{map-length}
-use Rattle.rest_laws.specs.Gains.{total}
+use Rattle.rest_laws.specs.Gains.{sum_over}
 use Rattle.rest_laws.specs.Left.{Caps, drafted, is_below}
-use Rattle.rest_laws.proofs.Gains.{total_low}
-use Rattle.rest_laws.proofs.Falls.{total_falls}
+use Rattle.rest_laws.proofs.Gains.{sum_over_low}
+use Rattle.rest_laws.proofs.Falls.{sum_over_falls}
 use Rattle.rest_laws.proofs.Quiets.{map_holds}
 
 -- words
@@ -142,30 +142,30 @@ jobs_of_draft V draft =
     (omega (arith, numbers_many (1 + last_job V) draft.jobs))
 
 -- what is behind in a list has no more
-drop_low : (f : Body → ℕ) (m k : ℕ) (xs : List Body) → k ≤ m → total f (drop m xs) ≤ total f (drop k xs)
+drop_low : (f : Body → ℕ) (m k : ℕ) (xs : List Body) → k ≤ m → sum_over f (drop m xs) ≤ sum_over f (drop k xs)
 drop_low f zero zero xs low = omega arith
 drop_low f zero (suc k) xs low = absurd (omega (arith, low))
 drop_low f (suc m) zero [] low = omega arith
 drop_low f (suc m) zero (x ∷ xs) low = omega (arith, drop_low f m zero xs (omega arith), whole xs)
   where
-    whole : (xs : List Body) → total f (drop zero xs) ≡ total f xs
+    whole : (xs : List Body) → sum_over f (drop zero xs) ≡ sum_over f xs
     whole [] = refl
     whole (x ∷ xs) = refl
 drop_low f (suc m) (suc k) [] low = omega arith
 drop_low f (suc m) (suc k) (x ∷ xs) low = drop_low f m k xs (omega (arith, low))
 
 drop_next : (f : Body → ℕ) (k : ℕ) (xs : List Body) (b : Body) → slice_get xs k ≡ Some b
-    → total f (drop (1 + k) xs) + f b ≤ total f (drop k xs)
+    → sum_over f (drop (1 + k) xs) + f b ≤ sum_over f (drop k xs)
 drop_next f k xs b e = let same : 1 + k ≡ suc k = omega arith in rw same (go k xs e)
   where
     inside : (x b : Body) → Some x ≡ Some b → x ≡ b
     inside x b e = cc
 
-    go : (k : ℕ) (xs : List Body) → slice_get xs k ≡ Some b → total f (drop (suc k) xs) + f b ≤ total f (drop k xs)
+    go : (k : ℕ) (xs : List Body) → slice_get xs k ≡ Some b → sum_over f (drop (suc k) xs) + f b ≤ sum_over f (drop k xs)
     go zero [] e = cc
     go zero (x ∷ xs) e = rw (sym (inside x b e)) (omega (arith, whole xs))
       where
-        whole : (xs : List Body) → total f (drop zero xs) ≡ total f xs
+        whole : (xs : List Body) → sum_over f (drop zero xs) ≡ sum_over f xs
         whole [] = refl
         whole (x ∷ xs) = refl
     go (suc k) [] e = cc
@@ -178,16 +178,16 @@ answers_one a b e = rw e refl
 -- with the master's list, the orders that it was given, and how many of them there are
 module _ (n : ℕ) (orders : ℕ → List Body) (L : List Body) (b : Body) where
   abbrev pub Streams : List Body → ℕ
-  Streams M = length (docs_of M) + total (λ a. length (orders a) - answered a M) (below n)
+  Streams M = length (docs_of M) + sum_over (λ a. length (orders a) - answered a M) (below n)
 
   abbrev pub Jobs : List Body → ℕ
-  Jobs M = length (jobs_of_docs M) + total (λ a. total drafted (drop (answered a M) (orders a))) (below n)
+  Jobs M = length (jobs_of_docs M) + sum_over (λ a. sum_over drafted (drop (answered a M) (orders a))) (below n)
 
   orders_less : (a : ℕ) → length (orders a) - answered a (L ++ b ∷ []) ≤ length (orders a) - answered a L
   orders_less a = omega (arith, answered-append a L (b ∷ []))
 
   drafts_less : (a : ℕ)
-      → total drafted (drop (answered a (L ++ b ∷ [])) (orders a)) ≤ total drafted (drop (answered a L) (orders a))
+      → sum_over drafted (drop (answered a (L ++ b ∷ [])) (orders a)) ≤ sum_over drafted (drop (answered a L) (orders a))
   drafts_less a =
       drop_low drafted (answered a (L ++ b ∷ [])) (answered a L) (orders a) (omega (arith, answered-append a L (b ∷ [])))
 
@@ -197,15 +197,15 @@ module _ (n : ℕ) (orders : ℕ → List Body) (L : List Body) (b : Body) where
       arith,
       docs_more L b,
       ap length e,
-      total_low (λ a. length (orders a) - answered a (L ++ b ∷ [])) (λ a. length (orders a) - answered a L)
+      sum_over_low (λ a. length (orders a) - answered a (L ++ b ∷ [])) (λ a. length (orders a) - answered a L)
           (below n) orders_less,
     ),
     omega (
       arith,
       jobs_more L b,
       ap (λ ds. length (flat_map jobs_in ds)) e,
-      total_low (λ a. total drafted (drop (answered a (L ++ b ∷ [])) (orders a)))
-          (λ a. total drafted (drop (answered a L) (orders a))) (below n) drafts_less,
+      sum_over_low (λ a. sum_over drafted (drop (answered a (L ++ b ∷ [])) (orders a)))
+          (λ a. sum_over drafted (drop (answered a L) (orders a))) (below n) drafts_less,
     ),
   )
 
@@ -218,7 +218,7 @@ draft_ahead n orders L V a k draft low e = (
   omega (
     arith,
     docs_more L b,
-    total_falls (λ a. length (orders a) - answered a (L ++ b ∷ [])) (λ a. length (orders a) - answered a L) 1 n a
+    sum_over_falls (λ a. length (orders a) - answered a (L ++ b ∷ [])) (λ a. length (orders a) - answered a L) 1 n a
         (orders_less n orders L b) low
         (omega (arith, within (orders a) (answered a L) (Order (Submit draft)) e, one)),
   ),
@@ -226,9 +226,9 @@ draft_ahead n orders L V a k draft low e = (
     arith,
     jobs_more L b,
     jobs_of_draft V draft,
-    total_falls (λ a. total drafted (drop (answered a (L ++ b ∷ [])) (orders a)))
-        (λ a. total drafted (drop (answered a L) (orders a))) (length draft.jobs) n a (drafts_less n orders L b) low
-        (subst (λ (m : ℕ). total drafted (drop m (orders a)) + length draft.jobs ≤ total drafted (drop (answered a L) (orders a)))
+    sum_over_falls (λ a. sum_over drafted (drop (answered a (L ++ b ∷ [])) (orders a)))
+        (λ a. sum_over drafted (drop (answered a L) (orders a))) (length draft.jobs) n a (drafts_less n orders L b) low
+        (subst (λ (m : ℕ). sum_over drafted (drop m (orders a)) + length draft.jobs ≤ sum_over drafted (drop (answered a L) (orders a)))
         (sym one) (drop_next drafted (answered a L) (orders a) (Order (Submit draft)) e)),
   ),
 )

@@ -8,7 +8,7 @@ use Rattle.model.specs.Network.{IsTree, node_count}
 use Rattle.model.specs.Forwarding.{feeds}
 use Rattle.model.specs.World.{World}
 use Rattle.model.specs.Invariant.{Invariant}
-use Rattle.rest_laws.specs.Gains.{gained, most, total}
+use Rattle.rest_laws.specs.Gains.{gained, most, sum_over}
 use Rattle.rest_laws.specs.Left.{AreBusyRoundsAt, Caps, Covers, caps_of, entries, bound_of, keeps_to, left}
 use Rattle.rest_laws.specs.Rest.{count_of}
 use Rattle.rest_laws.specs.Rounds.{AreBusyRounds, IsBusyRound, is_linking}
@@ -16,27 +16,27 @@ use Rattle.rest_laws.proofs.Busy.{few_busy}
 use Rattle.rest_laws.proofs.Gains.{kept_run}
 use Rattle.rest_laws.proofs.Lefts.{Keeps, steps_keep}
 
-total_sum : {X : Type 0} (f g : X → ℕ) (xs : List X) → total (λ x. f x + g x) xs ≡ total f xs + total g xs
-total_sum f g [] = refl
-total_sum f g (x ∷ xs) = omega (arith, total_sum f g xs)
+sum_over_sum : {X : Type 0} (f g : X → ℕ) (xs : List X) → sum_over (λ x. f x + g x) xs ≡ sum_over f xs + sum_over g xs
+sum_over_sum f g [] = refl
+sum_over_sum f g (x ∷ xs) = omega (arith, sum_over_sum f g xs)
 
-total_zero : {X : Type 0} (xs : List X) → total (λ (x : X). 0) xs ≡ 0
-total_zero [] = refl
-total_zero (x ∷ xs) = omega (arith, total_zero xs)
+sum_over_zero : {X : Type 0} (xs : List X) → sum_over (λ (x : X). 0) xs ≡ 0
+sum_over_zero [] = refl
+sum_over_zero (x ∷ xs) = omega (arith, sum_over_zero xs)
 
-total_const : (c s n : ℕ) → total (λ (m : ℕ). c) (numbers_from s n) ≡ n * c
-total_const c s zero = grind arith
-total_const c s (suc n) = grind (arith, total_const c (s + 1) n)
+sum_over_const : (c s n : ℕ) → sum_over (λ (m : ℕ). c) (numbers_from s n) ≡ n * c
+sum_over_const c s zero = grind arith
+sum_over_const c s (suc n) = grind (arith, sum_over_const c (s + 1) n)
 
 -- what each has where everybody holds so many entries, and knows of everybody that it does
 abbrev share : Net → ℕ → ℕ
 share net c =
-    total (λ (w : ℕ). c + total (λ (m : ℕ). c) (below (node_count net))) (below (node_count net))
+    sum_over (λ (w : ℕ). c + sum_over (λ (m : ℕ). c) (below (node_count net))) (below (node_count net))
 
 share_is : (net : Net) (c : ℕ) → share net c ≡ (node_count net + node_count net * node_count net) * c
 share_is net c =
-    ap (λ (k : ℕ). total (λ (w : ℕ). c + k) (below (node_count net))) (total_const c 0 (node_count net))
-    ∙ total_const (c + node_count net * c) 0 (node_count net) ∙ product (node_count net) c
+    ap (λ (k : ℕ). sum_over (λ (w : ℕ). c + k) (below (node_count net))) (sum_over_const c 0 (node_count net))
+    ∙ sum_over_const (c + node_count net * c) 0 (node_count net) ∙ product (node_count net) c
   where
     product : (n c : ℕ) → n * (c + n * c) ≡ (n + n * n) * c
     product n c = grind arith
@@ -49,11 +49,11 @@ most_is net x = go (feeds net)
     n = node_count net
 
     go : (fs : List Feed)
-        → total (λ f. total (λ (w : ℕ). count_of x f + total (λ (m : ℕ). count_of x f) (below (node_count net))) (below (node_count net))) fs
-        ≡ (node_count net + node_count net * node_count net) * total (count_of x) fs
+        → sum_over (λ f. sum_over (λ (w : ℕ). count_of x f + sum_over (λ (m : ℕ). count_of x f) (below (node_count net))) (below (node_count net))) fs
+        ≡ (node_count net + node_count net * node_count net) * sum_over (count_of x) fs
     go [] = grind arith
-    go (f ∷ fs) = ap (λ (k : ℕ). k + total (λ f. share net (count_of x f)) fs) (share_is net (count_of x f))
-        ∙ ap (λ (k : ℕ). (n + n * n) * count_of x f + k) (go fs) ∙ spread (n + n * n) (count_of x f) (total (count_of x) fs)
+    go (f ∷ fs) = ap (λ (k : ℕ). k + sum_over (λ f. share net (count_of x f)) fs) (share_is net (count_of x f))
+        ∙ ap (λ (k : ℕ). (n + n * n) * count_of x f + k) (go fs) ∙ spread (n + n * n) (count_of x f) (sum_over (count_of x) fs)
       where
         spread : (a b c : ℕ) → a * b + a * c ≡ a * (b + c)
         spread a b c = grind arith

@@ -20,18 +20,18 @@ use Rattle.model.specs.Outcomes.{Outcome}
 use Rattle.model_laws.proofs.Growth.{launches-append}
 use Rattle.model_laws.proofs.Answered.{answered-append}
 use Rattle.model_laws.proofs.Tidy.{launched_none, launches_none}
-use Rattle.rest_laws.specs.Gains.{total}
+use Rattle.rest_laws.specs.Gains.{sum_over}
 use Rattle.rest_laws.specs.Left.{Caps, done, job_left, orders_left, records_left, stream_left, undone}
-use Rattle.rest_laws.proofs.Gains.{total_low}
+use Rattle.rest_laws.proofs.Gains.{sum_over_low}
 
 -- sums
 fall_from : (f g : ℕ → ℕ) (c s n x : ℕ) → ((a : ℕ) → f a ≤ g a) → s ≤ x → x < s + n → f x + c ≤ g x
-    → total f (numbers_from s n) + c ≤ total g (numbers_from s n)
+    → sum_over f (numbers_from s n) + c ≤ sum_over g (numbers_from s n)
 fall_from f g c s zero x low from to at_x = absurd (omega (arith, from, to))
 fall_from f g c s (suc n) x low from to at_x =
     elim (eqb_tells x s) [
       | inl e ↦ (let k : f s + c ≤ g s = subst (λ (i : ℕ). f i + c ≤ g i) e.1 at_x in
-          omega (arith, k, total_low f g (numbers_from (s + 1) n) low))
+          omega (arith, k, sum_over_low f g (numbers_from (s + 1) n) low))
       | inr e ↦ omega (
         arith,
         low s,
@@ -46,11 +46,11 @@ fall_from f g c s (suc n) x low from to at_x =
         either x s = grind arith
 
 -- one of a sum falls by so much, and none rises
-pub total_falls : (f g : ℕ → ℕ) (c n x : ℕ) → ((a : ℕ) → f a ≤ g a) → x < n → f x + c ≤ g x
-    → total f (below n) + c ≤ total g (below n)
-total_falls f g c n x low to at_x = fall_from f g c 0 n x low (omega arith) (omega (arith, to)) at_x
+pub sum_over_falls : (f g : ℕ → ℕ) (c n x : ℕ) → ((a : ℕ) → f a ≤ g a) → x < n → f x + c ≤ g x
+    → sum_over f (below n) + c ≤ sum_over g (below n)
+sum_over_falls f g c n x low to at_x = fall_from f g c 0 n x low (omega arith) (omega (arith, to)) at_x
 
-hits_above : (k s n : ℕ) → k < s → total (λ j. done (eqb j k)) (numbers_from s n) ≡ 0
+hits_above : (k s n : ℕ) → k < s → sum_over (λ j. done (eqb j k)) (numbers_from s n) ≡ 0
 hits_above k s zero low = refl
 hits_above k s (suc n) low =
     elim (eqb_tells s k) [
@@ -58,7 +58,7 @@ hits_above k s (suc n) low =
       | inr e ↦ rw (e.0, hits_above k (s + 1) n (omega (arith, low))) refl
     ]
 
-pub hits : (k s n : ℕ) → total (λ j. done (eqb j k)) (numbers_from s n) ≤ 1
+pub hits : (k s n : ℕ) → sum_over (λ j. done (eqb j k)) (numbers_from s n) ≤ 1
 hits k s zero = omega arith
 hits k s (suc n) =
     elim (eqb_tells s k) [
@@ -67,14 +67,14 @@ hits k s (suc n) =
     ]
 
 rises_once : (f g h : ℕ → ℕ) (xs : List ℕ) → ((j : ℕ) → f j ≤ g j + 2 * h j)
-    → total f xs ≤ total g xs + 2 * total h xs
+    → sum_over f xs ≤ sum_over g xs + 2 * sum_over h xs
 rises_once f g h [] low = omega arith
 rises_once f g h (x ∷ xs) low = omega (arith, low x, rises_once f g h xs low)
 
 -- one of a sum may rise by two
-pub total_rises : (f g : ℕ → ℕ) (k n : ℕ) → ((j : ℕ) → f j ≤ g j + 2 * done (eqb j k))
-    → total f (below n) ≤ total g (below n) + 2
-total_rises f g k n low =
+pub sum_over_rises : (f g : ℕ → ℕ) (k n : ℕ) → ((j : ℕ) → f j ≤ g j + 2 * done (eqb j k))
+    → sum_over f (below n) ≤ sum_over g (below n) + 2
+sum_over_rises f g k n low =
     omega (arith, rises_once f g (λ j. done (eqb j k)) (below n) low, hits k 0 n)
 
 -- what is once done stays so
@@ -93,14 +93,14 @@ any_now p L b none this = rw (list_any-append, none, this) (omega arith)
 records_low : (n : ℕ) (L : List Body) (b : Body) (o : Obj) → records_left n (L ++ b ∷ []) o ≤ records_left n L o
 unfolding records_left is_until_recorded is_late
 records_low n L b o =
-    total_low _ _ (below n)
+    sum_over_low _ _ (below n)
     (λ i. omega (arith, any_more (is_until_record o i) L b, any_more (is_late_record o i) L b))
 
 pub until_falls : (n : ℕ) (L : List Body) (b : Body) (o : Obj) (i : ℕ) → i < n → is_until_recorded o i L ≡ false
     → is_until_record o i b ≡ true → records_left n (L ++ b ∷ []) o + 1 ≤ records_left n L o
 unfolding records_left is_until_recorded is_late
 until_falls n L b o i low none this =
-    total_falls (λ i. undone (list_any (is_until_record o i) (L ++ b ∷ []))
+    sum_over_falls (λ i. undone (list_any (is_until_record o i) (L ++ b ∷ []))
     + undone (list_any (is_late_record o i) (L ++ b ∷ [])))
     (λ i. undone (list_any (is_until_record o i) L) + undone (list_any (is_late_record o i) L)) 1 n i
     (λ i. omega (arith, any_more (is_until_record o i) L b, any_more (is_late_record o i) L b)) low
@@ -110,7 +110,7 @@ pub late_falls : (n : ℕ) (L : List Body) (b : Body) (o : Obj) (i : ℕ) → i 
     → is_late_record o i b ≡ true → records_left n (L ++ b ∷ []) o + 1 ≤ records_left n L o
 unfolding records_left is_until_recorded is_late
 late_falls n L b o i low none this =
-    total_falls (λ i. undone (list_any (is_until_record o i) (L ++ b ∷ []))
+    sum_over_falls (λ i. undone (list_any (is_until_record o i) (L ++ b ∷ []))
     + undone (list_any (is_late_record o i) (L ++ b ∷ [])))
     (λ i. undone (list_any (is_until_record o i) L) + undone (list_any (is_late_record o i) L)) 1 n i
     (λ i. omega (arith, any_more (is_until_record o i) L b, any_more (is_late_record o i) L b)) low
@@ -397,13 +397,13 @@ pub orders_low : (n : ℕ) (given : ℕ → ℕ) (L : List Body) (b : Body)
     → orders_left n given (L ++ b ∷ []) ≤ orders_left n given L
 unfolding orders_left
 orders_low n given L b =
-    total_low (λ a. 3 * (given a - answered a (L ++ b ∷ []))) (λ a. 3 * (given a - answered a L)) (below n)
+    sum_over_low (λ a. 3 * (given a - answered a (L ++ b ∷ []))) (λ a. 3 * (given a - answered a L)) (below n)
     (λ a. omega (arith, answered-append a L (b ∷ [])))
 
 pub orders_fall : (n : ℕ) (given : ℕ → ℕ) (L : List Body) (b : Body) (a : ℕ) → a < n → answered a L < given a
     → answers_to a b ≡ true → orders_left n given (L ++ b ∷ []) + 3 ≤ orders_left n given L
 unfolding orders_left
 orders_fall n given L b a low here this =
-    total_falls (λ a. 3 * (given a - answered a (L ++ b ∷ []))) (λ a. 3 * (given a - answered a L)) 3 n a
+    sum_over_falls (λ a. 3 * (given a - answered a (L ++ b ∷ []))) (λ a. 3 * (given a - answered a L)) 3 n a
     (λ a. omega (arith, answered-append a L (b ∷ []))) low
     (omega (arith, here, answered-append a L (b ∷ []), answered_one a b this))

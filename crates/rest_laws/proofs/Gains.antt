@@ -25,23 +25,24 @@ use Rattle.model.specs.FreeSteps.{free_step, recounted}
 use Rattle.model_laws.proofs.FreeRuns.{free_kept}
 use Rattle.model_laws.proofs.PresentNets.{by_one, one_count}
 use Rattle.model_laws.proofs.Steps.{step_of}
-use Rattle.rest_laws.specs.Gains.{gained, gained_at, most, total}
+use Rattle.rest_laws.specs.Gains.{gained, gained_at, most, sum_over}
 use Rattle.rest_laws.specs.Rest.{IsAtRest, count_of, net_at}
 use Rattle.rest_laws.specs.Rounds.{AreLinked, AreTaken, BringsNoMore, IsRound, is_of_round}
 use Rattle.rest_laws.proofs.Quiets.{IsFeed, below_holds, feeds_hold}
-use Rattle.rest_laws.proofs.Rounds.{Rises, found_rest, run_rises}
+use Rattle.rest_laws.proofs.Rounds.{found_rest}
+use Rattle.rest_laws.proofs.Rises.{Rises, run_rises}
 use Rattle.rest_laws.proofs.Shown.{in_feed, length_none}
 
 -- sums
-pub total_low : {X : Type 0} (f g : X → ℕ) (xs : List X) → ((a : X) → f a ≤ g a) → total f xs ≤ total g xs
-total_low f g [] h = omega arith
-total_low f g (x ∷ xs) h = omega (arith, h x, total_low f g xs h)
+pub sum_over_low : {X : Type 0} (f g : X → ℕ) (xs : List X) → ((a : X) → f a ≤ g a) → sum_over f xs ≤ sum_over g xs
+sum_over_low f g [] h = omega arith
+sum_over_low f g (x ∷ xs) h = omega (arith, h x, sum_over_low f g xs h)
 
-total_each : {X : Type 0} (f g : X → ℕ) (xs : List X) → ((a : X) → f a ≤ g a) → total g xs ≤ total f xs
+sum_over_each : {X : Type 0} (f g : X → ℕ) (xs : List X) → ((a : X) → f a ≤ g a) → sum_over g xs ≤ sum_over f xs
     → AllByRecursion (λ a. g a ≤ f a) xs
-total_each f g [] h k = tt
-total_each f g (x ∷ xs) h k =
-    (omega (arith, h x, total_low f g xs h, k), total_each f g xs h (omega (arith, h x, total_low f g xs h, k)))
+sum_over_each f g [] h k = tt
+sum_over_each f g (x ∷ xs) h k =
+    (omega (arith, h x, sum_over_low f g xs h, k), sum_over_each f g xs h (omega (arith, h x, sum_over_low f g xs h, k)))
 
 pub either : (m n : ℕ) → (m < n) ⊎ (n ≤ m)
 either m n = grind arith
@@ -267,19 +268,19 @@ module _ (net : Net) where
           omega (
             arith,
             rises.held w f,
-            total_low (λ m. (x.sessions w).acked m f) (λ m. (y.sessions w).acked m f)
+            sum_over_low (λ m. (x.sessions w).acked m f) (λ m. (y.sessions w).acked m f)
                 (below (node_count net)) (λ m. rises.acked w m f),
           )
 
       of_feed : (f : Feed) → IsFeed net f → (w : ℕ) → w < node_count net → gained_at net y f w ≤ gained_at net x f w
       of_feed f f_in w w_in =
           below_holds (λ w. gained_at net y f w ≤ gained_at net x f w) (node_count net) w
-          (total_each (gained_at net x f) (gained_at net y f) (below (node_count net)) (low_at f)
-          (feeds_hold (λ f. total (gained_at net y f) (below (node_count net))
-          ≤ total (gained_at net x f) (below (node_count net))) net f
-          (total_each (λ f. total (gained_at net x f) (below (node_count net)))
-          (λ f. total (gained_at net y f) (below (node_count net))) (feeds net)
-          (λ f. total_low (gained_at net x f) (gained_at net y f) (below (node_count net)) (low_at f)) low) f_in))
+          (sum_over_each (gained_at net x f) (gained_at net y f) (below (node_count net)) (low_at f)
+          (feeds_hold (λ f. sum_over (gained_at net y f) (below (node_count net))
+          ≤ sum_over (gained_at net x f) (below (node_count net))) net f
+          (sum_over_each (λ f. sum_over (gained_at net x f) (below (node_count net)))
+          (λ f. sum_over (gained_at net y f) (below (node_count net))) (feeds net)
+          (λ f. sum_over_low (gained_at net x f) (gained_at net y f) (below (node_count net)) (low_at f)) low) f_in))
           w_in
 
       held : (w : ℕ) (f : Feed) → y.holdings w f ≤ x.holdings w f
@@ -293,7 +294,7 @@ module _ (net : Net) where
               omega (
                 arith,
                 of_feed f k w h,
-                total_low (λ m. (x.sessions w).acked m f)
+                sum_over_low (λ m. (x.sessions w).acked m f)
                     (λ m. (y.sessions w).acked m f) (below (node_count net)) (λ m. rises.acked w m f),
               )
 
@@ -307,7 +308,7 @@ module _ (net : Net) where
           go (inl h) (inl l) (inr k) = omega (arith, inv.acked_here w m f, inv.within w f, k)
           go (inl h) (inl l) (inl k) =
               below_holds (λ m. (y.sessions w).acked m f ≤ (x.sessions w).acked m f) (node_count net) m
-              (total_each (λ m. (x.sessions w).acked m f) (λ m. (y.sessions w).acked m f) (below (node_count net))
+              (sum_over_each (λ m. (x.sessions w).acked m f) (λ m. (y.sessions w).acked m f) (below (node_count net))
               (λ m. rises.acked w m f) (omega (arith, of_feed f k w h, rises.held w f))) l
 
   pub gains : (readings : ℕ → ℕ) (x y : World) (steps : List WorldStep) → IsTree net → Invariant net x
@@ -326,13 +327,13 @@ module _ (net : Net) where
   pub at_most : (x : World) → Invariant net x → gained net x ≤ most net x
   unfolding gained most
   at_most x inv =
-      total_low (λ f. total (gained_at net x f) (below (node_count net))) _ (feeds net)
-      (λ f. total_low (gained_at net x f)
-      (λ w. count_of x f + total (λ m. count_of x f) (below (node_count net))) (below (node_count net))
+      sum_over_low (λ f. sum_over (gained_at net x f) (below (node_count net))) _ (feeds net)
+      (λ f. sum_over_low (gained_at net x f)
+      (λ w. count_of x f + sum_over (λ m. count_of x f) (below (node_count net))) (below (node_count net))
       (λ w. omega (
         arith,
         inv.within w f,
-        total_low (λ m. (x.sessions w).acked m f) (λ m. count_of x f)
+        sum_over_low (λ m. (x.sessions w).acked m f) (λ m. count_of x f)
             (below (node_count net)) (λ m. at_one w m f),
       )))
     where

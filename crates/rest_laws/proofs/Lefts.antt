@@ -28,12 +28,12 @@ use Rattle.model_laws.proofs.Orders.{next_is}
 use Rattle.model_laws.proofs.Turns.{TurnGives, turn_gives}
 use Rattle.model_laws.proofs.Steps.{step_of}
 use Rattle.model_laws.proofs.Orders.{slice_get_take}
-use Rattle.rest_laws.specs.Gains.{total}
+use Rattle.rest_laws.specs.Gains.{sum_over}
 use Rattle.rest_laws.specs.Left.{Caps, Covers, done, entries, jobs_ahead, keeps_to, left, left_at, left_of, streams_ahead}
 use Rattle.rest_laws.specs.Rounds.{AreTaken}
 use Rattle.rest_laws.specs.Rest.{count_of, net_at}
 use Rattle.rest_laws.proofs.Ahead.{Jobs, Streams, draft_ahead, few_deps, none_ahead, owned_below, within}
-use Rattle.rest_laws.proofs.Falls.{hits, total_falls}
+use Rattle.rest_laws.proofs.Falls.{hits, sum_over_falls}
 use Rattle.rest_laws.proofs.Gains.{are_inside, feed_or_none, first_in}
 use Rattle.rest_laws.proofs.Leads.{came, took}
 use Rattle.rest_laws.proofs.Lowers.{Fits, turn_lowers}
@@ -204,7 +204,7 @@ module _ (net : Net) (caps : Caps) (readings : ℕ → ℕ) (x z : World) (w : �
   left_falls w_in =
       omega (
         arith,
-        total_falls (left_at net caps readings z) (left_at net caps readings x) 1 (node_count net) w none_rises w_in own_falls,
+        sum_over_falls (left_at net caps readings z) (left_at net caps readings x) 1 (node_count net) w none_rises w_in own_falls,
       )
 
 -- what can still come to the catalogue
@@ -291,41 +291,41 @@ covers_made net caps x z w t inv covers b made = go (eqb_tells 0 w)
         (omega arith, omega arith)
 
 -- how many entries there are
-pub total_append : {X : Type 0} (f : X → ℕ) (xs ys : List X) → total f (xs ++ ys) ≡ total f xs + total f ys
-total_append f [] ys = omega arith
-total_append f (x ∷ xs) ys = omega (arith, total_append f xs ys)
+pub sum_over_append : {X : Type 0} (f : X → ℕ) (xs ys : List X) → sum_over f (xs ++ ys) ≡ sum_over f xs + sum_over f ys
+sum_over_append f [] ys = omega arith
+sum_over_append f (x ∷ xs) ys = omega (arith, sum_over_append f xs ys)
 
-pub total_map : {X Y : Type 0} (f : Y → ℕ) (g : X → Y) (xs : List X) → total f (map g xs) ≡ total (λ x. f (g x)) xs
-total_map f g [] = refl
-total_map f g (x ∷ xs) = omega (arith, total_map f g xs)
+pub sum_over_map : {X Y : Type 0} (f : Y → ℕ) (g : X → Y) (xs : List X) → sum_over f (map g xs) ≡ sum_over (λ x. f (g x)) xs
+sum_over_map f g [] = refl
+sum_over_map f g (x ∷ xs) = omega (arith, sum_over_map f g xs)
 
-total_none : {X : Type 0} (f : X → ℕ) (xs : List X) → ((x : X) → f x ≡ 0) → total f xs ≡ 0
-total_none f [] h = refl
-total_none f (x ∷ xs) h = omega (arith, h x, total_none f xs h)
+sum_over_none : {X : Type 0} (f : X → ℕ) (xs : List X) → ((x : X) → f x ≡ 0) → sum_over f xs ≡ 0
+sum_over_none f [] h = refl
+sum_over_none f (x ∷ xs) h = omega (arith, h x, sum_over_none f xs h)
 
-flat_none : {X Y : Type 0} (f : Y → ℕ) (g : X → List Y) (xs : List X) → ((x : X) → total f (g x) ≡ 0)
-    → total f (flat_map g xs) ≡ 0
+flat_none : {X Y : Type 0} (f : Y → ℕ) (g : X → List Y) (xs : List X) → ((x : X) → sum_over f (g x) ≡ 0)
+    → sum_over f (flat_map g xs) ≡ 0
 flat_none f g [] h = refl
-flat_none f g (x ∷ xs) h = omega (arith, total_append f (g x) (flat_map g xs), h x, flat_none f g xs h)
+flat_none f g (x ∷ xs) h = omega (arith, sum_over_append f (g x) (flat_map g xs), h x, flat_none f g xs h)
 
-total_more : {X : Type 0} (f g h : X → ℕ) (xs : List X) → ((x : X) → f x ≤ g x + h x)
-    → total f xs ≤ total g xs + total h xs
-total_more f g h [] low = omega arith
-total_more f g h (x ∷ xs) low = omega (arith, low x, total_more f g h xs low)
+sum_over_more : {X : Type 0} (f g h : X → ℕ) (xs : List X) → ((x : X) → f x ≤ g x + h x)
+    → sum_over f xs ≤ sum_over g xs + sum_over h xs
+sum_over_more f g h [] low = omega arith
+sum_over_more f g h (x ∷ xs) low = omega (arith, low x, sum_over_more f g h xs low)
 
 -- of the network's feeds one at most is this one
-feeds_once : (net : Net) (w : ℕ) → total (λ f. done (feed_eq f (Events w))) (feeds net) ≤ 1
+feeds_once : (net : Net) (w : ℕ) → sum_over (λ f. done (feed_eq f (Events w))) (feeds net) ≤ 1
 unfolding feeds
 feeds_once net w =
     omega (
       arith,
-      total_append (λ f. done (feed_eq f (Events w))) (map Events (below (node_count net)))
+      sum_over_append (λ f. done (feed_eq f (Events w))) (map Events (below (node_count net)))
           (flat_map (λ a. map (Orders a) (below (node_count net))) (below (node_count net))),
-      total_map (λ f. done (feed_eq f (Events w))) Events (below (node_count net)),
+      sum_over_map (λ f. done (feed_eq f (Events w))) Events (below (node_count net)),
       hits w 0 (node_count net),
       flat_none (λ f. done (feed_eq f (Events w))) (λ a. map (Orders a) (below (node_count net))) (below (node_count net))
-          (λ a. total_map (λ f. done (feed_eq f (Events w))) (Orders a) (below (node_count net))
-          ∙ total_none (λ b. done (feed_eq (Orders a b) (Events w))) (below (node_count net)) (λ b. refl)),
+          (λ a. sum_over_map (λ f. done (feed_eq f (Events w))) (Orders a) (below (node_count net))
+          ∙ sum_over_none (λ b. done (feed_eq (Orders a b) (Events w))) (below (node_count net)) (λ b. refl)),
     )
 
 one_entry : (net : Net) (x z : World) (w t : ℕ) (b : Body) → Made net x z w t b → entries net z ≤ entries net x + 1
@@ -333,7 +333,7 @@ unfolding entries
 one_entry net x z w t b made =
     omega (
       arith,
-      total_more (count_of z) (count_of x) (λ f. done (feed_eq f (Events w))) (feeds net) at_feed,
+      sum_over_more (count_of z) (count_of x) (λ f. done (feed_eq f (Events w))) (feeds net) at_feed,
       feeds_once net w,
     )
   where

@@ -36,12 +36,12 @@ use Rattle.model_laws.proofs.Firsts.{jobs_owned}
 use Rattle.model_laws.proofs.Lists.{all_filter}
 use Rattle.model_laws.proofs.Turns.{TurnGives, turn_gives}
 use Rattle.model_laws.proofs.Untils.{IsDueUntil, due_untils_are}
-use Rattle.rest_laws.specs.Gains.{total}
+use Rattle.rest_laws.specs.Gains.{sum_over}
 use Rattle.rest_laws.specs.Left.{Caps, done, is_below, job_left, left_of, orders_left, records_left, stream_left}
 use Rattle.rest_laws.proofs.Falls.{clock_falls, clock_low, end_falls, job_low, job_record_falls, job_rises, late_falls}
 use Rattle.rest_laws.proofs.Falls.{launch_falls, lost_falls, orders_fall, orders_low, release_falls, rerun_target}
-use Rattle.rest_laws.proofs.Falls.{stream_low, stream_record_falls, total_falls, total_rises, until_falls}
-use Rattle.rest_laws.proofs.Gains.{total_low}
+use Rattle.rest_laws.proofs.Falls.{stream_low, stream_record_falls, sum_over_falls, sum_over_rises, until_falls}
+use Rattle.rest_laws.proofs.Gains.{sum_over_low}
 
 -- words
 obj_told : (o p : Obj) → o ≡ p → obj_eq o p ≡ true
@@ -160,11 +160,11 @@ not_more caps t n given L b jobs_ =
     }
 
 module _ (caps : Caps) (t n : ℕ) (given : ℕ → ℕ) (L M : List Body) (h : NotMore caps t n given L M) where
-  sums : total (stream_left caps M) (below caps.of_streams) ≤ total (stream_left caps L) (below caps.of_streams)
-  sums = total_low (stream_left caps M) (stream_left caps L) (below caps.of_streams) h.streams
+  sums : sum_over (stream_left caps M) (below caps.of_streams) ≤ sum_over (stream_left caps L) (below caps.of_streams)
+  sums = sum_over_low (stream_left caps M) (stream_left caps L) (below caps.of_streams) h.streams
 
-  sums_of_jobs : total (job_left caps M) (below caps.of_jobs) ≤ total (job_left caps L) (below caps.of_jobs)
-  sums_of_jobs = total_low (job_left caps M) (job_left caps L) (below caps.of_jobs) h.jobs_
+  sums_of_jobs : sum_over (job_left caps M) (below caps.of_jobs) ≤ sum_over (job_left caps L) (below caps.of_jobs)
+  sums_of_jobs = sum_over_low (job_left caps M) (job_left caps L) (below caps.of_jobs) h.jobs_
 
   by_clock : done (nat_lt (now M) t) + 1 ≤ done (nat_lt (now L) t) → left_of caps n t given M < left_of caps n t given L
   unfolding left_of
@@ -177,7 +177,7 @@ module _ (caps : Caps) (t n : ℕ) (given : ℕ → ℕ) (L M : List Body) (h : 
       omega (
         arith,
         h.clock,
-        total_falls (stream_left caps M) (stream_left caps L) 1 caps.of_streams s h.streams low k,
+        sum_over_falls (stream_left caps M) (stream_left caps L) 1 caps.of_streams s h.streams low k,
         sums_of_jobs,
         h.orders,
       )
@@ -190,7 +190,7 @@ module _ (caps : Caps) (t n : ℕ) (given : ℕ → ℕ) (L M : List Body) (h : 
         arith,
         h.clock,
         sums,
-        total_falls (job_left caps M) (job_left caps L) 1 caps.of_jobs j h.jobs_ low k,
+        sum_over_falls (job_left caps M) (job_left caps L) 1 caps.of_jobs j h.jobs_ low k,
         h.orders,
       )
 
@@ -207,9 +207,9 @@ by_obeyed caps t n given L a k c falls =
     omega (
       arith,
       clock_low L (Obeyed a k c) t,
-      total_low (stream_left caps (L ++ Obeyed a k c ∷ [])) (stream_left caps L) (below caps.of_streams)
+      sum_over_low (stream_left caps (L ++ Obeyed a k c ∷ [])) (stream_left caps L) (below caps.of_streams)
           (stream_low caps L (Obeyed a k c)),
-      total_rises (job_left caps (L ++ Obeyed a k c ∷ [])) (job_left caps L) (rerun_target c) caps.of_jobs
+      sum_over_rises (job_left caps (L ++ Obeyed a k c ∷ [])) (job_left caps L) (rerun_target c) caps.of_jobs
           (job_rises caps L a k c),
       falls,
     )

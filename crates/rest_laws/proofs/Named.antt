@@ -18,7 +18,7 @@ use Rattle.model_laws.proofs.Steps.{MailDone, OwnDone, always, moves}
 use Rattle.model_laws.proofs.Each.{not_own}
 use Rattle.rest_laws.specs.Rest.{net_at}
 use Rattle.rest_laws.specs.ToRest.{names_inside}
-use Rattle.rest_laws.proofs.Exists.{all_pushed, view_named}
+use Rattle.rest_laws.proofs.Phases.{all_pushed, view_named}
 use Rattle.rest_laws.proofs.Gains.{are_inside, first_in}
 use Rattle.rest_laws.proofs.Taken.{all_low, count_at}
 

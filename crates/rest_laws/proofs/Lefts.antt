@@ -75,7 +75,7 @@ turn_makes net x z w t e =
 
 -- the order that a workstation answers next
 module _ (net : Net) (x : World) (w : ℕ) (inv : Invariant net x) where
-  next_given : (a : ℕ) (c : Cmd) → next_order (view_at x w) w a ≡ Some c
+  pub next_given : (a : ℕ) (c : Cmd) → next_order (view_at x w) w a ≡ Some c
       → slice_get (list_of x.history (Orders a w)) (answered a (list_of x.history (Events w))) ≡ Some (Order c)
   unfolding next_order
   next_given a c e =

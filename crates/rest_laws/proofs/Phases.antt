@@ -12,6 +12,7 @@ use Rattle.model.specs.History.{list_of}
 use Rattle.model.specs.FreeSteps.{free_step, recounted}
 use Rattle.model.specs.NewEntry.{next_entry}
 use Rattle.model.specs.Workstations.{ws_in_body, ws_in_feed}
+use Rattle.model.specs.Turn.{turn_body}
 use Rattle.model.specs.World.{Origin, World, apply_effect, mark_delivered, view_at}
 use Rattle.model.specs.Invariant.{Invariant}
 use Rattle.model_laws.proofs.FreeRuns.{free_kept}
@@ -62,27 +63,35 @@ view_named net N x w count names =
           names));
     }
 
-pub turn_names : (net : Net) (x z : World) (w t : ℕ) (b : Body) → w < node_count net → names_inside net x ≡ true
-    → Made net x z w t b → names_inside net z ≡ true
-unfolding names_inside
-turn_names net x z w t b low names made =
-    subst (λ (G : List Entry). list_all (λ (e : Entry). list_all (λ w. nat_lt w (node_count net)) (ws_in_feed e.feed ++ ws_in_body e.body)) G ≡ true)
-    (sym made.history)
-    (all_pushed (λ (e : Entry). list_all (λ w. nat_lt w (node_count net)) (ws_in_feed e.feed ++ ws_in_body e.body)) x.history new names
-    (subst (λ n. list_all (λ w. nat_lt w n) (ws_in_feed (Events w) ++ ws_in_body b) ≡ true) (count_at net x w)
-    (all_in N (ws_in_feed (Events w) ++ ws_in_body b)
-    (writes_in N (view_at x w) w (x.sessions w) (Rattle.model.specs.Types.Turn t) new (view_named net N x w (count_at net x w) names) ((is_in w low, tt)) (is_in 0 (omega (arith, low)))
+-- what a turn makes names workstations of the network alone
+pub turn_inside : (net : Net) (x : World) (w t : ℕ) (b : Body) → w < node_count net → names_inside net x ≡ true
+    → turn_body (net_at net x w) (view_at x w) w (x.sessions w).live t ≡ Some b
+    → EntryIsIn (net_at net x w) (next_entry (view_at x w) (Events w) b)
+turn_inside net x w t b low names e =
+    writes_in N (view_at x w) w (x.sessions w) (Rattle.model.specs.Types.Turn t) (next_entry (view_at x w) (Events w) b)
+    (view_named net N x w (count_at net x w) names) (is_in w low, tt) (is_in 0 (omega (arith, low)))
     (Writes.turned t b (there_if (TurnGives N (view_at x w) w (x.sessions w).live t) _ b
-    (turn_gives N (view_at x w) w (x.sessions w).live t) made.body))))))
+    (turn_gives N (view_at x w) w (x.sessions w).live t) e))
   where
     N : Net
     N = net_at net x w
 
-    new : Entry
-    new = next_entry (view_at x w) (Events w) b
-
     is_in : (v : ℕ) → v < node_count net → nat_lt v (node_count N) ≡ true
-    is_in v h = (subst (λ n. nat_lt v n ≡ true) (sym (count_at net x w)) (and_left (nat_lt v (node_count net)) true (all_low (node_count net) (v ∷ []) (h, tt))))
+    is_in v h =
+        subst (λ n. nat_lt v n ≡ true) (sym (count_at net x w))
+        (and_left (nat_lt v (node_count net)) true (all_low (node_count net) (v ∷ []) (h, tt)))
+
+abbrev is_named : Net → Entry → Bool
+is_named net e = list_all (λ w. nat_lt w (node_count net)) (ws_in_feed e.feed ++ ws_in_body e.body)
+
+pub turn_names : (net : Net) (x z : World) (w t : ℕ) (b : Body) → w < node_count net → names_inside net x ≡ true
+    → Made net x z w t b → names_inside net z ≡ true
+unfolding names_inside
+turn_names net x z w t b low names made =
+    subst (λ (G : List Entry). list_all (is_named net) G ≡ true) (sym made.history)
+    (all_pushed (is_named net) x.history (next_entry (view_at x w) (Events w) b) names
+    (subst (λ n. list_all (λ w. nat_lt w n) (ws_in_feed (Events w) ++ ws_in_body b) ≡ true) (count_at net x w)
+    (all_in (net_at net x w) (ws_in_feed (Events w) ++ ws_in_body b) (turn_inside net x w t b low names made.body))))
 
 pub turn_named : (net : Net) (x z : World) (w t : ℕ) → names_inside net x ≡ true → free_step net x (Take w (Turn t)) ≡ Ok z
     → names_inside net z ≡ true

@@ -4,17 +4,14 @@ use Rattle.std.proofs.Common.{List, [], ◌∷◌, ◌++◌, length, map, drop, 
 use Rattle.std.proofs.Common.{length-append}
 use Rattle.std.proofs.lemmas.Bool.{eq-eqb, eqb-true}
 use Rattle.std.proofs.lemmas.Grind.{flat_map-append}
-use Rattle.std.proofs.lemmas.List.{length-take}
-use Rattle.std.proofs.lemmas.List.Sums.{sum_by-append}
 use Rattle.std.specs.List.{AllByRecursion, enumerate_from}
-use Rattle.std.specs.Prelude.{IfSome, eqb, find, flat_map, option_map, slice_get}
+use Rattle.std.specs.Prelude.{eqb, flat_map, option_map, slice_get}
 use Rattle.lemmas.proofs.Lists.{all_append, all_such}
-use Rattle.model.specs.Types.{Added, Body, Dep, Events, Job, Obj, Order, Stream}
+use Rattle.model.specs.Types.{Added, Body, Events, Job, Obj, Order, Stream}
 use Rattle.model.specs.Types.{StreamDoc, StreamDraft, Submit}
-use Rattle.model.specs.Words.{below, firsts, has, nth, numbers_from}
+use Rattle.model.specs.Words.{below, firsts, has, numbers_from}
 use Rattle.model.specs.History.{View}
 use Rattle.model.specs.Catalogue.{StreamJob, catalogue, docs_in, job, jobs, jobs_in, owner, stream}
-use Rattle.model.specs.Dependencies.{deps}
 use Rattle.model.specs.Facts.{answered, answers_to}
 use Rattle.model.specs.NewPlan.{last_job, numbered}
 use Rattle.model.specs.Invariant.{IsNumbered, docs_of, jobs_of_docs}
@@ -108,18 +105,11 @@ module _ (V : View) (h : IsNumbered (V (Events 0))) where
       go None e k = cc
       go (Some p) e k = omega (arith, g, job_below j p e)
 
--- an object has few dependencies
+-- what is found at a place stands within
 pub within : {A : Type 0} (xs : List A) (k : ℕ) (a : A) → slice_get xs k ≡ Some a → k < length xs
 within [] k a e = cc
 within (x ∷ xs) zero a e = omega arith
 within (x ∷ xs) (suc k) a e = omega (arith, within xs k a e)
-
-pub few_deps : (V : View) (o : Obj) (i : ℕ) (d : Dep) → nth (deps V o) i ≡ Some d → i ≤ 65535
-unfolding deps
-few_deps V o zero d e = cc
-few_deps V o (suc k) d e =
-    let short : length (deps V o) ≤ 65535 = rw length-take (omega arith) in
-    omega (arith, within (deps V o) k d e, short)
 
 -- documents
 docs_more : (L : List Body) (b : Body) → length (docs_of (L ++ b ∷ [])) ≡ length (docs_of L) + length (docs_in b)
@@ -142,7 +132,7 @@ jobs_of_draft V draft =
     (omega (arith, numbers_many (1 + last_job V) draft.jobs))
 
 -- what is behind in a list has no more
-drop_low : (f : Body → ℕ) (m k : ℕ) (xs : List Body) → k ≤ m → sum_over f (drop m xs) ≤ sum_over f (drop k xs)
+pub drop_low : (f : Body → ℕ) (m k : ℕ) (xs : List Body) → k ≤ m → sum_over f (drop m xs) ≤ sum_over f (drop k xs)
 drop_low f zero zero xs low = omega arith
 drop_low f zero (suc k) xs low = absurd (omega (arith, low))
 drop_low f (suc m) zero [] low = omega arith
@@ -154,7 +144,7 @@ drop_low f (suc m) zero (x ∷ xs) low = omega (arith, drop_low f m zero xs (ome
 drop_low f (suc m) (suc k) [] low = omega arith
 drop_low f (suc m) (suc k) (x ∷ xs) low = drop_low f m k xs (omega (arith, low))
 
-drop_next : (f : Body → ℕ) (k : ℕ) (xs : List Body) (b : Body) → slice_get xs k ≡ Some b
+pub drop_next : (f : Body → ℕ) (k : ℕ) (xs : List Body) (b : Body) → slice_get xs k ≡ Some b
     → sum_over f (drop (1 + k) xs) + f b ≤ sum_over f (drop k xs)
 drop_next f k xs b e = let same : 1 + k ≡ suc k = omega arith in rw same (go k xs e)
   where
@@ -171,7 +161,7 @@ drop_next f k xs b e = let same : 1 + k ≡ suc k = omega arith in rw same (go k
     go (suc k) [] e = cc
     go (suc k) (x ∷ xs) e = go k xs e
 
-answers_one : (a : ℕ) (b : Body) → answers_to a b ≡ true → answered a (b ∷ []) ≡ 1
+pub answers_one : (a : ℕ) (b : Body) → answers_to a b ≡ true → answered a (b ∷ []) ≡ 1
 unfolding answered
 answers_one a b e = rw e refl
 

@@ -124,7 +124,7 @@ stream_low caps L b s =
       arith,
       any_more (is_release_of s) L b,
       any_more (is_end_of s) L b,
-      records_low caps.of_deps L b (Stream s),
+      records_low (caps.of_deps (Stream s)) L b (Stream s),
     )
 
 pub release_falls : (caps : Caps) (L : List Body) (b : Body) (s : ℕ) → is_released s L ≡ false
@@ -135,7 +135,7 @@ release_falls caps L b s none this =
       arith,
       any_now (is_release_of s) L b none this,
       any_more (is_end_of s) L b,
-      records_low caps.of_deps L b (Stream s),
+      records_low (caps.of_deps (Stream s)) L b (Stream s),
     )
 
 pub end_falls : (caps : Caps) (L : List Body) (b : Body) (s : ℕ) → is_ended s L ≡ false
@@ -146,11 +146,11 @@ end_falls caps L b s none this =
       arith,
       any_more (is_release_of s) L b,
       any_now (is_end_of s) L b none this,
-      records_low caps.of_deps L b (Stream s),
+      records_low (caps.of_deps (Stream s)) L b (Stream s),
     )
 
 pub stream_record_falls : (caps : Caps) (L : List Body) (b : Body) (s : ℕ)
-    → records_left caps.of_deps (L ++ b ∷ []) (Stream s) + 1 ≤ records_left caps.of_deps L (Stream s)
+    → records_left (caps.of_deps (Stream s)) (L ++ b ∷ []) (Stream s) + 1 ≤ records_left (caps.of_deps (Stream s)) L (Stream s)
     → stream_left caps (L ++ b ∷ []) s + 1 ≤ stream_left caps L s
 unfolding stream_left is_released is_ended
 stream_record_falls caps L b s falls =
@@ -285,7 +285,7 @@ job_low caps L b j no_launch no_command =
       launches_none j b no_launch,
       reruns_none j b no_command,
       opens_none j L b no_launch,
-      records_low caps.of_deps L b (Job j),
+      records_low (caps.of_deps (Job j)) L b (Job j),
     ))
 
 pub job_rises : (caps : Caps) (L : List Body) (a k : ℕ) (c : Cmd) (j : ℕ)
@@ -298,7 +298,7 @@ job_rises caps L a k c j =
       launches_none j (Obeyed a k c) refl,
       reruns_one j a k c,
       opens_none j L (Obeyed a k c) refl,
-      records_low caps.of_deps L (Obeyed a k c) (Job j),
+      records_low (caps.of_deps (Job j)) L (Obeyed a k c) (Job j),
     ))
 
 pub launch_falls : (caps : Caps) (L : List Body) (j n : ℕ) (seen : Seen) → launches j L < 1 + reruns j L
@@ -312,7 +312,7 @@ launch_falls caps L j n seen due =
       launches_one j (Launched j n seen) (eq-eqb j j refl),
       reruns_none j (Launched j n seen) refl,
       at_most_one (is_open j (L ++ Launched j n seen ∷ [])),
-      records_low caps.of_deps L (Launched j n seen) (Job j),
+      records_low (caps.of_deps (Job j)) L (Launched j n seen) (Job j),
     ))
 
 pub lost_falls : (caps : Caps) (L : List Body) (j n : ℕ) → open_launch j L ≡ Some n
@@ -325,11 +325,11 @@ lost_falls caps L j n e =
       launches_none j (Lost j n) refl,
       reruns_none j (Lost j n) refl,
       lost_shuts j n L e,
-      records_low caps.of_deps L (Lost j n) (Job j),
+      records_low (caps.of_deps (Job j)) L (Lost j n) (Job j),
     ))
 
 pub job_record_falls : (caps : Caps) (L : List Body) (b : Body) (j : ℕ) → is_launch_of j b ≡ false
-    → obeyed_command b ≡ None → records_left caps.of_deps (L ++ b ∷ []) (Job j) + 1 ≤ records_left caps.of_deps L (Job j)
+    → obeyed_command b ≡ None → records_left (caps.of_deps (Job j)) (L ++ b ∷ []) (Job j) + 1 ≤ records_left (caps.of_deps (Job j)) L (Job j)
     → job_left caps (L ++ b ∷ []) j + 1 ≤ job_left caps L j
 unfolding job_left
 job_record_falls caps L b j no_launch no_command falls =

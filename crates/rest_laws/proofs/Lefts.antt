@@ -1,195 +1,102 @@
 -- Each entry that a turn makes lowers what is left of a world, and what can still come to the catalogue stays covered.
-use Rattle.std.proofs.Common.{◌≡◌, ◌≢◌, ℕ, zero, suc, ◌+◌, ◌<◌, ◌≤◌, true, false, ◌⊎◌, inl, inr}
-use Rattle.std.proofs.Common.{List, [], ◌∷◌, ◌++◌, length, take, map, length-append, refl, ap, sym, subst, ◌∙◌, arith, Option, Some, None}
-use Rattle.std.proofs.Math.Seq.{take-length}
+use Rattle.std.proofs.Common.{◌≡◌, ◌≢◌, ℕ, ◌+◌, ◌<◌, ◌≤◌, true, false, ◌⊎◌, inl, inr}
+use Rattle.std.proofs.Common.{List, [], ◌∷◌, ◌++◌, length, map, length-append, refl, ap, sym, subst, ◌∙◌, arith, Option, Some, None}
 use Rattle.std.proofs.lemmas.Bool.Decides.{eqb_tells}
 use Rattle.std.proofs.lemmas.Bool.{eqb-true}
 use Rattle.std.specs.List.{AllByRecursion}
-use Rattle.std.specs.Prelude.{Ok, ◌==◌, flat_map, option_map, slice_get}
-use Rattle.model.specs.Types.{Body, Cmd, Deliver, Entry, Events, Feed, Input, Linked, Net, Order, Orders, Submit, Take, Turn, WorldStep}
+use Rattle.std.specs.Prelude.{Ok, ◌==◌, flat_map, slice_get}
+use Rattle.model.specs.Types.{Body, Deliver, Entry, Events, Feed, Linked, Net, Order, Orders, Submit, Take, Turn, WorldStep}
 use Rattle.model.specs.Words.{below}
 use Rattle.model.specs.Network.{node_count}
 use Rattle.model.specs.Equalities.{feed_eq}
 use Rattle.model.specs.Forwarding.{feeds}
 use Rattle.model.specs.History.{list_of}
 use Rattle.model.specs.Catalogue.{docs_in}
+use Rattle.model.specs.Dependencies.{deps}
 use Rattle.model.specs.Facts.{answered}
 use Rattle.model.specs.FreeSteps.{free_step, recounted}
 use Rattle.model.specs.Invariant.{Invariant}
 use Rattle.model.specs.NewEntry.{event_of, makes, next_entry, own_entry}
 use Rattle.model.specs.Step.{effect}
-use Rattle.model.specs.Turn.{next_order, turn_body}
 use Rattle.model.specs.World.{Origin, World, apply_effect, history_with, mark_delivered, view_at}
-use Rattle.model_laws.proofs.Feeds.{feed_cases, list_of-append, list_of_elsewhere, list_of_here, pushed_cases}
+use Rattle.model_laws.proofs.Feeds.{feed_cases, list_of-append, list_of_elsewhere, list_of_here}
 use Rattle.model_laws.proofs.FreeRuns.{free_kept}
 use Rattle.model_laws.proofs.Growth.{owned_grows, view_grows}
 use Rattle.model_laws.proofs.Options.{there_if}
-use Rattle.model_laws.proofs.Orders.{next_is}
 use Rattle.model_laws.proofs.Turns.{TurnGives, turn_gives}
 use Rattle.model_laws.proofs.Steps.{step_of}
-use Rattle.model_laws.proofs.Orders.{slice_get_take}
 use Rattle.rest_laws.specs.Gains.{sum_over}
 use Rattle.rest_laws.specs.Left.{Caps, Covers, done, entries, jobs_ahead, keeps_to, left, left_at, left_of, streams_ahead}
 use Rattle.rest_laws.specs.Rounds.{AreTaken}
 use Rattle.rest_laws.specs.Rest.{count_of, net_at}
-use Rattle.rest_laws.proofs.Ahead.{Jobs, Streams, draft_ahead, few_deps, none_ahead, owned_below, within}
+use Rattle.rest_laws.proofs.Ahead.{Jobs, Streams, draft_ahead, none_ahead, owned_below, within}
 use Rattle.rest_laws.proofs.Falls.{hits, sum_over_falls}
-use Rattle.rest_laws.proofs.Gains.{are_inside, feed_or_none, first_in}
 use Rattle.rest_laws.proofs.Leads.{came, took}
 use Rattle.rest_laws.proofs.Lowers.{Fits, turn_lowers}
-use Rattle.rest_laws.proofs.Quiets.{IsFeed}
+use Rattle.rest_laws.proofs.Entered.{Made, all_orders_same, events_here, events_same, given_same, issuer_in, next_given}
+use Rattle.rest_laws.proofs.Entered.{own_events, turn_makes}
+use Rattle.rest_laws.proofs.Deps.{deps_few, deps_less, nth_within}
 
--- what stood in a front stands in the whole
--- a node's view has its own events whole
-own_events : (net : Net) (x : World) (w : ℕ) → Invariant net x → view_at x w (Events w) ≡ list_of x.history (Events w)
-own_events net x w inv = rw (inv.own w (Events w) refl) (take-length (list_of x.history (Events w)))
-
--- what a turn makes
-pub record Made (net : Net) (x z : World) (w t : ℕ) (b : Body) : Type 0 where
-  pub body : turn_body (net_at net x w) (view_at x w) w (x.sessions w).live t ≡ Some b
-  pub history : z.history ≡ x.history ++ next_entry (view_at x w) (Events w) b ∷ []
-
-pub turn_makes : (net : Net) (x z : World) (w t : ℕ) → free_step net x (Take w (Turn t)) ≡ Ok z
-    → (w < node_count net) × ((z.history ≡ x.history) ⊎ ((b : Body) × Made net x z w t b))
-unfolding free_step apply_effect effect makes own_entry event_of
-turn_makes net x z w t e =
-    let p = took net (recounted x) z w (Turn t) e in (
-      first_in net x w [] (are_inside net x w (Input.Local (Turn t)) p.0),
-      go (turn_body (net_at net x w) (view_at x w) w (x.sessions w).live t) refl (ap (λ (y : World). y.history) p.1),
-    )
-  where
-    go : (o : Option Body) → turn_body (net_at net x w) (view_at x w) w (x.sessions w).live t ≡ o
-        → history_with Origin.Own x.history
-        (option_map (next_entry (view_at x w) (Events w)) (turn_body (net_at net x w) (view_at x w) w (x.sessions w).live t)) ≡ z.history
-        → (z.history ≡ x.history) ⊎ ((b : Body) × Made net x z w t b)
-    go None f g =
-        inl (sym g ∙ ap (λ o. history_with Origin.Own x.history (option_map (next_entry (view_at x w) (Events w)) o)) f)
-    go (Some b) f g =
-        inr (
-          b,
-          record {
-            body = f;
-            history = sym g ∙ ap (λ o. history_with Origin.Own x.history (option_map (next_entry (view_at x w) (Events w)) o)) f;
-          },
-        )
-
--- the order that a workstation answers next
+-- what a workstation finds fits
 module _ (net : Net) (x : World) (w : ℕ) (inv : Invariant net x) where
-  pub next_given : (a : ℕ) (c : Cmd) → next_order (view_at x w) w a ≡ Some c
-      → slice_get (list_of x.history (Orders a w)) (answered a (list_of x.history (Events w))) ≡ Some (Order c)
-  unfolding next_order
-  next_given a c e =
-      slice_get_take (x.holdings w (Orders a w)) (list_of x.history (Orders a w)) _ (Order c)
-      (subst (λ (l : List Body). slice_get (view_at x w (Orders a w)) (answered a l) ≡ Some (Order c)) (own_events net x w inv)
-      (next_is (slice_get (view_at x w (Orders a w)) (answered a (view_at x w (Events w)))) c e))
-
-  issuer_in : (a k : ℕ) (b : Body) → slice_get (list_of x.history (Orders a w)) k ≡ Some b → a < node_count net
-  issuer_in a k b e = go (feed_or_none net x inv (Orders a w))
-    where
-      go : IsFeed net (Orders a w) ⊎ (count_of x (Orders a w) ≡ 0) → a < node_count net
-      go (inl h) = h.0
-      go (inr h) = absurd (omega (arith, h, within (list_of x.history (Orders a w)) k b e))
-
-  fits : (caps : Caps) → Covers net caps x → Fits caps (node_count net) (λ a. count_of x (Orders a w)) (view_at x w) w
+  fits : (caps : ℕ → Caps) → Covers net caps x → Fits (caps w) (node_count net) (λ a. count_of x (Orders a w)) (view_at x w) w
   unfolding streams_ahead jobs_ahead
   fits caps covers =
       record {
         objects =
-            λ o mine. owned_below (list_of x.history) inv.numbers caps o w (omega (arith, covers.streams))
-            (omega (arith, covers.jobs_))
+            λ o mine. owned_below (list_of x.history) inv.numbers (caps w) o w (omega (arith, covers.streams w))
+            (omega (arith, covers.jobs_ w))
             (owned_grows (view_at x w) (list_of x.history) o w (view_grows x.history (x.holdings w)) mine);
-        numbers = λ o i d e. omega (arith, covers.deps_, few_deps (view_at x w) o i d e);
+        numbers =
+            λ o i d mine e.
+            omega (arith, covers.deps_ w o, nth_within (deps (view_at x w) o) i d e, deps_few net x w inv o mine);
         orders =
             λ a c e. (
-              issuer_in a _ (Order c) (next_given a c e),
+              issuer_in net x w inv a _ (Order c) (next_given net x w inv a c e),
               subst (λ (l : List Body). answered a l < count_of x (Orders a w)) (sym (own_events net x w inv))
-                  (within (list_of x.history (Orders a w)) _ (Order c) (next_given a c e)),
+                  (within (list_of x.history (Orders a w)) _ (Order c) (next_given net x w inv a c e)),
             );
       }
 
--- after an entry of w's own
-module _ (net : Net) (G : List Entry) (e : Entry) (w : ℕ) (here : e.feed ≡ Events w) where
-  abbrev H : List Entry
-  H = G ++ e ∷ []
-
-  orders_same : (a v : ℕ) → list_of H (Orders a v) ≡ list_of G (Orders a v)
-  orders_same a v = go (pushed_cases G e (Orders a v))
-    where
-      go : ((Orders a v ≡ e.feed) × (list_of H (Orders a v) ≡ list_of G (Orders a v) ++ e.body ∷ []))
-          ⊎ ((Orders a v ≢ e.feed) × (list_of H (Orders a v) ≡ list_of G (Orders a v)))
-          → list_of H (Orders a v) ≡ list_of G (Orders a v)
-      go (inl k) = absurd (other (k.0 ∙ here))
-        where
-          other : Orders a v ≡ Events w → ⊥
-          other f = cc
-      go (inr k) = k.1
-
-  events_same : (v : ℕ) → v ≢ w → list_of H (Events v) ≡ list_of G (Events v)
-  events_same v other = go (pushed_cases G e (Events v))
-    where
-      go : ((Events v ≡ e.feed) × (list_of H (Events v) ≡ list_of G (Events v) ++ e.body ∷ []))
-          ⊎ ((Events v ≢ e.feed) × (list_of H (Events v) ≡ list_of G (Events v)))
-          → list_of H (Events v) ≡ list_of G (Events v)
-      go (inl k) = absurd (other (same (k.0 ∙ here)))
-        where
-          same : Events v ≡ Events w → v ≡ w
-          same f = cc
-      go (inr k) = k.1
-
-  events_here : list_of H (Events w) ≡ list_of G (Events w) ++ e.body ∷ []
-  events_here = go (pushed_cases G e (Events w))
-    where
-      go : ((Events w ≡ e.feed) × (list_of H (Events w) ≡ list_of G (Events w) ++ e.body ∷ []))
-          ⊎ ((Events w ≢ e.feed) × (list_of H (Events w) ≡ list_of G (Events w)))
-          → list_of H (Events w) ≡ list_of G (Events w) ++ e.body ∷ []
-      go (inl k) = k.1
-      go (inr k) = absurd (k.0 (sym here))
-
-  all_orders_same : (v : ℕ) → ◌≡◌ {A = ℕ → List Body} (λ a. list_of H (Orders a v)) (λ a. list_of G (Orders a v))
-  all_orders_same v = λ i a. orders_same a v i
-
-  given_same : (v : ℕ) → ◌≡◌ {A = ℕ → ℕ} (λ a. length (list_of H (Orders a v))) (λ a. length (list_of G (Orders a v)))
-  given_same v = λ i a. length (orders_same a v i)
-
-pub left_same : (net : Net) (caps : Caps) (readings : ℕ → ℕ) (x z : World) → z.history ≡ x.history
+pub left_same : (net : Net) (caps : ℕ → Caps) (readings : ℕ → ℕ) (x z : World) → z.history ≡ x.history
     → left net caps readings z ≡ left net caps readings x
 unfolding left
 left_same net caps readings x z e = rw e refl
 
-pub covers_same : (net : Net) (caps : Caps) (x z : World) → z.history ≡ x.history → Covers net caps x → Covers net caps z
+pub covers_same : (net : Net) (caps : ℕ → Caps) (x z : World) → z.history ≡ x.history → Covers net caps x → Covers net caps z
 unfolding streams_ahead jobs_ahead
 covers_same net caps x z e h =
-    record { streams = rw e h.streams; jobs_ = rw e h.jobs_; deps_ = h.deps_ }
+    record { streams = λ w. rw e (h.streams w); jobs_ = λ w. rw e (h.jobs_ w); deps_ = λ w o. rw e (h.deps_ w o) }
 
-module _ (net : Net) (caps : Caps) (readings : ℕ → ℕ) (x z : World) (w : ℕ) (inv : Invariant net x)
+module _ (net : Net) (caps : ℕ → Caps) (readings : ℕ → ℕ) (x z : World) (w : ℕ) (inv : Invariant net x)
     (covers : Covers net caps x) (b : Body) (made : Made net x z w (readings w) b) where
   abbrev new : Entry
   new = next_entry (view_at x w) (Events w) b
 
   own_falls : left_at net caps readings z w + 1 ≤ left_at net caps readings x w
   own_falls =
-      let low : left_of caps (node_count net) (readings w) (λ a. count_of x (Orders a w)) (list_of x.history (Events w) ++ b ∷ [])
-      < left_of caps (node_count net) (readings w) (λ a. count_of x (Orders a w)) (list_of x.history (Events w)) =
-      subst (λ (l : List Body). left_of caps (node_count net) (readings w) (λ a. count_of x (Orders a w)) (l ++ b ∷ [])
-      < left_of caps (node_count net) (readings w) (λ a. count_of x (Orders a w)) l) (own_events net x w inv)
-      (turn_lowers (net_at net x w) (view_at x w) w (x.sessions w).live (readings w) caps (node_count net)
+      let low : left_of (caps w) (node_count net) (readings w) (λ a. count_of x (Orders a w)) (list_of x.history (Events w) ++ b ∷ [])
+      < left_of (caps w) (node_count net) (readings w) (λ a. count_of x (Orders a w)) (list_of x.history (Events w)) =
+      subst (λ (l : List Body). left_of (caps w) (node_count net) (readings w) (λ a. count_of x (Orders a w)) (l ++ b ∷ [])
+      < left_of (caps w) (node_count net) (readings w) (λ a. count_of x (Orders a w)) l) (own_events net x w inv)
+      (turn_lowers (net_at net x w) (view_at x w) w (x.sessions w).live (readings w) (caps w) (node_count net)
       (λ a. count_of x (Orders a w)) (fits net x w inv caps covers) b made.body) in
       let same : left_at net caps readings z w
-      ≡ left_of caps (node_count net) (readings w) (λ a. count_of x (Orders a w)) (list_of x.history (Events w) ++ b ∷ []) =
-      ap (λ (G : List Entry). left_of caps (node_count net) (readings w) (λ a. length (list_of G (Orders a w))) (list_of G (Events w)))
+      ≡ left_of (caps w) (node_count net) (readings w) (λ a. count_of x (Orders a w)) (list_of x.history (Events w) ++ b ∷ []) =
+      ap (λ (G : List Entry). left_of (caps w) (node_count net) (readings w) (λ a. length (list_of G (Orders a w))) (list_of G (Events w)))
       made.history
-      ∙ ap (λ (g : ℕ → ℕ). left_of caps (node_count net) (readings w) g (list_of (x.history ++ new ∷ []) (Events w)))
+      ∙ ap (λ (g : ℕ → ℕ). left_of (caps w) (node_count net) (readings w) g (list_of (x.history ++ new ∷ []) (Events w)))
       (given_same net x.history new w refl w)
-      ∙ ap (left_of caps (node_count net) (readings w) (λ a. count_of x (Orders a w))) (events_here net x.history new w refl) in
+      ∙ ap (left_of (caps w) (node_count net) (readings w) (λ a. count_of x (Orders a w))) (events_here net x.history new w refl) in
       omega (arith, low, same)
 
   others_same : (v : ℕ) → v ≢ w → left_at net caps readings z v ≡ left_at net caps readings x v
   others_same v other =
-      ap (λ (G : List Entry). left_of caps (node_count net) (readings v) (λ a. length (list_of G (Orders a v))) (list_of G (Events v)))
+      ap (λ (G : List Entry). left_of (caps v) (node_count net) (readings v) (λ a. length (list_of G (Orders a v))) (list_of G (Events v)))
       made.history
-      ∙ ap (λ (g : ℕ → ℕ). left_of caps (node_count net) (readings v) g (list_of (x.history ++ new ∷ []) (Events v)))
+      ∙ ap (λ (g : ℕ → ℕ). left_of (caps v) (node_count net) (readings v) g (list_of (x.history ++ new ∷ []) (Events v)))
       (given_same net x.history new w refl v)
-      ∙ ap (left_of caps (node_count net) (readings v) (λ a. count_of x (Orders a v))) (events_same net x.history new w refl v other)
+      ∙ ap (left_of (caps v) (node_count net) (readings v) (λ a. count_of x (Orders a v))) (events_same net x.history new w refl v other)
 
   none_rises : (v : ℕ) → left_at net caps readings z v ≤ left_at net caps readings x v
   none_rises v =
@@ -208,7 +115,7 @@ module _ (net : Net) (caps : Caps) (readings : ℕ → ℕ) (x z : World) (w : �
       )
 
 -- what can still come to the catalogue
-module _ (net : Net) (caps : Caps) (x z : World) (w t : ℕ) (inv : Invariant net x)
+module _ (net : Net) (caps : ℕ → Caps) (x z : World) (w t : ℕ) (inv : Invariant net x)
     (covers : Covers net caps x) (b : Body) (made : Made net x z w t b) where
   abbrev given : ℕ → List Body
   given a = list_of x.history (Orders a 0)
@@ -247,7 +154,7 @@ module _ (net : Net) (caps : Caps) (x z : World) (w t : ℕ) (inv : Invariant ne
       go c (TurnGives.ended s g) = none _ refl
       go c (TurnGives.launched j ready) = none _ refl
 
-covers_made : (net : Net) (caps : Caps) (x z : World) (w t : ℕ) → Invariant net x → Covers net caps x → (b : Body)
+covers_made : (net : Net) (caps : ℕ → Caps) (x z : World) (w t : ℕ) → Invariant net x → Covers net caps x → (b : Body)
     → Made net x z w t b → Covers net caps z
 unfolding streams_ahead jobs_ahead
 covers_made net caps x z w t inv covers b made = go (eqb_tells 0 w)
@@ -275,9 +182,9 @@ covers_made net caps x z w t inv covers b made = go (eqb_tells 0 w)
         (all_orders_same net x.history new w refl 0)
         ∙ ap (Jobs (node_count net) orders M b) e in
         record {
-          streams = omega (arith, streams, h.0, covers.streams);
-          jobs_ = omega (arith, jobs_, h.1, covers.jobs_);
-          deps_ = covers.deps_;
+          streams = λ v. omega (arith, streams, h.0, covers.streams v);
+          jobs_ = λ v. omega (arith, jobs_, h.1, covers.jobs_ v);
+          deps_ = λ v o. omega (arith, deps_less net x z w t inv b made v o, covers.deps_ v o);
         }
 
     go : (((0 == w) ≡ true) × (0 ≡ w)) ⊎ (((0 == w) ≡ false) × (0 ≢ w)) → Covers net caps z
@@ -370,11 +277,11 @@ unfolding free_step apply_effect effect makes own_entry event_of
 linked_same net x z w v e = sym (ap (λ (y : World). y.history) (took net (recounted x) z w (Linked v) e).1)
 
 -- entries and what is left of them never grow together
-pub record Keeps (net : Net) (caps : Caps) (readings : ℕ → ℕ) (x z : World) : Type 0 where
+pub record Keeps (net : Net) (caps : ℕ → Caps) (readings : ℕ → ℕ) (x z : World) : Type 0 where
   pub bound : entries net z + left net caps readings z ≤ entries net x + left net caps readings x
   pub covers : Covers net caps z
 
-keeps_same : (net : Net) (caps : Caps) (readings : ℕ → ℕ) (x z : World) → Covers net caps x → z.history ≡ x.history
+keeps_same : (net : Net) (caps : ℕ → Caps) (readings : ℕ → ℕ) (x z : World) → Covers net caps x → z.history ≡ x.history
     → Keeps net caps readings x z
 keeps_same net caps readings x z covers e =
     record {
@@ -383,7 +290,7 @@ keeps_same net caps readings x z covers e =
     }
 
 -- a turn at its reading keeps an entry and lowers what is left, or leaves both
-pub turn_left : (net : Net) (caps : Caps) (readings : ℕ → ℕ) (x z : World) (w : ℕ) → Invariant net x
+pub turn_left : (net : Net) (caps : ℕ → Caps) (readings : ℕ → ℕ) (x z : World) (w : ℕ) → Invariant net x
     → Covers net caps x → free_step net x (Take w (Turn (readings w))) ≡ Ok z
     → (left net caps readings z < left net caps readings x) ⊎ (z.history ≡ x.history)
 turn_left net caps readings x z w inv covers e =
@@ -394,7 +301,7 @@ turn_left net caps readings x z w inv covers e =
     go w_in (inl h) = inr h
     go w_in (inr h) = inl (left_falls net caps readings x z w inv covers h.0 h.1 w_in)
 
-turn_keeps : (net : Net) (caps : Caps) (readings : ℕ → ℕ) (x z : World) (w : ℕ) → Invariant net x
+turn_keeps : (net : Net) (caps : ℕ → Caps) (readings : ℕ → ℕ) (x z : World) (w : ℕ) → Invariant net x
     → Covers net caps x → free_step net x (Take w (Turn (readings w))) ≡ Ok z → Keeps net caps readings x z
 turn_keeps net caps readings x z w inv covers e =
     let made = turn_makes net x z w (readings w) e in go made.0 made.1
@@ -413,7 +320,7 @@ turn_keeps net caps readings x z w inv covers e =
           covers = covers_made net caps x z w (readings w) inv covers h.0 h.1;
         }
 
-pub step_keeps : (net : Net) (caps : Caps) (readings : ℕ → ℕ) (x z : World) (s : WorldStep) → Invariant net x
+pub step_keeps : (net : Net) (caps : ℕ → Caps) (readings : ℕ → ℕ) (x z : World) (s : WorldStep) → Invariant net x
     → Covers net caps x → keeps_to readings s ≡ true → free_step net x s ≡ Ok z → Keeps net caps readings x z
 step_keeps net caps readings x z (Take w (Turn t)) inv covers h e =
     turn_keeps net caps readings x z w inv covers
@@ -424,7 +331,7 @@ step_keeps net caps readings x z (Deliver a b k) inv covers h e =
     keeps_same net caps readings x z covers (delivered_same net x z a b k e)
 step_keeps net caps readings x z _ inv covers h e = cc
 
-pub steps_keep : (net : Net) (caps : Caps) (readings : ℕ → ℕ) (steps : List WorldStep) (x z : World) → Invariant net x
+pub steps_keep : (net : Net) (caps : ℕ → Caps) (readings : ℕ → ℕ) (steps : List WorldStep) (x z : World) → Invariant net x
     → Covers net caps x → AllByRecursion (λ s. keeps_to readings s ≡ true) steps → AreTaken net x steps z
     → Keeps net caps readings x z
 steps_keep net caps readings [] x z inv covers each taken =

@@ -11,7 +11,7 @@ use Rattle.lemmas.proofs.Booleans.{and_made, and_right, not_holds}
 use Rattle.lemmas.proofs.Lists.{all_map}
 use Rattle.model.specs.Types.{Added, Body, Clock, Cmd, Declined, Dep, Events, Job, Late, Launched, LiveJob, Lost, Net, Obeyed}
 use Rattle.model.specs.Types.{Obj, Released, Stream, StreamDoc, StreamEnded, Submit, UntilPassed, Why}
-use Rattle.model.specs.Words.{all_of, below, least, nth}
+use Rattle.model.specs.Words.{below, least, nth}
 use Rattle.model.specs.Equalities.{obj_eq}
 use Rattle.model.specs.History.{Seen, View}
 use Rattle.model.specs.Catalogue.{StreamJob, catalogue, is_member, job, jobs, jobs_of, jobs_of_stream, owner, stream}
@@ -217,7 +217,7 @@ by_obeyed caps t n given L a k c falls =
 -- what w sees of what it decides on has numbers below the caps, and the orders that it holds were given
 pub record Fits (caps : Caps) (n : ℕ) (given : ℕ → ℕ) (V : View) (w : ℕ) : Type 0 where
   pub objects : (o : Obj) → owner V o ≡ Some w → is_below caps o
-  pub numbers : (o : Obj) (i : ℕ) (d : Dep) → nth (deps V o) i ≡ Some d → i < caps.of_deps
+  pub numbers : (o : Obj) (i : ℕ) (d : Dep) → owner V o ≡ Some w → nth (deps V o) i ≡ Some d → i < caps.of_deps o
   pub orders :
       (a : ℕ) (c : Cmd) → next_order V w a ≡ Some c → (a < n) × (answered a (V (Events w)) < given a)
 
@@ -236,7 +236,7 @@ module _ (net : Net) (V : View) (w : ℕ) (live : List LiveJob) (t : ℕ) (caps 
 
   recorded : (o : Obj) (b : Body) → ((j : ℕ) → is_launch_of j b ≡ false) → obeyed_command b ≡ None
       → owner V o ≡ Some w
-      → records_left caps.of_deps (own ++ b ∷ []) o + 1 ≤ records_left caps.of_deps own o → Falls b
+      → records_left (caps.of_deps o) (own ++ b ∷ []) o + 1 ≤ records_left (caps.of_deps o) own o → Falls b
   recorded (Stream s) b no_launch no_command mine falls =
       by_stream caps t n given own (own ++ b ∷ []) (still b no_launch no_command) s (h.objects (Stream s) mine)
       (stream_record_falls caps own b s falls)
@@ -289,14 +289,14 @@ module _ (net : Net) (V : View) (w : ℕ) (live : List LiveJob) (t : ℕ) (caps 
       let due : IsDueUntil V w o p = there_if (IsDueUntil V w o) _ p
       (slice_get_all (IsDueUntil V w o) (due_untils V w o) 0 (due_untils_are V w o)) first in
       recorded o (UntilPassed o p.number u.mark) (λ j. refl) refl mine
-      (until_falls caps.of_deps own (UntilPassed o p.number u.mark) o p.number (h.numbers o p.number p.dep due.stands)
+      (until_falls (caps.of_deps o) own (UntilPassed o p.number u.mark) o p.number (h.numbers o p.number p.dep mine due.stands)
       (not_recorded own o p due.due)
       (and_made (obj_eq o o) (eqb p.number p.number) (obj_told o o refl) (eq-eqb p.number p.number refl)))
   lowers_by b lost (TurnGives.late o p mine first) =
       let due : IsDueLate V w o p = there_if (IsDueLate V w o) _ p
       (slice_get_all (IsDueLate V w o) (due_lates V w o) 0 (due_lates_are V w o)) first in
       recorded o (Late o p.number) (λ j. refl) refl mine
-      (late_falls caps.of_deps own (Late o p.number) o p.number (h.numbers o p.number p.dep due.stands)
+      (late_falls (caps.of_deps o) own (Late o p.number) o p.number (h.numbers o p.number p.dep mine due.stands)
       (not_late own o p due.due)
       (and_made (obj_eq o o) (eqb p.number p.number) (obj_told o o refl) (eq-eqb p.number p.number refl)))
   lowers_by b lost (TurnGives.released s may) =

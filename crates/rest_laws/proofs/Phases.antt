@@ -25,7 +25,8 @@ use Rattle.rest_laws.specs.Left.{keeps_to}
 use Rattle.rest_laws.specs.Rest.{net_at}
 use Rattle.rest_laws.specs.Rounds.{AreTaken, is_of_round}
 use Rattle.rest_laws.specs.ToRest.{AlwaysHasRoom, HasRoom, Reaches, names_inside}
-use Rattle.rest_laws.proofs.Lefts.{Made, delivered_same, turn_makes}
+use Rattle.rest_laws.proofs.Entered.{Made, turn_makes}
+use Rattle.rest_laws.proofs.Lefts.{delivered_same}
 use Rattle.rest_laws.proofs.Sending.{IsAck, IsMail, IsNone, Near, Sends, Sent, ack_sends, mail_sends, sends_after, sends_counted}
 use Rattle.rest_laws.proofs.Sending.{sends_on, sends_self, turn_sends}
 use Rattle.rest_laws.proofs.Taken.{ack_taken, all_low, count_at, feed_in, mail_taken, opened, turn_taken}

@@ -23,7 +23,7 @@ use Rattle.model_laws.proofs.LiveEntries.{raised_more}
 use Rattle.rest_laws.specs.Leads.{HasMore}
 use Rattle.rest_laws.specs.Rounds.{AreTaken, is_of_round}
 use Rattle.rest_laws.proofs.Leads.{Stays, came}
-use Rattle.rest_laws.proofs.Leads.{raised_here, stays_after, took, turn}
+use Rattle.rest_laws.proofs.Leads.{raised_here, stays_after, took}
 
 -- what each step of a round keeps: nothing is lost
 pub record Rises (x y : World) : Type 0 where

@@ -1,5 +1,5 @@
 -- Where each order has a short answer, no entry that a turn would make is ever too long.
-use Rattle.std.proofs.Common.{◌≡◌, ℕ, ◌+◌, ◌*◌, ◌<◌, ◌≤◌, true, false, ◌&&◌, ◌⊎◌, inl, inr, List, [], ◌∷◌, ◌++◌, refl, sym, subst}
+use Rattle.std.proofs.Common.{◌≡◌, ℕ, ◌+◌, ◌*◌, ◌<◌, ◌≤◌, true, false, ◌&&◌, ◌⊎◌, inl, inr, List, [], ◌∷◌, refl, sym, subst}
 use Rattle.std.proofs.Common.{arith, Option, Some, None}
 use Rattle.std.proofs.lemmas.Bool.Decides.{nat_tests}
 use Rattle.std.specs.List.{AllByRecursion, list_all}
@@ -24,7 +24,8 @@ use Rattle.rest_laws.specs.Rounds.{AreTaken}
 use Rattle.rest_laws.specs.Short.{answer_size, are_answers_short, has_short_answer}
 use Rattle.rest_laws.specs.ToRest.{AlwaysShort, names_inside, would_keep}
 use Rattle.rest_laws.proofs.Gains.{kept_run}
-use Rattle.rest_laws.proofs.Lefts.{Made, delivered_same, linked_same, next_given, turn_makes}
+use Rattle.rest_laws.proofs.Entered.{Made, next_given, turn_makes}
+use Rattle.rest_laws.proofs.Lefts.{delivered_same, linked_same}
 use Rattle.rest_laws.proofs.Phases.{all_pushed, turn_inside}
 use Rattle.rest_laws.proofs.Exists.{steps_named}
 use Rattle.rest_laws.proofs.Shown.{in_feed}

@@ -1,13 +1,12 @@
 -- How long an entry is that a turn makes, told by the order that it answers and by how many workstations there are.
-use Rattle.std.proofs.Common.{◌≡◌, ℕ, zero, suc, ◌+◌, ◌-◌, ◌*◌, ◌<◌, ◌≤◌, true, ◌&&◌, List, [], ◌∷◌, length, map, refl}
+use Rattle.std.proofs.Common.{◌≡◌, ℕ, ◌+◌, ◌-◌, ◌*◌, ◌<◌, ◌≤◌, true, List, [], ◌∷◌, length, map, refl}
 use Rattle.std.proofs.Common.{subst, arith, Option, Some, None}
 use Rattle.std.proofs.lemmas.Bool.Decides.{nat_tests}
 use Rattle.std.proofs.lemmas.List.Sums.{sum_by-cons}
 use Rattle.std.specs.List.{cons_option, enumerate_from}
-use Rattle.std.specs.Option.{option_map_or}
 use Rattle.std.specs.Prelude.{filter_map, nat_le, nat_lt, option_and_then, option_map, sum_by}
 use Rattle.lemmas.proofs.Booleans.{and_left, and_right}
-use Rattle.model.specs.Types.{Body, Cmd, Dep, DraftDep, Events, Follows, FollowsJob, FollowsStream, JobDoc, JobDraft}
+use Rattle.model.specs.Types.{Body, Cmd, Dep, DraftDep, Events, Follows, FollowsJob, FollowsStream, JobDraft}
 use Rattle.model.specs.Types.{LiveJob, Net, Plain, StreamDraft, Submit}
 use Rattle.model.specs.Network.{node_count}
 use Rattle.model.specs.History.{Seen, View}

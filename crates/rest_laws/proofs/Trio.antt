@@ -1,16 +1,16 @@
 -- Three workstations have room for all that is left to do, and come to rest with it done.
-use Rattle.std.proofs.Common.{◌≡◌, ℕ, [], ◌∷◌, zero, suc, ◌+◌, ◌*◌, ◌<◌, ◌≤◌, ◌++◌, List, length, refl, true, false, Bool, arith, drop}
-use Rattle.std.specs.Prelude.{IsTrue, Ok, None, pos, eqb}
+use Rattle.std.proofs.Common.{◌≡◌, ℕ, [], ◌∷◌, zero, suc, ◌+◌, ◌<◌, ◌++◌, refl, true, false, arith, drop}
+use Rattle.std.specs.Prelude.{pos}
 use Rattle.std.specs.Option.{option_map_or}
 use Rattle.lemmas.proofs.Booleans.{contrary}
-use Rattle.model.specs.Types.{Body, Ended, Events, Launched, Limit, Obeyed, Obj, Orders, Released, Started, StreamEnded, Job, Stream}
-use Rattle.model.specs.Words.{below, last_or, numbers_from}
+use Rattle.model.specs.Types.{Ended, Events, Launched, Limit, Obeyed, Released, Started, StreamEnded}
+use Rattle.model.specs.Words.{last_or}
 use Rattle.model.specs.Network.{IsTree, are_neighbours, chain, hop, is_manager}
 use Rattle.model.specs.Everything.{everything}
 use Rattle.model.specs.History.{list_of}
 use Rattle.model_laws.proofs.Keeps.{always_invariant}
-use Rattle.rest_laws.specs.Gains.{sum_over}
-use Rattle.rest_laws.specs.Left.{caps_of, entries, job_left, jobs_ahead, left, left_of, orders_left, records_left, stream_left, streams_ahead}
+use Rattle.rest_laws.specs.Left.{caps_of, deps_ahead, entries, job_left, jobs_ahead, left, left_of, orders_left}
+use Rattle.rest_laws.specs.Left.{records_left, stream_left, streams_ahead}
 use Rattle.rest_laws.specs.Rest.{HasDoneItsWork, IsAtRest, IsQuiet, net_at}
 use Rattle.rest_laws.specs.Short.{answer_size, are_answers_short}
 use Rattle.rest_laws.specs.ToRest.{ComesToRest, names_inside}
@@ -41,40 +41,10 @@ pub trio_short : are_answers_short trio trio_begun ≡ true
 unfolding everything trio_begun are_answers_short answer_size
 trio_short = refl
 
--- what an object may still have recorded is at most twice its dependencies
-records_few : (n : ℕ) (events : List Body) (o : Obj) → records_left n events o ≤ 2 * n
-unfolding records_left
-records_few n events o = go _ n 0
-  where
-    one : (b : Bool) → Rattle.rest_laws.specs.Left.undone b ≤ 1
-    one true = omega arith
-    one false = omega arith
-
-    go : (f : ℕ → Bool × Bool) (n s : ℕ) → sum_over (λ i. Rattle.rest_laws.specs.Left.undone (f i).0 + Rattle.rest_laws.specs.Left.undone (f i).1) (numbers_from s n) ≤ 2 * n
-    go f zero s = omega arith
-    go f (suc n) s = omega (arith, one (f s).0, one (f s).1, go f n (s + 1))
-
 pub trio_few : entries trio trio_begun + left trio (caps_of trio trio_begun) (λ w. 1) trio_begun < 4294967295
-unfolding everything trio_begun caps_of streams_ahead jobs_ahead entries left left_of stream_left job_left orders_left
-trio_few =
-    omega (
-      arith,
-      records_few 65536 (list_of trio_begun.history (Events 0)) (Stream 0),
-      records_few 65536 (list_of trio_begun.history (Events 0)) (Stream 1),
-      records_few 65536 (list_of trio_begun.history (Events 0)) (Stream 2),
-      records_few 65536 (list_of trio_begun.history (Events 0)) (Job 0),
-      records_few 65536 (list_of trio_begun.history (Events 0)) (Job 1),
-      records_few 65536 (list_of trio_begun.history (Events 1)) (Stream 0),
-      records_few 65536 (list_of trio_begun.history (Events 1)) (Stream 1),
-      records_few 65536 (list_of trio_begun.history (Events 1)) (Stream 2),
-      records_few 65536 (list_of trio_begun.history (Events 1)) (Job 0),
-      records_few 65536 (list_of trio_begun.history (Events 1)) (Job 1),
-      records_few 65536 (list_of trio_begun.history (Events 2)) (Stream 0),
-      records_few 65536 (list_of trio_begun.history (Events 2)) (Stream 1),
-      records_few 65536 (list_of trio_begun.history (Events 2)) (Stream 2),
-      records_few 65536 (list_of trio_begun.history (Events 2)) (Job 0),
-      records_few 65536 (list_of trio_begun.history (Events 2)) (Job 1),
-    )
+unfolding everything trio_begun caps_of deps_ahead streams_ahead jobs_ahead entries left left_of stream_left job_left
+    orders_left records_left
+trio_few = omega arith
 
 trio_links : (n m : ℕ) → n < 3 → m < 3 → are_neighbours (net_at trio trio_later n) n m ≡ true
     → (trio_later.sessions n).links m ≡ true

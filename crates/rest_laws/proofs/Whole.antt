@@ -1,6 +1,6 @@
 -- At rest nobody who saw the whole history would find anything to launch, release or end.
 use Rattle.std.proofs.Common.{◌≡◌, ℕ, ◌<◌, Bool, true, false, ◌==◌, ◌&&◌, ◌||◌, inl, inr, List, [], ◌∷◌, ◌++◌, refl, ap, sym}
-use Rattle.std.proofs.Common.{◌⊎◌, subst, ◌∙◌, Option, Some, None, map, cond}
+use Rattle.std.proofs.Common.{◌⊎◌, subst, ◌∙◌, Option, Some, None, map}
 use Rattle.std.proofs.lemmas.Bool.{eq-eqb, eqb-true}
 use Rattle.std.specs.List.{AllByRecursion}
 use Rattle.std.specs.Option.{option_map_or}
@@ -8,7 +8,7 @@ use Rattle.std.specs.Prelude.{eqb, filter, flat_map}
 use Rattle.lemmas.proofs.Booleans.{and_made, or_made_left, or_made_right}
 use Rattle.lemmas.proofs.Lists.{all_append, all_map, all_such}
 use Rattle.model.specs.Types.{Events, Job, JobDoc, Net, Stream, StreamDoc}
-use Rattle.model.specs.Words.{all_of, firsts, has}
+use Rattle.model.specs.Words.{all_of, has}
 use Rattle.model.specs.Network.{IsTree, domain, has_full_status, is_behind, node_count}
 use Rattle.model.specs.History.{View, list_of}
 use Rattle.model.specs.Catalogue.{StreamJob, catalogue, job, jobs, jobs_in, jobs_of, jobs_of_stream, stream, stream_of}

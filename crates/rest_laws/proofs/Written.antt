@@ -1,13 +1,13 @@
 -- What the program's language orders has a short answer.
-use Rattle.std.proofs.Common.{◌≡◌, ℕ, zero, suc, ◌+◌, ◌*◌, ◌<◌, ◌≤◌, List, [], ◌∷◌, length, refl, ap, arith, Option, Some, None}
+use Rattle.std.proofs.Common.{◌≡◌, ℕ, ◌*◌, ◌≤◌, List, [], ◌∷◌, length, ap, arith, Option, Some, None}
 use Rattle.std.proofs.lemmas.List.Sums.{sum_by-cons}
 use Rattle.std.proofs.lemmas.List.Elements.{recursion_from_All}
-use Rattle.std.specs.List.{All, AllByRecursion}
+use Rattle.std.specs.List.{AllByRecursion}
 use Rattle.std.specs.Prelude.{sum_by}
 use Rattle.model.specs.Types.{AddDep, And, At, Cmd, Cmp, Command, CondOp, Deadline, Dep, FollowsJob, FollowsStream, Global}
-use Rattle.model.specs.Types.{JobDraft, Needs, Not, Or, Outside, Own, Prompt, Script, StreamDraft, Submit, Until, Work}
+use Rattle.model.specs.Types.{JobDraft, Needs, Not, Or, Outside, Own, Prompt, Script, Submit, Until, Work}
 use Rattle.model.specs.Fit.{IsFitCmd, IsFitDep, IsFitJobDraft, IsFitWork}
-use Rattle.model.specs.Sizes.{cond_size, dep_size, draft_dep_size, job_draft_size, op_size, option_size, stream_draft_size, work_size}
+use Rattle.model.specs.Sizes.{dep_size, draft_dep_size, job_draft_size, op_size, option_size, work_size}
 use Rattle.rest_laws.specs.Short.{IsSmall, answer_size}
 
 dep_fits : (d : Dep) → IsFitDep d → dep_size d ≤ 4099

@@ -49,20 +49,20 @@ pub fn busy_rounds_are_few()
 /// turn reads is its workstation's reading, which stays. Deliveries and ends of links that come up leave it. So what
 /// there is and what is left never grow together; and what can still come to the catalogue stays covered.
 pub fn each_entry_of_a_turn_leaves_less()
-    ensures turn { (net : Net) (caps : Caps) (readings : ℕ → ℕ) (x y : World) (w : ℕ) → Invariant net x
+    ensures turn { (net : Net) (caps : ℕ → Caps) (readings : ℕ → ℕ) (x y : World) (w : ℕ) → Invariant net x
         → Covers net caps x → free_step net x (Take w (Turn (readings w))) ≡ Ok y
         → (left net caps readings y < left net caps readings x) ⊎ (y.history ≡ x.history) }
     ensures delivery { (net : Net) (x y : World) (a b k : ℕ) → free_step net x (Deliver a b k) ≡ Ok y
         → y.history ≡ x.history }
     ensures link { (net : Net) (x y : World) (w v : ℕ) → free_step net x (Take w (Linked v)) ≡ Ok y
         → y.history ≡ x.history }
-    ensures same { (net : Net) (caps : Caps) (readings : ℕ → ℕ) (x y : World) → y.history ≡ x.history
+    ensures same { (net : Net) (caps : ℕ → Caps) (readings : ℕ → ℕ) (x y : World) → y.history ≡ x.history
         → left net caps readings y ≡ left net caps readings x }
-    ensures bound { (net : Net) (caps : Caps) (readings : ℕ → ℕ) (steps : List WorldStep) (x y : World)
+    ensures bound { (net : Net) (caps : ℕ → Caps) (readings : ℕ → ℕ) (steps : List WorldStep) (x y : World)
         → Invariant net x → Covers net caps x → AllByRecursion (λ s. IsTrue (keeps_to readings s)) steps
         → AreTaken net x steps y
         → entries net y + left net caps readings y ≤ entries net x + left net caps readings x }
-    ensures covers { (net : Net) (caps : Caps) (readings : ℕ → ℕ) (steps : List WorldStep) (x y : World)
+    ensures covers { (net : Net) (caps : ℕ → Caps) (readings : ℕ → ℕ) (steps : List WorldStep) (x y : World)
         → Invariant net x → Covers net caps x → AllByRecursion (λ s. IsTrue (keeps_to readings s)) steps
         → AreTaken net x steps y → Covers net caps y }
     ensures covered { (net : Net) (x : World) → Covers net (caps_of net x) x }

@@ -11,6 +11,7 @@ use Rattle.std.specs.List.{AllByRecursion, enumerate_from}
 use Rattle.std.specs.Option.{option_map_or}
 use Rattle.std.specs.Prelude.{if◌then◌else◌, IfSome, eqb, filter_map, find, flat_map, option_map, slice_get}
 use Rattle.lemmas.proofs.Lists.{all_such, filter_map_short}
+use Rattle.lemmas.proofs.Options.{map_none}
 use Rattle.model.specs.Types.{AddDep, Added, Body, Cmd, Dep, Entry, Events, Job, JobDoc, JobDraft, Net, Obeyed, Obj}
 use Rattle.model.specs.Types.{Order, Orders, Stream, StreamDoc, StreamDraft, Submit}
 use Rattle.model.specs.Words.{below, firsts, nth}
@@ -75,10 +76,6 @@ find_later {X} q (x ∷ xs) ys e = go (q x) e (λ k. find_later q xs ys k)
 if_found : {X : Type 0} (P : X → Type 0) (o p : Option X) → o ≡ p → IfSome p P → IfSome o P
 if_found P o p e h = subst (λ o. IfSome o P) (sym e) h
 
-none_mapped : {X Y : Type 0} (f : X → Y) (o : Option X) → option_map f o ≡ None → o ≡ None
-none_mapped f None e = refl
-none_mapped f (Some x) e = cc
-
 -- a longer list of the master keeps what documents there are, and brings what is new
 module _ (V W : View) (M : List Body) (more : W (Events 0) ≡ V (Events 0) ++ M) where
   known : List ℕ
@@ -141,7 +138,7 @@ module _ (V W : View) (M : List Body) (more : W (Events 0) ≡ V (Events 0) ++ M
   docs_new (Stream s) e = go (stream W s) found
     where
       none : stream V s ≡ None
-      none = none_mapped (λ (d : StreamDoc). d.ws) (stream V s) e
+      none = map_none (λ (d : StreamDoc). d.ws) (stream V s) e
 
       found : IfSome (stream W s) (λ (d : StreamDoc). deps_of_doc d ≤ brought M)
       found =
@@ -160,7 +157,7 @@ module _ (V W : View) (M : List Body) (more : W (Events 0) ≡ V (Events 0) ++ M
   docs_new (Job j) e = go (job W j) found
     where
       none : job V j ≡ None
-      none = none_mapped (λ (p : StreamJob). p.doc.ws) (job V j) e
+      none = map_none (λ (p : StreamJob). p.doc.ws) (job V j) e
 
       found : IfSome (job W j) IsFew
       found =

@@ -62,20 +62,20 @@ pub times_low : (a b c : ℕ) → b ≤ c → a * b ≤ a * c
 times_low zero b c h = grind arith
 times_low (suc a) b c h = let k : a * b ≤ a * c = times_low a b c h in grind (arith, h, k)
 
-linking_keeps : (readings : ℕ → ℕ) (s : WorldStep) → is_linking s ≡ true → keeps_to readings s ≡ true
+linking_keeps : (readings : ℕ → List ℕ) (s : WorldStep) → is_linking s ≡ true → keeps_to readings s ≡ true
 linking_keeps readings (Take w (Linked v)) h = refl
 linking_keeps readings _ h = cc
 
-pub all_linking : (readings : ℕ → ℕ) (steps : List WorldStep) → AllByRecursion (λ s. is_linking s ≡ true) steps
+pub all_linking : (readings : ℕ → List ℕ) (steps : List WorldStep) → AllByRecursion (λ s. is_linking s ≡ true) steps
     → AllByRecursion (λ s. keeps_to readings s ≡ true) steps
 all_linking readings [] h = tt
 all_linking readings (s ∷ steps) h = (linking_keeps readings s h.0, all_linking readings steps h.1)
 
-pub keeps_on : (net : Net) (caps : ℕ → Caps) (readings : ℕ → ℕ) (x y z : World) → Keeps net caps readings x y
+pub keeps_on : (net : Net) (caps : ℕ → Caps) (readings : ℕ → List ℕ) (x y z : World) → Keeps net caps readings x y
     → Keeps net caps readings y z → Keeps net caps readings x z
 keeps_on net caps readings x y z h k = record { bound = omega (arith, h.bound, k.bound); covers = k.covers }
 
-round_keeps : (net : Net) (caps : ℕ → Caps) (readings : ℕ → ℕ) (x y : World) → Invariant net x → Covers net caps x
+round_keeps : (net : Net) (caps : ℕ → Caps) (readings : ℕ → List ℕ) (x y : World) → Invariant net x → Covers net caps x
     → (r : IsBusyRound net x y) → AllByRecursion (λ s. keeps_to readings s ≡ true) r.steps → Keeps net caps readings x y
 round_keeps net caps readings x y inv covers r each =
     let first : Keeps net caps readings x r.begin =
@@ -84,7 +84,7 @@ round_keeps net caps readings x y inv covers r each =
     (steps_keep net caps readings r.steps r.begin y (kept_run net r.links x r.begin inv r.come_up) first.covers each
     r.round.taken)
 
-rounds_keep : (net : Net) (caps : ℕ → Caps) (readings : ℕ → ℕ) (k : ℕ) (x z : World) → Invariant net x → Covers net caps x
+rounds_keep : (net : Net) (caps : ℕ → Caps) (readings : ℕ → List ℕ) (k : ℕ) (x z : World) → Invariant net x → Covers net caps x
     → AreBusyRoundsAt net readings k x z → AreBusyRounds net k x z × Keeps net caps readings x z
 rounds_keep net caps readings zero x z inv covers r =
     (r, subst (Keeps net caps readings x) r (record { bound = omega arith; covers = covers }))
@@ -100,7 +100,7 @@ pub covered : (net : Net) (x : World) → Covers net (caps_of net x) x
 unfolding caps_of
 covered net x = record { streams = λ w. omega arith; jobs_ = λ w. omega arith; deps_ = λ w o. omega arith }
 
-pub few_at : (net : Net) (readings : ℕ → ℕ) (k : ℕ) (x z : World) → IsTree net → Invariant net x
+pub few_at : (net : Net) (readings : ℕ → List ℕ) (k : ℕ) (x z : World) → IsTree net → Invariant net x
     → AreBusyRoundsAt net readings k x z → gained net x + k ≤ bound_of net readings x
 unfolding bound_of
 few_at net readings k x z tree inv r =

@@ -14,7 +14,7 @@ use Rattle.model.specs.Invariant.{Invariant}
 use Rattle.model_laws.proofs.FreeRuns.{free_kept}
 use Rattle.model_laws.proofs.Lists.{each_such}
 use Rattle.rest_laws.specs.Leads.{next_packet}
-use Rattle.rest_laws.specs.Left.{keeps_to}
+use Rattle.rest_laws.specs.Left.{keeps_to, only}
 use Rattle.rest_laws.specs.Rounds.{AreTaken, IsAmong, IsRound, is_of_round}
 use Rattle.rest_laws.specs.ToRest.{AlwaysHasRoom, names_inside}
 use Rattle.rest_laws.proofs.Ahead.{flat_all}
@@ -220,7 +220,7 @@ none_sent net x y a b sends = go (sends a b).rest (sends a b).each (sends a b).m
 pub record RoundHere (net : Net) (readings : ℕ → ℕ) (x : World) : Type 0 where
   pub end_ : World
   pub steps : List WorldStep
-  pub keep : AllByRecursion (λ s. keeps_to readings s ≡ true) steps
+  pub keep : AllByRecursion (λ s. keeps_to (only readings) s ≡ true) steps
   pub round : IsRound net readings x steps end_
 
 -- three phases make a round
@@ -249,11 +249,11 @@ module _ (net : Net) (readings : ℕ → ℕ) (x : World)
       all_append (λ s. is_of_round s ≡ true) S1 (S2 ++ S3) turns.each
       (all_append (λ s. is_of_round s ≡ true) S2 S3 mails.each acks.each)
 
-  round_keep : AllByRecursion (λ s. keeps_to readings s ≡ true) (S1 ++ (S2 ++ S3))
+  round_keep : AllByRecursion (λ s. keeps_to (only readings) s ≡ true) (S1 ++ (S2 ++ S3))
   unfolding S1 S2 S3
   round_keep =
-      all_append (λ s. keeps_to readings s ≡ true) S1 (S2 ++ S3) turns.keep
-      (all_append (λ s. keeps_to readings s ≡ true) S2 S3 mails.keep acks.keep)
+      all_append (λ s. keeps_to (only readings) s ≡ true) S1 (S2 ++ S3) turns.keep
+      (all_append (λ s. keeps_to (only readings) s ≡ true) S2 S3 mails.keep acks.keep)
 
   round_turns : (n : ℕ) → n < node_count net → IsAmong (Take n (Turn (readings n))) (S1 ++ (S2 ++ S3))
   unfolding S1 S2 S3 turn_of
@@ -304,14 +304,14 @@ round_exists net readings x tree inv names room =
 
 -- turns, deliveries and links keep names inside
 step_named : (net : Net) (readings : ℕ → ℕ) (x z : World) (s : WorldStep) → names_inside net x ≡ true
-    → keeps_to readings s ≡ true → free_step net x s ≡ Ok z → names_inside net z ≡ true
+    → keeps_to (only readings) s ≡ true → free_step net x s ≡ Ok z → names_inside net z ≡ true
 step_named net readings x z (Take w (Turn t)) names h e = turn_named net x z w t names e
 step_named net readings x z (Take w (Linked v)) names h e = names_same net x z (linked_same net x z w v e) names
 step_named net readings x z (Deliver a b k) names h e = names_same net x z (delivered_same net x z a b k e) names
 step_named net readings x z _ names h e = cc
 
 pub steps_named : (net : Net) (readings : ℕ → ℕ) (steps : List WorldStep) (x y : World) → names_inside net x ≡ true
-    → AllByRecursion (λ s. keeps_to readings s ≡ true) steps → AreTaken net x steps y → names_inside net y ≡ true
+    → AllByRecursion (λ s. keeps_to (only readings) s ≡ true) steps → AreTaken net x steps y → names_inside net y ≡ true
 steps_named net readings [] x y names each taken = subst (λ (y : World). names_inside net y ≡ true) taken names
 steps_named net readings (s ∷ steps) x y names each taken =
     steps_named net readings steps taken.0 y (step_named net readings x taken.0 s names each.0 taken.1) each.1 taken.2

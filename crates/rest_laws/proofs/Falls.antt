@@ -1,6 +1,6 @@
 -- What one more entry of a workstation's own leaves of what its turns can still make.
 use Rattle.std.proofs.Common.{◌≡◌, ◌≢◌, ℕ, zero, suc, ◌+◌, ◌-◌, ◌*◌, ◌<◌, ◌≤◌, Bool, true, false, ◌||◌, ◌⊎◌, inl, inr}
-use Rattle.std.proofs.Common.{List, [], ◌∷◌, ◌++◌, refl, subst, arith, Option, Some, None, cond}
+use Rattle.std.proofs.Common.{List, [], ◌∷◌, ◌++◌, refl, sym, subst, arith, Option, Some, None, cond}
 use Rattle.std.proofs.lemmas.Bool.{eq-eqb}
 use Rattle.std.proofs.lemmas.Bool.Decides.{eqb_tells, nat_tests}
 use Rattle.std.proofs.lemmas.List.Elements.{filter_map-append}
@@ -11,7 +11,7 @@ use Rattle.std.specs.List.{list_any}
 use Rattle.std.specs.Option.{option_or}
 use Rattle.std.specs.Prelude.{eqb, filter_map, is_none, is_some, nat_lt, option_and_then, option_map, slice_get}
 use Rattle.model.specs.Types.{Body, Clock, Cmd, Job, Launched, Lost, Obeyed, Obj, Rerun, Stream}
-use Rattle.model.specs.Words.{below, greatest, numbers_from}
+use Rattle.model.specs.Words.{below, greatest, has, numbers_from}
 use Rattle.model.specs.Facts.{LastLaunch, answered, answers_to, commands, end_of, first_end, is_ended, is_late, is_end_of, is_launch_of}
 use Rattle.model.specs.Facts.{is_late_record, is_open, is_release_of, is_released, is_until_record, is_until_recorded}
 use Rattle.model.specs.Facts.{last_launch, launch_here, launches, now, obeyed_command, open_launch, reading, reruns}
@@ -23,6 +23,7 @@ use Rattle.model_laws.proofs.Tidy.{launched_none, launches_none}
 use Rattle.rest_laws.specs.Gains.{sum_over}
 use Rattle.rest_laws.specs.Left.{Caps, done, job_left, orders_left, records_left, stream_left, undone}
 use Rattle.rest_laws.proofs.Gains.{sum_over_low}
+use Rattle.rest_laws.proofs.Chains.{or_rest}
 
 -- sums
 fall_from : (f g : ℕ → ℕ) (c s n x : ℕ) → ((a : ℕ) → f a ≤ g a) → s ≤ x → x < s + n → f x + c ≤ g x
@@ -381,12 +382,29 @@ lower m n t h = grind (arith, nat_tests)
 spent : (m n t : ℕ) → m < t → t ≤ n → done (nat_lt n t) + 1 ≤ done (nat_lt m t)
 spent m n t h k = grind (arith, nat_tests)
 
-pub clock_low : (L : List Body) (b : Body) (t : ℕ) → done (nat_lt (now (L ++ b ∷ [])) t) ≤ done (nat_lt (now L) t)
-clock_low L b t = lower (now L) (now (L ++ b ∷ [])) t (now_grows L b)
+pub clock_low : (L : List Body) (b : Body) (ts : List ℕ)
+    → sum_over (λ t. done (nat_lt (now (L ++ b ∷ [])) t)) ts ≤ sum_over (λ t. done (nat_lt (now L) t)) ts
+clock_low L b ts =
+    sum_over_low (λ t. done (nat_lt (now (L ++ b ∷ [])) t)) (λ t. done (nat_lt (now L) t)) ts
+    (λ t. lower (now L) (now (L ++ b ∷ [])) t (now_grows L b))
 
-pub clock_falls : (L : List Body) (t : ℕ) → now L < t
-    → done (nat_lt (now (L ++ Clock t ∷ [])) t) + 1 ≤ done (nat_lt (now L) t)
-clock_falls L t h = spent (now L) (now (L ++ Clock t ∷ [])) t h (now_there L t)
+pub clock_falls : (L : List Body) (t : ℕ) (ts : List ℕ) → has ts t ≡ true → now L < t
+    → sum_over (λ u. done (nat_lt (now (L ++ Clock t ∷ [])) u)) ts + 1 ≤ sum_over (λ u. done (nat_lt (now L) u)) ts
+clock_falls L t [] among h = cc
+clock_falls L t (u ∷ ts) among h =
+    elim (eqb_tells u t) [
+      | inl e ↦ omega (
+        arith,
+        subst (λ (u : ℕ). done (nat_lt (now (L ++ Clock t ∷ [])) u) + 1 ≤ done (nat_lt (now L) u)) (sym e.1)
+            (spent (now L) (now (L ++ Clock t ∷ [])) t h (now_there L t)),
+        clock_low L (Clock t) ts,
+      )
+      | inr e ↦ omega (
+        arith,
+        lower (now L) (now (L ++ Clock t ∷ [])) u (now_grows L (Clock t)),
+        clock_falls L t ts (or_rest (eqb u t) (has ts t) e.0 among) h,
+      )
+    ]
 
 -- orders
 answered_one : (a : ℕ) (b : Body) → answers_to a b ≡ true → answered a (b ∷ []) ≡ 1

@@ -2,11 +2,10 @@
 use Rattle.std.proofs.Common.{◌≡◌, ◌≢◌, ℕ, ◌+◌, ◌<◌, ◌≤◌, true, false, ◌⊎◌, inl, inr}
 use Rattle.std.proofs.Common.{List, [], ◌∷◌, ◌++◌, length, map, length-append, refl, ap, sym, subst, ◌∙◌, arith, Option, Some, None}
 use Rattle.std.proofs.lemmas.Bool.Decides.{eqb_tells}
-use Rattle.std.proofs.lemmas.Bool.{eqb-true}
 use Rattle.std.specs.List.{AllByRecursion}
 use Rattle.std.specs.Prelude.{Ok, ◌==◌, flat_map, slice_get}
 use Rattle.model.specs.Types.{Body, Deliver, Entry, Events, Feed, Linked, Net, Order, Orders, Submit, Take, Turn, WorldStep}
-use Rattle.model.specs.Words.{below}
+use Rattle.model.specs.Words.{below, has}
 use Rattle.model.specs.Network.{node_count}
 use Rattle.model.specs.Equalities.{feed_eq}
 use Rattle.model.specs.Forwarding.{feeds}
@@ -58,7 +57,7 @@ module _ (net : Net) (x : World) (w : ℕ) (inv : Invariant net x) where
             );
       }
 
-pub left_same : (net : Net) (caps : ℕ → Caps) (readings : ℕ → ℕ) (x z : World) → z.history ≡ x.history
+pub left_same : (net : Net) (caps : ℕ → Caps) (readings : ℕ → List ℕ) (x z : World) → z.history ≡ x.history
     → left net caps readings z ≡ left net caps readings x
 unfolding left
 left_same net caps readings x z e = rw e refl
@@ -68,8 +67,9 @@ unfolding streams_ahead jobs_ahead
 covers_same net caps x z e h =
     record { streams = λ w. rw e (h.streams w); jobs_ = λ w. rw e (h.jobs_ w); deps_ = λ w o. rw e (h.deps_ w o) }
 
-module _ (net : Net) (caps : ℕ → Caps) (readings : ℕ → ℕ) (x z : World) (w : ℕ) (inv : Invariant net x)
-    (covers : Covers net caps x) (b : Body) (made : Made net x z w (readings w) b) where
+module _ (net : Net) (caps : ℕ → Caps) (readings : ℕ → List ℕ) (x z : World) (w t : ℕ)
+    (among : has (readings w) t ≡ true) (inv : Invariant net x) (covers : Covers net caps x) (b : Body)
+    (made : Made net x z w t b) where
   abbrev new : Entry
   new = next_entry (view_at x w) (Events w) b
 
@@ -79,7 +79,7 @@ module _ (net : Net) (caps : ℕ → Caps) (readings : ℕ → ℕ) (x z : World
       < left_of (caps w) (node_count net) (readings w) (λ a. count_of x (Orders a w)) (list_of x.history (Events w)) =
       subst (λ (l : List Body). left_of (caps w) (node_count net) (readings w) (λ a. count_of x (Orders a w)) (l ++ b ∷ [])
       < left_of (caps w) (node_count net) (readings w) (λ a. count_of x (Orders a w)) l) (own_events net x w inv)
-      (turn_lowers (net_at net x w) (view_at x w) w (x.sessions w).live (readings w) (caps w) (node_count net)
+      (turn_lowers (net_at net x w) (view_at x w) w (x.sessions w).live t (readings w) among (caps w) (node_count net)
       (λ a. count_of x (Orders a w)) (fits net x w inv caps covers) b made.body) in
       let same : left_at net caps readings z w
       ≡ left_of (caps w) (node_count net) (readings w) (λ a. count_of x (Orders a w)) (list_of x.history (Events w) ++ b ∷ []) =
@@ -277,11 +277,11 @@ unfolding free_step apply_effect effect makes own_entry event_of
 linked_same net x z w v e = sym (ap (λ (y : World). y.history) (took net (recounted x) z w (Linked v) e).1)
 
 -- entries and what is left of them never grow together
-pub record Keeps (net : Net) (caps : ℕ → Caps) (readings : ℕ → ℕ) (x z : World) : Type 0 where
+pub record Keeps (net : Net) (caps : ℕ → Caps) (readings : ℕ → List ℕ) (x z : World) : Type 0 where
   pub bound : entries net z + left net caps readings z ≤ entries net x + left net caps readings x
   pub covers : Covers net caps z
 
-keeps_same : (net : Net) (caps : ℕ → Caps) (readings : ℕ → ℕ) (x z : World) → Covers net caps x → z.history ≡ x.history
+keeps_same : (net : Net) (caps : ℕ → Caps) (readings : ℕ → List ℕ) (x z : World) → Covers net caps x → z.history ≡ x.history
     → Keeps net caps readings x z
 keeps_same net caps readings x z covers e =
     record {
@@ -290,23 +290,24 @@ keeps_same net caps readings x z covers e =
     }
 
 -- a turn at its reading keeps an entry and lowers what is left, or leaves both
-pub turn_left : (net : Net) (caps : ℕ → Caps) (readings : ℕ → ℕ) (x z : World) (w : ℕ) → Invariant net x
-    → Covers net caps x → free_step net x (Take w (Turn (readings w))) ≡ Ok z
+pub turn_left : (net : Net) (caps : ℕ → Caps) (readings : ℕ → List ℕ) (x z : World) (w t : ℕ)
+    → has (readings w) t ≡ true → Invariant net x → Covers net caps x → free_step net x (Take w (Turn t)) ≡ Ok z
     → (left net caps readings z < left net caps readings x) ⊎ (z.history ≡ x.history)
-turn_left net caps readings x z w inv covers e =
-    let made = turn_makes net x z w (readings w) e in go made.0 made.1
+turn_left net caps readings x z w t among inv covers e =
+    let made = turn_makes net x z w t e in go made.0 made.1
   where
-    go : w < node_count net → ((z.history ≡ x.history) ⊎ ((b : Body) × Made net x z w (readings w) b))
+    go : w < node_count net → ((z.history ≡ x.history) ⊎ ((b : Body) × Made net x z w t b))
         → (left net caps readings z < left net caps readings x) ⊎ (z.history ≡ x.history)
     go w_in (inl h) = inr h
-    go w_in (inr h) = inl (left_falls net caps readings x z w inv covers h.0 h.1 w_in)
+    go w_in (inr h) = inl (left_falls net caps readings x z w t among inv covers h.0 h.1 w_in)
 
-turn_keeps : (net : Net) (caps : ℕ → Caps) (readings : ℕ → ℕ) (x z : World) (w : ℕ) → Invariant net x
-    → Covers net caps x → free_step net x (Take w (Turn (readings w))) ≡ Ok z → Keeps net caps readings x z
-turn_keeps net caps readings x z w inv covers e =
-    let made = turn_makes net x z w (readings w) e in go made.0 made.1
+turn_keeps : (net : Net) (caps : ℕ → Caps) (readings : ℕ → List ℕ) (x z : World) (w t : ℕ)
+    → has (readings w) t ≡ true → Invariant net x → Covers net caps x → free_step net x (Take w (Turn t)) ≡ Ok z
+    → Keeps net caps readings x z
+turn_keeps net caps readings x z w t among inv covers e =
+    let made = turn_makes net x z w t e in go made.0 made.1
   where
-    go : w < node_count net → ((z.history ≡ x.history) ⊎ ((b : Body) × Made net x z w (readings w) b))
+    go : w < node_count net → ((z.history ≡ x.history) ⊎ ((b : Body) × Made net x z w t b))
         → Keeps net caps readings x z
     go w_in (inl h) = keeps_same net caps readings x z covers h
     go w_in (inr h) =
@@ -314,24 +315,23 @@ turn_keeps net caps readings x z w inv covers e =
           bound =
               omega (
                 arith,
-                left_falls net caps readings x z w inv covers h.0 h.1 w_in,
-                one_entry net x z w (readings w) h.0 h.1,
+                left_falls net caps readings x z w t among inv covers h.0 h.1 w_in,
+                one_entry net x z w t h.0 h.1,
               );
-          covers = covers_made net caps x z w (readings w) inv covers h.0 h.1;
+          covers = covers_made net caps x z w t inv covers h.0 h.1;
         }
 
-pub step_keeps : (net : Net) (caps : ℕ → Caps) (readings : ℕ → ℕ) (x z : World) (s : WorldStep) → Invariant net x
+pub step_keeps : (net : Net) (caps : ℕ → Caps) (readings : ℕ → List ℕ) (x z : World) (s : WorldStep) → Invariant net x
     → Covers net caps x → keeps_to readings s ≡ true → free_step net x s ≡ Ok z → Keeps net caps readings x z
 step_keeps net caps readings x z (Take w (Turn t)) inv covers h e =
-    turn_keeps net caps readings x z w inv covers
-    (subst (λ (t : ℕ). free_step net x (Take w (Turn t)) ≡ Ok z) (eqb-true t (readings w) h) e)
+    turn_keeps net caps readings x z w t h inv covers e
 step_keeps net caps readings x z (Take w (Linked v)) inv covers h e =
     keeps_same net caps readings x z covers (linked_same net x z w v e)
 step_keeps net caps readings x z (Deliver a b k) inv covers h e =
     keeps_same net caps readings x z covers (delivered_same net x z a b k e)
 step_keeps net caps readings x z _ inv covers h e = cc
 
-pub steps_keep : (net : Net) (caps : ℕ → Caps) (readings : ℕ → ℕ) (steps : List WorldStep) (x z : World) → Invariant net x
+pub steps_keep : (net : Net) (caps : ℕ → Caps) (readings : ℕ → List ℕ) (steps : List WorldStep) (x z : World) → Invariant net x
     → Covers net caps x → AllByRecursion (λ s. keeps_to readings s ≡ true) steps → AreTaken net x steps z
     → Keeps net caps readings x z
 steps_keep net caps readings [] x z inv covers each taken =

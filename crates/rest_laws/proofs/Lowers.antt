@@ -11,7 +11,7 @@ use Rattle.lemmas.proofs.Booleans.{and_made, and_right, not_holds}
 use Rattle.lemmas.proofs.Lists.{all_map}
 use Rattle.model.specs.Types.{Added, Body, Clock, Cmd, Declined, Dep, Events, Job, Late, Launched, LiveJob, Lost, Net, Obeyed}
 use Rattle.model.specs.Types.{Obj, Released, Stream, StreamDoc, StreamEnded, Submit, UntilPassed, Why}
-use Rattle.model.specs.Words.{below, least, nth}
+use Rattle.model.specs.Words.{below, has, least, nth}
 use Rattle.model.specs.Equalities.{obj_eq}
 use Rattle.model.specs.History.{Seen, View}
 use Rattle.model.specs.Catalogue.{StreamJob, catalogue, is_member, job, jobs, jobs_of, jobs_of_stream, owner, stream}
@@ -143,35 +143,37 @@ not_late L o p = go (deadline_in p.dep)
     go (Some t) h = not_holds _ (and_right (nat_le t (now L)) _ h)
 
 -- of one more entry in this list: what is left is at most this, and one less where something falls
-record NotMore (caps : Caps) (t n : ℕ) (given : ℕ → ℕ) (L M : List Body) : Type 0 where
-  clock : done (nat_lt (now M) t) ≤ done (nat_lt (now L) t)
+record NotMore (caps : Caps) (ts : List ℕ) (n : ℕ) (given : ℕ → ℕ) (L M : List Body) : Type 0 where
+  clock :
+      sum_over (λ t. done (nat_lt (now M) t)) ts ≤ sum_over (λ t. done (nat_lt (now L) t)) ts
   streams : (s : ℕ) → stream_left caps M s ≤ stream_left caps L s
   jobs_ : (j : ℕ) → job_left caps M j ≤ job_left caps L j
   orders : orders_left n given M ≤ orders_left n given L
 
-not_more : (caps : Caps) (t n : ℕ) (given : ℕ → ℕ) (L : List Body) (b : Body) → ((j : ℕ) → job_left caps (L ++ b ∷ []) j ≤ job_left caps L j)
-    → NotMore caps t n given L (L ++ b ∷ [])
-not_more caps t n given L b jobs_ =
+not_more : (caps : Caps) (ts : List ℕ) (n : ℕ) (given : ℕ → ℕ) (L : List Body) (b : Body) → ((j : ℕ) → job_left caps (L ++ b ∷ []) j ≤ job_left caps L j)
+    → NotMore caps ts n given L (L ++ b ∷ [])
+not_more caps ts n given L b jobs_ =
     record {
-      clock = clock_low L b t;
+      clock = clock_low L b ts;
       streams = stream_low caps L b;
       jobs_ = jobs_;
       orders = orders_low n given L b;
     }
 
-module _ (caps : Caps) (t n : ℕ) (given : ℕ → ℕ) (L M : List Body) (h : NotMore caps t n given L M) where
+module _ (caps : Caps) (ts : List ℕ) (n : ℕ) (given : ℕ → ℕ) (L M : List Body) (h : NotMore caps ts n given L M) where
   sums : sum_over (stream_left caps M) (below caps.of_streams) ≤ sum_over (stream_left caps L) (below caps.of_streams)
   sums = sum_over_low (stream_left caps M) (stream_left caps L) (below caps.of_streams) h.streams
 
   sums_of_jobs : sum_over (job_left caps M) (below caps.of_jobs) ≤ sum_over (job_left caps L) (below caps.of_jobs)
   sums_of_jobs = sum_over_low (job_left caps M) (job_left caps L) (below caps.of_jobs) h.jobs_
 
-  by_clock : done (nat_lt (now M) t) + 1 ≤ done (nat_lt (now L) t) → left_of caps n t given M < left_of caps n t given L
+  by_clock : sum_over (λ t. done (nat_lt (now M) t)) ts + 1 ≤ sum_over (λ t. done (nat_lt (now L) t)) ts
+      → left_of caps n ts given M < left_of caps n ts given L
   unfolding left_of
   by_clock k = omega (arith, k, sums, sums_of_jobs, h.orders)
 
   by_stream : (s : ℕ) → s < caps.of_streams → stream_left caps M s + 1 ≤ stream_left caps L s
-      → left_of caps n t given M < left_of caps n t given L
+      → left_of caps n ts given M < left_of caps n ts given L
   unfolding left_of
   by_stream s low k =
       omega (
@@ -183,7 +185,7 @@ module _ (caps : Caps) (t n : ℕ) (given : ℕ → ℕ) (L M : List Body) (h : 
       )
 
   by_job : (j : ℕ) → j < caps.of_jobs → job_left caps M j + 1 ≤ job_left caps L j
-      → left_of caps n t given M < left_of caps n t given L
+      → left_of caps n ts given M < left_of caps n ts given L
   unfolding left_of
   by_job j low k =
       omega (
@@ -194,19 +196,19 @@ module _ (caps : Caps) (t n : ℕ) (given : ℕ → ℕ) (L M : List Body) (h : 
         h.orders,
       )
 
-  by_order : orders_left n given M + 3 ≤ orders_left n given L → left_of caps n t given M < left_of caps n t given L
+  by_order : orders_left n given M + 3 ≤ orders_left n given L → left_of caps n ts given M < left_of caps n ts given L
   unfolding left_of
   by_order k = omega (arith, h.clock, sums, sums_of_jobs, k)
 
 -- an order that is obeyed may be a rerun
-by_obeyed : (caps : Caps) (t n : ℕ) (given : ℕ → ℕ) (L : List Body) (a k : ℕ) (c : Cmd)
+by_obeyed : (caps : Caps) (ts : List ℕ) (n : ℕ) (given : ℕ → ℕ) (L : List Body) (a k : ℕ) (c : Cmd)
     → orders_left n given (L ++ Obeyed a k c ∷ []) + 3 ≤ orders_left n given L
-    → left_of caps n t given (L ++ Obeyed a k c ∷ []) < left_of caps n t given L
+    → left_of caps n ts given (L ++ Obeyed a k c ∷ []) < left_of caps n ts given L
 unfolding left_of
-by_obeyed caps t n given L a k c falls =
+by_obeyed caps ts n given L a k c falls =
     omega (
       arith,
-      clock_low L (Obeyed a k c) t,
+      clock_low L (Obeyed a k c) ts,
       sum_over_low (stream_left caps (L ++ Obeyed a k c ∷ [])) (stream_left caps L) (below caps.of_streams)
           (stream_low caps L (Obeyed a k c)),
       sum_over_rises (job_left caps (L ++ Obeyed a k c ∷ [])) (job_left caps L) (rerun_target c) caps.of_jobs
@@ -221,33 +223,33 @@ pub record Fits (caps : Caps) (n : ℕ) (given : ℕ → ℕ) (V : View) (w : �
   pub orders :
       (a : ℕ) (c : Cmd) → next_order V w a ≡ Some c → (a < n) × (answered a (V (Events w)) < given a)
 
-module _ (net : Net) (V : View) (w : ℕ) (live : List LiveJob) (t : ℕ) (caps : Caps) (n : ℕ) (given : ℕ → ℕ)
-    (h : Fits caps n given V w) where
+module _ (net : Net) (V : View) (w : ℕ) (live : List LiveJob) (t : ℕ) (ts : List ℕ) (among : has ts t ≡ true) (caps : Caps)
+    (n : ℕ) (given : ℕ → ℕ) (h : Fits caps n given V w) where
   abbrev own : List Body
   own = V (Events w)
 
   abbrev Falls : Body → Type 0
-  Falls b = left_of caps n t given (own ++ b ∷ []) < left_of caps n t given own
+  Falls b = left_of caps n ts given (own ++ b ∷ []) < left_of caps n ts given own
 
   still : (b : Body) → ((j : ℕ) → is_launch_of j b ≡ false) → obeyed_command b ≡ None
-      → NotMore caps t n given own (own ++ b ∷ [])
+      → NotMore caps ts n given own (own ++ b ∷ [])
   still b no_launch no_command =
-      not_more caps t n given own b (λ j. job_low caps own b j (no_launch j) no_command)
+      not_more caps ts n given own b (λ j. job_low caps own b j (no_launch j) no_command)
 
   recorded : (o : Obj) (b : Body) → ((j : ℕ) → is_launch_of j b ≡ false) → obeyed_command b ≡ None
       → owner V o ≡ Some w
       → records_left (caps.of_deps o) (own ++ b ∷ []) o + 1 ≤ records_left (caps.of_deps o) own o → Falls b
   recorded (Stream s) b no_launch no_command mine falls =
-      by_stream caps t n given own (own ++ b ∷ []) (still b no_launch no_command) s (h.objects (Stream s) mine)
+      by_stream caps ts n given own (own ++ b ∷ []) (still b no_launch no_command) s (h.objects (Stream s) mine)
       (stream_record_falls caps own b s falls)
   recorded (Job j) b no_launch no_command mine falls =
-      by_job caps t n given own (own ++ b ∷ []) (still b no_launch no_command) j (h.objects (Job j) mine)
+      by_job caps ts n given own (own ++ b ∷ []) (still b no_launch no_command) j (h.objects (Job j) mine)
       (job_record_falls caps own b j (no_launch j) no_command falls)
 
   launched : (j m : ℕ) (seen : Seen) → is_ready net V w j ≡ true → Falls (Launched j m seen)
   launched j m seen ready =
-      by_job caps t n given own (own ++ Launched j m seen ∷ [])
-      (not_more caps t n given own (Launched j m seen) jobs_low) j
+      by_job caps ts n given own (own ++ Launched j m seen ∷ [])
+      (not_more caps ts n given own (Launched j m seen) jobs_low) j
       (h.objects (Job j) (ready_owner net V w j ready)) this
     where
       this : job_left caps (own ++ Launched j m seen ∷ []) j + 1 ≤ job_left caps own j
@@ -263,27 +265,27 @@ module _ (net : Net) (V : View) (w : ℕ) (live : List LiveJob) (t : ℕ) (caps 
 
   lowers_by : (b : Body) → ((j m : ℕ) → b ≡ Lost j m → owner V (Job j) ≡ Some w) → TurnGives net V w live t b → Falls b
   lowers_by b lost (TurnGives.lost j m e dead) =
-      by_job caps t n given own (own ++ Lost j m ∷ []) (not_more caps t n given own (Lost j m) jobs_low) j
+      by_job caps ts n given own (own ++ Lost j m ∷ []) (not_more caps ts n given own (Lost j m) jobs_low) j
       (h.objects (Job j) (lost j m refl)) (lost_falls caps own j m e)
     where
       jobs_low : (i : ℕ) → job_left caps (own ++ Lost j m ∷ []) i ≤ job_left caps own i
       jobs_low i = job_low caps own (Lost j m) i refl refl
   lowers_by b lost (TurnGives.clocked due) =
-      by_clock caps t n given own (own ++ Clock t ∷ []) (still (Clock t) (λ j. refl) refl)
-      (clock_falls own t (due_above (now own) t (own_times V w) due))
+      by_clock caps ts n given own (own ++ Clock t ∷ []) (still (Clock t) (λ j. refl) refl)
+      (clock_falls own t ts among (due_above (now own) t (own_times V w) due))
   lowers_by b lost (TurnGives.declined a c why e) =
       let o : (a < n) × (answered a own < given a) = h.orders a c e in
-      by_order caps t n given own (own ++ Declined a (1 + answered a own) why ∷ [])
+      by_order caps ts n given own (own ++ Declined a (1 + answered a own) why ∷ [])
       (still (Declined a (1 + answered a own) why) (λ j. refl) refl)
       (orders_fall n given own (Declined a (1 + answered a own) why) a o.0 o.1 (eq-eqb a a refl))
   lowers_by b lost (TurnGives.added a draft e v) =
       let o : (a < n) × (answered a own < given a) = h.orders a (Submit draft) e in
-      by_order caps t n given own (own ++ Added a (1 + answered a own) (numbered V draft) ∷ [])
+      by_order caps ts n given own (own ++ Added a (1 + answered a own) (numbered V draft) ∷ [])
       (still (Added a (1 + answered a own) (numbered V draft)) (λ j. refl) refl)
       (orders_fall n given own (Added a (1 + answered a own) (numbered V draft)) a o.0 o.1 (eq-eqb a a refl))
   lowers_by b lost (TurnGives.obeyed a c e) =
       let o : (a < n) × (answered a own < given a) = h.orders a c e in
-      by_obeyed caps t n given own a (1 + answered a own) c
+      by_obeyed caps ts n given own a (1 + answered a own) c
       (orders_fall n given own (Obeyed a (1 + answered a own) c) a o.0 o.1 (eq-eqb a a refl))
   lowers_by b lost (TurnGives.until o p u mine first is) =
       let due : IsDueUntil V w o p = there_if (IsDueUntil V w o) _ p
@@ -300,12 +302,12 @@ module _ (net : Net) (V : View) (w : ℕ) (live : List LiveJob) (t : ℕ) (caps 
       (not_late own o p due.due)
       (and_made (obj_eq o o) (eqb p.number p.number) (obj_told o o refl) (eq-eqb p.number p.number refl)))
   lowers_by b lost (TurnGives.released s may) =
-      by_stream caps t n given own (own ++ Released s (seen_for V (witnesses V w (Stream s))) ∷ [])
+      by_stream caps ts n given own (own ++ Released s (seen_for V (witnesses V w (Stream s))) ∷ [])
       (still (Released s (seen_for V (witnesses V w (Stream s)))) (λ j. refl) refl) s
       (h.objects (Stream s) (release_owner net V w s may))
       (release_falls caps own (Released s (seen_for V (witnesses V w (Stream s)))) s (not_released net V w s may) (eq-eqb s s refl))
   lowers_by b lost (TurnGives.ended s may) =
-      by_stream caps t n given own (own ++ StreamEnded s (seen_for V (end_witnesses V w s)) ∷ [])
+      by_stream caps ts n given own (own ++ StreamEnded s (seen_for V (end_witnesses V w s)) ∷ [])
       (still (StreamEnded s (seen_for V (end_witnesses V w s))) (λ j. refl) refl) s
       (h.objects (Stream s) (not_ended V w s may).1)
       (end_falls caps own (StreamEnded s (seen_for V (end_witnesses V w s))) s (not_ended V w s may).0 (eq-eqb s s refl))
@@ -398,11 +400,11 @@ module _ (net : Net) (V : View) (w : ℕ) (live : List LiveJob) (t : ℕ) where
       (if_map OfOwn Choice.Launch (best net V w) (λ a e k f. cc)))))))))
 
   -- what a turn keeps lowers what is left
-  pub turn_lowers : (caps : Caps) (n : ℕ) (given : ℕ → ℕ) → Fits caps n given V w → (b : Body)
+  pub turn_lowers : (ts : List ℕ) → has ts t ≡ true → (caps : Caps) (n : ℕ) (given : ℕ → ℕ) → Fits caps n given V w → (b : Body)
       → turn_body net V w live t ≡ Some b
-      → left_of caps n t given (V (Events w) ++ b ∷ []) < left_of caps n t given (V (Events w))
+      → left_of caps n ts given (V (Events w) ++ b ∷ []) < left_of caps n ts given (V (Events w))
   unfolding turn_body
-  turn_lowers caps n given h b e =
-      lowers_by net V w live t caps n given h b
+  turn_lowers ts among caps n given h b e =
+      lowers_by net V w live t ts among caps n given h b
       (λ j m is. chosen_loss (turn_choice net V w live t) turn_own j m (e ∙ ap Some is))
       (there_if (TurnGives net V w live t) (turn_body net V w live t) b (turn_gives net V w live t) e)

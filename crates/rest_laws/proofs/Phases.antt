@@ -6,7 +6,7 @@ use Rattle.std.specs.List.{AllByRecursion, list_all}
 use Rattle.std.specs.Prelude.{Ok, nat_lt}
 use Rattle.lemmas.proofs.Booleans.{and_left, and_right}
 use Rattle.model.specs.Types.{Ack, Body, Deliver, Entry, Events, Input, Mail, Net, Packet, Take, Turn, WorldStep}
-use Rattle.model.specs.Words.{nth}
+use Rattle.model.specs.Words.{has, nth}
 use Rattle.model.specs.Network.{IsTree, node_count}
 use Rattle.model.specs.History.{list_of}
 use Rattle.model.specs.FreeSteps.{free_step, recounted}
@@ -21,7 +21,7 @@ use Rattle.model_laws.proofs.Options.{there_if}
 use Rattle.model_laws.proofs.Steps.{step_of}
 use Rattle.model_laws.proofs.Turns.{TurnGives, Writes, turn_gives}
 use Rattle.model_laws.proofs.Packets.{all_take}
-use Rattle.rest_laws.specs.Left.{keeps_to}
+use Rattle.rest_laws.specs.Left.{keeps_to, only}
 use Rattle.rest_laws.specs.Rest.{net_at}
 use Rattle.rest_laws.specs.Rounds.{AreTaken, is_of_round}
 use Rattle.rest_laws.specs.ToRest.{AlwaysHasRoom, HasRoom, Reaches, names_inside}
@@ -170,7 +170,7 @@ pub record Phase (net : Net) (readings : ℕ → ℕ) (P : Packet → Type 0) (x
   pub sends : Sends net P x end_
   pub names : names_inside net end_ ≡ true
   pub inv : Invariant net end_
-  pub keep : AllByRecursion (λ s. keeps_to readings s ≡ true) steps
+  pub keep : AllByRecursion (λ s. keeps_to (only readings) s ≡ true) steps
   pub each : AllByRecursion (λ s. is_of_round s ≡ true) steps
 
 pub phase_none : (net : Net) (readings : ℕ → ℕ) (P : Packet → Type 0) (x : World) → Invariant net x
@@ -179,7 +179,7 @@ phase_none net readings P x inv names =
     record { end_ = x; taken = refl; sends = sends_self net P x x refl; names = names; inv = inv; keep = tt; each = tt }
 
 pub phase_on : (net : Net) (readings : ℕ → ℕ) (P : Packet → Type 0) (x : World) (s : WorldStep) (steps : List WorldStep)
-    → keeps_to readings s ≡ true → is_of_round s ≡ true → (d : Done net P x s) → Phase net readings P d.end_ steps
+    → keeps_to (only readings) s ≡ true → is_of_round s ≡ true → (d : Done net P x s) → Phase net readings P d.end_ steps
     → Phase net readings P x (s ∷ steps)
 phase_on net readings P x s steps keep of d p =
     record {
@@ -193,6 +193,9 @@ phase_on net readings P x s steps keep of d p =
     }
 
 -- the turns
+one_of : (t : ℕ) → has (t ∷ []) t ≡ true
+one_of t = rw (eq-eqb t t refl) refl
+
 unfoldable pub turn_of : (ℕ → ℕ) → ℕ → WorldStep
 turn_of readings w = Take w (Turn (readings w))
 
@@ -206,8 +209,8 @@ phase_turns net readings x (w ∷ ws) tree inv names low room =
     let d : Done net IsMail x (Take w (Turn (readings w))) =
     turn_done net x w (readings w) tree names low.0 (room x self w low.0) in
     let one : Reaches net readings x d.end_ =
-    record { steps = Take w (Turn (readings w)) ∷ []; keep = (eq-eqb (readings w) (readings w) refl, tt); taken = (d.end_, d.taken, refl) } in
+    record { steps = Take w (Turn (readings w)) ∷ []; keep = (one_of (readings w), tt); taken = (d.end_, d.taken, refl) } in
     phase_on net readings IsMail x (Take w (Turn (readings w))) (map (turn_of readings) ws)
-    (eq-eqb (readings w) (readings w) refl) refl d
+    (one_of (readings w)) refl d
     (phase_turns net readings d.end_ ws tree (free_kept net x d.end_ (Take w (Turn (readings w))) inv d.taken) d.names low.1
     (λ y h. room y (reaches_on net readings x d.end_ y one h)))

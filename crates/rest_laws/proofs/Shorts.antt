@@ -18,7 +18,7 @@ use Rattle.model.specs.World.{World, view_at}
 use Rattle.model_laws.proofs.Formed.{entry_formed}
 use Rattle.model_laws.proofs.Options.{slice_get_all, there_if}
 use Rattle.model_laws.proofs.Turns.{TurnGives, Writes, turn_gives}
-use Rattle.rest_laws.specs.Left.{keeps_to}
+use Rattle.rest_laws.specs.Left.{keeps_to, only}
 use Rattle.rest_laws.specs.Rest.{net_at}
 use Rattle.rest_laws.specs.Rounds.{AreTaken}
 use Rattle.rest_laws.specs.Short.{answer_size, are_answers_short, has_short_answer}
@@ -65,7 +65,7 @@ short_made net x z w t b made h =
     (turn_gives (net_at net x w) (view_at x w) w (x.sessions w).live t) made.body))))
 
 step_short : (net : Net) (readings : ℕ → ℕ) (x z : World) (s : WorldStep) → are_answers_short net x ≡ true
-    → keeps_to readings s ≡ true → free_step net x s ≡ Ok z → are_answers_short net z ≡ true
+    → keeps_to (only readings) s ≡ true → free_step net x s ≡ Ok z → are_answers_short net z ≡ true
 step_short net readings x z (Take w (Turn t)) h keep e = go (turn_makes net x z w t e).1
   where
     go : ((z.history ≡ x.history) ⊎ ((b : Body) × Made net x z w t b)) → are_answers_short net z ≡ true
@@ -76,7 +76,7 @@ step_short net readings x z (Deliver a b k) h keep e = short_same net x z (deliv
 step_short net readings x z _ h keep e = cc
 
 steps_short : (net : Net) (readings : ℕ → ℕ) (steps : List WorldStep) (x y : World) → are_answers_short net x ≡ true
-    → AllByRecursion (λ s. keeps_to readings s ≡ true) steps → AreTaken net x steps y → are_answers_short net y ≡ true
+    → AllByRecursion (λ s. keeps_to (only readings) s ≡ true) steps → AreTaken net x steps y → are_answers_short net y ≡ true
 steps_short net readings [] x y h keep taken = subst (λ (y : World). are_answers_short net y ≡ true) taken h
 steps_short net readings (s ∷ steps) x y h keep taken =
     steps_short net readings steps taken.0 y (step_short net readings x taken.0 s h keep.0 taken.1) keep.1 taken.2

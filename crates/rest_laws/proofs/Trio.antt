@@ -9,7 +9,7 @@ use Rattle.model.specs.Network.{IsTree, are_neighbours, chain, hop, is_manager}
 use Rattle.model.specs.Everything.{everything}
 use Rattle.model.specs.History.{list_of}
 use Rattle.model_laws.proofs.Keeps.{always_invariant}
-use Rattle.rest_laws.specs.Left.{caps_of, deps_ahead, entries, job_left, jobs_ahead, left, left_of, orders_left}
+use Rattle.rest_laws.specs.Left.{caps_of, deps_ahead, entries, job_left, jobs_ahead, left, left_of, only, orders_left}
 use Rattle.rest_laws.specs.Left.{records_left, stream_left, streams_ahead}
 use Rattle.rest_laws.specs.Rest.{HasDoneItsWork, IsAtRest, IsQuiet, net_at}
 use Rattle.rest_laws.specs.Short.{answer_size, are_answers_short}
@@ -41,7 +41,7 @@ pub trio_short : are_answers_short trio trio_begun ≡ true
 unfolding everything trio_begun are_answers_short answer_size
 trio_short = refl
 
-pub trio_few : entries trio trio_begun + left trio (caps_of trio trio_begun) (λ w. 1) trio_begun < 4294967295
+pub trio_few : entries trio trio_begun + left trio (caps_of trio trio_begun) (only (λ w. 1)) trio_begun < 4294967295
 unfolding everything trio_begun caps_of deps_ahead streams_ahead jobs_ahead entries left left_of stream_left job_left
     orders_left records_left
 trio_few = omega arith

@@ -7,7 +7,7 @@ ghost use Rattle.model.specs.World.{World, empty_world, run};
 ghost use Rattle.model.specs.FreeSteps.{free_run};
 ghost use Rattle.model.specs.Invariant.{Invariant};
 ghost use Rattle.rest_laws.specs.Gains.{gained};
-ghost use Rattle.rest_laws.specs.Left.{bound_of, caps_of, entries, left};
+ghost use Rattle.rest_laws.specs.Left.{bound_of, caps_of, entries, left, only};
 ghost use Rattle.rest_laws.specs.Rounds.{IsRound};
 ghost use Rattle.rest_laws.specs.Short.{IsSmall, answer_size, are_answers_short};
 ghost use Rattle.rest_laws.specs.ToRest.{AlwaysHasRoom, AlwaysRounds, AlwaysShort, AreRounds, ComesToRest, RestsAmong, names_inside};
@@ -22,7 +22,7 @@ pub fn there_is_always_a_round()
     ensures always { (net : Net) (readings : ℕ → ℕ) (x : World) → IsTree net → Invariant net x
         → IsTrue (names_inside net x) → AlwaysHasRoom net readings x → AlwaysRounds net readings x }
     ensures room { (net : Net) (readings : ℕ → ℕ) (x : World) → Invariant net x
-        → entries net x + left net (caps_of net x) readings x < 4294967295 → AlwaysShort net readings x
+        → entries net x + left net (caps_of net x) (only readings) x < 4294967295 → AlwaysShort net readings x
         → AlwaysHasRoom net readings x }
 {}
 
@@ -32,7 +32,7 @@ pub fn rounds_come_to_rest()
     ensures world { (net : Net) (readings : ℕ → ℕ) (x : World) → IsTree net → Invariant net x
         → AlwaysRounds net readings x → ComesToRest net readings x }
     ensures whatever { (net : Net) (readings : ℕ → ℕ) (k : ℕ) (x z : World) → IsTree net → Invariant net x
-        → (rounds : AreRounds net readings k x z) → bound_of net readings x < gained net x + k
+        → (rounds : AreRounds net readings k x z) → bound_of net (only readings) x < gained net x + k
         → RestsAmong net readings k x z rounds }
     ensures free { (net : Net) (readings : ℕ → ℕ) (steps : List WorldStep) → IsTree net
         → AlwaysRounds net readings (free_run net steps empty_world)
@@ -62,5 +62,5 @@ pub fn a_network_comes_to_rest()
         → ComesToRest net readings (free_run net steps empty_world) }
     ensures told { (net : Net) (readings : ℕ → ℕ) (x : World) → IsTree net → Invariant net x
         → IsTrue (names_inside net x) → IsTrue (are_answers_short net x)
-        → entries net x + left net (caps_of net x) readings x < 4294967295 → ComesToRest net readings x }
+        → entries net x + left net (caps_of net x) (only readings) x < 4294967295 → ComesToRest net readings x }
 {}

@@ -3,6 +3,7 @@
 ghost use Rattle.std.specs.List.{AllByRecursion};
 ghost use Rattle.std.specs.Prelude.{◌≡◌, ◌<◌, ◌≤◌, ◌⊎◌, ◌+◌, ℕ, IsTrue, List, Ok};
 ghost use Rattle.model.specs.Types.{Deliver, Linked, Net, Take, Turn, WorldStep};
+ghost use Rattle.model.specs.Words.{has};
 ghost use Rattle.model.specs.Network.{IsTree};
 ghost use Rattle.model.specs.World.{World, step};
 ghost use Rattle.model.specs.FreeSteps.{free_step};
@@ -45,32 +46,33 @@ pub fn busy_rounds_are_few()
         → gained net x + k ≤ most net z }
 {}
 
-/// Each entry that a turn makes lowers what is left for turns to do: whatever allowed it is gone after it. What the
-/// turn reads is its workstation's reading, which stays. Deliveries and ends of links that come up leave it. So what
+/// Each entry that a turn makes lowers what is left for turns to do: whatever allowed it is gone after it. The turn reads
+/// one of the readings that its workstation's clock may have. Deliveries and ends of links that come up leave it. So what
 /// there is and what is left never grow together; and what can still come to the catalogue stays covered.
 pub fn each_entry_of_a_turn_leaves_less()
-    ensures turn { (net : Net) (caps : ℕ → Caps) (readings : ℕ → ℕ) (x y : World) (w : ℕ) → Invariant net x
-        → Covers net caps x → free_step net x (Take w (Turn (readings w))) ≡ Ok y
+    ensures turn { (net : Net) (caps : ℕ → Caps) (readings : ℕ → List ℕ) (x y : World) (w t : ℕ)
+        → IsTrue (has (readings w) t) → Invariant net x → Covers net caps x
+        → free_step net x (Take w (Turn t)) ≡ Ok y
         → (left net caps readings y < left net caps readings x) ⊎ (y.history ≡ x.history) }
     ensures delivery { (net : Net) (x y : World) (a b k : ℕ) → free_step net x (Deliver a b k) ≡ Ok y
         → y.history ≡ x.history }
     ensures link { (net : Net) (x y : World) (w v : ℕ) → free_step net x (Take w (Linked v)) ≡ Ok y
         → y.history ≡ x.history }
-    ensures same { (net : Net) (caps : ℕ → Caps) (readings : ℕ → ℕ) (x y : World) → y.history ≡ x.history
+    ensures same { (net : Net) (caps : ℕ → Caps) (readings : ℕ → List ℕ) (x y : World) → y.history ≡ x.history
         → left net caps readings y ≡ left net caps readings x }
-    ensures bound { (net : Net) (caps : ℕ → Caps) (readings : ℕ → ℕ) (steps : List WorldStep) (x y : World)
+    ensures bound { (net : Net) (caps : ℕ → Caps) (readings : ℕ → List ℕ) (steps : List WorldStep) (x y : World)
         → Invariant net x → Covers net caps x → AllByRecursion (λ s. IsTrue (keeps_to readings s)) steps
         → AreTaken net x steps y
         → entries net y + left net caps readings y ≤ entries net x + left net caps readings x }
-    ensures covers { (net : Net) (caps : ℕ → Caps) (readings : ℕ → ℕ) (steps : List WorldStep) (x y : World)
+    ensures covers { (net : Net) (caps : ℕ → Caps) (readings : ℕ → List ℕ) (steps : List WorldStep) (x y : World)
         → Invariant net x → Covers net caps x → AllByRecursion (λ s. IsTrue (keeps_to readings s)) steps
         → AreTaken net x steps y → Covers net caps y }
     ensures covered { (net : Net) (x : World) → Covers net (caps_of net x) x }
 {}
 
-/// Busy rounds at the same readings are at most so many, a number that the world in which they begin decides: so where
-/// no input comes from outside, and no turn is refused, rounds come to rest.
+/// Busy rounds are at most so many, a number that the world in which they begin decides with the readings that clocks may
+/// have: so where no input comes from outside, and no turn is refused, rounds come to rest. Clocks may go on between them.
 pub fn busy_rounds_are_bounded()
-    ensures { (net : Net) (readings : ℕ → ℕ) (k : ℕ) (x z : World) → IsTree net → Invariant net x
+    ensures { (net : Net) (readings : ℕ → List ℕ) (k : ℕ) (x z : World) → IsTree net → Invariant net x
         → AreBusyRoundsAt net readings k x z → gained net x + k ≤ bound_of net readings x }
 {}

@@ -4,7 +4,7 @@ ghost use Rattle.model.specs.Types.{Ended, Events, Launched, Limit, Mail, Obeyed
 ghost use Rattle.model.specs.Network.{IsTree};
 ghost use Rattle.model.specs.History.{list_of};
 ghost use Rattle.rest_laws.specs.AtRest.{pair, pair_apart, pair_begun, pair_later, pair_one_end, pair_round, pair_round_end};
-ghost use Rattle.rest_laws.specs.Left.{caps_of, entries, left};
+ghost use Rattle.rest_laws.specs.Left.{caps_of, entries, left, only};
 ghost use Rattle.rest_laws.specs.Rounds.{AreLinked, IsRound};
 ghost use Rattle.rest_laws.specs.Rest.{HasDoneItsWork, IsAtRest, IsQuiet, count_of};
 ghost use Rattle.rest_laws.specs.Short.{are_answers_short};
@@ -40,7 +40,7 @@ pub fn three_workstations_come_to_rest()
     ensures tree { IsTree trio }
     ensures names { IsTrue (names_inside trio trio_begun) }
     ensures short { IsTrue (are_answers_short trio trio_begun) }
-    ensures few { entries trio trio_begun + left trio (caps_of trio trio_begun) (λ w. 1) trio_begun < 4294967295 }
+    ensures few { entries trio trio_begun + left trio (caps_of trio trio_begun) (only (λ w. 1)) trio_begun < 4294967295 }
     ensures comes { ComesToRest trio (λ w. 1) trio_begun }
     ensures busy { IsAtRest trio (λ w. 1) trio_begun → ⊥ }
     ensures rest { IsAtRest trio (λ w. 1) trio_later }

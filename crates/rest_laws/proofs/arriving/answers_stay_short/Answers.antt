@@ -1,0 +1,9 @@
+use Rattle.rest_laws.proofs.Shorts.{always_short}
+use Rattle.rest_laws.proofs.Written.{written_short}
+use Rattle.rest_laws.proofs.arriving.answers_stay_short.Goals as goal
+
+pub returns-clause-always : goal.returns-clause-always
+returns-clause-always c = λ net readings x inv names short. always_short net readings x inv names short
+
+pub returns-clause-written : goal.returns-clause-written
+returns-clause-written c = λ c fit small. written_short c fit small

@@ -1,0 +1,17 @@
+mod Members
+mod Worlds
+mod Stories
+mod Telling
+mod Runs
+mod Growing
+mod Counting
+mod Acks
+mod Carrying
+mod Advancing
+mod Whole
+mod Reading
+mod Leaving
+mod Plans
+mod Uniques
+mod Once
+mod Ordered

@@ -19,8 +19,7 @@ use Rattle.model_laws.proofs.Inside.{AreIn, are_in}
 use Rattle.lemmas.proofs.Lists.{all_left}
 use Rattle.model_laws.proofs.PresentNets.{by_one, one_count}
 use Rattle.model_laws.proofs.Sends.{same_done}
-use Rattle.network_runs.specs.Happenings.{IsIn}
-use Rattle.network_runs.proofs.Members.{in_either}
+use Rattle.network_runs.proofs.Members.{IsIn, in_either}
 
 -- an acknowledgement is of a feed whose numbers have their bytes
 abbrev pub IsAckInRange : Packet → Type 0

@@ -17,11 +17,12 @@ use Rattle.agent_core.specs.Steps.{IsTaken, effect_in}
 use Rattle.agent_core.specs.declared.faults.Step.{Step}
 use Rattle.node_inputs.specs.Traces.{Event, Trace, refusals, tried_by}
 use Rattle.node_inputs.specs.declared.ends.NodeEnd.{NodeEnd}
-use Rattle.network_runs.specs.Happenings.{Does, IsIn, Stops, heard_from, kept_at, made}
+use Rattle.network_runs.specs.Happenings.{Does, Stops, heard_from, kept_at, made}
 use Rattle.network_runs.proofs.Worlds.{IsReached, invariant, stop_moves}
 use Rattle.network_runs.proofs.Growing.{Grows, NodeIn, Took, cut_of, grows_not, grows_on, history_next, kept_here, moves_grow, node_cut, node_takes, stands_again}
 use Rattle.network_runs.proofs.Carrying.{AreWritten, IsCarried, Links, OutsIn, ReadLaw, came_there, links_on, outs_in}
 use Rattle.network_runs.proofs.Stories.{CameBy, IsMinor, Story}
+use Rattle.network_runs.proofs.Members.{IsIn}
 
 -- what an event shows is in the world
 abbrev pub Shows : World → ℕ → Event → Type 0

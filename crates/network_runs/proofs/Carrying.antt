@@ -19,7 +19,7 @@ use Rattle.agent_core.specs.Steps.{effect_in}
 use Rattle.agent_core.specs.declared.faults.Step.{Step}
 use Rattle.node_inputs.specs.Traces.{Trace}
 use Rattle.node_inputs.specs.Inputs.{frame_of}
-use Rattle.network_runs.specs.Happenings.{IsIn, heard_from}
+use Rattle.network_runs.specs.Happenings.{heard_from}
 use Rattle.network_runs.specs.Nights.{IsForNodes, IsWritten, StandsIn}
 use Rattle.network_runs.proofs.Acks.{IsAckInRange, sent_in_range}
 use Rattle.network_runs.proofs.Growing.{Grows, IsThere, NodeIn, at_node, nth_of_in}
@@ -28,6 +28,7 @@ use Rattle.model.specs.Ranges.{FeedInRange}
 use Rattle.agent_core.specs.Steps.{IsTaken}
 use Rattle.network_runs.proofs.Stories.{CameBy}
 use Rattle.network_runs.proofs.Worlds.{IsReached, Moves}
+use Rattle.network_runs.proofs.Members.{IsIn}
 
 nth_more : {X : Type 0} (xs ys : List X) (k : ℕ) (x : X) → nth xs k ≡ Some x → nth (xs ++ ys) k ≡ Some x
 nth_more xs ys zero x e = cc

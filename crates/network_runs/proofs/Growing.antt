@@ -21,8 +21,9 @@ use Rattle.agent_core.specs.Nodes.{NodeState, session_in, view_in}
 use Rattle.agent_core.specs.Steps.{IsTaken, effect_in, step_at}
 use Rattle.agent_core.specs.declared.faults.Step.{Step}
 use Rattle.node_inputs.specs.Traces.{Event}
-use Rattle.network_runs.specs.Happenings.{Does, IsIn, made}
+use Rattle.network_runs.specs.Happenings.{Does, made}
 use Rattle.network_runs.proofs.Worlds.{IsReached, Moves, deliver_cut, deliver_moves, invariant, take_cut, take_moves}
+use Rattle.network_runs.proofs.Members.{IsIn}
 
 -- a world after some steps of one workstation
 pub record Grows (net : Net) (x y : World) (w : ℕ) : Type 0 where

@@ -1,9 +1,31 @@
 -- What stands in a list, and which lists are parts of others.
-use Rattle.std.proofs.Common.{[], ◌++◌, ◌≡◌, ◌∙◌, ◌∷◌, ◌⊎◌, List, None, Option, Some, ap, inl, inr, refl, subst, sym}
+use Rattle.std.proofs.Common.{[], ◌++◌, ◌≡◌, ◌∙◌, ◌∷◌, ◌⊎◌, List, None, Option, Some, ap, arith, inl, inr, refl, subst, sym}
+use Rattle.std.proofs.lemmas.List.Elements.{Contains-append_cases, Contains-append_left, Contains-append_right, Contains-push, Contains-push_cases}
 use Rattle.std.specs.List.{cons_option}
-use Rattle.std.specs.Prelude.{filter_map}
+use Rattle.std.specs.Prelude.{Contains, filter_map}
 use Rattle.model.specs.Words.{IsPartOf}
-use Rattle.network_runs.specs.Happenings.{IsIn}
+
+-- it is one of them
+abbrev pub IsIn : {X : Type 0} → X → List X → Type 0
+IsIn x [] = ⊥
+IsIn x (y ∷ ys) = (y ≡ x) ⊎ IsIn x ys
+
+pub contains_of : {X : Type 0} (x : X) (xs : List X) → IsIn x xs → Contains xs x
+contains_of x [] h = absurd h
+contains_of {X = X} x (y ∷ xs) (inl e) =
+    subst (λ (z : X). Contains (z ∷ xs) x) (sym e) (Contains-append_left (x ∷ []) xs x (Contains-push [] x))
+contains_of x (y ∷ xs) (inr h) = Contains-append_right (y ∷ []) xs x (contains_of x xs h)
+
+pub in_of : {X : Type 0} (x : X) (xs : List X) → Contains xs x → IsIn x xs
+in_of x [] h = let low = h.1 in absurd (omega (arith, low))
+in_of x (y ∷ xs) h =
+    elim (Contains-append_cases (y ∷ []) xs x h) [
+      | inl k ↦ elim (Contains-push_cases [] y x k) [
+          | inl none ↦ let low = none.1 in absurd (omega (arith, low))
+          | inr e ↦ inl e
+        ]
+      | inr k ↦ inr (in_of x xs k)
+    ]
 
 pub in_left : {X : Type 0} (x : X) (xs ys : List X) → IsIn x xs → IsIn x (xs ++ ys)
 in_left x [] ys h = absurd h

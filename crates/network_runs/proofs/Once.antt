@@ -18,10 +18,10 @@ use Rattle.node_inputs.specs.declared.ends.NodeEnd.{NodeEnd}
 use Rattle.node_loop.specs.Runs.{Run, Running, running}
 use Rattle.run_laws.specs.Launches.{launch_in, launch_of, launches_kept, launches_started}
 use Rattle.run_laws.proofs.Starting.{started-append}
-use Rattle.network_runs.specs.Happenings.{Begins, Does, Happening, IsIn, Night, Stops, kept_at, kept_in, made, of_workstation, since, started, until_stop}
+use Rattle.network_runs.specs.Happenings.{Begins, Does, Happening, Night, Stops, kept_at, kept_in, made, of_workstation, since, started, until_stop}
 use Rattle.network_runs.specs.Nights.{IsLife, IsNight}
 use Rattle.network_runs.proofs.Worlds.{invariant}
-use Rattle.network_runs.proofs.Members.{in_either, in_left, in_right}
+use Rattle.network_runs.proofs.Members.{IsIn, in_either, in_left, in_right}
 use Rattle.network_runs.proofs.Counting.{kept_next, kept_other, place_of, since_begins, since_does, since_other, since_stops, started_next}
 use Rattle.network_runs.proofs.Counting.{until_does, until_other}
 use Rattle.network_runs.proofs.Uniques.{Launch, launches_listed, no_launch_again, no_launch_elsewhere}

@@ -18,10 +18,10 @@ use Rattle.outside.specs.Calls.{StartCall}
 use Rattle.workload_defs.specs.Nets.{net_of}
 use Rattle.node_inputs.specs.Traces.{Event}
 use Rattle.run_laws.specs.Launches.{launch_in, launch_of}
-use Rattle.network_runs.specs.Happenings.{Begins, Does, Happening, IsIn, Night, Stops, kept_at, launch_at, launches_at, made, started}
+use Rattle.network_runs.specs.Happenings.{Begins, Does, Happening, Night, Stops, kept_at, launch_at, launches_at, made, started}
 use Rattle.network_runs.specs.Nights.{IsNight}
 use Rattle.network_runs.proofs.Counting.{apart, started_next, together}
-use Rattle.network_runs.proofs.Members.{NoneTwice, in_mapped, in_right, in_split, mapped_in, part_both, part_front, part_mapped, part_none, part_of_part}
+use Rattle.network_runs.proofs.Members.{IsIn, NoneTwice, in_mapped, in_right, in_split, mapped_in, part_both, part_front, part_mapped, part_none, part_of_part}
 use Rattle.network_runs.proofs.Once.{StartsLaw, asked_inside, asked_last, history_launches, launches_next, launches_of, started_once}
 use Rattle.network_runs.proofs.Uniques.{AreRight, Launch, no_launch_again}
 use Rattle.network_runs.proofs.Whole.{IsSoFar}

@@ -20,11 +20,11 @@ use Rattle.entry_codec.proofs.Whole.{whole_again}
 use Rattle.mail_frames.specs.declared.frames.Frame.{Frame}
 use Rattle.mail_frames.specs.declared.frames.Frame.TheVariants as frame
 use Rattle.mail_frames.specs.Spelling.{IsFrame, content_of, frame_bytes, kind_of}
-use Rattle.network_runs.specs.Happenings.{IsIn}
 use Rattle.network_runs.specs.Nights.{IsWritten, StandsIn}
 use Rattle.network_runs.proofs.Carrying.{AreWritten, IsFrameIn, ReadLaw}
 use Rattle.mail_frames.proofs.Spelled.{frame_length, same_frame, same_front}
 use Rattle.network_runs.proofs.Worlds.{IsReached, invariant}
+use Rattle.network_runs.proofs.Members.{IsIn, in_of}
 
 -- frames of the same bytes have the same kind and content
 same_content : (f g : Frame) → frame_bytes f ≡ frame_bytes g → (kind_of f ≡ kind_of g) × (content_of f ≡ content_of g)
@@ -154,7 +154,7 @@ module _ (net : Net) (x : World) (r : IsReached net x) (written : AreWritten x.h
       let backed : m ≤ x.holdings a h = all_of (IsBacked (x.holdings a)) (x.packets a b) (Ack h m) ((invariant net x r).backed a b) sent in
       let small : m < 2 ^ 32 =
       length_in_range h (length (list_of x.history h)) m refl (omega (arith, backed, (invariant net x r).within a h)) in
-      let one : IsFrame (frame.Ack f n) = all_of IsFrame stands.frames (frame.Ack f n) stands.are.2.each stands.among in
+      let one : IsFrame (frame.Ack f n) = all_of IsFrame stands.frames (frame.Ack f n) stands.are.2.each (in_of (frame.Ack f n) stands.frames stands.among) in
       let other : IsFrame (frame.Ack h m) = ((its.1, small), tt) in
       let c = same_content (frame.Ack f n) (frame.Ack h m) (same ∙ ap frame_bytes its.0) in
       ap Some (turned (same_frame (frame.Ack f n) (frame.Ack h m) one other c.0 c.1))

@@ -29,9 +29,9 @@ use Rattle.entry_codec.specs.Entries.{entry_in}
 use Rattle.entry_codec.specs.declared.EntryFault.{EntryFault}
 use Rattle.mail_frames.specs.declared.frames.Frame.TheVariants as frame
 use Rattle.mail_frames.specs.Streams.{AreFramesOf}
-use Rattle.network_runs.specs.Happenings.{IsIn, heard_from, heard_with}
+use Rattle.network_runs.specs.Happenings.{heard_from, heard_with}
 use Rattle.network_runs.proofs.Counting.{together}
-use Rattle.network_runs.proofs.Members.{in_right}
+use Rattle.network_runs.proofs.Members.{IsIn, contains_of, in_right}
 use Rattle.network_runs.proofs.Stories.{CameBy, IsMinor, Story, joined}
 use Rattle.network_runs.specs.Nights.{StandsIn}
 use Rattle.network_runs.proofs.Telling.{IsNoArrival, TellsIt, heard_stays, one_output, rule}
@@ -156,7 +156,7 @@ frames_came : (x : ℕ) (heard : ℕ → List ℕ) (all frames : List Frame) →
     → AllByRecursion (λ (f : Frame). (i : Input) → input_of x f ≡ Some i → CameBy heard i) frames
 frames_came x heard all [] are within = tt
 frames_came x heard all (f ∷ frames) are within = (
-  λ i is. frame_came x heard f (record { frames = all; are = are; among = within f (inl refl) }) i is,
+  λ i is. frame_came x heard f (record { frames = all; are = are; among = contains_of f all (within f (inl refl)) }) i is,
   frames_came x heard all frames are (λ g h. within g (inr h)),
 )
 

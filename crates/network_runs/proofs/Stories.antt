@@ -16,8 +16,9 @@ use Rattle.node_inputs.specs.Traces.{Event, Trace}
 use Rattle.node_inputs.specs.declared.ends.NodeEnd.{NodeEnd}
 use Rattle.node_inputs.specs.declared.ends.NodeEnd.TheVariants.{NoMemory}
 use Rattle.node_inputs.specs.Inputs.{frame_of}
-use Rattle.network_runs.specs.Happenings.{IsIn, heard_from}
+use Rattle.network_runs.specs.Happenings.{heard_from}
 use Rattle.network_runs.specs.Nights.{StandsIn}
+use Rattle.network_runs.proofs.Members.{IsIn}
 
 -- an input of the node itself, or one that stands in what was heard of a workstation
 abbrev pub CameBy : (ℕ → List ℕ) → Input → Type 0

@@ -10,8 +10,7 @@ use Rattle.model.specs.History.{Seen, list_of}
 use Rattle.model.specs.Sound.{Each, EachFrom, IsRightLaunch, OfEvents, StandsOnItsPrefix}
 use Rattle.model_laws.proofs.Feeds.{feed_cases}
 use Rattle.run_laws.specs.Launches.{launch_in, launch_of}
-use Rattle.network_runs.specs.Happenings.{IsIn}
-use Rattle.network_runs.proofs.Members.{in_split}
+use Rattle.network_runs.proofs.Members.{IsIn, in_split}
 use Rattle.network_runs.proofs.Plans.{each_at}
 use Rattle.network_runs.proofs.Reading.{entry_is}
 use Rattle.lemmas.proofs.Lists.{no_middle, same_head, same_tail}

@@ -19,13 +19,13 @@ use Rattle.agent_core.specs.declared.faults.Step.{Step}
 use Rattle.node_inputs.specs.Traces.{Event, Trace, refusals}
 use Rattle.node_inputs.specs.declared.ends.NodeEnd.{NodeEnd}
 use Rattle.node_loop.specs.Runs.{running}
-use Rattle.network_runs.specs.Happenings.{Begins, Does, Happening, IsIn, Night, Stops, heard_from, kept_at, kept_in, left_at_stop, made, since, start_of, started, until_stop}
+use Rattle.network_runs.specs.Happenings.{Begins, Does, Happening, Night, Stops, heard_from, kept_at, kept_in, left_at_stop, made, since, start_of, started, until_stop}
 use Rattle.network_runs.specs.Nights.{IsLeftAtStop, IsLife, IsNight, IsSent}
 use Rattle.network_runs.proofs.Worlds.{IsReached, empty_reached, invariant, kept_first}
 use Rattle.network_runs.proofs.Growing.{Grows, NodeIn, grows_not}
 use Rattle.network_runs.proofs.Carrying.{AreWritten, IsCarried, Links, OutsIn, ReadLaw, carried_on, outs_none, outs_on}
 use Rattle.network_runs.proofs.Advancing.{Advanced, Shows, Stopped, advance, cut_off, no_some, stopped_in, stopped_plain}
-use Rattle.network_runs.proofs.Members.{in_either}
+use Rattle.network_runs.proofs.Members.{IsIn, in_either, in_of}
 use Rattle.network_runs.proofs.Counting.{kept_next, kept_other, left_other, left_stops, made_next, place_of, refusals_next, since_begins}
 use Rattle.network_runs.proofs.Counting.{since_does, since_other, since_stops, started_next, until_does, until_other, until_stops}
 use Rattle.network_runs.proofs.Telling.{heard_stays}
@@ -133,7 +133,7 @@ links_of : (defs : Defs) (night before behind : Night) (x : World) (w : ℕ) (pa
     → night ≡ before ++ behind → Stands (net_of defs) x before behind → since w before ≡ Some past → Links x w past
 links_of defs night before behind x w past n is s running_ = λ a f stands is_for.
     let sent : IsSent before a w f = n.links before behind w a past f is running_ stands is_for in
-    s.sent_ a w (frame_bytes f) sent.0 sent.1
+    s.sent_ a w (frame_bytes f) sent.0 (in_of _ before sent.1)
 
 -- what is kept can be written
 record IsKeptIn (night : Night) (e : Entry) : Type 0 where

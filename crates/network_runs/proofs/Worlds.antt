@@ -13,9 +13,8 @@ use Rattle.model.specs.Sessions.{Session, restarted}
 use Rattle.model.specs.Step.{Effect, node_step}
 use Rattle.model.specs.World.{Origin, World, apply_effect, cut_short, delivery, empty_world, history_with, mark_delivered}
 use Rattle.model.specs.World.{node_effect, or_as_before, packets_to, reached_limit, start_in, step, view_at}
-use Rattle.network_runs.specs.Happenings.{IsIn}
 use Rattle.network_runs.proofs.Counting.{apart, together}
-use Rattle.network_runs.proofs.Members.{in_left, in_mapped, in_right}
+use Rattle.network_runs.proofs.Members.{IsIn, in_left, in_mapped, in_right}
 use Rattle.model_laws.proofs.FreeRuns.{free_always, nothing_reached}
 use Rattle.model_laws.proofs.Keeps.{at_start}
 use Rattle.model_laws.proofs.KeptLists.{always_restored, step_kept}

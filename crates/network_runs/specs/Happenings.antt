@@ -1,5 +1,5 @@
 -- What happens in a network of running nodes, one happening after the other, each at one workstation.
-use Rattle.std.specs.Prelude.{[], if◌then◌else◌, ℕ, ◌++◌, ◌==◌, ◌∷◌, ◌≡◌, ◌⊎◌, List, None, Option, Some, filter_map, fold, option_map}
+use Rattle.std.specs.Prelude.{[], if◌then◌else◌, ℕ, ◌++◌, ◌==◌, ◌∷◌, List, None, Option, Some, filter_map, fold, option_map}
 use Rattle.model.specs.Types.{Entry, Start}
 use Rattle.model.specs.History.{maker}
 use Rattle.outside.specs.declared.links.Arrival.TheVariants as arrival
@@ -15,11 +15,6 @@ pub data Happening : Type 0 where
 
 abbrev pub Night : Type 0
 Night = List Happening
-
--- it is one of them
-abbrev pub IsIn : {X : Type 0} → X → List X → Type 0
-IsIn x [] = ⊥
-IsIn x (y ∷ ys) = (y ≡ x) ⊎ IsIn x ys
 
 -- what a workstation did since it began; nothing is told of one that does not run
 abbrev pub since_with : ℕ → Option Trace → Happening → Option Trace

@@ -1,6 +1,6 @@
 -- The premises: what each workstation does is a front of a run, its file outlives a restart, and what comes over a link
 -- was sent. And what a night then is: a world of the definitions.
-use Rattle.std.specs.Prelude.{[], ℕ, ◌++◌, ◌<◌, ◌∷◌, ◌≡◌, ◌≤◌, ◌⊎◌, Bool, List, None, Option, Some}
+use Rattle.std.specs.Prelude.{[], ℕ, ◌++◌, ◌<◌, ◌∷◌, ◌≡◌, ◌≤◌, ◌⊎◌, Bool, Contains, List, None, Option, Some}
 use Rattle.composer_parser.specs.declared.Defs.{Defs}
 use Rattle.model.specs.Types.{Entry, Net, WorldStep}
 use Rattle.model.specs.Words.{IsPartOf}
@@ -21,7 +21,7 @@ use Rattle.agent_core.specs.Nodes.{NodeState, session_in}
 use Rattle.node_inputs.specs.Traces.{Event, Trace, refusals, tried_by}
 use Rattle.node_inputs.specs.declared.ends.NodeEnd.{NodeEnd}
 use Rattle.node_loop.specs.Runs.{Run, Running, running}
-use Rattle.network_runs.specs.Happenings.{Begins, Does, Happening, IsIn, Night, Stops, heard_from, kept_at, kept_in, launches_at, left_at_stop, made, since, started, until_stop}
+use Rattle.network_runs.specs.Happenings.{Begins, Does, Happening, Night, Stops, heard_from, kept_at, kept_in, launches_at, left_at_stop, made, since, started, until_stop}
 
 -- a node of w that holds these entries and has just begun
 pub record IsBegun (net : Net) (w : ℕ) (entries : List Entry) (node : NodeState) : Type 0 where
@@ -54,7 +54,7 @@ pub record IsLife (defs : Defs) (w : ℕ) (entries : List Entry) (trace : Trace)
 pub record StandsIn (bytes : List ℕ) (f : Frame) : Type 0 where
   pub frames : List Frame
   pub are : AreFramesOf bytes frames
-  pub among : IsIn f frames
+  pub among : Contains frames f
 
 -- it brings mail or an acknowledgement; the others are for clients, and a node drops the link that brings them
 abbrev pub IsForNodes : Frame → Type 0
@@ -65,7 +65,7 @@ IsForNodes (frame.Reply text) = ⊥
 
 -- x sent this frame to w, whatever it was told of that send
 abbrev pub IsSent : Night → ℕ → ℕ → Frame → Type 0
-IsSent before x w f = (ok : Bool) × IsIn (Does x (Event.Sends (record { to = w; bytes = frame_bytes f; ok = ok }))) before
+IsSent before x w f = (ok : Bool) × Contains before (Does x (Event.Sends (record { to = w; bytes = frame_bytes f; ok = ok })))
 
 -- it can be written down and is read again: what the program's types and the contract of its keeper give of an entry
 pub record IsWritten (e : Entry) : Type 0 where

@@ -1,5 +1,5 @@
 //! The laws.
-ghost use Rattle.std.specs.Prelude.{ℕ, ◌++◌, ◌∷◌, ◌≡◌, List, Some};
+ghost use Rattle.std.specs.Prelude.{ℕ, ◌++◌, ◌∷◌, ◌≡◌, Contains, List};
 ghost use Rattle.composer_parser.specs.declared.Defs.{Defs};
 ghost use Rattle.model.specs.History.{Seen, list_of, view_of};
 ghost use Rattle.model.specs.Sound.{IsCarried};
@@ -14,7 +14,7 @@ ghost use Rattle.node_inputs.specs.Keeping.{IsLeftAtEnd, bodies};
 ghost use Rattle.node_inputs.specs.Traces.{Event, Trace};
 ghost use Rattle.node_inputs.specs.declared.ends.NodeEnd.{NodeEnd};
 ghost use Rattle.node_loop.specs.Runs.{Run, Running, running};
-ghost use Rattle.network_runs.specs.Happenings.{Does, IsIn, Night, kept_at, made, started};
+ghost use Rattle.network_runs.specs.Happenings.{Does, Night, kept_at, made, started};
 ghost use Rattle.network_runs.specs.Leaving.{EndsAs};
 ghost use Rattle.network_runs.specs.Nights.{IsBegun, IsNight, IsSoundNight};
 
@@ -35,7 +35,7 @@ pub fn every_night_is_a_world()
 pub fn no_launch_starts_twice()
     ensures { (defs : Defs) (night : Night) → IsNight defs night
         → (before behind : Night) (w : ℕ) (call : StartCall) (s : Start)
-        → night ≡ before ++ Does w (Event.Starts call) ∷ behind → IsIn s (started before) → s.job ≡ call.job
+        → night ≡ before ++ Does w (Event.Starts call) ∷ behind → Contains (started before) s → s.job ≡ call.job
         → s.number ≡ call.number → ⊥ }
 {
     launches_are_started_once();

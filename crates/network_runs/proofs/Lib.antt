@@ -11,7 +11,7 @@ mod Advancing
 mod Whole
 mod Reading
 mod Leaving
-mod Plans
+mod Places
 mod Uniques
 mod Once
 mod Ordered

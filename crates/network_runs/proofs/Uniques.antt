@@ -11,8 +11,7 @@ use Rattle.model.specs.Sound.{Each, EachFrom, IsRightLaunch, OfEvents, StandsOnI
 use Rattle.model_laws.proofs.Feeds.{feed_cases}
 use Rattle.run_laws.specs.Launches.{launch_in, launch_of}
 use Rattle.network_runs.proofs.Members.{IsIn, in_split}
-use Rattle.network_runs.proofs.Plans.{each_at}
-use Rattle.network_runs.proofs.Reading.{entry_is}
+use Rattle.network_runs.proofs.Places.{launched_at}
 use Rattle.lemmas.proofs.Lists.{no_middle, same_head, same_tail}
 use Rattle.run_laws.proofs.Splits.{InFirst, InSecond, split_append}
 
@@ -104,11 +103,7 @@ number_of : (net : Net) (G : List Entry) → AreRight net G → (w : ℕ) (p : L
     → G ≡ front ++ e ∷ back → launch_of w e ≡ Some p → p.1 ≡ 1 + count_by (λ (d : Entry). is_launch_of p.0 d.body) front
 number_of net G right w p front back e split is =
     let l : IsLaunch w e p = its_launch w e p is in
-    let at : OfEvents (StandsOnItsPrefix net front) e =
-    each_at (λ before d. OfEvents (StandsOnItsPrefix net before) d) G front back e right split in
-    let it : IsRightLaunch net front w p.0 p.1 l.seen =
-    subst (λ (d : Entry). OfEvents (StandsOnItsPrefix net front) d) (entry_is e (Events w) e.place (Launched p.0 p.1 l.seen) l.feed_ refl l.body_) at in
-    it.number
+    (launched_at net G right front back e w p.0 p.1 l.seen split l.feed_ l.body_).number
 
 more_launches : (j : ℕ) (G H : List Entry) (d : Entry) → is_launch_of j d.body ≡ true
     → 1 + count_by (λ (e : Entry). is_launch_of j e.body) G ≤ count_by (λ (e : Entry). is_launch_of j e.body) (G ++ d ∷ H)

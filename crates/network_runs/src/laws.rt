@@ -2,8 +2,8 @@
 ghost use Rattle.std.specs.Prelude.{ℕ, ◌++◌, ◌∷◌, ◌≡◌, Contains, List};
 ghost use Rattle.composer_parser.specs.declared.Defs.{Defs};
 ghost use Rattle.model.specs.History.{Seen, list_of, view_of};
-ghost use Rattle.model.specs.Sound.{IsCarried};
-ghost use Rattle.model.specs.Types.{Entry, Events, NewPlan, Start, StreamDoc};
+ghost use Rattle.model.specs.Sound.{IsCarried, IsRightLaunch};
+ghost use Rattle.model.specs.Types.{Entry, Events, Launched, NewPlan, Start, StreamDoc};
 ghost use Rattle.outside.specs.Calls.{StartCall};
 ghost use Rattle.outside.specs.Kept.{Bodies};
 ghost use Rattle.symphony_view.specs.Listings.{listing_of};
@@ -40,6 +40,14 @@ pub fn no_launch_starts_twice()
 {
     launches_are_started_once();
 }
+
+/// In a night of the premises each launch was ready in the view that it counts, and has the next number of its job. Of its
+/// own workstation's events before it in the history it counts all, of any other's a front.
+pub fn launches_stand_on_what_they_count()
+    ensures { (defs : Defs) (night : Night) → IsNight defs night
+        → (before behind : List Entry) (e : Entry) (w j n : ℕ) (seen : Seen) → made night ≡ before ++ e ∷ behind
+        → e.feed ≡ Events w → e.body ≡ Launched j n seen → IsRightLaunch (net_of defs) before w j n seen }
+{}
 
 /// In a night of the premises each new plan is the master's, and carries exactly what its option takes of the streams that
 /// the master's counts show unfinished.

@@ -8,6 +8,6 @@
 mod laws;
 
 pub use laws::{
-    ended_runs_are_lives, every_night_is_a_world, new_plans_carry_what_the_option_takes, no_launch_starts_twice,
-    the_same_events_show_the_same,
+    ended_runs_are_lives, every_night_is_a_world, launches_stand_on_what_they_count,
+    new_plans_carry_what_the_option_takes, no_launch_starts_twice, the_same_events_show_the_same,
 };

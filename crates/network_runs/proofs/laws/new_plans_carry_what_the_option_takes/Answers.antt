@@ -1,7 +1,7 @@
 use Rattle.workload_defs.specs.Nets.{net_of}
 use Rattle.network_runs.proofs.Reading.{read_law}
 use Rattle.network_runs.specs.Happenings.{made}
-use Rattle.network_runs.proofs.Plans.{carried_at}
+use Rattle.network_runs.proofs.Places.{carried_at}
 use Rattle.network_runs.proofs.Whole.{night_is_world}
 use Rattle.network_runs.proofs.laws.new_plans_carry_what_the_option_takes.Goals as goal
 

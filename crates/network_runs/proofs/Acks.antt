@@ -1,11 +1,12 @@
 -- An acknowledgement that a step sends is of a feed of the network.
-use Rattle.std.proofs.Common.{[], ◌<◌, ◌≡◌, ◌≤◌, ◌∷◌, ℕ, Bool, List, None, Option, Some, arith, false, inl, inr, refl, subst, sym, true}
-use Rattle.std.proofs.Common.{ltb-true}
+use Rattle.std.proofs.Common.{[], ◌<◌, ◌∷◌, ◌≡◌, ◌≤◌, Bool, List, None, Option, Some, arith, false, inl, inr, ltb-true, refl, subst, sym, true, ℕ}
 use Rattle.std.specs.Option.{option_map_or}
 use Rattle.std.specs.Prelude.{Ok, flat_map, if◌then◌else◌, length, map}
+use Rattle.lemmas.proofs.Lists.{all_left}
 use Rattle.model.specs.Types.{Ack, Body, Entry, Events, Feed, Input, Kill, Launch, Launched, Mail, Net, Obeyed, Orders, Out, Packet, Send, Turn}
 use Rattle.model.specs.Catalogue.{StreamJob, job}
 use Rattle.model.specs.Facts.{open_launch}
+use Rattle.model.specs.Forwarding.{to_send}
 use Rattle.model.specs.History.{View}
 use Rattle.model.specs.Network.{node_count}
 use Rattle.model.specs.PresentNet.{present_net}
@@ -15,8 +16,7 @@ use Rattle.model.specs.Step.{Effect, effect, node_step, outs_of, outs_of_body, s
 use Rattle.model.specs.StepFaults.{StepFault, step_fault}
 use Rattle.model.specs.Workstations.{ws_in, ws_in_body, ws_in_feed}
 use Rattle.model_laws.proofs.Faults.{clear}
-use Rattle.model_laws.proofs.Inside.{AreIn, are_in}
-use Rattle.lemmas.proofs.Lists.{all_left}
+use Rattle.model_laws.proofs.Inside.{AreIn, IsIn as IsInside, are_in}
 use Rattle.model_laws.proofs.PresentNets.{by_one, one_count}
 use Rattle.model_laws.proofs.Sends.{same_done}
 use Rattle.network_runs.proofs.Members.{IsIn, in_either}
@@ -48,7 +48,7 @@ mails_in_range to p which (m ∷ ms) h =
 sends_in_range : (net : Net) (me : ℕ) (V : View) (s : Session) (to : ℕ) (p : Packet) → IsIn (Send to p) (sends net me V s)
     → IsAckInRange p
 unfolding sends
-sends_in_range net me V s to p h = mails_in_range to p (λ m. Rattle.model.specs.Forwarding.to_send net V me m (s.acked m)) _ h
+sends_in_range net me V s to p h = mails_in_range to p (λ m. to_send net V me m (s.acked m)) _ h
 
 launched_only : (o : Option StreamJob) (j n to : ℕ) (p : Packet)
     → IsIn (Send to p) (option_map_or (λ (q : StreamJob). Launch j n q.doc.work ∷ []) o []) → IsAckInRange p
@@ -73,7 +73,7 @@ made_in_range : (me : ℕ) (V : View) (made : Option Entry) (to : ℕ) (p : Pack
 made_in_range me V None to p h = absurd h
 made_in_range me V (Some e) to p h = body_in_range me V e.body to p h
 
-within : (net : Net) (w : ℕ) → Rattle.model_laws.proofs.Inside.IsIn net w → w < node_count net
+within : (net : Net) (w : ℕ) → IsInside net w → w < node_count net
 within net w h = ltb-true w (node_count net) h
 
 in_two : (net : Net) (w : ℕ) → node_count net ≤ 65536 → w < node_count net → w < 65536
@@ -100,7 +100,7 @@ outs_in_range net u me V s (Input.Mail from e) made to p few inside h = go (s.li
     go true (inl q) =
         subst IsAckInRange (same q)
         (feed_in_range net e.feed few
-        (all_left (Rattle.model_laws.proofs.Inside.IsIn net) (ws_in_feed e.feed) (ws_in_body e.body) inside.1))
+        (all_left (IsInside net) (ws_in_feed e.feed) (ws_in_body e.body) inside.1))
     go true (inr none) = absurd none
     go false none = absurd none
 outs_in_range net u me V s input made to p few inside h = absurd h

@@ -2,33 +2,32 @@
 use Rattle.std.proofs.Common.{[], ◌++◌, ◌≡◌, ◌≤◌, ◌∙◌, ◌∷◌, ℕ, List, None, Option, Some, ap, refl, subst, suc, sym, zero}
 use Rattle.std.specs.Option.{option_map_or}
 use Rattle.std.specs.Prelude.{Ok, option_map, slice_get, take}
+use Rattle.lemmas.proofs.Lists.{get_in_front}
 use Rattle.model.specs.Types.{Ack, Body, Entry, Feed, Input, Launch, Mail, Net, Out, Packet, Send, Work}
 use Rattle.model.specs.Words.{nth}
 use Rattle.model.specs.History.{list_of}
 use Rattle.model.specs.Kept.{HasKept}
 use Rattle.model.specs.Spelling.{entry_bytes}
 use Rattle.model.specs.World.{Origin, World, delivery, packet_input, view_at}
-use Rattle.lemmas.proofs.Lists.{get_in_front}
+use Rattle.model.specs.Network.{node_count}
+use Rattle.model.specs.Ranges.{FeedInRange}
 use Rattle.model_laws.proofs.Feeds.{list_of-append}
 use Rattle.entry_codec.specs.Entries.{entry_in}
 use Rattle.mail_frames.specs.declared.frames.Frame.{Frame}
 use Rattle.mail_frames.specs.declared.frames.Frame.TheVariants as frame
 use Rattle.mail_frames.specs.Spelling.{frame_bytes}
 use Rattle.agent_core.specs.Nodes.{NodeState, view_in}
-use Rattle.agent_core.specs.Steps.{effect_in}
+use Rattle.agent_core.specs.Steps.{IsTaken, effect_in}
 use Rattle.agent_core.specs.declared.faults.Step.{Step}
 use Rattle.node_inputs.specs.Traces.{Trace}
 use Rattle.node_inputs.specs.Inputs.{frame_of}
 use Rattle.network_runs.specs.Happenings.{heard_from}
-use Rattle.network_runs.specs.Nights.{IsForNodes, IsWritten, StandsIn}
+use Rattle.network_runs.specs.Nights.{BringsPacket, IsForNodes, IsWritten, StandsIn, frame_in}
 use Rattle.network_runs.proofs.Acks.{IsAckInRange, sent_in_range}
 use Rattle.network_runs.proofs.Growing.{Grows, IsThere, NodeIn, at_node, nth_of_in}
-use Rattle.model.specs.Network.{node_count}
-use Rattle.model.specs.Ranges.{FeedInRange}
-use Rattle.agent_core.specs.Steps.{IsTaken}
 use Rattle.network_runs.proofs.Stories.{CameBy}
 use Rattle.network_runs.proofs.Worlds.{IsReached, Moves}
-use Rattle.network_runs.proofs.Members.{IsIn}
+use Rattle.network_runs.proofs.Members.{IsIn, contains_of}
 
 nth_more : {X : Type 0} (xs ys : List X) (k : ℕ) (x : X) → nth xs k ≡ Some x → nth (xs ++ ys) k ≡ Some x
 nth_more xs ys zero x e = cc
@@ -61,6 +60,21 @@ pub record IsCarried (x : World) (a b : ℕ) (f : Frame) : Type 0 where
   pub packet : Packet
   pub sent : IsIn packet (x.packets a b)
   pub its : IsFrameIn x.history packet f
+
+-- the definitions say so of its bytes
+pub brings : (x : World) (a b : ℕ) (f : Frame) (bytes : List ℕ) → IsCarried x a b f → bytes ≡ frame_bytes f → BringsPacket x a b bytes
+brings x a b f bytes c is = record {
+  packet = c.packet;
+  sent = contains_of c.packet (x.packets a b) c.sent;
+  frame_ = f;
+  its = go c.packet c.its;
+  bytes_ = is;
+}
+  where
+    go : (p : Packet) → IsFrameIn x.history p f → frame_in x.history p ≡ Some f
+    go (Mail g k) h =
+        ap (option_map (λ (body : Body). frame.Mail (entry_bytes (record { feed = g; place = k; body = body })))) h.1 ∙ ap Some (sym h.2)
+    go (Ack g n) h = ap Some (sym h.0)
 
 pub carried_on : (net : Net) (x y : World) (w a b : ℕ) (f : Frame) → Grows net x y w → IsCarried x a b f → IsCarried y a b f
 carried_on net x y w a b f g c = record {

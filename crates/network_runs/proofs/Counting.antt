@@ -8,7 +8,6 @@ use Rattle.std.specs.Prelude.{◌==◌, filter_map, if◌then◌else◌, option_
 use Rattle.model.specs.Types.{Entry}
 use Rattle.node_inputs.specs.Traces.{Event, Trace, kept_by, refusals, refused_by}
 use Rattle.network_runs.specs.Happenings.{Begins, Does, Happening, Night, Stops, kept_at, kept_in, left_at_stop, made, of_its_maker, of_workstation, since, since_with, start_of, started, until_stop}
-use Rattle.network_runs.proofs.Members.{IsIn}
 
 -- at which workstation it is
 abbrev pub place_of : Happening → ℕ

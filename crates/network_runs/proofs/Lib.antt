@@ -15,3 +15,4 @@ mod Places
 mod Uniques
 mod Once
 mod Ordered
+mod Running

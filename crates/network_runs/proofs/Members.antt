@@ -21,9 +21,9 @@ in_of x [] h = let low = h.1 in absurd (omega (arith, low))
 in_of x (y ∷ xs) h =
     elim (Contains-append_cases (y ∷ []) xs x h) [
       | inl k ↦ elim (Contains-push_cases [] y x k) [
-          | inl none ↦ let low = none.1 in absurd (omega (arith, low))
-          | inr e ↦ inl e
-        ]
+        | inl none ↦ let low = none.1 in absurd (omega (arith, low))
+        | inr e ↦ inl e
+      ]
       | inr k ↦ inr (in_of x xs k)
     ]
 

@@ -1,9 +1,9 @@
 -- In a night no launch is started twice.
 use Rattle.std.proofs.Common.{[], ◌++◌, ◌<◌, ◌≡◌, ◌≢◌, ◌∙◌, ◌∷◌, ◌⊎◌, ℕ, List, None, Option, Some, ap, append_assoc, arith, false, inl, inr, refl, subst, sym, true}
 use Rattle.std.proofs.lemmas.Bool.Decides.{eqb_tells}
-use Rattle.std.proofs.lemmas.List.{append-nil, map-append}
+use Rattle.std.proofs.lemmas.List.{append-nil}
 use Rattle.std.proofs.lemmas.List.Elements.{filter_map-append}
-use Rattle.std.specs.Prelude.{◌==◌, filter_map, if◌then◌else◌, length, map, take}
+use Rattle.std.specs.Prelude.{◌==◌, filter_map, if◌then◌else◌, option_map}
 use Rattle.lemmas.proofs.Lists.{take_whole}
 use Rattle.composer_parser.specs.declared.Defs.{Defs}
 use Rattle.model.specs.Types.{Entry, Events, Net, Start}
@@ -13,7 +13,7 @@ use Rattle.model.specs.World.{World}
 use Rattle.outside.specs.Calls.{StartCall}
 use Rattle.workload_defs.specs.Nets.{net_of}
 use Rattle.agent_core.specs.Nodes.{NodeState}
-use Rattle.node_inputs.specs.Traces.{Event, Trace, kept, kept_by, start_of as call_of, starts}
+use Rattle.node_inputs.specs.Traces.{Event, Trace, kept, kept_by}
 use Rattle.node_inputs.specs.declared.ends.NodeEnd.{NodeEnd}
 use Rattle.node_loop.specs.Runs.{Run, Running, running}
 use Rattle.run_laws.specs.Launches.{launch_in, launch_of, launches_kept, launches_started}
@@ -22,8 +22,7 @@ use Rattle.network_runs.specs.Happenings.{Begins, Does, Happening, Night, Stops,
 use Rattle.network_runs.specs.Nights.{IsLife, IsNight}
 use Rattle.network_runs.proofs.Worlds.{invariant}
 use Rattle.network_runs.proofs.Members.{IsIn, in_either, in_left, in_right}
-use Rattle.network_runs.proofs.Counting.{kept_next, kept_other, place_of, since_begins, since_does, since_other, since_stops, started_next}
-use Rattle.network_runs.proofs.Counting.{until_does, until_other}
+use Rattle.network_runs.proofs.Counting.{kept_next, kept_other, place_of, since_begins, since_does, since_other, since_stops, started_next, until_does, until_other}
 use Rattle.network_runs.proofs.Uniques.{Launch, launches_listed, no_launch_again, no_launch_elsewhere}
 use Rattle.network_runs.proofs.Whole.{IsSoFar, not_up}
 
@@ -138,11 +137,11 @@ begin_marks law defs night before behind w entries n is m =
     subst (λ (v : ℕ). launches_kept v front ≡ launches_started front ++ (call.job, call.number) ∷ []) life.begun.me_
     (law defs life.turns life.start (until_stop w behind ++ life.rest) life.end life.new life.runs front back call split)))
 
-kept_event : (w : ℕ) (event : Event) → kept_at w (Does w event ∷ []) ≡ kept (event ∷ [])
+pub kept_event : (w : ℕ) (event : Event) → kept_at w (Does w event ∷ []) ≡ kept (event ∷ [])
 kept_event w event = go (kept_by event)
   where
     go : (o : Option Entry)
-        → filter_map (of_workstation w) (filter_map (λ (p : Option (ℕ × Entry)). p) (Rattle.std.specs.Prelude.option_map (λ (e : Entry). (w, e)) o ∷ []))
+        → filter_map (of_workstation w) (filter_map (λ (p : Option (ℕ × Entry)). p) (option_map (λ (e : Entry). (w, e)) o ∷ []))
         ≡ filter_map (λ (p : Option Entry). p) (o ∷ [])
     go None = refl
     go (Some e) = at (eqb_tells w w)

@@ -1,7 +1,6 @@
 -- What was sent is read: the bytes of a packet's frame are of no other input.
 use Rattle.std.proofs.Common.{[], ◌++◌, ◌+◌, ◌^◌, ◌<◌, ◌≡◌, ◌≢◌, ◌≤◌, ◌∙◌, ◌∷◌, ◌⊎◌, ℕ, List, Some, ap, arith, false, inl, inr, length-append, refl, subst, suc, sym, true, zero}
 use Rattle.std.specs.List.{AllByRecursion}
-use Rattle.entry_codec.specs.declared.EntryFault.{EntryFault}
 use Rattle.std.specs.Prelude.{Ok, Result, length, slice_get}
 use Rattle.model.specs.Types.{Ack, Body, Entry, Feed, Input, Mail, Net, Packet}
 use Rattle.model.specs.Words.{nth}
@@ -15,14 +14,15 @@ use Rattle.model.specs.Spelling.{entry_bytes}
 use Rattle.model.specs.World.{World, packet_input}
 use Rattle.model_laws.proofs.Feeds.{feed_cases, pushed_cases}
 use Rattle.model_laws.proofs.Keeps.{none_yet}
+use Rattle.entry_codec.specs.declared.EntryFault.{EntryFault}
 use Rattle.entry_codec.specs.Entries.{entry_in}
 use Rattle.entry_codec.proofs.Whole.{whole_again}
 use Rattle.mail_frames.specs.declared.frames.Frame.{Frame}
 use Rattle.mail_frames.specs.declared.frames.Frame.TheVariants as frame
 use Rattle.mail_frames.specs.Spelling.{IsFrame, content_of, frame_bytes, kind_of}
+use Rattle.mail_frames.proofs.Spelled.{frame_length, same_frame, same_front}
 use Rattle.network_runs.specs.Nights.{IsWritten, StandsIn}
 use Rattle.network_runs.proofs.Carrying.{AreWritten, IsFrameIn, ReadLaw}
-use Rattle.mail_frames.proofs.Spelled.{frame_length, same_frame, same_front}
 use Rattle.network_runs.proofs.Worlds.{IsReached, invariant}
 use Rattle.network_runs.proofs.Members.{IsIn, in_of}
 

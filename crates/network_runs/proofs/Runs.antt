@@ -1,49 +1,42 @@
 -- Each run is a story.
-use Rattle.std.proofs.Common.{[], ◌++◌, ◌≡◌, ◌≢◌, ◌∙◌, ◌∷◌, ◌⊎◌, ℕ, Bool, List, None, Option, Some, ap, append_assoc, false, inl, inr, refl, subst, suc, sym, true, zero}
-use Rattle.std.proofs.Common.{ℤ}
-use Rattle.std.specs.Prelude.{Err, Ok, Result, is_some}
-use Rattle.composer_parser.specs.declared.Defs.{Defs}
-use Rattle.model.specs.Types.{Cmd, Fulfil, Input, Linked, Local, Turn, Typed, Unlinked}
-use Rattle.agent_core.specs.Nodes.{NodeState, view_in}
-use Rattle.file_watch.specs.Circle.{DepPlace}
-use Rattle.file_watch.specs.Probes.{next_probe}
-use Rattle.node_loop.specs.Heard.{Heard, heard_more, nothing_heard}
-use Rattle.mail_frames.specs.declared.frames.Frame.{Frame}
-use Rattle.outside.specs.declared.Failed.{Failed}
-use Rattle.outside.specs.declared.links.Arrival.{Arrival}
-use Rattle.outside.specs.declared.links.Arrival.TheVariants as arrival
-use Rattle.outside.specs.declared.spawners.End.{End}
-use Rattle.recovery_watch.specs.Advice.{advice}
-use Rattle.node_inputs.specs.Traces.{Event, Trace}
-use Rattle.node_inputs.specs.declared.ends.NodeEnd.{NodeEnd}
-use Rattle.node_inputs.specs.declared.ends.NodeEnd.TheVariants.{NoMemory, TurnsSpent}
+use Rattle.std.proofs.Common.{[], ◌++◌, ◌≡◌, ◌≢◌, ◌∙◌, ◌∷◌, ◌⊎◌, ℕ, List, None, Option, Some, ap, append_assoc, false, inl, inr, refl, subst, sym, true}
+use Rattle.std.specs.Prelude.{if◌then◌else◌, ◌==◌, Err, Ok, Result, is_some, option_map}
 use Rattle.std.proofs.lemmas.Bool.Decides.{eqb_tells}
-use Rattle.std.specs.Prelude.{if◌then◌else◌, ◌==◌}
-use Rattle.node_inputs.specs.Actions.{Action, Nothing, Stop, Then}
 use Rattle.std.proofs.lemmas.List.{append-nil}
 use Rattle.std.proofs.lemmas.List.Sums.{fold-append}
 use Rattle.std.specs.List.{AllByRecursion}
-use Rattle.model.specs.Types.{Out}
+use Rattle.composer_parser.specs.declared.Defs.{Defs}
+use Rattle.model.specs.Types.{Entry, Input, Linked, Local, Out, Turn, Unlinked}
 use Rattle.model.specs.Words.{with_at}
+use Rattle.outside.specs.declared.links.Arrival.{Arrival}
+use Rattle.outside.specs.declared.links.Arrival.TheVariants as arrival
 use Rattle.entry_codec.specs.Entries.{entry_in}
 use Rattle.entry_codec.specs.declared.EntryFault.{EntryFault}
+use Rattle.mail_frames.specs.declared.frames.Frame.{Frame}
 use Rattle.mail_frames.specs.declared.frames.Frame.TheVariants as frame
 use Rattle.mail_frames.specs.Streams.{AreFramesOf}
+use Rattle.agent_core.specs.Nodes.{NodeState, view_in}
+use Rattle.file_watch.specs.Circle.{DepPlace}
+use Rattle.file_watch.specs.Probes.{next_probe}
+use Rattle.node_inputs.specs.Traces.{Event, Trace}
+use Rattle.node_inputs.specs.declared.ends.NodeEnd.{NodeEnd}
+use Rattle.node_inputs.specs.declared.ends.NodeEnd.TheVariants.{NoMemory}
+use Rattle.node_inputs.specs.Actions.{Action, Nothing, Stop, Then}
+use Rattle.node_inputs.specs.Inputs.{Take}
+use Rattle.node_lines.specs.Lines.{Listen}
+use Rattle.node_loop.specs.Heard.{Heard, heard_more, nothing_heard}
+use Rattle.node_loop.specs.Frames.{Frames, entry_of, input_of}
+use Rattle.node_loop.specs.Runs.{Advise, Anew, Arrive, Come, Comes, Found, Hear, Hears, Looks, On, Probing, Reports, Run, Running, running_with}
+use Rattle.run_laws.proofs.Rules.{Gives, IsJoined, if_there_gives, nothing_gives, wants_gives}
+use Rattle.run_laws.proofs.Taking.{take_gives}
+use Rattle.run_laws.proofs.Listening.{IsHeard, frames_gives, listen_gives}
+use Rattle.run_laws.proofs.Turning.{advise_gives, behind_gives, event_then, found_gives, reports_gives, run_gives, turn_gives}
 use Rattle.network_runs.specs.Happenings.{heard_from, heard_with}
+use Rattle.network_runs.specs.Nights.{StandsIn}
 use Rattle.network_runs.proofs.Counting.{together}
 use Rattle.network_runs.proofs.Members.{IsIn, contains_of, in_right}
 use Rattle.network_runs.proofs.Stories.{CameBy, IsMinor, Story, joined}
-use Rattle.network_runs.specs.Nights.{StandsIn}
 use Rattle.network_runs.proofs.Telling.{IsNoArrival, TellsIt, heard_stays, one_output, rule}
-use Rattle.model.specs.Types.{Entry}
-use Rattle.node_inputs.specs.Inputs.{Take}
-use Rattle.node_loop.specs.Frames.{Frames, entry_of, input_of}
-use Rattle.node_lines.specs.Lines.{Listen}
-use Rattle.node_loop.specs.Runs.{Advise, Anew, Arrive, Come, Comes, EndOf, Found, Hear, Hears, Looks, On, Probing, Reports, Run, Running, TurnOf, is_live, running_with}
-use Rattle.run_laws.proofs.Rules.{Gives, IsJoined, free_turns, if_gives, if_there_gives, nothing_gives, stop_gives, then_gives, wants_gives}
-use Rattle.run_laws.proofs.Taking.{IsRule, take_gives}
-use Rattle.run_laws.proofs.Listening.{IsHeard, frames_gives, listen_gives}
-use Rattle.run_laws.proofs.Turning.{advise_gives, behind_gives, event_then, found_gives, reports_gives, run_gives, turn_gives}
 
 -- what was heard is what came since
 abbrev pub Knows : Running → Trace → Type 0
@@ -138,7 +131,7 @@ frame_came : (x : ℕ) (heard : ℕ → List ℕ) (f : Frame) → StandsIn (hear
 frame_came x heard (frame.Mail bytes) stands i is = go (entry_in bytes) refl is
   where
     go : (read : Result Entry EntryFault) → entry_in bytes ≡ read
-        → Rattle.std.specs.Prelude.option_map (λ (e : Entry). Input.Mail x e) (entry_of read) ≡ Some i → CameBy heard i
+        → option_map (λ (e : Entry). Input.Mail x e) (entry_of read) ≡ Some i → CameBy heard i
     go (Ok e) its same = subst (CameBy heard) (input_is same) (bytes, stands, its)
       where
         input_is : Some (Input.Mail x e) ≡ Some i → Input.Mail x e ≡ i

@@ -4,11 +4,11 @@ use Rattle.std.proofs.lemmas.List.{append-nil}
 use Rattle.std.specs.Prelude.{Ok}
 use Rattle.lemmas.proofs.Options.{none_some}
 use Rattle.model.specs.Types.{Entry, Input, Launch, Out, Packet, Send}
+use Rattle.outside.specs.Calls.{Sent}
 use Rattle.entry_codec.specs.Entries.{entry_in}
 use Rattle.mail_frames.specs.declared.frames.Frame.{Frame}
 use Rattle.mail_frames.specs.declared.frames.Frame.TheVariants as frame
 use Rattle.mail_frames.specs.Spelling.{frame_bytes}
-use Rattle.outside.specs.Calls.{Sent}
 use Rattle.agent_core.specs.Nodes.{NodeState}
 use Rattle.agent_core.specs.Steps.{IsTaken}
 use Rattle.agent_core.specs.declared.faults.Step.{Step}

@@ -3,6 +3,7 @@ use Rattle.std.proofs.Common.{[], ◌++◌, ◌≡◌, ◌∙◌, ◌∷◌, ℕ
 use Rattle.std.proofs.lemmas.List.Sums.{fold-append}
 use Rattle.std.specs.List.{AllByRecursion}
 use Rattle.std.specs.Prelude.{fold}
+use Rattle.lemmas.proofs.Lists.{all_append}
 use Rattle.model.specs.Types.{Entry, Input, Launch, Out, Packet, Send, Work}
 use Rattle.mail_frames.specs.declared.frames.Frame.{Frame}
 use Rattle.agent_core.specs.Nodes.{NodeState}
@@ -10,11 +11,10 @@ use Rattle.node_inputs.specs.Traces.{Event, Trace}
 use Rattle.node_inputs.specs.declared.ends.NodeEnd.{NodeEnd}
 use Rattle.node_inputs.specs.Actions.{Action, IfThere, Nothing, Then, Wants}
 use Rattle.node_inputs.specs.Inputs.{Carried, Carry, CarryOut, IsKeeping, Keep, SendFrame, SendIt, StartIt, frame_of, is_lost}
-use Rattle.network_runs.specs.Happenings.{heard_from, heard_with}
-use Rattle.lemmas.proofs.Lists.{all_append}
 use Rattle.run_laws.proofs.Rules.{Gives, IsJoined, call_gives, each_of_gives, if_gives, nothing_gives, wants_gives}
-use Rattle.network_runs.proofs.Stories.{CameBy, IsMinor, Story, joined}
 use Rattle.run_laws.proofs.Taking.{GivesOut, IsAsk, IsRule, IsTold, Steps}
+use Rattle.network_runs.specs.Happenings.{heard_from, heard_with}
+use Rattle.network_runs.proofs.Stories.{CameBy, IsMinor, Story, joined}
 use Rattle.network_runs.proofs.Members.{IsIn}
 
 -- nothing arrives

@@ -3,17 +3,17 @@ use Rattle.std.proofs.Common.{[], ◌++◌, ◌+◌, ◌≡◌, ◌≢◌, ◌�
 use Rattle.std.proofs.lemmas.List.Sums.{sum_by-append, sum_by-cons}
 use Rattle.std.specs.List.{cons_option}
 use Rattle.std.specs.Prelude.{cond, count_by, filter_map, if◌then◌else◌}
+use Rattle.lemmas.proofs.Lists.{no_middle, same_head, same_tail}
 use Rattle.model.specs.Types.{Body, Entry, Events, Launched, Net}
 use Rattle.model.specs.Equalities.{feed_eq}
 use Rattle.model.specs.Facts.{is_launch_of}
 use Rattle.model.specs.History.{Seen, list_of}
-use Rattle.model.specs.Sound.{Each, EachFrom, IsRightLaunch, OfEvents, StandsOnItsPrefix}
+use Rattle.model.specs.Sound.{Each, OfEvents, StandsOnItsPrefix}
 use Rattle.model_laws.proofs.Feeds.{feed_cases}
 use Rattle.run_laws.specs.Launches.{launch_in, launch_of}
+use Rattle.run_laws.proofs.Splits.{InFirst, InSecond, split_append}
 use Rattle.network_runs.proofs.Members.{IsIn, in_split}
 use Rattle.network_runs.proofs.Places.{launched_at}
-use Rattle.lemmas.proofs.Lists.{no_middle, same_head, same_tail}
-use Rattle.run_laws.proofs.Splits.{InFirst, InSecond, split_append}
 
 abbrev pub Launch : Type 0
 Launch = ℕ × ℕ

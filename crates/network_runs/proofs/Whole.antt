@@ -2,9 +2,12 @@
 use Rattle.std.proofs.Common.{[], ◌++◌, ◌<◌, ◌≤◌, ◌≡◌, ◌≢◌, ◌∙◌, ◌∷◌, ◌⊎◌, ℕ, Bool, List, None, Option, Some, ap, append_assoc, arith, false, inl, inr, refl, subst, sym, true}
 use Rattle.std.proofs.lemmas.Bool.Decides.{eqb_tells, leb_tells}
 use Rattle.std.proofs.lemmas.List.{append-nil}
-use Rattle.std.specs.Prelude.{◌==◌, if◌then◌else◌, length, nat_lt}
+use Rattle.std.proofs.lemmas.List.Elements.{filter_map-append}
+use Rattle.std.specs.List.{cons_option}
+use Rattle.std.specs.Prelude.{◌==◌, filter_map, if◌then◌else◌, nat_le}
 use Rattle.composer_parser.specs.declared.Defs.{Defs}
 use Rattle.model.specs.Types.{Entry, Input, Net, Out, Start}
+use Rattle.model.specs.History.{maker}
 use Rattle.model.specs.Kept.{HasKept}
 use Rattle.model.specs.Network.{node_count}
 use Rattle.model.specs.Sessions.{restarted}
@@ -19,7 +22,7 @@ use Rattle.agent_core.specs.declared.faults.Step.{Step}
 use Rattle.node_inputs.specs.Traces.{Event, Trace, refusals}
 use Rattle.node_inputs.specs.declared.ends.NodeEnd.{NodeEnd}
 use Rattle.node_loop.specs.Runs.{running}
-use Rattle.network_runs.specs.Happenings.{Begins, Does, Happening, Night, Stops, heard_from, kept_at, kept_in, left_at_stop, made, since, start_of, started, until_stop}
+use Rattle.network_runs.specs.Happenings.{Begins, Does, Happening, Night, Stops, heard_from, kept_at, kept_in, left_at_stop, made, of_its_maker, since, started, until_stop}
 use Rattle.network_runs.specs.Nights.{IsLeftAtStop, IsLife, IsNight, IsSent}
 use Rattle.network_runs.proofs.Worlds.{IsReached, empty_reached, invariant, kept_first}
 use Rattle.network_runs.proofs.Growing.{Grows, NodeIn, grows_not}
@@ -153,18 +156,18 @@ found_in (h ∷ before) e k = elim (in_either e (made (h ∷ [])) (made before) 
   where
     first : (h : Happening) (before : Night) → made (h ∷ before) ≡ made (h ∷ []) ++ made before
     first h before =
-        ap (Rattle.std.specs.Prelude.filter_map Rattle.network_runs.specs.Happenings.of_its_maker)
-        (Rattle.std.proofs.lemmas.List.Elements.filter_map-append kept_in (h ∷ []) before)
-        ∙ Rattle.std.proofs.lemmas.List.Elements.filter_map-append Rattle.network_runs.specs.Happenings.of_its_maker
-        (Rattle.std.specs.Prelude.filter_map kept_in (h ∷ [])) (Rattle.std.specs.Prelude.filter_map kept_in before)
+        ap (filter_map of_its_maker)
+        (filter_map-append kept_in (h ∷ []) before)
+        ∙ filter_map-append of_its_maker
+        (filter_map kept_in (h ∷ [])) (filter_map kept_in before)
 
     of_its : (h : Happening) (before : Night) (o : Option (ℕ × Entry)) → kept_in h ≡ o
-        → IsIn e (Rattle.std.specs.Prelude.filter_map Rattle.network_runs.specs.Happenings.of_its_maker (Rattle.std.specs.List.cons_option o []))
+        → IsIn e (filter_map of_its_maker (cons_option o []))
         → IsKeptIn (h ∷ before) e
     of_its h before None is k = absurd k
-    of_its h before (Some kept) is k = go (Rattle.model.specs.History.maker kept.1.feed == kept.0) k
+    of_its h before (Some kept) is k = go (maker kept.1.feed == kept.0) k
       where
-        go : (b : Bool) → IsIn e (Rattle.std.specs.List.cons_option (if b then Some kept.1 else None) []) → IsKeptIn (h ∷ before) e
+        go : (b : Bool) → IsIn e (cons_option (if b then Some kept.1 else None) []) → IsKeptIn (h ∷ before) e
         go true (inl same) = record {
           front = [];
           back = before;
@@ -270,7 +273,7 @@ shown_sends x w event shows a b bytes ok k =
 no_rest : {X : Type 0} (P : Type 0) (x : X) (xs ys : List X) → x ∷ xs ≡ [] → P
 no_rest P x xs ys q = cc
 
-last_first : (past later : Trace) (event : Event) → past ++ event ∷ later ≡ (past ++ event ∷ []) ++ later
+pub last_first : (past later : Trace) (event : Event) → past ++ event ∷ later ≡ (past ++ event ∷ []) ++ later
 last_first past later event = sym (append_assoc past (event ∷ []) later)
 
 -- an event
@@ -437,8 +440,8 @@ all_on defs law night (h ∷ behind) before x n is s =
 first_station : (net : Net) (night : Night) (w : ℕ) → Station net empty_world [] night w
 first_station net night w = go (leb_tells (node_count net) w)
   where
-    go : ((Rattle.std.specs.Prelude.nat_le (node_count net) w ≡ true) × (node_count net ≤ w))
-        ⊎ ((Rattle.std.specs.Prelude.nat_le (node_count net) w ≡ false) × (w < node_count net)) → Station net empty_world [] night w
+    go : ((nat_le (node_count net) w ≡ true) × (node_count net ≤ w))
+        ⊎ ((nat_le (node_count net) w ≡ false) × (w < node_count net)) → Station net empty_world [] night w
     go (inl beyond) = Station.outside (λ inside. omega (arith, beyond.1, inside)) refl
     go (inr inside) = Station.down refl (kept_first net w inside.1) refl
 
@@ -476,6 +479,8 @@ pub record IsSoFar (net : Net) (night : Night) : Type 0 where
   pub kept_ : (w : ℕ) → w < node_count net → HasKept net world w (kept_at w night)
   pub idle_ : (w : ℕ) → w < node_count net → since w night ≡ None → world.sessions w ≡ restarted
   pub members : (s : Start) → IsIn s (started night) → IsIn s world.starts
+  pub sent_ : (a b : ℕ) (bytes : List ℕ) (ok : Bool) → IsIn (Does a (Event.Sends (record { to = b; bytes = bytes; ok = ok }))) night
+      → (g : Frame) × IsCarried world a b g × (bytes ≡ frame_bytes g)
   pub sound : IsSound net (made night) world.starts
 
 -- each night of the premises is a world, and its history is sound
@@ -490,5 +495,6 @@ night_is_world defs law night n =
       kept_ = λ w inside. kept_of net it.0 night w inside (it.1.stations w);
       idle_ = λ w inside idle. session_of net it.0 night w inside idle (it.1.stations w);
       members = it.1.started_;
+      sent_ = it.1.sent_;
       sound = subst (λ (G : List Entry). IsSound net G it.0.starts) it.1.history_ (invariant net it.0 it.1.reached).sound;
     }

@@ -1,27 +1,24 @@
 -- Steps of the world without limits, and what they do.
 use Rattle.std.proofs.Common.{[], ◌++◌, ◌≡◌, ◌≢◌, ◌∙◌, ◌∷◌, ◌⊎◌, ℕ, Bool, List, None, Option, Some, ap, false, inl, inr, refl, subst, sym, true}
 use Rattle.std.proofs.lemmas.Bool.Decides.{eqb_tells}
-use Rattle.model_laws.proofs.Feeds.{with_at-all}
 use Rattle.std.specs.Option.{option_to_list}
-use Rattle.std.specs.Prelude.{◌==◌, Ok, filter_map, if◌then◌else◌}
+use Rattle.std.specs.Prelude.{if◌then◌else◌, ◌<◌, ◌==◌, Ok, filter_map}
 use Rattle.model.specs.Types.{Crash, CrashDeliver, CrashTake, Deliver, Entry, Input, Launch, Local, Net, Out, Packet, Send, Start, Take, WorldStep}
 use Rattle.model.specs.Words.{with_at}
 use Rattle.model.specs.FreeSteps.{free_run, free_step, recounted}
 use Rattle.model.specs.Invariant.{Invariant}
-use Rattle.model.specs.Kept.{AreHeld, HasKept, kept_in, made_by, only_if}
+use Rattle.model.specs.Kept.{AreHeld, HasKept, kept_in, kept_over, made_by, only_if}
 use Rattle.model.specs.Sessions.{Session, restarted}
 use Rattle.model.specs.Step.{Effect, node_step}
-use Rattle.model.specs.World.{Origin, World, apply_effect, cut_short, delivery, empty_world, history_with, mark_delivered}
-use Rattle.model.specs.World.{node_effect, or_as_before, packets_to, reached_limit, start_in, step, view_at}
-use Rattle.network_runs.proofs.Counting.{apart, together}
-use Rattle.network_runs.proofs.Members.{IsIn, in_left, in_mapped, in_right}
+use Rattle.model.specs.World.{Origin, World, apply_effect, cut_short, delivery, empty_world, history_with, mark_delivered, node_effect, or_as_before, packets_to, start_in, step, view_at}
+use Rattle.model.specs.Network.{node_count}
+use Rattle.model.specs.World.{run}
+use Rattle.model_laws.proofs.Feeds.{with_at-all}
 use Rattle.model_laws.proofs.FreeRuns.{free_always, nothing_reached}
 use Rattle.model_laws.proofs.Keeps.{at_start}
 use Rattle.model_laws.proofs.KeptLists.{always_restored, step_kept}
-use Rattle.model.specs.Network.{node_count}
-use Rattle.model.specs.World.{run}
-use Rattle.model.specs.Kept.{kept_over}
-use Rattle.std.specs.Prelude.{◌<◌}
+use Rattle.network_runs.proofs.Counting.{apart, together}
+use Rattle.network_runs.proofs.Members.{IsIn, in_left, in_mapped, in_right}
 
 -- steps lead there from the empty world
 pub record IsReached (net : Net) (x : World) : Type 0 where

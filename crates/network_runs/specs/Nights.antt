@@ -1,17 +1,19 @@
 -- The premises: what each workstation does is a front of a run, its file outlives a restart, and what comes over a link
 -- was sent. And what a night then is: a world of the definitions.
-use Rattle.std.specs.Prelude.{[], ℕ, ◌++◌, ◌<◌, ◌∷◌, ◌≡◌, ◌≤◌, ◌⊎◌, Bool, Contains, List, None, Option, Some}
+use Rattle.std.specs.Prelude.{[], ℕ, ◌++◌, ◌<◌, ◌∷◌, ◌≡◌, ◌≤◌, ◌⊎◌, Bool, Contains, List, None, Option, Some, option_map}
 use Rattle.composer_parser.specs.declared.Defs.{Defs}
-use Rattle.model.specs.Types.{Entry, Net, WorldStep}
-use Rattle.model.specs.Words.{IsPartOf}
+use Rattle.model.specs.Types.{Ack, Body, Entry, Feed, Mail, Net, Packet, WorldStep}
+use Rattle.model.specs.Words.{IsPartOf, nth}
 use Rattle.model.specs.Fit.{IsFit}
 use Rattle.model.specs.FreeSteps.{free_run}
+use Rattle.model.specs.History.{list_of}
 use Rattle.model.specs.Kept.{HasKept}
 use Rattle.model.specs.Network.{node_count}
 use Rattle.model.specs.Ranges.{InRange}
 use Rattle.model.specs.Sessions.{restarted}
 use Rattle.model.specs.Sound.{IsSound}
-use Rattle.model.specs.World.{World, empty_world}
+use Rattle.model.specs.Spelling.{entry_bytes}
+use Rattle.model.specs.World.{World, empty_world, view_at}
 use Rattle.mail_frames.specs.declared.frames.Frame.{Frame}
 use Rattle.mail_frames.specs.declared.frames.Frame.TheVariants as frame
 use Rattle.mail_frames.specs.Spelling.{frame_bytes}
@@ -21,6 +23,7 @@ use Rattle.agent_core.specs.Nodes.{NodeState, session_in}
 use Rattle.node_inputs.specs.Traces.{Event, Trace, refusals, tried_by}
 use Rattle.node_inputs.specs.declared.ends.NodeEnd.{NodeEnd}
 use Rattle.node_loop.specs.Runs.{Run, Running, running}
+use Rattle.run_laws.specs.Held.{held_after}
 use Rattle.network_runs.specs.Happenings.{Begins, Does, Happening, Night, Stops, heard_from, kept_at, kept_in, launches_at, left_at_stop, made, since, started, until_stop}
 
 -- a node of w that holds these entries and has just begun
@@ -72,8 +75,10 @@ pub record IsWritten (e : Entry) : Type 0 where
   pub fit : IsFit e
   pub in_range : InRange e
 
--- A night of the premises. The premise on files is `files`: what a workstation kept outlives its restart. The premise on
--- links is `links`: what comes whole from another was sent by that one. All else is what the program does by its contracts.
+-- A night of the premises. On files: what a workstation kept outlives its restart (`files`), and no two runs serve one
+-- workstation at once (`stood`). On links: what came whole from another was sent by it (`links`). The rest is what the
+-- program does: it serves workstations of checked definitions (`few`, `inside`), each by runs as they are defined (`runs`,
+-- `acts`, `stops`), and keeps what its types and its keeper let it write down (`written`).
 pub record IsNight (defs : Defs) (night : Night) : Type 0 where
   -- a frame can name each workstation of the network
   pub few : node_count (net_of defs) ≤ 65536
@@ -98,20 +103,45 @@ pub record IsNight (defs : Defs) (night : Night) : Type 0 where
   pub written : (before behind : Night) (h : Happening) (v : ℕ) (e : Entry) → night ≡ before ++ h ∷ behind
       → kept_in h ≡ Some (v, e) → IsWritten e
 
+-- the frame that brings a packet: the entry of the history that it names, or how many of a feed its sender holds
+abbrev pub frame_in : List Entry → Packet → Option Frame
+frame_in G (Mail f place) =
+    option_map (λ (body : Body). frame.Mail (entry_bytes (record { feed = f; place = place; body = body })))
+    (nth (list_of G f) place)
+frame_in G (Ack f n) = Some (frame.Ack f n)
+
+-- these bytes bring a packet that a sent to b in the world
+pub record BringsPacket (x : World) (a b : ℕ) (bytes : List ℕ) : Type 0 where
+  pub packet : Packet
+  pub sent : Contains (x.packets a b) packet
+  pub frame_ : Frame
+  pub its : frame_in x.history packet ≡ Some frame_
+  pub bytes_ : bytes ≡ frame_bytes frame_
+
+-- a workstation that runs does a front of a run, and what its node holds behind it is what it holds in the world
+pub record RunsIn (defs : Defs) (x : World) (w : ℕ) (past : Trace) : Type 0 where
+  pub entries : List Entry
+  pub life : IsLife defs w entries past None
+  pub holds : (f : Feed) → held_after life.start past f ≡ view_at x w f
+
 -- The world that a night is: steps of the definitions lead to it; its history is what makers kept, in that order; what
--- the disk of each workstation has is what it holds in the world, and restores it; one that does not run has the session
--- of a node that has just begun; and the processes that were asked for at a workstation are some of its starts in the
--- world, in that order, each at most once. (A stop may come between a launch that is kept and its process.)
-pub record IsWorldOf (net : Net) (night : Night) (x : World) : Type 0 where
+-- the disk of each workstation has is what it holds in the world, and restores it, and so is what the node of one that runs
+-- holds; one that does not run has the session of a node that has just begun; what was sent brings packets of the world; and the processes that were asked for at a
+-- workstation are some of its starts there, in that order, each at most once. (A stop may come between a launch that is
+-- kept and its process.)
+pub record IsWorldOf (defs : Defs) (night : Night) (x : World) : Type 0 where
   pub steps : List WorldStep
-  pub by_them : x ≡ free_run net steps empty_world
+  pub by_them : x ≡ free_run (net_of defs) steps empty_world
   pub history_ : x.history ≡ made night
-  pub kept_ : (w : ℕ) → w < node_count net → HasKept net x w (kept_at w night)
-  pub idle_ : (w : ℕ) → w < node_count net → since w night ≡ None → x.sessions w ≡ restarted
+  pub kept_ : (w : ℕ) → w < node_count (net_of defs) → HasKept (net_of defs) x w (kept_at w night)
+  pub runs_ : (w : ℕ) (past : Trace) → since w night ≡ Some past → RunsIn defs x w past
+  pub idle_ : (w : ℕ) → w < node_count (net_of defs) → since w night ≡ None → x.sessions w ≡ restarted
+  pub sent_ : (a b : ℕ) (bytes : List ℕ) (ok : Bool)
+      → Contains night (Does a (Event.Sends (record { to = b; bytes = bytes; ok = ok }))) → BringsPacket x a b bytes
   pub starts_ : (w : ℕ) → IsPartOf (launches_at w (started night)) (launches_at w x.starts)
 
 -- what follows of a night: the entries that makers kept are a sound history
-pub record IsSoundNight (net : Net) (night : Night) : Type 0 where
+pub record IsSoundNight (defs : Defs) (night : Night) : Type 0 where
   pub world : World
-  pub is : IsWorldOf net night world
-  pub sound : IsSound net (made night) world.starts
+  pub is : IsWorldOf defs night world
+  pub sound : IsSound (net_of defs) (made night) world.starts

@@ -25,7 +25,7 @@ use symphony_view::shows_events_alone;
 /// order in which they kept it; what the disk of each workstation has is what it holds there, and restores it; the
 /// processes that were asked for at a workstation are starts of that world, in that order. So the history is sound.
 pub fn every_night_is_a_world()
-    ensures { (defs : Defs) (night : Night) → IsNight defs night → IsSoundNight (net_of defs) night }
+    ensures { (defs : Defs) (night : Night) → IsNight defs night → IsSoundNight defs night }
 {
     launches_are_started_once();
 }

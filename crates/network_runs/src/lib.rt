@@ -1,8 +1,9 @@
 //! A network of running nodes is a world of the definitions.
 //!
 //! A night is one list of what happens at the workstations of a network: runs begin, do what they do, and stop at whatever
-//! moment. Where each run is one of the definitions' runs, a message file outlives a restart, and what comes over a link
-//! was sent by a workstation of the network (`specs/Nights`), the entries that the workstations keep are a sound history.
+//! moment (`specs/Happenings`). `specs/Nights` has its premises, on files and on links, and says which world it is. Each
+//! night of the premises is such a world, so its history is sound; the other laws say what follows of launches, plans and
+//! listings. `specs/Leaving` ties the end of a run to the stop in a night.
 #![tactic(auto)]
 
 mod laws;

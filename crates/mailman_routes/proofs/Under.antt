@@ -27,20 +27,23 @@ hop_manages net tree (suc w) m e =
 -- who stands above one in its chain manages a domain
 above : (net : Net) → IsTree net → (k w m : ℕ) → has (option_map_or (climb net k) (hop net w) []) m ≡ true
     → is_manager net m ≡ true
-above net tree k w m h = go (hop net w) refl h
+above net tree zero w m h = go (hop net w) h
   where
-    further : (k : ℕ) (up : ℕ) → hop net w ≡ Some up → has (climb net k up) m ≡ true → is_manager net m ≡ true
-    further zero up e t = cc
-    further (suc k) up e t =
+    go : (o : Option ℕ) → has (option_map_or (climb net zero) o []) m ≡ true → is_manager net m ≡ true
+    go None t = cc
+    go (Some up) t = cc
+above net tree (suc k) w m h = go (hop net w) refl h (λ v t. above net tree k v m t)
+  where
+    go : (o : Option ℕ) → hop net w ≡ o → has (option_map_or (climb net (suc k)) o []) m ≡ true
+        → ((v : ℕ) → has (option_map_or (climb net k) (hop net v) []) m ≡ true → is_manager net m ≡ true)
+        → is_manager net m ≡ true
+    go None e t further = cc
+    go (Some up) e t further =
         elim (eqb_tells up m) [
           | inl s ↦ hop_manages net tree w m (e ∙ ap Some s.1)
-          | inr s ↦ above net tree k up m
+          | inr s ↦ further up
               (ap (λ (b : Bool). b || has (option_map_or (climb net k) (hop net up) []) m) (sym s.0) ∙ t)
         ]
-
-    go : (o : Option ℕ) → hop net w ≡ o → has (option_map_or (climb net k) o []) m ≡ true → is_manager net m ≡ true
-    go None e t = cc
-    go (Some up) e t = further k up e t
 
 climbed : (net : Net) → IsTree net → (n w m : ℕ) → has (drop 1 (climb net n w)) m ≡ true → is_manager net m ≡ true
 climbed net tree zero w m h = cc

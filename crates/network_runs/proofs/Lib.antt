@@ -16,3 +16,4 @@ mod Uniques
 mod Once
 mod Ordered
 mod Running
+mod Rows

@@ -173,10 +173,10 @@ come_alone defs = wants_gives (Lifted (MarksAll AloneAdvised)) (lifted_joined (M
         all =
             event_then (MarksAll (OfKept Any)) any_rule.joined (Event.Comes h.arrived) old.node h.rest trace end new.node h.split
             (one_marked (OfKept Any) old.node (Event.Comes h.arrived) refl tt)
-            (arrive_gives (λ i. Unit {0}) (MarksAll (OfKept Any)) any_rule (λ input is. tt) defs h.arrived old h.rest end new h.arrives)
+            (arrive_gives (λ i. Unit {0}) (MarksAll (OfKept Any)) any_rule (λ input is. tt) (λ x f input is. tt) defs h.arrived old h.rest end new h.arrives)
 
         quiet : AllByRecursion IsQuiet h.rest
-        quiet = arrive_gives (λ i. Unit {0}) Quiet quiet_rule (λ input is. tt) defs h.arrived old h.rest end new h.arrives
+        quiet = arrive_gives (λ i. Unit {0}) Quiet quiet_rule (λ input is. tt) (λ x f input is. tt) defs h.arrived old h.rest end new h.arrives
 
         at : (front back : Trace) (e : Entry)
             → IsHere (Event.Comes h.arrived) h.rest front back (Event.Keeps e) ⊎ IsFurther (Event.Comes h.arrived) h.rest front back (Event.Keeps e)

@@ -2,6 +2,7 @@
 use Rattle.std.proofs.Common.{[], ◌++◌, ◌<◌, ◌≡◌, ◌∙◌, ◌∷◌, ◌⊎◌, ℕ, Bool, List, None, Option, Some, ap, append_assoc, false, inl, inr, refl, subst, sym, true}
 use Rattle.std.specs.Prelude.{Err, Ok, Result}
 use Rattle.base_types.specs.declared.LimitName.TheVariants.{Places}
+use Rattle.lemmas.proofs.Options.{map_some, some_is}
 use Rattle.composer_parser.specs.declared.Defs.{Defs}
 use Rattle.model.specs.Types.{Entry, Events, Fulfil, Fulfilled, Input, Local, Net, Obj, StartFailed, Turn, Unlinked}
 use Rattle.model.specs.History.{View}
@@ -9,6 +10,9 @@ use Rattle.model.specs.Network.{node_count}
 use Rattle.model.specs.NewEntry.{next_entry}
 use Rattle.outside.specs.declared.Failed.{Failed}
 use Rattle.agent_core.specs.Nodes.{NodeState, present_in, session_in, view_in}
+use Rattle.entry_codec.specs.Entries.{entry_in}
+use Rattle.mail_frames.specs.declared.frames.Frame.{Frame}
+use Rattle.mail_frames.specs.declared.frames.Frame.TheVariants as frame
 use Rattle.file_watch.specs.Circle.{DepPlace}
 use Rattle.file_watch.specs.Probes.{next_probe, path_at}
 use Rattle.file_watch.proofs.Due.{probe_may_be_told}
@@ -19,6 +23,7 @@ use Rattle.node_inputs.specs.Actions.{IfThere, Nothing, Action}
 use Rattle.node_inputs.specs.Inputs.{Take}
 use Rattle.run_laws.specs.Held.{held_after}
 use Rattle.run_laws.specs.Files.{EndsWithItsProbe, FollowsFile, TellsFile}
+use Rattle.node_loop.specs.Frames.{entry_of, input_of}
 use Rattle.node_loop.specs.Runs.{Advise, Found, Looks, Probing, Run, Running}
 use Rattle.run_laws.proofs.Rules.{Gives, IsJoined, nothing_gives}
 use Rattle.run_laws.proofs.Splits.{IsFurther, IsHere, IsOnly, only_one, split_cons}
@@ -117,6 +122,13 @@ told_are_none input h = absurd h
 heard_are_none : (input : Input) → IsHeard input → IsNoFulfil input
 heard_are_none (Input.Local (Fulfil o i)) h = absurd h
 heard_are_none input h = tt
+
+brought_are_none : (x : ℕ) (f : Frame) (input : Input) → input_of x f ≡ Some input → IsNoFulfil input
+brought_are_none x (frame.Mail bytes) input is =
+    let it = map_some (λ (e : Entry). Input.Mail x e) (entry_of (entry_in bytes)) input is in subst IsNoFulfil it.2 tt
+brought_are_none x (frame.Ack f n) input is = subst IsNoFulfil (some_is is) tt
+brought_are_none x (frame.Command text) input is = cc
+brought_are_none x (frame.Reply text) input is = cc
 
 files_rule : IsRule IsNoFulfil (MarksAll OfFiles)
 files_rule = record {
@@ -300,7 +312,7 @@ pub run_files : (defs : Defs) (turns : ℕ) → Gives (Run defs turns) (Lifted (
 run_files defs turns =
     run_gives (Lifted P) j defs
     (turn_gives (Lifted P) j defs (λ s t. one_marked OfFiles s.node (Event.Reads t) refl tt)
-    (come_gives IsNoFulfil P files_rule heard_are_none (λ s a. one_marked OfFiles s (Event.Comes a) refl tt) defs)
+    (come_gives IsNoFulfil P files_rule heard_are_none brought_are_none (λ s a. one_marked OfFiles s (Event.Comes a) refl tt) defs)
     (behind_gives (Lifted P) j defs
     (on_gives _ P (reports_gives IsNoFulfil P files_rule (λ s answer. one_marked OfFiles s (Event.Reports answer) refl tt) (λ k rc. tt)))
     probing_files

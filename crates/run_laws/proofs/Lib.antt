@@ -4,7 +4,7 @@ pub mod Given
 pub mod Taking
 mod Tracing
 mod Launching
-mod Starting
+pub mod Starting
 mod Marks
 mod Keeping
 mod Refusing

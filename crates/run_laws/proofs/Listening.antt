@@ -1,12 +1,11 @@
 -- What holds of each step holds of all that workstations and clients may ask of a node.
-use Rattle.std.proofs.Common.{[], ◌∷◌, ◌⊎◌, ℕ, Bool, List, None, Option, Some, inl, inr}
-use Rattle.std.specs.Prelude.{Err, Ok, Result, ◌==◌, nat_le, option_map}
+use Rattle.std.proofs.Common.{[], ◌∷◌, ◌≡◌, ◌⊎◌, ℕ, Bool, List, None, Option, Some, inl, inr, refl}
+use Rattle.std.specs.List.{AllByRecursion}
+use Rattle.std.specs.Prelude.{Err, Ok, Result, ◌==◌, nat_le}
 use Rattle.base_types.specs.declared.LimitName.TheVariants.{Places}
 use Rattle.calendars.specs.Dates.{last_day}
 use Rattle.composer_parser.specs.declared.Defs.{Defs}
-use Rattle.entry_codec.specs.Entries.{entry_in}
-use Rattle.entry_codec.specs.declared.EntryFault.{EntryFault}
-use Rattle.model.specs.Types.{Cmd, Entry, Input, Linked, Next, Typed, Unlinked}
+use Rattle.model.specs.Types.{Cmd, Input, Linked, Next, Typed, Unlinked}
 use Rattle.agent_core.specs.Nodes.{NodeState, present_in, view_in}
 use Rattle.agent_core.specs.declared.faults.StepFault.{StepFault}
 use Rattle.agent_core.specs.declared.faults.StepFault.TheVariants as step_fault
@@ -35,16 +34,14 @@ use Rattle.node_inputs.specs.Traces.{Event}
 use Rattle.node_inputs.specs.declared.ends.NodeEnd.TheVariants.{Limit, Shutdown}
 use Rattle.node_inputs.specs.Actions.{Action, Call, Each, From, If, IfThere, Nothing, Stop, Then, Wants}
 use Rattle.node_inputs.specs.Inputs.{Follow, Lose, Refused, Take, Takes}
-use Rattle.node_loop.specs.Frames.{Frames, entry_of, input_of}
+use Rattle.node_loop.specs.Frames.{Frames, input_of}
 use Rattle.node_lines.specs.Lines.{AnswerBy, AnswerFault, AnswerFrame, AskLink, AskOf, Listen, Obey, Order, OrderBy, PlanBy, PlanDay, Refuse, Reply}
 use Rattle.node_lines.specs.Lines.{Say, Serve, Show, command_refusal, kept_text, link_text, plan_refusal, plan_text, step_refusal, unlink_text}
 use Rattle.run_laws.proofs.Rules.{Gives, call_gives, each_gives, free_places, free_shutdown, if_gives, if_there_gives, nothing_gives, stop_gives, then_gives, wants_gives}
 use Rattle.run_laws.proofs.Taking.{IsRule, lose_gives, refused_gives, take_gives, takes_gives}
 
--- what comes over links and from clients
+-- what links and clients ask of a node; what frames of workstations bring is told by `input_of`
 abbrev pub IsHeard : Input → Type 0
-IsHeard (Input.Mail x e) = Unit {0}
-IsHeard (Input.Ack x f n) = Unit {0}
 IsHeard (Input.Local (Linked x)) = Unit {0}
 IsHeard (Input.Local (Unlinked x)) = Unit {0}
 IsHeard (Input.Local (Typed to c)) = Unit {0}
@@ -163,25 +160,20 @@ module _ (Q : Input → Type 0) (P : Action NodeState) (r : IsRule Q P) (heard :
           × Each (AnswerFrame defs) frames old trace end new) P
       go old trace end new h = each_gives P r.joined (AnswerFrame defs) (answer_frame_gives defs) h.0 old trace end new h.2
 
-  then_rest : (x : ℕ) (bad : Bool) (rest : List Frame) (i : Input) → IsHeard i → Gives (Frames x bad rest) P
+  then_rest : (x : ℕ) (bad : Bool) (rest : List Frame) (i : Input) → Q i → Gives (Frames x bad rest) P
       → Gives (Then (Take i) (Frames x bad rest)) P
-  then_rest x bad rest i is others =
-      then_gives P r.joined (Take i) (Frames x bad rest) (take_gives Q P r i (heard i is)) others
+  then_rest x bad rest i q others =
+      then_gives P r.joined (Take i) (Frames x bad rest) (take_gives Q P r i q) others
 
-  mail_gives : (x : ℕ) (bad : Bool) (rest : List Frame) (read : Result Entry EntryFault) → Gives (Frames x bad rest) P
-      → Gives (IfThere (option_map (λ (e : Entry). Input.Mail x e) (entry_of read)) (λ (i : Input). Then (Take i) (Frames x bad rest)) (Lose x)) P
-  mail_gives x bad rest (Ok e) others = then_rest x bad rest (Input.Mail x e) tt others
-  mail_gives x bad rest (Err fault) others = lose_gives Q P r x
-
-  frame_gives : (x : ℕ) (bad : Bool) (f : Frame) (rest : List Frame) → Gives (Frames x bad rest) P
-      → Gives (IfThere (input_of x f) (λ (i : Input). Then (Take i) (Frames x bad rest)) (Lose x)) P
-  frame_gives x bad (frame.Mail bytes) rest others = mail_gives x bad rest (entry_in bytes) others
-  frame_gives x bad (frame.Ack g n) rest others = then_rest x bad rest (Input.Ack x g n) tt others
-  frame_gives x bad (frame.Command text) rest others = lose_gives Q P r x
-  frame_gives x bad (frame.Reply text) rest others = lose_gives Q P r x
+  by_input : (x : ℕ) (bad : Bool) (rest : List Frame) (f : Frame) (o : Option Input) → input_of x f ≡ o
+      → ((i : Input) → input_of x f ≡ Some i → Q i) → Gives (Frames x bad rest) P
+      → Gives (IfThere o (λ (i : Input). Then (Take i) (Frames x bad rest)) (Lose x)) P
+  by_input x bad rest f None is q others = lose_gives Q P r x
+  by_input x bad rest f (Some i) is q others = then_rest x bad rest i (q i is) others
 
   -- the frames of a workstation
-  pub frames_gives : (x : ℕ) (bad : Bool) (frames : List Frame) → Gives (Frames x bad frames) P
-  frames_gives x bad [] = if_gives P r.joined bad (Lose x) Nothing (lose_gives Q P r x) (nothing_gives P r.joined)
-  frames_gives x bad (f ∷ rest) =
-      wants_gives P r.joined _ (frame_gives x bad f rest (frames_gives x bad rest))
+  pub frames_gives : (x : ℕ) (bad : Bool) (frames : List Frame)
+      → AllByRecursion (λ (f : Frame). (i : Input) → input_of x f ≡ Some i → Q i) frames → Gives (Frames x bad frames) P
+  frames_gives x bad [] h = if_gives P r.joined bad (Lose x) Nothing (lose_gives Q P r x) (nothing_gives P r.joined)
+  frames_gives x bad (f ∷ rest) h =
+      wants_gives P r.joined _ (by_input x bad rest f (input_of x f) refl h.0 (frames_gives x bad rest h.1))

@@ -4,6 +4,7 @@ use Rattle.std.proofs.Common.{ℤ}
 use Rattle.std.specs.Prelude.{Err, Ok, Result, is_some}
 use Rattle.composer_parser.specs.declared.Defs.{Defs}
 use Rattle.model.specs.Types.{Cmd, Fulfil, Input, Linked, Local, Turn, Typed, Unlinked}
+use Rattle.model_laws.proofs.Lists.{each_such}
 use Rattle.agent_core.specs.Nodes.{NodeState, view_in}
 use Rattle.file_watch.specs.Circle.{DepPlace}
 use Rattle.file_watch.specs.Probes.{next_probe}
@@ -19,7 +20,7 @@ use Rattle.node_inputs.specs.declared.ends.NodeEnd.{NodeEnd}
 use Rattle.node_inputs.specs.declared.ends.NodeEnd.TheVariants.{NoMemory, TurnsSpent}
 use Rattle.node_inputs.specs.Actions.{Action, Nothing, Then}
 use Rattle.node_inputs.specs.Inputs.{Take}
-use Rattle.node_loop.specs.Frames.{Frames}
+use Rattle.node_loop.specs.Frames.{Frames, input_of}
 use Rattle.node_lines.specs.Lines.{Listen}
 use Rattle.node_loop.specs.Runs.{Advise, Anew, Arrive, Come, Comes, EndOf, Found, Hear, Hears, Looks, On, Probing, Reports, Run, Running, TurnOf, is_live}
 use Rattle.run_laws.proofs.Rules.{Gives, IsJoined, free_memory, free_none, free_turns, if_gives, if_there_gives, nothing_gives, stop_gives, then_gives, wants_gives}
@@ -46,7 +47,8 @@ event_then P j event old rest trace end new split one others =
     subst (λ (t : Trace). P old t end new) (sym split) (j.joins old old new (event ∷ []) rest end one others)
 
 -- what arrives
-module _ (Q : Input → Type 0) (P : Action NodeState) (r : IsRule Q P) (heard : (input : Input) → IsHeard input → Q input) where
+module _ (Q : Input → Type 0) (P : Action NodeState) (r : IsRule Q P) (heard : (input : Input) → IsHeard input → Q input)
+    (brought : (x : ℕ) (f : Frame) (input : Input) → input_of x f ≡ Some input → Q input) where
   joined : IsJoined (Lifted P)
   joined = lifted_joined P r.joined
 
@@ -65,7 +67,8 @@ module _ (Q : Input → Type 0) (P : Action NodeState) (r : IsRule Q P) (heard :
           then_gives (Lifted P) joined (Hears x (heard_more (old.heard x) bytes h.0))
           (λ o t e n. On (Frames x (is_some h.1) h.0) o t e n)
           (hears_gives x (heard_more (old.heard x) bytes h.0))
-          (on_gives (Frames x (is_some h.1) h.0) P (frames_gives Q P r heard x (is_some h.1) h.0)) old trace end new h.3
+          (on_gives (Frames x (is_some h.1) h.0) P (frames_gives Q P r heard x (is_some h.1) h.0
+          (each_such (λ (f : Frame). (input : Input) → input_of x f ≡ Some input → Q input) h.0 (brought x)))) old trace end new h.3
 
   anew_gives : (x : ℕ) (input : Input) → IsHeard input → Gives (Anew x input) (Lifted P)
   anew_gives x input is =
@@ -166,7 +169,7 @@ pub every_run_gives : (P : Action NodeState) → HoldsOfAll P → (defs : Defs) 
 every_run_gives P r defs turns =
     run_gives (Lifted P) j defs
     (turn_gives (Lifted P) j defs (λ s t. r.reads s.node t)
-    (come_gives (λ i. Unit {0}) P r.rule (λ i is. tt) r.comes defs)
+    (come_gives (λ i. Unit {0}) P r.rule (λ i is. tt) (λ x f i is. tt) r.comes defs)
     (behind_gives (Lifted P) j defs
     (on_gives _ P (reports_gives (λ i. Unit {0}) P r.rule r.reports (λ k rc. tt)))
     (probing_gives (λ i. Unit {0}) P r.rule r.looks (λ place. tt))

@@ -4,9 +4,9 @@ use Rattle.std.proofs.Common.{length}
 use Rattle.std.specs.Result.{IfOk}
 use Rattle.base_types.specs.declared.LimitName.TheVariants as limit
 use Rattle.input_commands.specs.Replies.{ComesOf}
-use Rattle.input_commands.specs.declared.Outcome.{Outcome}
-use Rattle.input_commands.specs.declared.Outcome.TheVariants as outcome
-use Rattle.input_commands.specs.declared.Wish.{Wish}
+use Rattle.input_commands.specs.declared.wishes.Outcome.{Outcome}
+use Rattle.input_commands.specs.declared.wishes.Outcome.TheVariants as outcome
+use Rattle.input_commands.specs.declared.wishes.Wish.{Wish}
 use Rattle.outside.specs.Streams.{Stream, TakesAll}
 use Rattle.whole_io.specs.Whole.{TakesCount}
 use Rattle.model.specs.Sound.{IsSound}

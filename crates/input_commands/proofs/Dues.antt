@@ -4,9 +4,9 @@ use Rattle.std.proofs.Common.{sym, ap, ◌∙◌, subst, refl, codes, length, ar
 use Rattle.composer_parser.specs.declared.Defs.{Defs}
 use Rattle.composer_print.specs.Printed.{printed}
 use Rattle.input_commands.specs.Replies.{ComesOf}
-use Rattle.input_commands.specs.declared.Outcome.TheVariants.{Text}
-use Rattle.input_commands.specs.declared.Wish.{Wish}
-use Rattle.input_commands.specs.declared.Wish.TheVariants.{CanonicalText, Plan}
+use Rattle.input_commands.specs.declared.wishes.Outcome.TheVariants.{Text}
+use Rattle.input_commands.specs.declared.wishes.Wish.{Wish}
+use Rattle.input_commands.specs.declared.wishes.Wish.TheVariants.{CanonicalText, Plan}
 use Rattle.input_commands.proofs.Answered.{one_coming, has_plan}
 use Rattle.definition_texts.specs.Refusals.{AreChecked}
 use Rattle.outside.specs.Causes.{Rose}

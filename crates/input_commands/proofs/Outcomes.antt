@@ -1,9 +1,9 @@
 -- What is said of definitions, by the status.
 use Rattle.std.proofs.Common.{◌≡◌, ◌≤◌, ℕ, List, Option, subst, refl, length, arith}
 use Rattle.std.specs.Io.KnownBytes.{Appends}
-use Rattle.input_commands.specs.declared.Outcome.TheVariants as outcome
-use Rattle.input_commands.specs.declared.Wish.{Wish}
-use Rattle.input_commands.specs.declared.Wish.TheVariants.{CanonicalText, Plan}
+use Rattle.input_commands.specs.declared.wishes.Outcome.TheVariants as outcome
+use Rattle.input_commands.specs.declared.wishes.Wish.{Wish}
+use Rattle.input_commands.specs.declared.wishes.Wish.TheVariants.{CanonicalText, Plan}
 use Rattle.input_commands.proofs.Answered.{canonical, planned}
 use Rattle.outside.specs.Streams.{Stream, TakesAll}
 use Rattle.replies.specs.declared.statuses.Status.{Status}

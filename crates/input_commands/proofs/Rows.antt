@@ -3,8 +3,8 @@ use Rattle.std.proofs.Common.{◌≡◌, ◌≢◌, ◌==◌, ◌≤◌, ◌⊎�
 use Rattle.std.proofs.Common.{sym, ap, ◌∙◌, refl, length, arith}
 use Rattle.std.specs.Io.KnownBytes.{Appends}
 use Rattle.std.proofs.lemmas.Bool.Decides.{Decides-eqb}
-use Rattle.input_commands.specs.declared.Wish.{Wish}
-use Rattle.input_commands.specs.declared.Wish.TheVariants.{CanonicalText, Plan}
+use Rattle.input_commands.specs.declared.wishes.Wish.{Wish}
+use Rattle.input_commands.specs.declared.wishes.Wish.TheVariants.{CanonicalText, Plan}
 use Rattle.outside.specs.Causes.{Rose}
 use Rattle.outside.specs.Streams.{Stream, TakesAll}
 use Rattle.model.specs.World as model

@@ -1,7 +1,7 @@
 -- With which answers a world is handed back.
 use Rattle.std.proofs.Common.{◌≡◌, ◌≢◌, ℕ, true, false, List, Option, Some, None, sym, ap, ◌∙◌, refl, arith}
 use Rattle.std.specs.Option.{is_some}
-use Rattle.input_commands.specs.declared.Wish.{Wish}
+use Rattle.input_commands.specs.declared.wishes.Wish.{Wish}
 use Rattle.history_script.specs.declared.histories.HistoryText.{HistoryText}
 use Rattle.outside.specs.Streams.{Stream}
 use Rattle.network_world.specs.Stations.{WorldState}

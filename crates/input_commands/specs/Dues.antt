@@ -12,8 +12,8 @@ use Rattle.network_world.specs.Stations.{WorldState}
 use Rattle.network_world.specs.Standing.{StandsFor}
 use Rattle.night_records.specs.declared.Record.{Record}
 use Rattle.input_commands.specs.Replies.{ComesOf}
-use Rattle.input_commands.specs.declared.Outcome.{Outcome}
-use Rattle.input_commands.specs.declared.Wish.{Wish}
+use Rattle.input_commands.specs.declared.wishes.Outcome.{Outcome}
+use Rattle.input_commands.specs.declared.wishes.Wish.{Wish}
 use Rattle.record_faults.specs.declared.kinds.ScriptKind.{ScriptKind}
 use Rattle.record_runs.specs.Causes.{Cause, told}
 use Rattle.record_runs.specs.Runs as runs

@@ -2,8 +2,8 @@
 use Rattle.std.specs.Prelude.{ℕ, List, ◌++◌, codes}
 use Rattle.std.specs.Fmt.{decimal}
 use Rattle.base_types.specs.declared.LimitName.TheVariants as limit
-use Rattle.input_commands.specs.declared.Outcome.{Outcome}
-use Rattle.input_commands.specs.declared.Outcome.TheVariants as outcome
+use Rattle.input_commands.specs.declared.wishes.Outcome.{Outcome}
+use Rattle.input_commands.specs.declared.wishes.Outcome.TheVariants as outcome
 use Rattle.definition_texts.specs.Kinds.{word_of}
 use Rattle.event_audit.specs.declared.findings.Audit.{Audit}
 use Rattle.event_audit.specs.declared.findings.Audit.TheVariants.{Sound, Not}

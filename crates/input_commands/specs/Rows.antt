@@ -5,8 +5,8 @@ use Rattle.base_types.specs.declared.LimitName.TheVariants as limit
 use Rattle.composer_parser.specs.declared.Defs.{Defs}
 use Rattle.composer_print.specs.Printed.{printed}
 use Rattle.input_commands.specs.Replies.{ComesOf}
-use Rattle.input_commands.specs.declared.Outcome.TheVariants as outcome
-use Rattle.input_commands.specs.declared.Wish.{Wish}
+use Rattle.input_commands.specs.declared.wishes.Outcome.TheVariants as outcome
+use Rattle.input_commands.specs.declared.wishes.Wish.{Wish}
 use Rattle.definition_texts.specs.Kinds.{word_of}
 use Rattle.definition_texts.specs.Refusals.{AreChecked}
 use Rattle.definition_texts.specs.declared.Refusal.{Refusal}

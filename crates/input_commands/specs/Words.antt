@@ -5,7 +5,7 @@ use Rattle.std.specs.Prelude.{if◌then◌else◌}
 use Rattle.std.specs.Str.{bytes_eq}
 use Rattle.calendars.specs.Written.{date_of}
 use Rattle.input_commands.specs.Replies.{HasDay}
-use Rattle.input_commands.specs.declared.Wish.TheVariants.{CanonicalText, Plan}
+use Rattle.input_commands.specs.declared.wishes.Wish.TheVariants.{CanonicalText, Plan}
 use Rattle.syntax.specs.Numbers.{number_of}
 use Rattle.input_commands.specs.declared.words.Telling.TheVariants.{Report, Summary, History}
 use Rattle.input_commands.specs.declared.words.Wanted.{Wanted}

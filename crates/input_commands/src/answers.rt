@@ -2,8 +2,8 @@
 ghost use Rattle.std.specs.Prelude.{◌≡◌, ◌≢◌, ◌⊎◌, ◌↔◌, ◌≤◌, ℕ, List, Ok, Option, length, Some, None, IsSome, IsTrue, false};
 ghost use Rattle.std.specs.Io.KnownBytes.{Appends, Keeps};
 ghost use Rattle.composer_parser.specs.declared.Defs.{Defs as Definitions};
-ghost use Rattle.input_commands.specs.declared.Wish.{Wish as Wishes};
-ghost use Rattle.input_commands.specs.declared.Wish.TheVariants as wishes;
+ghost use Rattle.input_commands.specs.declared.wishes.Wish.{Wish as Wishes};
+ghost use Rattle.input_commands.specs.declared.wishes.Wish.TheVariants as wishes;
 ghost use Rattle.definition_texts.specs.Refusals.{AreChecked};
 ghost use Rattle.history_script.specs.declared.histories.HistoryText.{HistoryText as Histories};
 ghost use Rattle.outside.specs.Causes.{Rose};

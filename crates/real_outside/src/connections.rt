@@ -1,13 +1,20 @@
 //! All connections of a node or of a client.
 
-use crate::callers::{Callers, Heard};
+use crate::callers::{Callers, Door, Heard};
+use crate::channels::Channel;
+use crate::keys::read_key;
 use crate::lines::Line;
-use crate::streams::{CLIENT, set_up, write_whole};
+use crate::seals::NetworkKey;
+use crate::streams::{CLIENT, set_up};
 use base_types::{Copied, NoMemory, Peer, Peers, Ws};
 use outside::Arrival;
 use std::alloc::Global;
+use std::collections::VecDeque;
+use std::fs::Files;
 use std::io::{ErrorKind, Read, Write};
 use std::net::{Net, OpenListener, OpenStream, TcpListener};
+use std::os::fd::AsRawFd;
+use std::random::RandomSource;
 use std::time::{Clock, Duration};
 use std::{io, thread};
 
@@ -29,6 +36,15 @@ const PATIENCE: u64 = 200;
 /// How many milliseconds it has to answer a client.
 const CLIENTS_PATIENCE: u64 = 2_000;
 
+/// How many seconds after it tried to listen a node tries again.
+const AGAIN: u64 = 2;
+
+/// How many clients may be there whose replies have not gone.
+const MOST_LEAVING: usize = 32;
+
+/// How many rounds a client waits until the workstation has proved that it knows the key.
+const CLIENTS_ROUNDS: u32 = 500;
+
 /// All connections of a node or of a client.
 #[derive(Drop)]
 pub struct Connections<R: Net> {
@@ -37,10 +53,17 @@ pub struct Connections<R: Net> {
     /// The number by which calls are made.
     own: u16,
     listener: Option<R::Listener>,
+    /// Where a node is to listen, and when it tried last.
+    home: Option<Peer>,
+    tried: Duration,
     lines: Vec<Line<R::Stream>>,
     callers: Callers<R::Stream>,
     /// The client whose bytes were handed over last, until it has its reply.
-    asking: Option<R::Stream>,
+    asking: Option<Channel<R::Stream>>,
+    /// The clients whose replies have not gone yet.
+    leaving: VecDeque<Channel<R::Stream>>,
+    /// The key of the network, where there is one.
+    key: Option<NetworkKey>,
     buffer: Vec<u8>,
     /// The last reading of the monotonic clock.
     now: Duration,
@@ -51,7 +74,7 @@ pub struct Connections<R: Net> {
     callers_first: bool,
 }
 
-impl<R: Net + Clock> Connections<R> {
+impl<R: Net + Clock + Files + RandomSource> Connections<R> {
     /// No connections. They take no memory yet.
     pub fn new(alloc: Global, rt: R) -> Self {
         Connections {
@@ -59,9 +82,13 @@ impl<R: Net + Clock> Connections<R> {
             rt,
             own: CLIENT,
             listener: None,
+            home: None,
+            tried: Duration::ZERO,
             lines: Vec::new(alloc),
             callers: Callers::none(alloc),
             asking: None,
+            leaving: VecDeque::new(alloc),
+            key: None,
             buffer: Vec::new(alloc),
             now: Duration::ZERO,
             next_line: 0,
@@ -82,16 +109,43 @@ impl<R: Net + Clock> Connections<R> {
         let Some(own) = peers.as_slice().iter().find(|peer| peer.ws == me) else {
             return Err(ErrorKind::NotFound.into());
         };
+        let key = read_key(&self.rt)?;
         let callers = Callers::new(self.alloc)?;
+        let leaving = VecDeque::with_capacity(self.alloc, MOST_LEAVING)?;
         let buffer = Vec::from_elem(self.alloc, 0u8, MOST_BYTES)?;
-        let listener = TcpListener::bind(&self.rt, (own.host.as_str(), own.port))?;
-        listener.set_nonblocking(true)?;
+        let home = copy_of(own)?;
         self.own = me.0;
         self.lines = lines;
         self.callers = callers;
+        self.leaving = leaving;
+        self.key = key;
         self.buffer = buffer;
+        self.home = Some(home);
+        self.tried = self.now;
+        self.listen()
+    }
+
+    /// Listens on the own address.
+    fn listen(&mut self) -> io::Result<()> {
+        let Some(home) = &self.home else {
+            return Err(ErrorKind::NotFound.into());
+        };
+        let listener = TcpListener::bind(&self.rt, (home.host.as_str(), home.port))?;
+        listener.set_nonblocking(true)?;
         self.listener = Some(listener);
         Ok(())
+    }
+
+    /// Tries again to listen, every two seconds, where a node does not. Until it does it calls nobody: another node of its
+    /// name may be there.
+    fn listen_again(&mut self) {
+        if self.home.is_some()
+            && self.listener.is_none()
+            && self.now.saturating_sub(self.tried) >= Duration::from_secs(AGAIN)
+        {
+            self.tried = self.now;
+            let _ = self.listen();
+        }
     }
 
     /// Begins as a client: connects to the only workstation of which there is an address.
@@ -99,10 +153,25 @@ impl<R: Net + Clock> Connections<R> {
         let Some(peer) = peers.get(0) else {
             return Err(ErrorKind::NotFound.into());
         };
+        let key = read_key(&self.rt)?;
+        if let Ok(now) = self.rt.monotonic() {
+            self.now = now;
+        }
         let mut line = Line::new(copy_of(peer)?);
         let mut lines = Vec::with_capacity(self.alloc, 1)?;
         let buffer = Vec::from_elem(self.alloc, 0u8, MOST_BYTES)?;
-        line.call(&self.rt, CLIENT, self.now, CLIENTS_PATIENCE)?;
+        let keyed = key.is_some();
+        line.call(
+            self.alloc,
+            &self.rt,
+            CLIENT,
+            keyed,
+            self.now,
+            CLIENTS_PATIENCE,
+        )?;
+        if let Some(key) = &key {
+            wait_for_answer(self.alloc, &self.rt, key, self.now, &mut line)?;
+        }
         lines.push(line)?;
         self.own = CLIENT;
         self.lines = lines;
@@ -116,11 +185,16 @@ impl<R: Net + Clock> Connections<R> {
         if let Ok(now) = self.rt.monotonic() {
             self.now = now;
         }
+        self.listen_again();
         self.call_one();
+        self.keep();
         for _ in 0..ROUNDS {
             self.accept();
             match self.look() {
-                Arrival::Nothing => thread::sleep(&self.rt, Duration::from_millis(ROUND)),
+                Arrival::Nothing => {
+                    thread::sleep(&self.rt, Duration::from_millis(ROUND));
+                    self.keep();
+                }
                 arrival => return arrival,
             }
         }
@@ -129,15 +203,37 @@ impl<R: Net + Clock> Connections<R> {
 
     /// Calls one workstation of those that are to be called now.
     fn call_one(&mut self) {
+        if self.listener.is_none() {
+            return;
+        }
         let count = self.lines.len();
         let start = self.next_call.min(count);
         for i in (start..count).chain(0..start) {
             if let Some(line) = self.lines.get_mut(i)
                 && line.is_due(self.own, self.now)
             {
-                let _ = line.call(&self.rt, self.own, self.now, PATIENCE);
+                let keyed = self.key.is_some();
+                let _ = line.call(self.alloc, &self.rt, self.own, keyed, self.now, PATIENCE);
                 self.next_call = i.saturating_add(1);
                 return;
+            }
+        }
+    }
+
+    /// Goes on with all that waits for the other ends.
+    fn keep(&mut self) {
+        for line in self.lines.iter_mut() {
+            if let Some(key) = &self.key {
+                line.look_for_answer(self.alloc, key, self.now);
+            }
+            line.keep(self.now);
+        }
+        for _ in 0..self.leaving.len() {
+            if let Some(mut channel) = self.leaving.pop_front()
+                && channel.flush(self.now).is_ok()
+                && !channel.is_idle()
+            {
+                let _ = self.leaving.push_back(channel);
             }
         }
     }
@@ -175,21 +271,27 @@ impl<R: Net + Clock> Connections<R> {
 
     /// What a caller asks. One that is a workstation gets its line.
     fn hear(&mut self) -> Arrival {
+        let door = Door {
+            alloc: self.alloc,
+            own: self.own,
+            key: self.key,
+            now: self.now,
+        };
         match self
             .callers
-            .hear(self.alloc, self.buffer.as_mut_slice(), self.now)
+            .hear(&self.rt, &door, self.buffer.as_mut_slice())
         {
             Heard::Nothing => Arrival::Nothing,
             Heard::NoMemory => Arrival::NoMemory,
-            Heard::Workstation(ws, stream) => {
+            Heard::Workstation(ws, channel) => {
                 match line_to(&mut self.lines, ws) {
-                    Some(line) => line.join(stream),
-                    None => drop(stream),
+                    Some(line) => line.join(channel),
+                    None => drop(channel),
                 }
                 Arrival::Nothing
             }
-            Heard::Client(stream, bytes) => {
-                self.asking = Some(stream);
+            Heard::Client(channel, bytes) => {
+                self.asking = Some(channel);
                 Arrival::Client(bytes)
             }
         }
@@ -197,13 +299,19 @@ impl<R: Net + Clock> Connections<R> {
 
     /// What has come over the lines. The one behind the last that brought something is looked at first.
     fn arrival(&mut self) -> Arrival {
+        let ends_silent = self.own != CLIENT;
         let count = self.lines.len();
         let start = self.next_line.min(count);
         for i in (start..count).chain(0..start) {
             let Some(line) = self.lines.get_mut(i) else {
                 return Arrival::Nothing;
             };
-            match line.arrival(self.alloc, self.buffer.as_mut_slice()) {
+            match line.arrival(
+                self.alloc,
+                self.buffer.as_mut_slice(),
+                ends_silent,
+                self.now,
+            ) {
                 Arrival::Nothing => {}
                 arrival => {
                     self.next_line = i.saturating_add(1);
@@ -214,20 +322,28 @@ impl<R: Net + Clock> Connections<R> {
         Arrival::Nothing
     }
 
-    /// Sends all these bytes to a workstation, or fails.
+    /// Takes all these bytes to be sent to a workstation, or fails.
     pub fn send(&mut self, to: Ws, bytes: &[u8]) -> io::Result<()> {
         match line_to(&mut self.lines, to) {
-            Some(line) => line.send(bytes),
+            Some(line) => line.send(bytes, self.now),
             None => Err(ErrorKind::NotConnected.into()),
         }
     }
 
-    /// Sends all these bytes to the client that asked last, or fails. The client is then done.
+    /// Takes all these bytes to be sent to the client that asked last, or fails. The client is then done. Where too many are
+    /// there whose replies have not gone, the one that came first has to go.
     pub fn reply(&mut self, bytes: &[u8]) -> io::Result<()> {
-        match self.asking.take() {
-            Some(mut stream) => write_whole(&mut stream, bytes),
-            None => Err(ErrorKind::NotConnected.into()),
+        let Some(mut channel) = self.asking.take() else {
+            return Err(ErrorKind::NotConnected.into());
+        };
+        channel.send(bytes, self.now)?;
+        if !channel.is_idle() {
+            if self.leaving.len() >= MOST_LEAVING {
+                drop(self.leaving.pop_front());
+            }
+            let _ = self.leaving.push_back(channel);
         }
+        Ok(())
     }
 
     /// From now on the workstation is called where there is no connection to it.
@@ -243,6 +359,24 @@ impl<R: Net + Clock> Connections<R> {
             line.close();
         }
     }
+}
+
+/// Waits until the workstation that a client calls has proved that it knows the key.
+fn wait_for_answer<R: Net + Clock>(
+    alloc: Global,
+    rt: &R,
+    key: &NetworkKey,
+    now: Duration,
+    line: &mut Line<R::Stream>,
+) -> io::Result<()> {
+    for _ in 0..CLIENTS_ROUNDS {
+        line.look_for_answer(alloc, key, now);
+        if line.is_joined() {
+            return Ok(());
+        }
+        thread::sleep(rt, Duration::from_millis(ROUND));
+    }
+    Err(ErrorKind::NotConnected.into())
 }
 
 fn copy_of(peer: &Peer) -> io::Result<Peer> {

@@ -59,13 +59,41 @@ impl<R: Files<File = File>> LateFile<R> {
     }
 }
 
+/// How many bytes at the end of the file are written anew when it is opened: those of the longest record, and both gates.
+const RENEWED: u64 = 4_194_310;
+
+/// How many of them are written at a time, and how often.
+const PIECE: usize = 65_536;
+
+const PIECES: u32 = 65;
+
 /// Opens the file for reading and writing. A file that another open holds is refused.
 fn open<R: Files<File = File>>(rt: &R, path: &str) -> io::Result<File> {
     let mut options = OpenOptions::new();
     options.read(true).write(true).create(true);
     let file = options.open(rt, path)?;
     file.try_lock()?;
+    renew(&file)?;
     Ok(file)
+}
+
+/// Writes the last bytes of the file anew, as they are, and syncs it. Where a sync of an earlier run failed, the system may
+/// count as written what never reached the disk, and would leave it out of each later sync.
+fn renew(file: &File) -> io::Result<()> {
+    let len = file.metadata()?.len();
+    let mut at = len.saturating_sub(RENEWED);
+    let mut buffer = [0u8; PIECE];
+    for _ in 0..PIECES {
+        let count = len.saturating_sub(at).min(PIECE as u64) as usize;
+        if count == 0 {
+            break;
+        }
+        let piece = &mut buffer[..count];
+        file.read_exact_at(piece, at)?;
+        file.write_all_at(piece, at)?;
+        at = at.saturating_add(count as u64);
+    }
+    file.sync_all()
 }
 
 /// The message file of a workstation, `NAME.msg` in the current folder.

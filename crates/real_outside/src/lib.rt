@@ -7,13 +7,17 @@
 #![tactic(auto)]
 
 mod callers;
+mod channels;
 mod clocks;
 mod connections;
 mod disks;
 mod faults;
+mod keys;
 mod lines;
 mod links;
 mod probers;
+mod queues;
+mod seals;
 mod spawners;
 mod streams;
 

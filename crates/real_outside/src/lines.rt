@@ -2,13 +2,16 @@
 ghost use Rattle.std.specs.Prelude.{◌≡◌, IfSome, IsNone, is_some, false};
 ghost use Rattle.real_outside.specs.Turns.{InTurn};
 
-use crate::streams::{Come, call, take_some, write_whole};
+use crate::channels::Channel;
+use crate::seals::{ANSWER, HELLO, NONCE, NetworkKey, hello_of};
+use crate::streams::{Come, Piece, connect, greeting, is_waiting, take_piece, write_at_once};
 use base_types::{Peer, Ws};
 use outside::Arrival;
 use std::alloc::Global;
 use std::io;
 use std::io::{ErrorKind, Read, Write};
 use std::net::{Net, OpenStream};
+use std::random::RandomSource;
 use std::time::Duration;
 
 /// How many seconds after a call a workstation with a lower number is called again.
@@ -17,13 +20,25 @@ const SHORT_WAIT: u64 = 2;
 /// How many seconds after a call a workstation with a higher number is called again.
 const LONG_WAIT: u64 = 4;
 
+/// How many seconds the answer to a greeting under a key may take.
+const PATIENCE: u64 = 5;
+
+/// A workstation that was greeted under a key and has not answered.
+#[derive(Drop)]
+struct Greeted<S> {
+    stream: S,
+    hello: [u8; HELLO],
+    since: Duration,
+}
+
 /// The line to another workstation: where it is reached, the connection, and what was told of it.
 ///
 /// Beginnings and ends are told by turns, and bytes between them alone.
 #[derive(Drop)]
 pub struct Line<S> {
     peer: Peer,
-    stream: Option<S>,
+    channel: Option<Channel<S>>,
+    greeted: Option<Greeted<S>>,
     /// Whether the connection was not told yet.
     fresh: bool,
     /// Whether a beginning was told last, and not an end.
@@ -41,7 +56,8 @@ impl<S: Read + Write + OpenStream + Drop> Line<S> {
     {
         Line {
             peer,
-            stream: None,
+            channel: None,
+            greeted: None,
             fresh: false,
             up: false,
             wanted: false,
@@ -64,10 +80,10 @@ impl<S: Read + Write + OpenStream + Drop> Line<S> {
     }
 
     /// Takes a new connection, in place of the old one.
-    pub fn join(&mut self, stream: S)
+    pub fn join(&mut self, channel: Channel<S>)
         ensures { self.new.up ≡ self.old.up }
     {
-        self.stream = Some(stream);
+        self.channel = Some(channel);
         self.fresh = true;
     }
 
@@ -75,12 +91,18 @@ impl<S: Read + Write + OpenStream + Drop> Line<S> {
     pub fn close(&mut self)
         ensures { self.new.up ≡ self.old.up }
     {
-        self.stream = None;
+        self.channel = None;
+        self.greeted = None;
+    }
+
+    /// Whether there is a connection.
+    pub fn is_joined(&self) -> bool {
+        self.channel.is_some()
     }
 
     /// Whether the workstation is to be called now, by one with this number.
     pub fn is_due(&self, caller: u16, now: Duration) -> bool {
-        if !self.wanted || self.stream.is_some() {
+        if !self.wanted || self.channel.is_some() || self.greeted.is_some() {
             return false;
         }
         let wait = if self.peer.ws.0 < caller {
@@ -94,40 +116,107 @@ impl<S: Read + Write + OpenStream + Drop> Line<S> {
         }
     }
 
-    /// Calls the workstation. It fails where none of its addresses answers within so many milliseconds.
-    pub fn call<R: Net<Stream = S>>(
+    /// Calls the workstation. It fails where none of its addresses answers within so many milliseconds. Under a key there is
+    /// a connection once the answer to the greeting has come.
+    pub fn call<R: Net<Stream = S> + RandomSource>(
         &mut self,
+        alloc: Global,
         rt: &R,
         caller: u16,
+        keyed: bool,
         now: Duration,
         patience: u64,
     ) -> io::Result<()>
         ensures { self.new.up ≡ self.old.up }
     {
         self.called = Some(now);
-        let stream = call(rt, &self.peer, caller, patience)?;
-        self.join(stream);
+        let mut stream = connect(rt, &self.peer, patience)?;
+        if keyed {
+            let mut nonce = [0u8; NONCE];
+            rt.fill_bytes(&mut nonce)?;
+            let hello = hello_of(caller, self.peer.ws.0, &nonce);
+            write_at_once(&mut stream, &hello)?;
+            self.greeted = Some(Greeted {
+                stream,
+                hello,
+                since: now,
+            });
+        } else {
+            write_at_once(&mut stream, &greeting(caller))?;
+            self.join(Channel::new(alloc, stream, None, now));
+        }
         Ok(())
     }
 
-    /// What comes next over the line.
-    pub fn arrival(&mut self, alloc: Global, buffer: &mut [u8]) -> Arrival
+    /// Looks for the answer to a greeting under this key. One that does not prove that the other end knows the key ends the
+    /// call.
+    pub fn look_for_answer(&mut self, alloc: Global, key: &NetworkKey, now: Duration)
+        ensures { self.new.up ≡ self.old.up }
+    {
+        let Some(mut greeted) = self.greeted.take() else {
+            return;
+        };
+        let answer: [u8; ANSWER] = match take_piece(&mut greeted.stream) {
+            Piece::Whole(answer) => answer,
+            Piece::Waits => {
+                if now.saturating_sub(greeted.since) < Duration::from_secs(PATIENCE) {
+                    self.greeted = Some(greeted);
+                }
+                return;
+            }
+            Piece::Wrong => return,
+        };
+        let Some(talk) = key.answered(&greeted.hello, &answer) else {
+            return;
+        };
+        let mut stream = greeted.stream;
+        if write_at_once(&mut stream, &talk.proof()).is_ok() {
+            self.join(Channel::new(alloc, stream, Some(talk.callers()), now));
+        }
+    }
+
+    /// What comes next over the line. Where it is to be, a connection under a key over which nothing came for twenty seconds
+    /// counts as ended.
+    pub fn arrival(
+        &mut self,
+        alloc: Global,
+        buffer: &mut [u8],
+        ends_silent: bool,
+        now: Duration,
+    ) -> Arrival
         ensures { InTurn self.old.peer.ws self.old.up result self.new.up }
     {
         if let Some(news) = self.news() {
             return news;
         }
-        let Some(stream) = &mut self.stream else {
+        let Some(channel) = &mut self.channel else {
             return Arrival::Nothing;
         };
-        match take_some(alloc, stream, buffer) {
-            Come::Nothing => Arrival::Nothing,
+        match channel.take(alloc, buffer, now) {
+            Come::Nothing => {
+                if !ends_silent || !channel.is_silent(now) {
+                    return Arrival::Nothing;
+                }
+                self.channel = None;
+                self.news().unwrap_or(Arrival::Nothing)
+            }
             Come::NoMemory => Arrival::NoMemory,
             Come::Bytes(bytes) => Arrival::Bytes(self.peer.ws, bytes),
             Come::End => {
-                self.stream = None;
+                self.channel = None;
                 self.news().unwrap_or(Arrival::Nothing)
             }
+        }
+    }
+
+    /// Sends what waits. Where the other end is found gone the connection is closed.
+    pub fn keep(&mut self, now: Duration)
+        ensures { self.new.up ≡ self.old.up }
+    {
+        if let Some(channel) = &mut self.channel
+            && channel.keep(now).is_err()
+        {
+            self.channel = None;
         }
     }
 
@@ -136,10 +225,10 @@ impl<S: Read + Write + OpenStream + Drop> Line<S> {
     fn news(&mut self) -> Option<Arrival>
         ensures told { IfSome result (λ told. InTurn self.old.peer.ws self.old.up told self.new.up) }
         ensures quiet { IsNone result → self.new.up ≡ self.old.up }
-        ensures settled { IsNone result → self.new.up ≡ is_some self.new.stream }
+        ensures settled { IsNone result → self.new.up ≡ is_some self.new.channel }
         ensures same { self.new.peer.ws ≡ self.old.peer.ws }
     {
-        let joined = self.stream.is_some();
+        let joined = self.channel.is_some();
         if self.up && (self.fresh || !joined) {
             self.up = false;
             return Some(Arrival::Down(self.peer.ws));
@@ -152,17 +241,21 @@ impl<S: Read + Write + OpenStream + Drop> Line<S> {
         None
     }
 
-    /// Sends all these bytes, or fails. Where it fails the connection is closed.
-    pub fn send(&mut self, bytes: &[u8]) -> io::Result<()>
+    /// Takes all these bytes to be sent, or fails. Where the connection is found gone it is closed; where too much waits it
+    /// stays.
+    pub fn send(&mut self, bytes: &[u8], now: Duration) -> io::Result<()>
         ensures { self.new.up ≡ self.old.up }
     {
-        let Some(stream) = &mut self.stream else {
+        let Some(channel) = &mut self.channel else {
             return Err(ErrorKind::NotConnected.into());
         };
-        let sent = write_whole(stream, bytes);
-        if sent.is_err() {
-            self.stream = None;
+        match channel.send(bytes, now) {
+            Ok(()) => Ok(()),
+            Err(error) if is_waiting(&error) => Err(error),
+            Err(error) => {
+                self.channel = None;
+                Err(error)
+            }
         }
-        sent
     }
 }

@@ -43,7 +43,7 @@ fn run(rt: HostRuntime, words: &[Text]) -> Result<u8, NoMemory> {
     let mut out = StdSink::new(io::writer(&rt));
     let disk = FileDisk::new(alloc, rt, name(words))?;
     let mut link = TcpLink::new(alloc, rt);
-    let mut jobs = ChildSpawner::new(alloc, rt);
+    let mut jobs = ChildSpawner::new(alloc, rt, name(words))?;
     let mut clock = SystemClock::new(rt);
     let mut files = FileProber::new(rt);
     let done = tws(

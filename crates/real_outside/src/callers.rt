@@ -1,6 +1,8 @@
 //! Those who called and have not said yet who they are, or what they ask.
 
 use crate::channels::Channel;
+use crate::commons::Commons;
+use crate::logs::{Topic, Value};
 use crate::queues::Queue;
 use crate::seals::{CODE, HELLO, NONCE, NetworkKey, Talk, numbers_of};
 use crate::streams::{CLIENT, Come, GREETING, Piece, caller_of, take_piece, write_at_once};
@@ -8,10 +10,11 @@ use base_types::{Bytes, Items, Ws};
 use mail_frames::{LENGTH, LONGEST_COMMAND};
 use std::alloc::{AllocError, Global};
 use std::collections::VecDeque;
+use std::fs::{File, Files};
 use std::io::{Read, Write};
-use std::net::OpenStream;
+use std::net::{OpenStream, SocketAddr};
 use std::random::RandomSource;
-use std::time::Duration;
+use std::time::{Clock, Duration};
 
 /// How many may be there at a time.
 const MOST: usize = 64;
@@ -34,6 +37,7 @@ enum Stage<S> {
 #[derive(Drop)]
 struct Caller<S> {
     stage: Stage<S>,
+    address: SocketAddr,
     since: Duration,
 }
 
@@ -43,8 +47,8 @@ enum Next<S> {
     Stays(Stage<S>),
     Workstation(Ws, Channel<S>),
     Client(Channel<S>, Bytes),
-    /// It is gone, or says what is not understood.
-    Wrong,
+    /// It is not let in, for this reason: it is gone, or says what is not understood.
+    Wrong(&'static str),
     NoMemory,
 }
 
@@ -52,8 +56,8 @@ enum Next<S> {
 #[derive(Drop)]
 pub enum Heard<S> {
     Nothing,
-    /// This one is a workstation.
-    Workstation(Ws, Channel<S>),
+    /// This one, from this address, is a workstation.
+    Workstation(Ws, Channel<S>, SocketAddr),
     /// This one is a client, which asks by the bytes of a frame.
     Client(Channel<S>, Bytes),
     NoMemory,
@@ -86,14 +90,14 @@ fn greet<S: Read + Write + OpenStream + Drop>(door: &Door, mut stream: S) -> Nex
     let greeting: [u8; GREETING] = match take_piece(&mut stream) {
         Piece::Whole(bytes) => bytes,
         Piece::Waits => return Next::Stays(Stage::New(stream)),
-        Piece::Wrong => return Next::Wrong,
+        Piece::Wrong => return Next::Wrong("gone"),
     };
     match caller_of(&greeting) {
         Some(number) => {
             let channel = Channel::new(door.alloc, stream, None, door.now);
             known(door, number, channel)
         }
-        None => Next::Wrong,
+        None => Next::Wrong("greeting"),
     }
 }
 
@@ -107,22 +111,22 @@ fn answer<R: RandomSource, S: Read + Write + OpenStream + Drop>(
     let hello: [u8; HELLO] = match take_piece(&mut stream) {
         Piece::Whole(bytes) => bytes,
         Piece::Waits => return Next::Stays(Stage::New(stream)),
-        Piece::Wrong => return Next::Wrong,
+        Piece::Wrong => return Next::Wrong("gone"),
     };
     let Some((caller, called)) = numbers_of(&hello) else {
-        return Next::Wrong;
+        return Next::Wrong("greeting");
     };
     if called != door.own || caller == door.own {
-        return Next::Wrong;
+        return Next::Wrong("number");
     }
     let mut nonce = [0u8; NONCE];
     if rt.fill_bytes(&mut nonce).is_err() {
-        return Next::Wrong;
+        return Next::Wrong("random");
     }
     let talk = key.talk(&hello, &nonce);
     match write_at_once(&mut stream, &talk.answer(&nonce)) {
         Ok(()) => Next::Stays(Stage::Answered(stream, talk, caller)),
-        Err(_) => Next::Wrong,
+        Err(_) => Next::Wrong("gone"),
     }
 }
 
@@ -136,10 +140,10 @@ fn prove<S: Read + Write + OpenStream + Drop>(
     let proof: [u8; CODE] = match take_piece(&mut stream) {
         Piece::Whole(bytes) => bytes,
         Piece::Waits => return Next::Stays(Stage::Answered(stream, talk, number)),
-        Piece::Wrong => return Next::Wrong,
+        Piece::Wrong => return Next::Wrong("gone"),
     };
     if !talk.is_proved(&proof) {
-        return Next::Wrong;
+        return Next::Wrong("proof");
     }
     let channel = Channel::new(door.alloc, stream, Some(talk.calleds()), door.now);
     known(door, number, channel)
@@ -172,13 +176,14 @@ fn question<S: Read + Write + OpenStream + Drop>(
                 return Next::NoMemory;
             }
         }
-        Come::End => return Next::Wrong,
+        Come::End => return Next::Wrong("gone"),
+        Come::Wrong => return Next::Wrong("record"),
         Come::NoMemory => return Next::NoMemory,
     }
     let whole = match frame_length(asked.rest()) {
         Some(Some(whole)) => whole,
         Some(None) => return Next::Stays(Stage::Asks(channel, asked)),
-        None => return Next::Wrong,
+        None => return Next::Wrong("length"),
     };
     let Some(frame) = asked.rest().get(..whole) else {
         return Next::Stays(Stage::Asks(channel, asked));
@@ -228,13 +233,22 @@ impl<S: Read + Write + OpenStream + Drop> Callers<S> {
         })
     }
 
-    /// Adds one who called. Where too many are there, the one that came first has to go.
-    pub fn add(&mut self, stream: S, now: Duration) {
-        if self.waiting.len() >= MOST {
-            drop(self.waiting.pop_front());
+    /// Adds one who called from this address. Where too many are there, the one that came first has to go.
+    pub fn add<R: Files<File = File> + Clock + Drop>(
+        &mut self,
+        commons: &Commons<R>,
+        stream: S,
+        address: SocketAddr,
+        now: Duration,
+    ) {
+        if self.waiting.len() >= MOST
+            && let Some(first) = self.waiting.pop_front()
+        {
+            refuse(commons, &first.address, "crowd");
         }
         self.keep(Caller {
             stage: Stage::New(stream),
+            address,
             since: now,
         });
     }
@@ -245,24 +259,55 @@ impl<S: Read + Write + OpenStream + Drop> Callers<S> {
     }
 
     /// Listens to each of them once, until one is understood.
-    pub fn hear<R: RandomSource>(&mut self, rt: &R, door: &Door, buffer: &mut [u8]) -> Heard<S> {
+    pub fn hear<R: RandomSource + Files<File = File> + Clock + Drop>(
+        &mut self,
+        rt: &R,
+        commons: &Commons<R>,
+        door: &Door,
+        buffer: &mut [u8],
+    ) -> Heard<S> {
         for _ in 0..self.waiting.len() {
             let Some(caller) = self.waiting.pop_front() else {
                 return Heard::Nothing;
             };
+            let address = caller.address;
             let since = caller.since;
             match heard_from(rt, door, caller.stage, buffer) {
                 Next::Stays(stage) => {
                     if door.now.saturating_sub(since) < Duration::from_secs(PATIENCE) {
-                        self.keep(Caller { stage, since });
+                        self.keep(Caller {
+                            stage,
+                            address,
+                            since,
+                        });
+                    } else {
+                        refuse(commons, &address, "patience");
                     }
                 }
-                Next::Workstation(ws, channel) => return Heard::Workstation(ws, channel),
+                Next::Workstation(ws, channel) => {
+                    return Heard::Workstation(ws, channel, address);
+                }
                 Next::Client(channel, bytes) => return Heard::Client(channel, bytes),
-                Next::Wrong => {}
+                Next::Wrong(why) => refuse(commons, &address, why),
                 Next::NoMemory => return Heard::NoMemory,
             }
         }
         Heard::Nothing
     }
+}
+
+/// Tells the log of a caller who was not let in.
+pub fn refuse<R: Files<File = File> + Clock + Drop>(
+    commons: &Commons<R>,
+    address: &SocketAddr,
+    why: &str,
+) {
+    commons.tell_rarely(
+        Topic::Refused,
+        "refused",
+        &[
+            ("from", Value::Address(*address)),
+            ("why", Value::Text(why)),
+        ],
+    );
 }

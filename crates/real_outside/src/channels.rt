@@ -190,7 +190,7 @@ impl<S: Read + Write + OpenStream + Drop> Channel<S> {
         for _ in 0..MOST_AT_ONCE {
             match self.open_record(&mut taken, now) {
                 Opened::Record if taken.len() < ENOUGH => {}
-                Opened::Wrong if taken.is_empty() => return Come::End,
+                Opened::Wrong if taken.is_empty() => return Come::Wrong,
                 Opened::NoMemory if taken.is_empty() => return Come::NoMemory,
                 _ => break,
             }

@@ -1,10 +1,10 @@
 //! The key of the network, where a file holds it.
-ghost use Rattle.std.specs.Prelude.{◌≤◌, length, IfOk};
 
+use crate::fronts::fill;
 use crate::seals::NetworkKey;
 use std::fs::{Files, OpenFile, OpenOptions};
 use std::io;
-use std::io::{ErrorKind, Read};
+use std::io::ErrorKind;
 use std::os::unix::fs::PermissionsExt;
 
 /// The file in the current folder that holds the secret text.
@@ -17,9 +17,6 @@ const MOST: usize = 1_024;
 
 /// What the owner's group and all others may do with a file.
 const OTHERS: u32 = 0o077;
-
-/// How many reads are made.
-const MOST_READS: u32 = 64;
 
 /// The key of the network, or none where there is no such file. It fails where the file cannot be read, where others than
 /// its owner may, and where its text is too short or too long. A line feed at the end does not count.
@@ -43,18 +40,4 @@ pub fn read_key<R: Files>(rt: &R) -> io::Result<Option<NetworkKey>> {
         return Err(ErrorKind::InvalidData.into());
     }
     Ok(Some(NetworkKey::of(text)))
-}
-
-/// Reads until the buffer is full or nothing is left, and tells how many bytes came.
-fn fill<F: Read>(file: &mut F, buffer: &mut [u8]) -> io::Result<usize>
-    ensures { IfOk result (λ n. n ≤ length buffer.new) }
-{
-    let mut count = 0;
-    for _ in 0..MOST_READS {
-        match file.read(&mut buffer[count..])? {
-            0 => return Ok(count),
-            more => count += more,
-        }
-    }
-    Err(ErrorKind::TimedOut.into())
 }

@@ -2,9 +2,10 @@
 ghost use Rattle.std.specs.Prelude.{◌≡◌, IfSome, IsNone, is_some, false};
 ghost use Rattle.real_outside.specs.Turns.{InTurn};
 
+use crate::addresses::Addresses;
 use crate::channels::Channel;
 use crate::seals::{ANSWER, HELLO, NONCE, NetworkKey, hello_of};
-use crate::streams::{Come, Piece, connect, greeting, is_waiting, take_piece, write_at_once};
+use crate::streams::{Come, Piece, greeting, is_waiting, take_piece, write_at_once};
 use base_types::{Peer, Ws};
 use outside::Arrival;
 use std::alloc::Global;
@@ -37,6 +38,7 @@ struct Greeted<S> {
 #[derive(Drop)]
 pub struct Line<S> {
     peer: Peer,
+    addresses: Addresses,
     channel: Option<Channel<S>>,
     greeted: Option<Greeted<S>>,
     /// Whether the connection was not told yet.
@@ -47,21 +49,28 @@ pub struct Line<S> {
     wanted: bool,
     /// When it was called last.
     called: Option<Duration>,
+    /// Why the last connection ended, or who made the one that is there.
+    why: &'static str,
+    /// How the last call failed, where no connection came since.
+    failed: Option<ErrorKind>,
 }
 
 impl<S: Read + Write + OpenStream + Drop> Line<S> {
     /// A line without a connection.
-    pub fn new(peer: Peer) -> Self
+    pub fn new(alloc: Global, peer: Peer) -> Self
         ensures { result.up ≡ false }
     {
         Line {
             peer,
+            addresses: Addresses::none(alloc),
             channel: None,
             greeted: None,
             fresh: false,
             up: false,
             wanted: false,
             called: None,
+            why: "",
+            failed: None,
         }
     }
 
@@ -79,20 +88,57 @@ impl<S: Read + Write + OpenStream + Drop> Line<S> {
         self.wanted = true;
     }
 
-    /// Takes a new connection, in place of the old one.
-    pub fn join(&mut self, channel: Channel<S>)
+    /// Takes a new connection, in place of the old one: one that was called or that called.
+    pub fn join(&mut self, channel: Channel<S>, by: &'static str)
         ensures { self.new.up ≡ self.old.up }
     {
         self.channel = Some(channel);
         self.fresh = true;
+        self.why = by;
+        self.failed = None;
+    }
+
+    /// Lets the connection go, for this reason.
+    fn end(&mut self, why: &'static str)
+        ensures up { self.new.up ≡ self.old.up }
+        ensures peer { self.new.peer.ws ≡ self.old.peer.ws }
+        ensures gone { self.new.channel ≡ None }
+    {
+        self.channel = None;
+        self.why = why;
     }
 
     /// Closes the connection.
     pub fn close(&mut self)
         ensures { self.new.up ≡ self.old.up }
     {
-        self.channel = None;
+        self.end("closed");
         self.greeted = None;
+    }
+
+    /// Who the workstation is, and where it is reached.
+    pub fn peer(&self) -> &Peer {
+        &self.peer
+    }
+
+    /// Why the last connection ended, or who made the one that is there.
+    pub fn why(&self) -> &'static str {
+        self.why
+    }
+
+    /// Whether the name of its host has to be looked up before it is called.
+    pub fn needs_look_up(&self) -> bool {
+        self.addresses.need_look_up(&self.peer)
+    }
+
+    /// Whether a call failed in another way than the one before it.
+    pub fn is_new_failure(&mut self, error: &io::Error) -> bool
+        ensures { self.new.up ≡ self.old.up }
+    {
+        let kind = Some(error.kind());
+        let is_new = self.failed != kind;
+        self.failed = kind;
+        is_new
     }
 
     /// Whether there is a connection.
@@ -116,6 +162,19 @@ impl<S: Read + Write + OpenStream + Drop> Line<S> {
         }
     }
 
+    /// Takes down where the workstation is reached, where that is not known. Tells whether a name was looked up.
+    pub fn look_up<R: Net<Stream = S>>(&mut self, rt: &R, now: Duration) -> io::Result<bool>
+        ensures { self.new.up ≡ self.old.up }
+    {
+        if !self.addresses.are_none() {
+            return Ok(false);
+        }
+        self.called = Some(now);
+        let is_name = self.addresses.need_look_up(&self.peer);
+        self.addresses.find(rt, &self.peer)?;
+        Ok(is_name)
+    }
+
     /// Calls the workstation. It fails where none of its addresses answers within so many milliseconds. Under a key there is
     /// a connection once the answer to the greeting has come.
     pub fn call<R: Net<Stream = S> + RandomSource>(
@@ -130,7 +189,7 @@ impl<S: Read + Write + OpenStream + Drop> Line<S> {
         ensures { self.new.up ≡ self.old.up }
     {
         self.called = Some(now);
-        let mut stream = connect(rt, &self.peer, patience)?;
+        let mut stream = self.addresses.connect(rt, patience)?;
         if keyed {
             let mut nonce = [0u8; NONCE];
             rt.fill_bytes(&mut nonce)?;
@@ -143,7 +202,7 @@ impl<S: Read + Write + OpenStream + Drop> Line<S> {
             });
         } else {
             write_at_once(&mut stream, &greeting(caller))?;
-            self.join(Channel::new(alloc, stream, None, now));
+            self.join(Channel::new(alloc, stream, None, now), "called");
         }
         Ok(())
     }
@@ -171,7 +230,8 @@ impl<S: Read + Write + OpenStream + Drop> Line<S> {
         };
         let mut stream = greeted.stream;
         if write_at_once(&mut stream, &talk.proof()).is_ok() {
-            self.join(Channel::new(alloc, stream, Some(talk.callers()), now));
+            let channel = Channel::new(alloc, stream, Some(talk.callers()), now);
+            self.join(channel, "called");
         }
     }
 
@@ -197,13 +257,17 @@ impl<S: Read + Write + OpenStream + Drop> Line<S> {
                 if !ends_silent || !channel.is_silent(now) {
                     return Arrival::Nothing;
                 }
-                self.channel = None;
+                self.end("silent");
                 self.news().unwrap_or(Arrival::Nothing)
             }
             Come::NoMemory => Arrival::NoMemory,
             Come::Bytes(bytes) => Arrival::Bytes(self.peer.ws, bytes),
             Come::End => {
-                self.channel = None;
+                self.end("ended");
+                self.news().unwrap_or(Arrival::Nothing)
+            }
+            Come::Wrong => {
+                self.end("record");
                 self.news().unwrap_or(Arrival::Nothing)
             }
         }
@@ -213,10 +277,11 @@ impl<S: Read + Write + OpenStream + Drop> Line<S> {
     pub fn keep(&mut self, now: Duration)
         ensures { self.new.up ≡ self.old.up }
     {
-        if let Some(channel) = &mut self.channel
-            && channel.keep(now).is_err()
-        {
-            self.channel = None;
+        let Some(channel) = &mut self.channel else {
+            return;
+        };
+        if let Err(error) = channel.keep(now) {
+            self.end(why_lost(&error));
         }
     }
 
@@ -253,9 +318,18 @@ impl<S: Read + Write + OpenStream + Drop> Line<S> {
             Ok(()) => Ok(()),
             Err(error) if is_waiting(&error) => Err(error),
             Err(error) => {
-                self.channel = None;
+                self.end(why_lost(&error));
                 Err(error)
             }
         }
+    }
+}
+
+/// Why a connection is lost over which nothing can be sent.
+fn why_lost(error: &io::Error) -> &'static str {
+    match error.kind() {
+        ErrorKind::TimedOut => "stalled",
+        ErrorKind::OutOfMemory => "memory",
+        _ => "lost",
     }
 }

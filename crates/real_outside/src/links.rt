@@ -1,12 +1,13 @@
 //! The links of a node over TCP.
 ghost use Rattle.std.specs.Prelude.{None};
 
+use crate::commons::Commons;
 use crate::connections::Connections;
-use crate::faults::counted;
+use crate::faults::{counted, counted_alone};
 use base_types::{Peers, Ws};
 use outside::{Arrival, Failed, Link};
 use std::alloc::Global;
-use std::fs::Files;
+use std::fs::{File, Files};
 use std::net::Net;
 use std::random::RandomSource;
 use std::time::Clock;
@@ -48,29 +49,29 @@ pub struct TcpLink<R: Net> {
     faults: u64,
 }
 
-impl<R: Net + Clock + Files + RandomSource> TcpLink<R> {
+impl<R: Net + Clock + Files<File = File> + RandomSource + Drop> TcpLink<R> {
     /// Links that have not begun. They take no memory yet, and their polls bring nothing.
-    pub fn new(alloc: Global, rt: R) -> Self {
+    pub fn new(alloc: Global, rt: R, commons: Commons<R>) -> Self {
         TcpLink {
-            connections: Connections::new(alloc, rt),
+            connections: Connections::new(alloc, rt, commons),
             faults: 0,
         }
     }
 }
 
-impl<R: Net + Clock + Files + RandomSource> Link for TcpLink<R> {
+impl<R: Net + Clock + Files<File = File> + RandomSource + Drop> Link for TcpLink<R> {
     ghost calls = { λ _. record { begun = None; arrived = None; sent = None; replied = None; asked = None } };
 
     ghost faults = { λ l. l.faults };
 
-    /// It fails where the file of the key is there and is no good. A node fails where it cannot listen on its own address, where it or its hop has no address among these, and for
-    /// want of memory; a client where the workstation does not answer. What was begun before then stays.
+    /// It fails where the file of the key is there and is no good. A node fails where it or its hop has no address among
+    /// these, and for want of memory; a client where the workstation does not answer. What was begun before then stays.
     fn begin(&mut self, me: Option<Ws>, hop: Option<Ws>, peers: &Peers) -> Result<(), Failed> {
         let begun = match me {
             Some(me) => self.connections.begin_node(me, hop, peers),
             None => self.connections.begin_client(peers),
         };
-        counted(&mut self.faults, begun)
+        counted(&mut self.faults, self.connections.commons(), "begin", begun)
     }
 
     fn poll(&mut self) -> Arrival {
@@ -80,13 +81,18 @@ impl<R: Net + Clock + Files + RandomSource> Link for TcpLink<R> {
     /// It fails where there is no connection, where that is found gone, and where too much waits already.
     fn send(&mut self, to: Ws, bytes: &[u8]) -> Result<(), Failed> {
         let sent = self.connections.send(to, bytes);
-        counted(&mut self.faults, sent)
+        counted_alone(&mut self.faults, sent)
     }
 
     /// It fails where no client waits, and where it is found gone.
     fn reply(&mut self, bytes: &[u8]) -> Result<(), Failed> {
         let replied = self.connections.reply(bytes);
-        counted(&mut self.faults, replied)
+        counted(
+            &mut self.faults,
+            self.connections.commons(),
+            "reply",
+            replied,
+        )
     }
 
     fn raise(&mut self, to: Ws) {

@@ -5,6 +5,8 @@ use std::alloc::{AllocError, Global};
 use std::marker::Model;
 
 /// Bytes that wait: those that were put first go first. Contracts see those that are there.
+///
+/// Where more of them have gone than are there, a further piece takes their room, so it holds at most twice what waits.
 #[derive(Drop)]
 pub struct Queue {
     bytes: Vec<u8>,
@@ -45,6 +47,9 @@ impl Queue {
         ensures put { OnOk result (self.new ≡ self.old ++ piece.now) }
         ensures same { OnErr result (self.new ≡ self.old) }
     {
+        if self.gone > self.bytes.len() - self.gone {
+            self.settle();
+        }
         self.bytes.extend_from_slice(piece)
     }
 

@@ -1,6 +1,6 @@
 //! One connection: how it begins, and how bytes go over it.
 
-use base_types::{Bytes, Items, Peer};
+use base_types::{Bytes, Items};
 use byteorder::{BigEndian, ByteOrder};
 use libc::net::{
     IPPROTO_TCP, SO_KEEPALIVE, SOL_SOCKET, TCP_KEEPCNT, TCP_KEEPIDLE, TCP_KEEPINTVL,
@@ -9,9 +9,8 @@ use libc::net::{
 use std::alloc::Global;
 use std::io;
 use std::io::{ErrorKind, Read, Write};
-use std::net::{Net, OpenStream, SocketAddr, TcpStream, ToSocketAddrs};
+use std::net::OpenStream;
 use std::os::fd::AsRawFd;
-use std::time::Duration;
 
 /// The number by which a client calls itself.
 pub const CLIENT: u16 = 65_535;
@@ -21,9 +20,6 @@ pub const GREETING: usize = 6;
 
 /// The first bytes of each connection.
 const MARK: &[u8] = b"TWS1";
-
-/// How many addresses of one host are tried.
-const MOST_ADDRESSES: usize = 4;
 
 /// After how many seconds without a word the system asks whether the other end is there, how many seconds apart, and how
 /// often.
@@ -43,25 +39,10 @@ pub enum Come {
     Bytes(Bytes),
     /// The connection ended.
     End,
+    /// A record came that is not under the key of the connection.
+    Wrong,
     /// There was no memory for what came; it is still to come.
     NoMemory,
-}
-
-/// Connects to a peer. Each address of its host has so many milliseconds to answer.
-pub fn connect<R: Net>(rt: &R, peer: &Peer, patience: u64) -> io::Result<R::Stream> {
-    let addresses = (peer.host.as_str(), peer.port).to_socket_addrs(rt)?;
-    for address in addresses.take(MOST_ADDRESSES) {
-        if let Ok(stream) = connect_to(rt, &address, patience) {
-            return Ok(stream);
-        }
-    }
-    Err(ErrorKind::NotConnected.into())
-}
-
-fn connect_to<R: Net>(rt: &R, address: &SocketAddr, patience: u64) -> io::Result<R::Stream> {
-    let stream = TcpStream::connect_timeout(rt, address, Duration::from_millis(patience))?;
-    set_up(&stream)?;
-    Ok(stream)
 }
 
 /// Sets a new connection up: no call of it waits, small pieces go out at once, and the system looks whether the other

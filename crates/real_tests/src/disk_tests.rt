@@ -1,12 +1,13 @@
 //! The disk of a node.
 use outside::{Disk, Failed};
-use real_outside::FileDisk;
+use real_outside::{Commons, FileDisk};
 use std::fs;
 use std::fs::{File, Files};
 use std::test::Fail;
+use std::time::Clock;
 
 /// Writes `TWSMmore`, then `AB` at its third byte, reads what stands there, and cuts two bytes off.
-fn is_used<R: Files<File = File>>(disk: &mut FileDisk<R>) -> bool {
+fn is_used<R: Files<File = File> + Clock + Drop>(disk: &mut FileDisk<R>) -> bool {
     let mut buf = [0u8; 4];
     disk.len() == Ok(0)
         && disk.write_at(0, b"TWSM").is_ok()
@@ -24,8 +25,8 @@ fn is_used<R: Files<File = File>>(disk: &mut FileDisk<R>) -> bool {
 fn a_disk_is_a_file_of_its_own(rt: HostRuntime) -> Result<(), Fail> {
     let alloc = rt.alloc();
     let _ = fs::remove_file(&rt, "OFDISK.msg");
-    let mut disk = FileDisk::new(alloc, rt, "OFDISK")?;
-    let mut second = FileDisk::new(alloc, rt, "OFDISK")?;
+    let mut disk = FileDisk::new(alloc, rt, "OFDISK", Commons::new(alloc, rt, "OFDISK")?)?;
+    let mut second = FileDisk::new(alloc, rt, "OFDISK", Commons::new(alloc, rt, "OFDISK")?)?;
     let absent = !fs::exists(&rt, "OFDISK.msg").unwrap_or(true);
 
     // Nobody else gets the file as long as the disk is there.
@@ -41,7 +42,13 @@ fn a_disk_is_a_file_of_its_own(rt: HostRuntime) -> Result<(), Fail> {
 
 #[test]
 fn a_disk_without_its_folder_fails(rt: HostRuntime) -> Result<(), Fail> {
-    let mut disk = FileDisk::new(rt.alloc(), rt, "no/folder")?;
+    let alloc = rt.alloc();
+    let mut disk = FileDisk::new(
+        alloc,
+        rt,
+        "no/folder",
+        Commons::new(alloc, rt, "no/folder")?,
+    )?;
     assert!(rt; disk.sync().is_err());
     Ok(())
 }

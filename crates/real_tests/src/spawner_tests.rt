@@ -1,7 +1,7 @@
 //! The processes of jobs.
 use base_types::{JobNo, NoMemory, Text, Work};
 use outside::Spawner;
-use real_outside::ChildSpawner;
+use real_outside::{ChildSpawner, Commons};
 use std::alloc::Global;
 use std::fs::{File, Files};
 use std::process::Processes;
@@ -18,7 +18,7 @@ const COMMANDS: [(&str, i32); 4] = [
 ];
 
 /// The return code of the launch, which is to end within ten seconds and before the others.
-fn code_of<R: Processes + Clock + Files<File = File> + Drop>(
+fn code_of<R: Processes + Clock + Files<File = File> + AllocGlobal + Clone + Drop>(
     rt: &R,
     jobs: &mut ChildSpawner<R>,
     job: u32,
@@ -35,7 +35,7 @@ fn code_of<R: Processes + Clock + Files<File = File> + Drop>(
 }
 
 /// Starts the work as the launch of this number, and waits for its return code.
-fn run<R: Processes + Clock + Files<File = File> + Drop>(
+fn run<R: Processes + Clock + Files<File = File> + AllocGlobal + Clone + Drop>(
     rt: &R,
     jobs: &mut ChildSpawner<R>,
     number: u32,
@@ -48,7 +48,7 @@ fn run<R: Processes + Clock + Files<File = File> + Drop>(
 }
 
 /// How many of the commands end as they should, up to the first that does not.
-fn ended_well<R: Processes + Clock + Files<File = File> + Drop>(
+fn ended_well<R: Processes + Clock + Files<File = File> + AllocGlobal + Clone + Drop>(
     rt: &R,
     alloc: Global,
     jobs: &mut ChildSpawner<R>,
@@ -67,7 +67,7 @@ fn the_shell_does_the_work(rt: HostRuntime) -> Result<(), Fail> {
     let alloc = rt.alloc();
     fs::write(&rt, "job.sh", "exit 200\n")?;
     let script = Work::Script(Text::of(alloc, "job.sh")?);
-    let mut jobs = ChildSpawner::new(alloc, rt, "OFJOBS")?;
+    let mut jobs = ChildSpawner::new(alloc, rt, "OFJOBS", Commons::new(alloc, rt, "OFJOBS")?)?;
     assert_eq!(rt; ended_well(&rt, alloc, &mut jobs)?, 4);
     assert!(rt; run(&rt, &mut jobs, 1, &script) == Some(200) && jobs.poll() == Ok(None));
     fs::remove_file(&rt, "job.sh")?;
@@ -75,7 +75,7 @@ fn the_shell_does_the_work(rt: HostRuntime) -> Result<(), Fail> {
 }
 
 /// Whether both launches start, and the first is killed and the second ends well.
-fn goes_on<R: Processes + Clock + Files<File = File> + Drop>(
+fn goes_on<R: Processes + Clock + Files<File = File> + AllocGlobal + Clone + Drop>(
     rt: &R,
     jobs: &mut ChildSpawner<R>,
     long: &Work,
@@ -93,7 +93,7 @@ fn one_is_killed_and_the_other_goes_on(rt: HostRuntime) -> Result<(), Fail> {
     let alloc = rt.alloc();
     let long = Work::Command(Text::of(alloc, "exec sleep 60")?);
     let short = Work::Command(Text::of(alloc, "sleep 0.5")?);
-    let mut jobs = ChildSpawner::new(alloc, rt, "OFJOBS")?;
+    let mut jobs = ChildSpawner::new(alloc, rt, "OFJOBS", Commons::new(alloc, rt, "OFJOBS")?)?;
     assert!(rt; goes_on(&rt, &mut jobs, &long, &short));
     Ok(())
 }
@@ -102,7 +102,7 @@ fn one_is_killed_and_the_other_goes_on(rt: HostRuntime) -> Result<(), Fail> {
 fn no_text_with_a_nul_is_started(rt: HostRuntime) -> Result<(), Fail> {
     let alloc = rt.alloc();
     let work = Work::Command(Text::of(alloc, "exit\01")?);
-    let mut jobs = ChildSpawner::new(alloc, rt, "OFJOBS")?;
+    let mut jobs = ChildSpawner::new(alloc, rt, "OFJOBS", Commons::new(alloc, rt, "OFJOBS")?)?;
     assert!(rt; jobs.start(JobNo(4), 1, &work).is_err() && jobs.poll() == Ok(None));
     Ok(())
 }
@@ -114,7 +114,7 @@ const TELLS: &str = "echo $TWS_NODE $TWS_JOB $TWS_LAUNCH; echo wrong 1>&2";
 fn what_a_launch_writes_stands_in_its_own_file(rt: HostRuntime) -> Result<(), Fail> {
     let alloc = rt.alloc();
     let work = Work::Command(Text::of(alloc, TELLS)?);
-    let mut jobs = ChildSpawner::new(alloc, rt, "OFTOLD")?;
+    let mut jobs = ChildSpawner::new(alloc, rt, "OFTOLD", Commons::new(alloc, rt, "OFTOLD")?)?;
     assert!(rt; run(&rt, &mut jobs, 7, &work) == Some(0));
     let told = fs::read(&rt, "OFTOLD.out/1.7")?;
     assert_eq!(rt; told.as_slice(), b"OFTOLD 1 7\nwrong\n".as_slice());
@@ -126,7 +126,7 @@ fn what_a_launch_writes_stands_in_its_own_file(rt: HostRuntime) -> Result<(), Fa
 const LEAVES: &str = "(sleep 1; echo late) & sleep 60";
 
 /// Whether the launch is killed half a second after it started.
-fn is_cut_off<R: Processes + Clock + Files<File = File> + Drop>(
+fn is_cut_off<R: Processes + Clock + Files<File = File> + AllocGlobal + Clone + Drop>(
     rt: &R,
     jobs: &mut ChildSpawner<R>,
     work: &Work,
@@ -145,7 +145,7 @@ fn is_cut_off<R: Processes + Clock + Files<File = File> + Drop>(
 fn what_a_launch_started_is_killed_with_it(rt: HostRuntime) -> Result<(), Fail> {
     let alloc = rt.alloc();
     let work = Work::Command(Text::of(alloc, LEAVES)?);
-    let mut jobs = ChildSpawner::new(alloc, rt, "OFCUT")?;
+    let mut jobs = ChildSpawner::new(alloc, rt, "OFCUT", Commons::new(alloc, rt, "OFCUT")?)?;
     assert!(rt; is_cut_off(&rt, &mut jobs, &work));
     let told = fs::read(&rt, "OFCUT.out/5.1")?;
     assert!(rt; told.is_empty());

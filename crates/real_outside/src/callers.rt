@@ -300,14 +300,14 @@ impl<S: Read + Write + OpenStream + Drop> Callers<S> {
 pub fn refuse<R: Files<File = File> + Clock + Drop>(
     commons: &Commons<R>,
     address: &SocketAddr,
-    why: &str,
+    why: &'static str,
 ) {
     commons.tell_rarely(
         Topic::Refused,
         "refused",
         &[
             ("from", Value::Address(*address)),
-            ("why", Value::Text(why)),
+            ("why", Value::Word(why)),
         ],
     );
 }

@@ -7,7 +7,7 @@ use crate::commons::{Commons, Wait};
 use crate::homes::{Home, tell_of};
 use crate::keys::read_key;
 use crate::lines::Line;
-use crate::logs::{Topic, Value};
+use crate::logs::{Topic, Value, cause_of};
 use crate::seals::NetworkKey;
 use crate::streams::{CLIENT, is_waiting, set_up};
 use base_types::{Copied, NoMemory, Peer, Peers, Ws};
@@ -139,8 +139,7 @@ impl<R: Net + Clock + Files<File = File> + RandomSource + Drop> Connections<R> {
     fn key_of_network(&self) -> io::Result<Option<NetworkKey>> {
         let key = read_key(&self.rt);
         if let Err(error) = &key {
-            self.commons
-                .tell("nokey", &[("cause", Value::Cause(error))]);
+            self.commons.tell("nokey", &[cause_of(error)]);
         }
         key
     }
@@ -263,12 +262,7 @@ impl<R: Net + Clock + Files<File = File> + RandomSource + Drop> Connections<R> {
         if let Err(error) = called
             && line.is_new_failure(&error)
         {
-            tell_of(
-                &self.commons,
-                "uncalled",
-                line.peer(),
-                ("cause", Value::Cause(&error)),
-            );
+            tell_of(&self.commons, "uncalled", line.peer(), cause_of(&error));
         }
     }
 
@@ -428,12 +422,12 @@ fn tell_arrival<R: Net + Clock + Files<File = File> + Drop>(
     arrival: &Arrival,
 ) {
     match arrival {
-        Arrival::Up(_) => tell_of(commons, "up", line.peer(), ("by", Value::Text(line.why()))),
+        Arrival::Up(_) => tell_of(commons, "up", line.peer(), ("by", Value::Word(line.why()))),
         Arrival::Down(_) => tell_of(
             commons,
             "down",
             line.peer(),
-            ("why", Value::Text(line.why())),
+            ("why", Value::Word(line.why())),
         ),
         _ => {}
     }

@@ -44,7 +44,7 @@ impl<R: Files<File = File> + Clock + Drop> LateFile<R> {
             self.commons.tell(
                 "start",
                 &[
-                    ("version", Value::Text(VERSION)),
+                    ("version", Value::Word(VERSION)),
                     ("file", Value::Text(self.path.as_str())),
                     ("bytes", Value::Number(bytes)),
                 ],

@@ -2,7 +2,7 @@
 ghost use Rattle.outside.specs.Causes.{HasCause};
 
 use crate::commons::Commons;
-use crate::logs::Value;
+use crate::logs::{Value, cause_of};
 use outside::Failed;
 use std::fs::{File, Files};
 use std::io;
@@ -12,13 +12,13 @@ use std::time::Clock;
 pub fn counted<T, R: Files<File = File> + Clock + Drop>(
     faults: &mut u64,
     commons: &Commons<R>,
-    call: &str,
+    call: &'static str,
     answer: io::Result<T>,
 ) -> Result<T, Failed>
     ensures { HasCause faults.old faults.new result }
 {
     if let Err(error) = &answer {
-        let fields = [("call", Value::Text(call)), ("cause", Value::Cause(error))];
+        let fields = [("call", Value::Word(call)), cause_of(error)];
         commons.tell("failed", &fields);
     }
     counted_alone(faults, answer)

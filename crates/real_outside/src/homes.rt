@@ -2,7 +2,7 @@
 
 use crate::addresses::{Addresses, LookUps};
 use crate::commons::Commons;
-use crate::logs::{Field, Value};
+use crate::logs::{Field, Value, cause_of};
 use base_types::Peer;
 use std::alloc::Global;
 use std::fs::{File, Files};
@@ -83,7 +83,7 @@ impl<R: Net + Clock + Files<File = File> + Drop> Home<R> {
                     commons,
                     "listening",
                     &self.peer,
-                    ("key", Value::Text(self.keyed)),
+                    ("key", Value::Word(self.keyed)),
                 );
                 Ok(())
             }
@@ -91,7 +91,7 @@ impl<R: Net + Clock + Files<File = File> + Drop> Home<R> {
                 let kind = Some(error.kind());
                 if self.failed != kind {
                     self.failed = kind;
-                    tell_of(commons, "deaf", &self.peer, ("cause", Value::Cause(&error)));
+                    tell_of(commons, "deaf", &self.peer, cause_of(&error));
                 }
                 Err(error)
             }
@@ -119,11 +119,11 @@ impl<R: Net + Clock + Files<File = File> + Drop> Home<R> {
 }
 
 /// Writes a line of the log about a workstation.
-pub fn tell_of<R: Files<File = File> + Clock + Drop>(
+pub fn tell_of<'x, R: Files<File = File> + Clock + Drop>(
     commons: &Commons<R>,
     word: &str,
-    peer: &Peer,
-    field: Field<'_>,
+    peer: &'x Peer,
+    field: Field<'x>,
 ) {
     commons.tell(
         word,

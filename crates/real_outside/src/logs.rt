@@ -3,7 +3,7 @@
 use jiff::Timestamp;
 use std::alloc::{AllocError, Global};
 use std::fs::{File, Files, OpenOptions};
-use std::io::Write;
+use std::io::{ErrorKind, Write};
 use std::net::SocketAddr;
 use std::time::Clock;
 use std::{fs, io};
@@ -16,14 +16,20 @@ const MOST_BYTES: u64 = 16_777_216;
 pub enum Value<'a> {
     Number(u64),
     Code(i32),
+    Word(&'static str),
     Text(&'a str),
     /// The kind of a failure of the system, and its number where it has one.
-    Cause(&'a io::Error),
+    Cause(ErrorKind, Option<i32>),
     Address(SocketAddr),
 }
 
 /// A field of a line, by its name.
 pub type Field<'a> = (&'static str, Value<'a>);
+
+/// The field that tells why a call failed.
+pub fn cause_of(error: &io::Error) -> Field<'static> {
+    ("cause", Value::Cause(error.kind(), error.raw_os_error()))
+}
 
 /// What is told at most once in a second.
 #[derive(Clone, Copy, PartialEq, Drop)]
@@ -205,14 +211,15 @@ fn spell_value(line: &mut String, value: &Value<'_>) -> Result<(), AllocError> {
         Value::Number(number) => write!(line, "{}", number),
         Value::Code(code) => write!(line, "{}", code),
         Value::Address(address) => write!(line, "{}", address),
-        Value::Cause(error) => spell_cause(line, error),
+        Value::Cause(kind, number) => spell_cause(line, *kind, *number),
+        Value::Word(word) => write!(line, "{}", word),
         Value::Text(text) => spell_text(line, text),
     }
 }
 
-fn spell_cause(line: &mut String, error: &io::Error) -> Result<(), AllocError> {
-    write!(line, "{:?}", error.kind())?;
-    match error.raw_os_error() {
+fn spell_cause(line: &mut String, kind: ErrorKind, number: Option<i32>) -> Result<(), AllocError> {
+    write!(line, "{:?}", kind)?;
+    match number {
         Some(number) => write!(line, " error={}", number),
         None => Ok(()),
     }

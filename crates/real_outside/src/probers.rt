@@ -3,7 +3,7 @@ ghost use Rattle.std.specs.Prelude.{None};
 
 use crate::commons::Commons;
 use crate::faults::counted_alone;
-use crate::logs::{Topic, Value};
+use crate::logs::{Topic, Value, cause_of};
 use base_types::Text;
 use file_watch::Prober;
 use outside::Failed;
@@ -41,10 +41,7 @@ impl<R: Files<File = File> + Clock + Drop> Prober for FileProber<R> {
     fn seen(&mut self, path: &Text) -> Result<bool, Failed> {
         let there = fs::exists(&self.rt, path.as_str());
         if let Err(error) = &there {
-            let fields = [
-                ("path", Value::Text(path.as_str())),
-                ("cause", Value::Cause(error)),
-            ];
+            let fields = [("path", Value::Text(path.as_str())), cause_of(error)];
             self.commons.tell_rarely(Topic::Looked, "unseen", &fields);
         }
         counted_alone(&mut self.faults, there)

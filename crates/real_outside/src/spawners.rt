@@ -4,7 +4,7 @@ ghost use Rattle.std.specs.Prelude.{◌<◌, length, None, IfSome};
 use crate::commons::Commons;
 use crate::faults::counted;
 use crate::launches::{Folder, Launch};
-use crate::logs::{Field, Value};
+use crate::logs::{Field, Value, cause_of};
 use crate::processes::{identity, kill_with_group, number_of};
 use base_types::{JobNo, NoMemory, Work};
 use outside::{End, Failed, Spawner};
@@ -121,7 +121,7 @@ impl<R: Processes + Files<File = File> + Clock + AllocGlobal + Clone + Drop> Chi
             Err(error) => Err(error),
         };
         if let Err(error) = noted {
-            self.tell("unnoted", launch, ("cause", Value::Cause(&error)));
+            self.tell("unnoted", launch, cause_of(&error));
         }
     }
 
@@ -195,10 +195,7 @@ impl<R: Processes + Files<File = File> + Clock + AllocGlobal + Clone + Drop> Chi
         let mut launches = match self.folder.launches() {
             Ok(launches) => launches,
             Err(error) => {
-                let cause = [
-                    ("call", Value::Text("find-launches")),
-                    ("cause", Value::Cause(&error)),
-                ];
+                let cause = [("call", Value::Word("find-launches")), cause_of(&error)];
                 self.commons.tell("failed", &cause);
                 return;
             }

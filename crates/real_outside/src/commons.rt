@@ -87,8 +87,13 @@ impl<R: Files<File = File> + Clock + Drop> Commons<R> {
 
     /// Writes a line of the log.
     pub fn tell(&self, word: &str, fields: &[Field<'_>]) {
+        self.tell_both(word, fields, &[]);
+    }
+
+    /// Writes a line of the log with the fields of both lists.
+    pub fn tell_both(&self, word: &str, fields: &[Field<'_>], more: &[Field<'_>]) {
         if let Ok(mut log) = self.inside.log.try_borrow_mut() {
-            log.tell(word, fields);
+            log.tell(word, fields, more);
         }
     }
 

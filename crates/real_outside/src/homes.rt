@@ -119,19 +119,16 @@ impl<R: Net + Clock + Files<File = File> + Drop> Home<R> {
 }
 
 /// Writes a line of the log about a workstation.
-pub fn tell_of<'x, R: Files<File = File> + Clock + Drop>(
+pub fn tell_of<R: Files<File = File> + Clock + Drop>(
     commons: &Commons<R>,
     word: &str,
-    peer: &'x Peer,
-    field: Field<'x>,
+    peer: &Peer,
+    field: Field<'static>,
 ) {
-    commons.tell(
-        word,
-        &[
-            ("ws", Value::Number(u64::from(peer.ws.0))),
-            ("host", Value::Text(peer.host.as_str())),
-            ("port", Value::Number(u64::from(peer.port))),
-            field,
-        ],
-    );
+    let who = [
+        ("ws", Value::Number(u64::from(peer.ws.0))),
+        ("host", Value::Text(peer.host.as_str())),
+        ("port", Value::Number(u64::from(peer.port))),
+    ];
+    commons.tell_both(word, &who, &[field]);
 }

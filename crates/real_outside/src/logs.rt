@@ -113,11 +113,11 @@ impl<R: Files<File = File> + Clock + Drop> Log<R> {
         self.open = true;
     }
 
-    /// Writes a line: the time, the word, and the fields.
-    pub fn tell(&mut self, word: &str, fields: &[Field<'_>]) {
+    /// Writes a line: the time, the word, and the fields of both lists.
+    pub fn tell(&mut self, word: &str, fields: &[Field<'_>], more: &[Field<'_>]) {
         if self.open
             && let Some(now) = self.now()
-            && self.spell(now, word, fields, 0).is_ok()
+            && self.spell(now, word, fields, more).is_ok()
         {
             self.put();
         }
@@ -136,9 +136,11 @@ impl<R: Files<File = File> + Clock + Drop> Log<R> {
             Topic::Full => &mut self.full,
             Topic::Looked => &mut self.looked,
         };
-        if let Some(passed) = rare.admits(now.as_second())
-            && self.spell(now, word, fields, passed).is_ok()
-        {
+        let Some(passed) = rare.admits(now.as_second()) else {
+            return;
+        };
+        let more = [("passed", Value::Number(passed))];
+        if self.spell(now, word, fields, &more).is_ok() {
             self.put();
         }
     }
@@ -154,23 +156,18 @@ impl<R: Files<File = File> + Clock + Drop> Log<R> {
         Timestamp::from_millisecond(milliseconds).ok()
     }
 
-    /// Makes the line, with how many like it were passed over.
+    /// Makes the line.
     fn spell(
         &mut self,
         now: Timestamp,
         word: &str,
         fields: &[Field<'_>],
-        passed: u64,
+        more: &[Field<'_>],
     ) -> Result<(), AllocError> {
         self.line.clear();
         write!(self.line, "{:.3} {}", now, word)?;
-        for (name, value) in fields.iter() {
-            write!(self.line, " {}=", name)?;
-            spell_value(&mut self.line, value)?;
-        }
-        if passed > 0 {
-            write!(self.line, " passed={}", passed)?;
-        }
+        spell_fields(&mut self.line, fields)?;
+        spell_fields(&mut self.line, more)?;
         self.line.push('\n')
     }
 
@@ -203,6 +200,15 @@ impl<R: Files<File = File> + Clock + Drop> Log<R> {
             self.file = Some(file);
         }
     }
+}
+
+/// Writes fields, each behind a blank.
+fn spell_fields(line: &mut String, fields: &[Field<'_>]) -> Result<(), AllocError> {
+    for (name, value) in fields.iter() {
+        write!(line, " {}=", name)?;
+        spell_value(line, value)?;
+    }
+    Ok(())
 }
 
 /// Writes a value so that it has no blank and stays in its line.

@@ -7,8 +7,8 @@ work is done and rerun where it is not, and this must hold: all jobs end as SUCC
 than it was launched, what was acknowledged before is in the file, and the file is not refused. A log or a note that
 cannot be written must cost nothing of that.
 
-It is run by hand and takes some ten minutes on a quiet machine; the gate runs `trials/crashes.py PROGRAM 1 few`, one
-case of each kind, where strace is installed. It prints each case that is not as it must be, and a last line with the
+It is run by hand and takes some ten minutes on a quiet machine; with the word `few` it takes one case of each kind. It
+prints each case that is not as it must be, and a last line with the
 numbers, and ends with 0 or 1.
 
 Usage: trials/crashes.py [PROGRAM [WORKERS [few]]]. PROGRAM is named from the top folder on, as out/quick/tws.

@@ -3,7 +3,8 @@
 where one of them saw something else than it must:
 
   readers   12 clients read 64 bytes of a long listing each half second, and 40 more never read: an honest client is
-            answered within 3 seconds each time, and the node takes less than 300 megabytes.
+            answered once their listings are made, then within 3 seconds each time, and the node takes less than 300
+            megabytes.
   port      a node whose port is taken says so in its log, calls nobody, and listens within 4 seconds once it is free.
   wire      a peer that greets as the agent and never reads is let go after some 10 seconds, and the log says why;
             meanwhile an honest client is answered within 3 seconds.
@@ -49,23 +50,29 @@ def trickle(streams, stop):
 
 
 def readers(program):
-    jobs = "".join(f'LONGNAME-OF-A-JOB-THAT-FILLS-LINES-{i:04d} DOCOMMAND "true"\n' for i in range(1200))
+    jobs = "".join(f'LONGNAME-OF-A-JOB-THAT-FILLS-LINES-{i:04d} DOCOMMAND "true"\n' for i in range(400))
     with Room(program) as room:
-        room.define(jobs)
-        node = room.start("MDM")
+        room.define(jobs, name="of-node.txt")
+        room.define()
+        node = room.start("MDM", "of-node.txt")
         if room.until_answers("MDM") is None or room.ask("MDM", "jnextplan 12/01/2026")[0] != 0:
             return "the master makes no plan"
+        _, listing, alone = room.ask("MDM", "sj")
         slow = [small_reader(room) for _ in range(12)]
         stop = threading.Event()
         threading.Thread(target=trickle, args=(slow, stop), daemon=True).start()
         silent = [small_reader(room) for _ in range(40)]
+        first, _ = worst_answer(room, 1)
         worst, answered = worst_answer(room, 8)
         memory = room.memory(node)
         stop.set()
         for stream in slow + silent:
             stream.close()
-    print(f"readers: an honest client waited {worst:.2f} s at most, and the node held {memory >> 20} megabytes")
-    if not answered or worst > MOST_SECONDS or memory > MOST_MEMORY:
+    print(
+        f"readers: a listing of {len(listing)} bytes alone took {alone:.2f} s; behind 52 of them an honest client waited "
+        f"{first:.2f} s, then {worst:.2f} s at most, and the node held {memory >> 20} megabytes"
+    )
+    if not answered or first > MOST_SECONDS + 104 * alone or worst > MOST_SECONDS or memory > MOST_MEMORY:
         return "clients that do not read hold the node up"
     return None
 
@@ -88,13 +95,16 @@ def port(program):
 
 
 def wire(program):
-    jobs = "".join(f'J{i} DOCOMMAND "{"x" * 4000}"\n' for i in range(600))
+    jobs = "".join(f'J{i} DOCOMMAND "{"x" * 4000}"\n' for i in range(100))
     with Room(program) as room:
-        room.define(jobs)
-        room.start("MDM")
+        room.define(jobs, name="of-node.txt")
+        room.define()
+        room.start("MDM", "of-node.txt")
         if room.until_answers("MDM") is None or room.ask("MDM", "jnextplan 12/01/2026")[0] != 0:
             return "the master makes no plan"
-        stream = room.call()
+        stream = socket.socket()
+        stream.setsockopt(socket.SOL_SOCKET, socket.SO_RCVBUF, 2048)
+        stream.connect(("127.0.0.1", room.master))
         stream.sendall(b"TWS1\x00\x01")
         worst, answered = worst_answer(room, 4)
         gone = room.until(lambda: " down ws=1 " in room.log("MDM"), 30)

@@ -1,5 +1,6 @@
 //! A connection with what waits to go out over it.
 
+use crate::pieces::Pieces;
 use crate::queues::Queue;
 use crate::seals::{AROUND, MOST_IN_RECORD, Seals};
 use crate::streams::{Come, is_waiting, take_some};
@@ -11,8 +12,13 @@ use std::io::{ErrorKind, Read, Write};
 use std::net::OpenStream;
 use std::time::Duration;
 
-/// How many bytes may wait where one more piece is taken.
-const MOST_WAITING: usize = 1_048_576;
+/// How many bytes may wait where one more piece is taken: eight of the longest entries.
+const MOST_WAITING: usize = 33_554_432;
+
+/// How many bytes are made ready to go at a time, where the pieces are short, and of how many pieces.
+const MOST_READY: usize = 65_536;
+
+const MOST_PIECES: u32 = 1_024;
 
 /// How many writes are made at a time.
 const MOST_WRITES: u32 = 16;
@@ -49,6 +55,8 @@ enum Opened {
 #[derive(Drop)]
 pub struct Channel<S> {
     stream: S,
+    /// The pieces that wait, and the bytes of those that are on their way.
+    waiting: Pieces,
     out: Queue,
     /// What has come of records that are not yet whole.
     come: Queue,
@@ -66,6 +74,7 @@ impl<S: Read + Write + OpenStream + Drop> Channel<S> {
     pub fn new(alloc: Global, stream: S, seals: Option<Seals>, now: Duration) -> Self {
         Channel {
             stream,
+            waiting: Pieces::new(alloc),
             out: Queue::new(alloc),
             come: Queue::new(alloc),
             seals,
@@ -77,20 +86,38 @@ impl<S: Read + Write + OpenStream + Drop> Channel<S> {
 
     /// Whether nothing waits.
     pub fn is_idle(&self) -> bool {
-        self.out.rest().is_empty()
+        self.out.rest().is_empty() && self.waiting.are_none()
     }
 
-    /// Takes a piece to be sent, whole or not at all. It is refused where too much waits.
+    /// Takes a piece to be sent, whole or not at all. It is refused where too much waits. Where the same piece waits
+    /// already, it is that one.
     pub fn send(&mut self, piece: &[u8], now: Duration) -> io::Result<()> {
-        if self.out.rest().len() > MOST_WAITING {
+        if self.waiting.bytes() > MOST_WAITING {
             return Err(ErrorKind::WouldBlock.into());
         }
-        self.put(piece)?;
-        self.told = now;
+        self.waiting.put(piece)?;
         self.flush(now)
     }
 
-    /// Puts a piece behind what waits, in records where there is a key.
+    /// Makes the next pieces ready to go, where nothing is on its way.
+    fn load(&mut self, now: Duration) -> io::Result<()> {
+        if !self.out.rest().is_empty() {
+            return Ok(());
+        }
+        for _ in 0..MOST_PIECES {
+            if self.out.rest().len() >= MOST_READY {
+                break;
+            }
+            let Some(piece) = self.waiting.next() else {
+                break;
+            };
+            self.put(piece.as_slice())?;
+            self.told = now;
+        }
+        Ok(())
+    }
+
+    /// Makes a piece ready to go, in records where there is a key.
     fn put(&mut self, piece: &[u8]) -> io::Result<()> {
         if self.seals.is_none() {
             self.out.put(piece)?;
@@ -127,10 +154,11 @@ impl<S: Read + Write + OpenStream + Drop> Channel<S> {
         Ok(())
     }
 
-    /// Sends of what waits as much as the other end takes now. It fails where the connection is gone, and where the other
-    /// end took nothing for ten seconds.
+    /// Sends of what waits as much as the other end takes now. It fails where the connection is gone, where the other end
+    /// took nothing for ten seconds, and for want of memory.
     pub fn flush(&mut self, now: Duration) -> io::Result<()> {
         for _ in 0..MOST_WRITES {
+            self.load(now)?;
             if self.out.rest().is_empty() {
                 self.moved = now;
                 return Ok(());

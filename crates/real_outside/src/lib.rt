@@ -21,6 +21,7 @@ mod launches;
 mod lines;
 mod links;
 mod logs;
+mod pieces;
 mod probers;
 mod processes;
 mod queues;

@@ -38,8 +38,8 @@ use std::time::Clock;
 ///
 /// *Times.* A poll waits up to 50 milliseconds, and for a call up to 200 milliseconds more for each address of the host,
 /// of which four are tried; a client waits 2 seconds for each in `begin`, and under a key 5 seconds for the proof. No
-/// other call waits. A send or a reply is taken where no more than 1,048,576 bytes wait, and goes out as the other end takes
-/// it; where that takes nothing for 10 seconds the connection ends. The system ends a connection whose other end is gone
+/// other call waits. A send or a reply is taken where no more than 33,554,432 bytes wait, and goes out as the other end takes
+/// it; a piece that waits already is not taken twice; where that takes nothing for 10 seconds the connection ends. The system ends a connection whose other end is gone
 /// without a word, within some 25 seconds. Under a key each end sends a record every 5 seconds, and a connection over which
 /// none came for 20 seconds ends. The look-up of a host's name, in `begin` and in each call, takes as long as the
 /// system's resolver takes, which nothing here bounds: addresses in numbers need none.

@@ -49,7 +49,8 @@ enum Next<S> {
     Client(Channel<S>, Bytes),
     /// It is not let in, for this reason: it is gone, or says what is not understood.
     Wrong(&'static str),
-    NoMemory,
+    /// There was no memory for what came.
+    NoMemory(Stage<S>),
 }
 
 /// What was heard from the callers.
@@ -170,15 +171,15 @@ fn question<S: Read + Write + OpenStream + Drop>(
     buffer: &mut [u8],
 ) -> Next<S> {
     match channel.take(door.alloc, buffer, door.now) {
-        Come::Nothing => return Next::Stays(Stage::Asks(channel, asked)),
+        Come::Nothing => {}
         Come::Bytes(bytes) => {
             if asked.put(bytes.as_slice()).is_err() {
-                return Next::NoMemory;
+                return Next::Wrong("memory");
             }
         }
         Come::End => return Next::Wrong("gone"),
         Come::Wrong => return Next::Wrong("record"),
-        Come::NoMemory => return Next::NoMemory,
+        Come::NoMemory => return Next::NoMemory(Stage::Asks(channel, asked)),
     }
     let whole = match frame_length(asked.rest()) {
         Some(Some(whole)) => whole,
@@ -190,7 +191,7 @@ fn question<S: Read + Write + OpenStream + Drop>(
     };
     let mut bytes = Vec::new(door.alloc);
     if bytes.extend_from_slice(frame).is_err() {
-        return Next::NoMemory;
+        return Next::NoMemory(Stage::Asks(channel, asked));
     }
     Next::Client(channel, Items::of_vec(bytes))
 }
@@ -289,7 +290,14 @@ impl<S: Read + Write + OpenStream + Drop> Callers<S> {
                 }
                 Next::Client(channel, bytes) => return Heard::Client(channel, bytes),
                 Next::Wrong(why) => refuse(commons, &address, why),
-                Next::NoMemory => return Heard::NoMemory,
+                Next::NoMemory(stage) => {
+                    self.keep(Caller {
+                        stage,
+                        address,
+                        since,
+                    });
+                    return Heard::NoMemory;
+                }
             }
         }
         Heard::Nothing

@@ -3,11 +3,13 @@ use base_types::{Items, NoMemory, Peer, Peers, Text, Ws};
 use outside::{Arrival, Link};
 use real_outside::{Commons, TcpLink};
 use std::alloc::{AllocError, Global};
-use std::io;
+use std::fs::OpenOptions;
 use std::io::{ErrorKind, Read, Write};
 use std::net::{Net, OpenListener, OpenStream, TcpListener, TcpStream};
+use std::os::unix::fs::OpenOptionsExt;
 use std::test::Fail;
 use std::time::Duration;
+use std::{fs, io};
 
 const M: Ws = Ws(0);
 
@@ -330,5 +332,35 @@ fn callers_are_not_trusted(rt: HostRuntime) -> Result<(), Fail> {
         && hears_slow_one(&rt, port, &mut node).unwrap_or(false);
     assert!(rt; heard);
     assert_eq!(rt; wrong_ones_refused(&rt, port, &mut node).unwrap_or(0), 4);
+    Ok(())
+}
+
+/// The text of a key.
+const KEY: &str = "0123456789abcdef0123456789abcdef";
+
+/// Whether a link under the key carries bytes both ways, many of them too.
+fn is_carried<L: Link>(alloc: Global, of_both: &Peers, master: &mut L, agent: &mut L) -> bool {
+    master.begin(Some(M), None, of_both).is_ok()
+        && agent.begin(Some(A), Some(M), of_both).is_ok()
+        && begins(master, agent)
+        && talk(master, agent)
+        && tell_much(alloc, master, agent).unwrap_or(false)
+}
+
+#[test]
+fn a_key_lets_its_holders_in_alone(rt: HostRuntime) -> Result<(), Fail> {
+    let alloc = rt.alloc();
+    let port = free_port(&rt)?;
+    let of_both = peers(alloc, &[port, free_port(&rt)?])?;
+    let mut master = TcpLink::new(alloc, rt, Commons::new(alloc, rt, "OFLINKS")?);
+    let mut agent = TcpLink::new(alloc, rt, Commons::new(alloc, rt, "OFLINKS")?);
+    let mut options = OpenOptions::new();
+    options.write(true).create(true).mode(0o600);
+    options.open(&rt, "tws.key")?.write_all(KEY.as_bytes())?;
+    let carried = is_carried(alloc, &of_both, &mut master, &mut agent);
+    fs::remove_file(&rt, "tws.key")?;
+    assert!(rt; carried);
+    let greeting = b"TWS1\0\x01 and thirty-four bytes more than that, all wrong";
+    assert!(rt; refuses(&rt, port, &mut master, greeting).unwrap_or(false));
     Ok(())
 }

@@ -152,3 +152,26 @@ fn what_a_launch_started_is_killed_with_it(rt: HostRuntime) -> Result<(), Fail> 
     fs::remove_file(&rt, "OFCUT.out/5.1")?;
     Ok(())
 }
+
+/// A job that goes on for a while, and writes at its end.
+const LONG: &str = "sleep 2; echo late";
+
+#[test]
+fn what_is_left_of_a_launch_ends_before_the_next(rt: HostRuntime) -> Result<(), Fail> {
+    let alloc = rt.alloc();
+    let long = Work::Command(Text::of(alloc, LONG)?);
+    let short = Work::Command(Text::of(alloc, "true")?);
+    let mut first = ChildSpawner::new(alloc, rt, "OFLEFT", Commons::new(alloc, rt, "OFLEFT")?)?;
+    assert!(rt; first.start(JobNo(1), 1, &long).is_ok());
+    // the node goes, and another one comes over the same files
+    drop(first);
+    assert!(rt; fs::exists(&rt, "OFLEFT.out/1.1.pid").unwrap_or(false));
+    let mut second = ChildSpawner::new(alloc, rt, "OFLEFT", Commons::new(alloc, rt, "OFLEFT")?)?;
+    assert!(rt; run(&rt, &mut second, 2, &short) == Some(0));
+    thread::sleep(&rt, Duration::from_millis(2_500));
+    let told = fs::read(&rt, "OFLEFT.out/1.1")?;
+    assert!(rt; told.is_empty() && !fs::exists(&rt, "OFLEFT.out/1.1.pid").unwrap_or(true));
+    fs::remove_file(&rt, "OFLEFT.out/1.1")?;
+    fs::remove_file(&rt, "OFLEFT.out/1.2")?;
+    Ok(())
+}

@@ -342,7 +342,7 @@ const KEY: &str = "0123456789abcdef0123456789abcdef";
 fn is_carried<L: Link>(alloc: Global, of_both: &Peers, master: &mut L, agent: &mut L) -> bool {
     master.begin(Some(M), None, of_both).is_ok()
         && agent.begin(Some(A), Some(M), of_both).is_ok()
-        && begins(master, agent)
+        && settle(master, agent)
         && talk(master, agent)
         && tell_much(alloc, master, agent).unwrap_or(false)
 }

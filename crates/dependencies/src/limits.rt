@@ -12,7 +12,7 @@ use owner_fold::Owners;
 
 /// Whether a job of w has an open launch.
 #[tactic(auto, unfolding(model::specs::Facts::is_open))]
-pub(crate) fn is_open(o: &Owners, w: Ws, j: JobNo) -> bool
+pub fn is_open(o: &Owners, w: Ws, j: JobNo) -> bool
     requires { owner (view_of o.now) (Job j) ≡ Some w }
     ensures { result ≡ facts.is_open j (view_of o.now (Events w)) }
 {
@@ -54,7 +54,7 @@ fn stream_has_room(o: &Owners, w: Ws, s: StreamNo, limit: u16) -> bool
 }
 
 /// The limit of a stream, as written unless it was set.
-fn stream_limit(o: &Owners, doc: &StreamDoc) -> Option<u16>
+pub fn stream_limit(o: &Owners, doc: &StreamDoc) -> Option<u16>
     requires { IsPlannedStream (view_of o.now) doc.now }
     ensures { result ≡ facts.stream_limit doc.now.no doc.now.limit (view_of o.now (Events doc.now.ws)) }
 {
@@ -63,7 +63,7 @@ fn stream_limit(o: &Owners, doc: &StreamDoc) -> Option<u16>
 
 /// Whether the stream has no limit, or fewer open launches at w than it.
 #[tactic(auto, unfolding(model::specs::Readiness::is_within_limit))]
-pub(crate) fn is_within_limit(o: &Owners, w: Ws, doc: &StreamDoc) -> bool
+pub fn is_within_limit(o: &Owners, w: Ws, doc: &StreamDoc) -> bool
     requires { IsPlannedStream (view_of o.now) doc.now }
     ensures { result ≡ spec.is_within_limit (view_of o.now) w doc.now }
 {
@@ -75,7 +75,7 @@ pub(crate) fn is_within_limit(o: &Owners, w: Ws, doc: &StreamDoc) -> bool
 
 /// Whether a job of this priority may be launched beside the open launches of w: from 100 on always, and below it
 /// where they are fewer than the limit of w.
-pub(crate) fn is_within_workstation_limit(o: &Owners, w: Ws, priority: u8) -> bool
+pub fn is_within_workstation_limit(o: &Owners, w: Ws, priority: u8) -> bool
     ensures { let V = view_of o.now in
         result ≡ (nat_le 100 priority
         || nat_lt (spec.open_launch_count V w (jobs_of V w)) (facts.limit (V (Events w)))) }

@@ -35,7 +35,7 @@ fn lets_followers_go(o: &Owners, parent: &StreamDoc, doc: &JobDoc) -> bool
 
 /// Whether a job is good or cancelled.
 #[tactic(auto, unfolding(model::specs::OwnMembers::lets_stream_end))]
-pub(crate) fn lets_stream_end(o: &Owners, parent: &StreamDoc, doc: &JobDoc) -> bool
+pub fn lets_stream_end(o: &Owners, parent: &StreamDoc, doc: &JobDoc) -> bool
     requires { IsPlannedJob (view_of o.now) (stream_job parent.now doc.now) }
     ensures { result ≡ own.lets_stream_end (view_of o.now) (stream_job parent.now doc.now) }
 {

@@ -23,7 +23,7 @@ fn file_is_there(o: &Owners, w: Ws, obj: &Obj, i: u16) -> bool
 
 /// Whether dependency i of an object of w is met, be it waived or not.
 #[tactic(auto, unfolding(model::specs::Dependencies::is_met))]
-pub(crate) fn is_met(net: &Network, o: &Owners, w: Ws, obj: &Obj, i: u16, dep: &Dep) -> bool
+pub fn is_met(net: &Network, o: &Owners, w: Ws, obj: &Obj, i: u16, dep: &Dep) -> bool
     requires { owner (view_of o.now) obj.now ≡ Some w }
     ensures { result ≡ spec.is_met net.now (view_of o.now) w obj.now i dep.now }
 {

@@ -1,6 +1,6 @@
 mod Utf8
 mod Contents
-mod Spelled
+pub mod Spelled
 mod Reached
 mod Streams
 mod Built

@@ -24,7 +24,7 @@ same_u32 a b x y f g e = (
   ap (λ (l : List ℕ). drop 4 l) e,
 )
 
-same_u16 : (a b : ℕ) (x y : List ℕ) → a < 2 ^ 16 → b < 2 ^ 16 → u16_bytes a ++ x ≡ u16_bytes b ++ y → (a ≡ b) × (x ≡ y)
+pub same_u16 : (a b : ℕ) (x y : List ℕ) → a < 2 ^ 16 → b < 2 ^ 16 → u16_bytes a ++ x ≡ u16_bytes b ++ y → (a ≡ b) × (x ≡ y)
 same_u16 a b x y f g e = (
   sym (from_be_bytes-to_be_bytes_2 a f) ∙ ap (λ (l : List ℕ). from_be_bytes w16 l) e ∙ from_be_bytes-to_be_bytes_2 b g,
   ap (λ (l : List ℕ). drop 2 l) e,
@@ -54,7 +54,7 @@ opened n k c f l h e =
 
 -- ---- one frame for one content
 
-same_feed : (f g : Feed) (c d : ℕ) → FeedInRange f → FeedInRange g → c < 2 ^ 32 → d < 2 ^ 32
+pub same_feed : (f g : Feed) (c d : ℕ) → FeedInRange f → FeedInRange g → c < 2 ^ 32 → d < 2 ^ 32
     → feed_bytes f ++ u32_bytes c ≡ feed_bytes g ++ u32_bytes d → Ack f c ≡ Ack g d
 same_feed (Events w) (Events v) c d i j k l e =
     let p = same_u16 w v (u32_bytes c) (u32_bytes d) i j (ap (λ (l : List ℕ). drop 1 l) e) in
@@ -74,7 +74,7 @@ same_feed (Orders a w) (Orders b v) c d i j k l e =
 same_feed (Events w) (Orders b v) c d i j k l e = absurd (omega (arith, ap (λ (l : List ℕ). length l) e))
 same_feed (Orders a w) (Events v) c d i j k l e = absurd (omega (arith, ap (λ (l : List ℕ). length l) e))
 
-same_frame : (f g : Frame) → IsFrame f → IsFrame g → kind_of f ≡ kind_of g → content_of f ≡ content_of g → f ≡ g
+pub same_frame : (f g : Frame) → IsFrame f → IsFrame g → kind_of f ≡ kind_of g → content_of f ≡ content_of g → f ≡ g
 same_frame (Mail x) (Mail y) h i k e = ap Mail e
 same_frame (Mail x) (Ack y z) h i k e = absurd (omega arith)
 same_frame (Mail x) (Command y) h i k e = absurd (omega arith)
@@ -121,7 +121,7 @@ frame_length f = omega arith
 
 -- ---- what stands behind a kind
 
-by_mail : (n : ℕ) (s : List ℕ) (f : Frame) → n < 2 ^ 32 → IsFrame f → u32_bytes n ++ 1 ∷ s ≡ frame_bytes f
+pub by_mail : (n : ℕ) (s : List ℕ) (f : Frame) → n < 2 ^ 32 → IsFrame f → u32_bytes n ++ 1 ∷ s ≡ frame_bytes f
     → (length s + 1 ≡ n) × AllByRecursion IsU8 s
 by_mail n s (Mail entry) l h e =
     let p = opened n 1 s (Mail entry) l h e in

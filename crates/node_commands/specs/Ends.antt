@@ -2,8 +2,7 @@
 use Rattle.std.specs.Prelude.{[], ℕ, ◌++◌, ◌≢◌, ◌≡◌, Err, List, Ok, Option, Result, codes}
 use Rattle.std.specs.Fmt.{decimal}
 use Rattle.std.specs.Io.KnownBytes.{Keeps}
-use Rattle.base_types.specs.declared.LimitName.{LimitName}
-use Rattle.base_types.specs.declared.LimitName.TheVariants.{File}
+use Rattle.base_types.specs.Limits.{limit_number}
 use Rattle.conman_client.specs.declared.ends.AskEnd.{AskEnd}
 use Rattle.conman_client.specs.declared.ends.AskEnd.TheVariants as ask
 use Rattle.node_inputs.specs.declared.ends.NodeEnd.{NodeEnd}
@@ -16,11 +15,6 @@ use Rattle.replies.specs.Sayings.{Says}
 use Rattle.replies.specs.Texts.{limit_line, limit_word}
 use Rattle.replies.specs.declared.statuses.Status.{Status}
 use Rattle.replies.specs.declared.statuses.Status.TheVariants as status
-
--- the limits at which a run ends: the bytes of a message file, and the places of a feed
-abbrev pub most_of : LimitName → ℕ
-most_of File = 2147483648
-most_of other = 4294967295
 
 abbrev pub other_file_line : ℕ → List ℕ
 other_file_line place = codes "not this message file: offset " ++ decimal place ++ codes "\n"
@@ -36,7 +30,7 @@ abbrev pub run_text : NodeEnd → List ℕ
 run_text run.Shutdown = []
 run_text run.TurnsSpent = codes "turns spent\n"
 run_text run.DiskFault = []
-run_text (run.Limit name) = limit_line (limit_word name) (most_of name)
+run_text (run.Limit name) = limit_line (limit_word name) (limit_number name)
 run_text run.NoMemory = []
 
 abbrev pub unmade_status : RestartFault → Status

@@ -3,16 +3,13 @@ ghost use Rattle.std.specs.Prelude.{◌++◌, ◌≡◌, ◌≢◌, ℕ, IfOk, L
 ghost use Rattle.node_commands.specs.Ends as spec;
 ghost use Rattle.node_commands.specs.Ends.{IsSpoken, IsTold, TakesMemory};
 
-use base_types::{Bytes, Items, LONGEST_FILE, LimitName, NoMemory, Text};
+use base_types::{Bytes, Items, NoMemory, Text};
 use conman_client::AskEnd;
 use node_service::{NodeEnd, RestartFault, ServiceEnd};
 use outside::Sink;
 use replies::{Status, limit_text, say};
 use std::alloc::Global;
 use std::io::{self, Write};
-
-/// The greatest number of places of a feed.
-const PLACES_LIMIT: u32 = 4_294_967_295;
 
 /// Says a text with its status, and answers the status, or 5 where the sink failed. Where there was no memory for the text
 /// nothing is said, and the answer is 9.
@@ -54,7 +51,7 @@ fn tell_run<O: Sink>(alloc: Global, out: &mut O, why: NodeEnd) -> u8
         NodeEnd::Limit(name) => tell(
             out,
             Status::LimitPassed,
-            limit_text(alloc, name, most_of(name)),
+            limit_text(alloc, name, name.number()),
         ),
         NodeEnd::NoMemory => Status::NoMemory.number(),
     }
@@ -83,16 +80,6 @@ pub(crate) fn tell_answer<O: Sink>(out: &mut O, answer: Result<Text, AskEnd>) ->
         Ok(text) => say(out, text.as_str().as_bytes(), Status::Success),
         Err(AskEnd::NoAnswer) => say(out, b"no answer\n", Status::NoAnswer),
         Err(AskEnd::NoMemory) => Status::NoMemory.number(),
-    }
-}
-
-/// The number of a limit at which runs end.
-fn most_of(name: LimitName) -> u32
-    ensures { result ≡ spec.most_of name }
-{
-    match name {
-        LimitName::File => LONGEST_FILE,
-        _ => PLACES_LIMIT,
     }
 }
 

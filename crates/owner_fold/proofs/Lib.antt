@@ -16,3 +16,5 @@ mod Giving
 mod Growing
 mod Pairing
 mod Passing
+mod Working
+mod Ordering

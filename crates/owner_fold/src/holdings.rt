@@ -1,5 +1,5 @@
 //! What a node holds: the entries that it took.
-ghost use Rattle.std.specs.Prelude.{◌≡◌, ◌+◌, ◌++◌, ◌==◌, [], ◌∷◌, ℕ, false, true, filter, filter_map, length, OnOk, OnErr};
+ghost use Rattle.std.specs.Prelude.{◌≡◌, ◌+◌, ◌++◌, ◌==◌, ◌||◌, [], ◌∷◌, ℕ, false, true, filter, filter_map, length, OnOk, OnErr};
 ghost use Rattle.std.specs.List.{list_any};
 ghost use Rattle.std.specs.Prelude.{option_and_then, option_map};
 ghost use Rattle.std.specs.Option.{option_copied};
@@ -14,6 +14,7 @@ ghost use Rattle.model.specs.Forwarding.{objects_of, works_on};
 ghost use Rattle.model.specs.NewPlan.{last_job, last_stream};
 ghost use Rattle.owner_rows.specs.Standing.{has_issued};
 ghost use Rattle.owner_fold.specs.Holders.{is_open_here, is_under_way, open_jobs, streams_under_way};
+ghost use Rattle.owner_fold.specs.Ordered.{has_orders, is_of_orders};
 ghost use Rattle.owner_fold.specs.Plans.{is_planning};
 ghost use Rattle.owner_fold.specs.Sets as spec;
 ghost use Rattle.owner_fold.specs.Sets.{is_waiting_here, streams_waiting};
@@ -27,7 +28,7 @@ use crate::changes::change_of;
 use crate::doc_places::{
     JobPlace, StreamPlace, job_place_at, planned_job_at, stream_at, stream_place_at,
 };
-use crate::pairs::{pairs_of, put_brought};
+use crate::pairs::{pairs_of, put_brought, works_of};
 use crate::plans::{Plan, is_planning};
 use crate::sets::Sets;
 use base_types::{
@@ -39,12 +40,27 @@ use owner_rows::Kept;
 use std::alloc::Global;
 use std::marker::Model;
 
+/// Whether any order was taken once an entry of this feed is.
+fn is_ordered_with(ordered: bool, feed: &Feed) -> bool
+    ensures { result ≡ (is_of_orders feed.now || ordered) }
+{
+    match feed {
+        Feed::Events(_) => ordered,
+        Feed::Orders(_, _) => true,
+    }
+}
+
 /// The entries that a node took. A contract sees them as a list, in the order in which they were taken.
 pub struct Owners {
     kept: Kept,
     plan: Plan,
     sets: Sets,
+    /// Who may have to do with whom.
     pairs: Groups,
+    /// Whose streams have a job on whom.
+    works: Groups,
+    /// Whether any order was taken.
+    ordered: bool,
 }
 
 /// Written out, so that dropping one is a call for whoever owns it.
@@ -55,6 +71,8 @@ impl Drop for Owners {
             plan: _plan,
             sets: _sets,
             pairs: _pairs,
+            works: _works,
+            ordered: _,
         } = self;
     }
 }
@@ -68,7 +86,7 @@ impl Model for Owners {
 
     ghost view = { λ o. o.kept };
 
-    ghost invariant = { λ o. IsKeptBeside o.kept o.plan o.sets o.pairs };
+    ghost invariant = { λ o. IsKeptBeside o.kept o.plan o.sets o.pairs o.works o.ordered };
 }
 
 impl Owners {
@@ -81,6 +99,8 @@ impl Owners {
             plan: Plan::new(alloc),
             sets: Sets::new(alloc),
             pairs: Groups::new(alloc),
+            works: Groups::new(alloc),
+            ordered: false,
         }
     }
 
@@ -118,10 +138,12 @@ impl Owners {
             .sets
             .anew(&self.kept, &e, &plan.doc_places, &plan.index.members)?;
         let pairs = pairs_of(self.pairs.empty(), &self.kept, &e, &plan)?;
+        let works = works_of(&self.works, &self.kept, &e, &plan)?;
         self.kept.take_own(e)?;
         self.plan = plan;
         self.sets = sets;
         self.pairs = pairs;
+        self.works = works;
         Ok(())
     }
 
@@ -135,9 +157,19 @@ impl Owners {
         let change = change_of(&e);
         self.sets.prepare(&self.plan.index, &change)?;
         put_brought(&mut self.pairs, &self.kept, &e, &self.plan)?;
+        let ordered = is_ordered_with(self.ordered, &e.feed);
         self.kept.take_own(e)?;
         self.sets.settle(&self.kept, &self.plan.index, &change);
+        self.ordered = ordered;
         Ok(())
+    }
+
+    /// Whether any order was taken.
+    pub fn has_orders(&self) -> bool
+        ensures orders { result ≡ has_orders self.now }
+        ensures nothing { result ≡ false → (a w : ℕ) → list_of self.now (Orders a w) ≡ [] }
+    {
+        self.ordered
     }
 
     /// Whether any orders that a workstation issued were taken.
@@ -251,6 +283,13 @@ impl Owners {
             list_any (λ o. has (cites (view_of self.now) o) x) (objects_of (view_of self.now) v) ≡ false }
     {
         self.pairs.has(u32::from(v.0), u32::from(x.0))
+    }
+
+    /// Whether a stream of v has a job on x, by one look-up.
+    pub fn works_on(&self, v: Ws, x: Ws) -> bool
+        ensures { result ≡ works_on (view_of self.now) v x }
+    {
+        self.works.has(u32::from(v.0), u32::from(x.0))
     }
 
     /// The greatest number of a stream in the catalogue, 0 where it is empty.

@@ -5,7 +5,7 @@ ghost use Rattle.rc_conditions.specs.declared.CondFault.TheVariants as refusal;
 ghost use Rattle.record_faults.specs.Faults as spec;
 ghost use Rattle.record_rows.specs.declared.rows.Ranged.TheVariants as ranged;
 
-use base_types::{Cond, NoMemory, Text};
+use base_types::{Cond, LONGEST_TEXT, NoMemory, Text};
 use rc_conditions::{CondFault, read_cond};
 use record_rows::{PartRow, Ranged, Row};
 use std::alloc::Global;
@@ -35,7 +35,7 @@ fn is_condition(alloc: Global, text: &str) -> Result<bool, NoMemory>
 fn is_no_condition(alloc: Global, text: &Text) -> Result<bool, NoMemory>
     ensures { IfOk result (λ b. b ≡ spec.is_no_condition (ranged.Within text.now)) }
 {
-    if text.len() > 4096 {
+    if text.len() > LONGEST_TEXT {
         return Ok(true);
     }
     let is = is_condition(alloc, text.as_str())?;

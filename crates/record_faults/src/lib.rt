@@ -23,6 +23,7 @@ mod walking;
 
 pub use kinds::ScriptKind;
 pub use lookups::Named;
+pub use picks::{begins_stream, is_object, prompt_of, resource_of, station_name};
 pub use places::{JobPlace, Place};
 pub use placing::place_rows;
 pub use walking::{first_fault, record_fault};

@@ -5,8 +5,8 @@ ghost use Rattle.record_faults.specs.Known as spec;
 use base_types::Text;
 use record_rows::{CutRow, Row, StepRow};
 
-/// The name of a workstation.
-pub(crate) fn station_name<'a>(row: &'a Row) -> Option<&'a Text>
+/// The name of the workstation that a row defines.
+pub fn station_name<'a>(row: &'a Row) -> Option<&'a Text>
     ensures { option_map (λ t. t.now) result ≡ spec.station_name row.now }
 {
     match row {
@@ -16,8 +16,8 @@ pub(crate) fn station_name<'a>(row: &'a Row) -> Option<&'a Text>
     }
 }
 
-/// A resource, by its workstation and its name.
-pub(crate) fn resource_of<'a>(row: &'a Row) -> Option<(&'a Text, &'a Text)>
+/// The resource that a row defines, by its workstation and its name.
+pub fn resource_of<'a>(row: &'a Row) -> Option<(&'a Text, &'a Text)>
     ensures { option_map (λ t. (t.0.now, t.1.now)) result ≡ spec.resource_of row.now }
 {
     match row {
@@ -26,8 +26,8 @@ pub(crate) fn resource_of<'a>(row: &'a Row) -> Option<(&'a Text, &'a Text)>
     }
 }
 
-/// The name of a prompt.
-pub(crate) fn prompt_of<'a>(row: &'a Row) -> Option<&'a Text>
+/// The name of the prompt that a row defines.
+pub fn prompt_of<'a>(row: &'a Row) -> Option<&'a Text>
     ensures { option_map (λ t. t.now) result ≡ spec.prompt_of row.now }
 {
     match row {
@@ -125,8 +125,8 @@ pub(crate) fn is_steps(row: &Row) -> bool
     }
 }
 
-/// A row that begins a stream, or a section.
-pub(crate) fn begins_stream(row: &Row) -> bool
+/// Whether a row begins a stream, or a section.
+pub fn begins_stream(row: &Row) -> bool
     ensures { result ≡ spec.begins_stream row.now }
 {
     match row {
@@ -135,8 +135,8 @@ pub(crate) fn begins_stream(row: &Row) -> bool
     }
 }
 
-/// A stream or a job.
-pub(crate) fn is_object(row: &Row) -> bool
+/// Whether a row is a stream or a job.
+pub fn is_object(row: &Row) -> bool
     ensures { result ≡ spec.is_object row.now }
 {
     match row {

@@ -1,6 +1,6 @@
 -- The lines of the steps.
 use Rattle.std.specs.Prelude.{ℕ, Bool, true, false, List, [], ◌∷◌, Option, Some, None, Result, Ok, Err, codes}
-use Rattle.std.specs.Prelude.{option_map, if◌then◌else◌}
+use Rattle.std.specs.Prelude.{◌||◌, option_map, if◌then◌else◌}
 use Rattle.syntax.specs.Names.{name_of}
 use Rattle.syntax.specs.Splits.{first_word, after_word, words_of}
 use Rattle.calendars.specs.Written.{date_of}
@@ -127,6 +127,17 @@ step_of_word word rest =
     if word is codes "crash" then crash_of rest else
     if word is codes "fulfil" then fulfil_of (words_of rest) else
     if word is codes "recover" then option_map step.Recover (name_of rest) else own_step word rest
+
+-- the words of the steps that are a workstation's own
+abbrev pub is_own_word : List ℕ → Bool
+is_own_word word =
+    (word is codes "turn") || (word is codes "type") || (word is codes "ended") || (word is codes "started")
+    || (word is codes "failed")
+
+-- the words of the steps that a long record has most of
+abbrev pub is_frequent : List ℕ → Bool
+is_frequent word =
+    (word is codes "flow") || (word is codes "reap") || (word is codes "deliver") || is_own_word word
 
 -- `next` has no word behind it, and no blank
 unfoldable pub step_of : List ℕ → Option StepRow

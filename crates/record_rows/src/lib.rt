@@ -18,6 +18,7 @@ mod quotes;
 mod ranges;
 mod reading;
 mod rows;
+mod shared_lines;
 mod step_rows;
 mod words;
 
@@ -26,3 +27,4 @@ pub use reading::read_rows;
 pub use rows::{
     CutRow, DepRow, JobRow, ObjRow, OwnRow, PartRow, Ranged, Row, StationRow, StepRow, StreamRow,
 };
+pub use shared_lines::SharedLine;

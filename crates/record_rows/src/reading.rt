@@ -1,8 +1,10 @@
 //! The rows of a text's lines.
-ghost use Rattle.std.specs.Prelude.{◌≡◌, ◌++◌, ◌∷◌, [], IfOk, OnOk, map, option_map};
+ghost use Rattle.std.specs.Prelude.{◌≡◌, ◌==◌, ◌++◌, ◌∷◌, [], IfOk, OnOk, map, option_map, true};
+ghost use Rattle.std.specs.List.{slice_split};
 ghost use Rattle.record_rows.specs.Plans.{dep_of, part_of};
 ghost use Rattle.record_rows.specs.Rows as spec;
 ghost use Rattle.record_rows.specs.Rows.{◌else_◌, plan_row, row_of, rows_of};
+ghost use Rattle.record_rows.specs.Steps as steps;
 ghost use Rattle.record_rows.specs.Steps.{step_of};
 ghost use Rattle.record_rows.specs.declared.rows.Row.TheVariants as row;
 
@@ -10,10 +12,10 @@ use crate::dependency_rows::dep;
 use crate::network_rows::network_row;
 use crate::plan_rows::{object_row, part};
 use crate::rows::Row;
-use crate::step_rows::step;
+use crate::step_rows::{frequent_step, is_frequent, step};
 use base_types::{Items, NoMemory};
 use std::alloc::Global;
-use syntax::{first_word, is, lines};
+use syntax::{first_word, is};
 
 /// A line that is a header.
 fn header(text: &str) -> Option<Row>
@@ -37,6 +39,18 @@ fn step_row(alloc: Global, text: &str) -> Result<Option<Row>, NoMemory>
     ensures { IfOk result (λ o. o ≡ option_map row.Step (step_of text.now)) }
 {
     match step(alloc, text) {
+        Ok(Some(step)) => Ok(Some(Row::Step(step))),
+        Ok(None) => Ok(None),
+        Err(error) => Err(error),
+    }
+}
+
+/// One of the steps that a long record has most of, by its first word and what follows it.
+fn frequent_row(alloc: Global, word: &str, rest: &str) -> Result<Option<Row>, NoMemory>
+    requires { steps.is_frequent word.now ≡ true }
+    ensures { IfOk result (λ o. o ≡ option_map row.Step (steps.step_of_word word.now rest.now)) }
+{
+    match frequent_step(alloc, word, rest) {
         Ok(Some(step)) => Ok(Some(Row::Step(step))),
         Ok(None) => Ok(None),
         Err(error) => Err(error),
@@ -89,12 +103,15 @@ fn object_or_behind(
     }
 }
 
-/// A line that is no header. None where it has no form.
-#[tactic(auto, unfolding(crate::specs::Rows::form_below))]
+/// A line that is no header. None where it has no form. Most lines of a long record are steps, and are told first.
+#[tactic(auto, unfolding(crate::specs::Rows::form_below), using(crate::proofs::StepWords::frequent_form))]
 fn form_below(alloc: Global, text: &str) -> Result<Option<Row>, NoMemory>
     ensures { IfOk result (λ o. o ≡ spec.form_below text.now) }
 {
     let (word, rest) = first_word(text);
+    if is_frequent(word) {
+        return frequent_row(alloc, word, rest);
+    }
     match network_row(alloc, word, rest) {
         Ok(Some(row)) => Ok(Some(row)),
         Ok(None) => object_or_behind(alloc, text, word, rest),
@@ -144,13 +161,13 @@ fn add_row(alloc: Global, rows: &mut Items<Row>, text: &str) -> Result<(), NoMem
     }
 }
 
-/// The rows of lines.
-fn rows(alloc: Global, texts: &[&str]) -> Result<Items<Row>, NoMemory>
-    ensures { IfOk result (λ rows. rows ≡ map row_of (map (λ x. x.now) texts.now)) }
+/// The rows of lines, which line feeds separate.
+fn rows_between_feeds(alloc: Global, text: &str) -> Result<Items<Row>, NoMemory>
+    ensures { IfOk result (λ rows. rows ≡ map row_of (slice_split (λ b. b == 10) text.now)) }
 {
     let mut rows = Items::new(alloc);
-    for text in texts {
-        add_row(alloc, &mut rows, text)?;
+    for line in text.split('\n') {
+        add_row(alloc, &mut rows, line)?;
     }
     Ok(rows)
 }
@@ -158,9 +175,15 @@ fn rows(alloc: Global, texts: &[&str]) -> Result<Items<Row>, NoMemory>
 /// The rows of a text, one for each of its lines, in order. A line feed belongs to the line that it ends, and the last
 /// line may lack it, so row i stands for line i + 1. The only error is that memory ran out. It takes time in proportion
 /// to the text.
+#[tactic(auto, unfolding(syntax::specs::Splits::lines_of))]
 pub fn read_rows(alloc: Global, text: &str) -> Result<Items<Row>, NoMemory>
     ensures { IfOk result (λ rows. rows ≡ rows_of text.now) }
 {
-    let texts = lines(alloc, text)?;
-    rows(alloc, &texts)
+    if text.is_empty() {
+        return Ok(Items::new(alloc));
+    }
+    match text.strip_suffix('\n') {
+        Some(body) => rows_between_feeds(alloc, body),
+        None => rows_between_feeds(alloc, text),
+    }
 }

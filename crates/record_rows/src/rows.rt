@@ -1,6 +1,6 @@
 //! Lines as rows. Names are in upper case.
+use crate::shared_lines::SharedLine;
 use base_types::{Carry, JobNo, Moment, OnUntil, Recovery, StreamNo, Text};
-use conman_syntax::Line;
 
 /// A number or a text that a line gives.
 #[derive(Drop)]
@@ -156,7 +156,7 @@ pub enum OwnRow {
     /// `ended W J RC`
     Ended(Ranged<JobNo>, Ranged<i32>),
     /// `type W LINE`, with a line that gives a command.
-    Typed(Line),
+    Typed(SharedLine),
 }
 
 impl Drop for OwnRow {

@@ -1,5 +1,5 @@
 //! The lines that are steps.
-ghost use Rattle.std.specs.Prelude.{◌≡◌, IfOk, Ok, map, option_map};
+ghost use Rattle.std.specs.Prelude.{◌≡◌, IfOk, Ok, map, option_map, true};
 ghost use Rattle.std.specs.Str.{bytes_eq};
 ghost use Rattle.syntax.specs.Names.{name_of};
 ghost use Rattle.syntax.specs.Splits.{words_of};
@@ -13,6 +13,7 @@ ghost use Rattle.record_rows.specs.declared.rows.StepRow.TheVariants as step;
 
 use crate::pairs::pair;
 use crate::rows::{CutRow, ObjRow, OwnRow, Ranged, StepRow};
+use crate::shared_lines::SharedLine;
 use crate::words::{code, count, dep_no, job_no, moment, stream_no};
 use base_types::{NoMemory, Text};
 use calendars::read_date;
@@ -49,12 +50,14 @@ fn gives_command(line: &Line) -> bool
 }
 
 /// The step of a line that gives a command.
-fn typed(line: Line) -> Option<OwnRow>
-    ensures { result ≡ option_map own.Typed (spec.command_of (Ok line)) }
+fn typed(alloc: Global, line: Line) -> Result<Option<OwnRow>, NoMemory>
+    ensures { IfOk result (λ r. r ≡ option_map own.Typed (spec.command_of (Ok line))) }
 {
-    let gives = gives_command(&line);
-    let row = OwnRow::Typed(line);
-    if gives { Some(row) } else { None }
+    if gives_command(&line) {
+        Ok(Some(OwnRow::Typed(SharedLine::of(alloc, line)?)))
+    } else {
+        Ok(None)
+    }
 }
 
 /// An operator's line that gives a command, as a step. None where it is another, or none.
@@ -62,7 +65,7 @@ fn command(alloc: Global, text: &str) -> Result<Option<OwnRow>, NoMemory>
     ensures { IfOk result (λ o. o ≡ option_map own.Typed (spec.command_of (due_line text.now))) }
 {
     match parse_command(alloc, text) {
-        Ok(line) => Ok(typed(line)),
+        Ok(line) => typed(alloc, line),
         Err(CommandFault::NoMemory) => Err(NoMemory),
         Err(_) => Ok(None),
     }
@@ -422,6 +425,45 @@ fn step_of_word(alloc: Global, word: &str, rest: &str) -> Result<Option<StepRow>
         fulfil_in(alloc, rest)
     } else if is(word, "recover") {
         recover(alloc, rest)
+    } else {
+        own_step(alloc, word, rest)
+    }
+}
+
+/// Whether a step that is a workstation's own begins with this word.
+fn is_own_word(word: &str) -> bool
+    ensures { result ≡ spec.is_own_word word.now }
+{
+    is(word, "turn")
+        || is(word, "type")
+        || is(word, "ended")
+        || is(word, "started")
+        || is(word, "failed")
+}
+
+/// Whether one of the steps that a long record has most of begins with this word.
+pub(crate) fn is_frequent(word: &str) -> bool
+    ensures { result ≡ spec.is_frequent word.now }
+{
+    is(word, "flow") || is(word, "reap") || is(word, "deliver") || is_own_word(word)
+}
+
+/// One of the steps that a long record has most of, by its first word and what follows it. Few words are compared.
+#[tactic(auto, using(crate::proofs::StepWords::flow_first, crate::proofs::StepWords::reap_first, crate::proofs::StepWords::deliver_first, crate::proofs::StepWords::own_first))]
+pub(crate) fn frequent_step(
+    alloc: Global,
+    word: &str,
+    rest: &str,
+) -> Result<Option<StepRow>, NoMemory>
+    requires { spec.is_frequent word.now ≡ true }
+    ensures { IfOk result (λ o. o ≡ spec.step_of_word word.now rest.now) }
+{
+    if is(word, "flow") {
+        flow(alloc, rest)
+    } else if is(word, "reap") {
+        reap(alloc, rest)
+    } else if is(word, "deliver") {
+        deliver(alloc, rest)
     } else {
         own_step(alloc, word, rest)
     }

@@ -1,5 +1,6 @@
 -- Why a line of a record cannot be taken, and what is told of it.
 use Rattle.std.specs.Prelude.{ℕ}
+use Rattle.base_types.specs.Limits.{limit_number}
 use Rattle.model.specs.Types.{LimitName}
 use Rattle.model.specs.StepFaults.{CarryFault, StepFault}
 use Rattle.model.specs.World.{StepRefused}
@@ -16,17 +17,6 @@ pub data Cause : Type 0 where
   full_day : ℕ → Cause
   -- the step of the world is refused
   refused : StepRefused → Cause
-
--- the number of each limit
-abbrev pub limit_number : LimitName → ℕ
-limit_number LimitName.Input = 16777216
-limit_number LimitName.Steps = 200000
-limit_number LimitName.Packets = 20000000
-limit_number LimitName.Bytes = 268435456
-limit_number LimitName.Plan = 4096
-limit_number LimitName.Entry = 4194304
-limit_number LimitName.File = 2147483648
-limit_number LimitName.Places = 4294967295
 
 -- a limit that a step reaches, by its own number
 abbrev pub at_limit : LimitName → Stop

@@ -68,7 +68,7 @@ pub(crate) fn act_of(
         OneStep::Started(w, job) => Ok(Act::Own(*w, Local::Started(*job))),
         OneStep::Failed(w, job) => Ok(Act::Own(*w, Local::StartFailed(*job))),
         OneStep::Ended(w, job, code) => Ok(ended(w, job, code)),
-        OneStep::Typed(w, line) => typed(alloc, world, *w, line),
+        OneStep::Typed(w, line) => typed(alloc, world, *w, line.line()),
         OneStep::Fulfil(w, object, i) => Ok(Act::Own(*w, Local::Fulfil(*object, *i))),
     }
 }

@@ -52,27 +52,11 @@ impl From<NoMemory> for Halt {
     }
 }
 
-/// The number of a limit.
-fn limit_number(limit: LimitName) -> u32
-    ensures { result ≡ spec.limit_number limit }
-{
-    match limit {
-        LimitName::Input => 16_777_216,
-        LimitName::Steps => 200_000,
-        LimitName::Packets => 20_000_000,
-        LimitName::Bytes => 268_435_456,
-        LimitName::Plan => 4_096,
-        LimitName::Entry => 4_194_304,
-        LimitName::File => 2_147_483_648,
-        LimitName::Places => 4_294_967_295,
-    }
-}
-
 /// A limit that a step reaches, by its own number.
 fn at_limit(limit: LimitName) -> Halt
     ensures { result ≡ Halted (spec.at_limit limit) }
 {
-    Halt::At(Stop::Limit(limit, limit_number(limit)))
+    Halt::At(Stop::Limit(limit, limit.number()))
 }
 
 /// What halts where a day has no plan.

@@ -11,7 +11,9 @@ use crate::deps::draft_deps;
 use crate::numbers::Numbers;
 use crate::spans::until_object;
 use crate::values::{text_within, within};
-use base_types::{Cond, Copied, Items, JobDraft, JobDrafts, NoMemory, Recovery, Text, Work};
+use base_types::{
+    Cond, Copied, Items, JobDraft, JobDrafts, LONGEST_TEXT, NoMemory, Recovery, Text, Work,
+};
 use rc_conditions::{CondFault, read_cond};
 use record_rows::{JobRow, PartRow, Row, StreamRow};
 use std::alloc::Global;
@@ -71,7 +73,7 @@ fn read(alloc: Global, text: &str) -> Result<Cond, NoMemory>
 fn condition(alloc: Global, text: &Text) -> Result<Cond, NoMemory>
     ensures { IfOk result (λ c. c ≡ spec.condition text.now) }
 {
-    if text.len() > 4096 {
+    if text.len() > LONGEST_TEXT {
         return Ok(Items::new(alloc));
     }
     read(alloc, text.as_str())

@@ -15,8 +15,6 @@ mod jobs;
 mod names;
 mod nets;
 mod numbers;
-mod operator_lines;
-mod picks;
 mod plans;
 mod reading;
 mod scripts;

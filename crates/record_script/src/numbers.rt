@@ -5,8 +5,8 @@ ghost use Rattle.record_script.specs.Numbers as spec;
 ghost use Rattle.record_script.specs.Counted.{AreNew, AreNumbers};
 
 use crate::names::{Keys, Names};
-use crate::picks::{prompt_of, resource_of, station_name};
 use base_types::{NoMemory, Text, Ws};
+use record_faults::{prompt_of, resource_of, station_name};
 use record_rows::Row;
 use std::alloc::Global;
 use std::marker::Model;

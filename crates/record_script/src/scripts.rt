@@ -2,7 +2,7 @@
 ghost use Rattle.std.specs.Prelude.{◌≡◌};
 
 use base_types::{Items, JobNo, Moment, Net, Obj, StreamDrafts, Ws};
-use conman_syntax::Line;
+use record_rows::SharedLine;
 
 /// The sections of plans, in order.
 pub type Plans = Items<StreamDrafts>;
@@ -29,7 +29,7 @@ pub enum OneStep {
     /// A job, and its return code.
     Ended(Ws, JobNo, i32),
     /// An operator's line, which gives a command.
-    Typed(Ws, Line),
+    Typed(Ws, SharedLine),
     /// The object, and the number of its dependency.
     Fulfil(Ws, Obj, u16),
 }

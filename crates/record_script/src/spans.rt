@@ -3,8 +3,18 @@ ghost use Rattle.std.specs.Prelude.{◌≡◌};
 ghost use Rattle.record_faults.specs.Known as known;
 ghost use Rattle.record_script.specs.Plans as spec;
 
-use crate::picks::{begins_stream, ends_section, is_object};
+use record_faults::{begins_stream, is_object};
 use record_rows::Row;
+
+/// A row that begins a section.
+fn ends_section(row: &Row) -> bool
+    ensures { result ≡ spec.ends_section row.now }
+{
+    match row {
+        Row::Plan | Row::Steps => true,
+        _ => false,
+    }
+}
 
 /// The rows before the next job or stream.
 pub(crate) fn until_object<'a>(rows: &'a [Row]) -> &'a [Row]

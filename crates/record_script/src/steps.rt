@@ -6,19 +6,17 @@ ghost use Rattle.record_script.specs.declared.scripts.OneStep.TheVariants as one
 ghost use Rattle.record_script.specs.declared.scripts.StepForm.TheVariants as forms;
 
 use crate::numbers::Numbers;
-use crate::operator_lines::copy_line;
 use crate::scripts::{OneStep, ScriptStep, ScriptSteps, StepForm};
 use crate::values::within;
 use base_types::{Items, JobNo, Moment, NoMemory, Obj, StreamNo, Text, Ws};
-use conman_syntax::Line;
-use record_rows::{CutRow, ObjRow, OwnRow, Row, StepRow};
+use record_rows::{CutRow, ObjRow, OwnRow, Row, SharedLine, StepRow};
 use std::alloc::Global;
 
 /// A line that is typed at a workstation.
-fn typed(ws: Ws, line: &Line) -> Result<OneStep, NoMemory>
+fn typed(ws: Ws, line: &SharedLine) -> Result<OneStep, NoMemory>
     ensures { IfOk result (λ s. s ≡ ones.Typed ws line.now) }
 {
-    match copy_line(line) {
+    match line.shared() {
         Ok(line) => Ok(OneStep::Typed(ws, line)),
         Err(error) => Err(error),
     }

@@ -1,7 +1,7 @@
-mod Splits
-mod Rules
-mod Given
-mod Taking
+pub mod Splits
+pub mod Rules
+pub mod Given
+pub mod Taking
 mod Tracing
 mod Launching
 mod Starting
@@ -10,8 +10,8 @@ mod Keeping
 mod Refusing
 mod Made
 mod Faults
-mod Listening
-mod Turning
+pub mod Listening
+pub mod Turning
 mod Finding
 mod Advising
 mod Growing

@@ -91,7 +91,7 @@ fn put_one(out: &mut Out, step: &OneStep) {
         OneStep::Started(ws, job) => out.two("started ", &ws.0, " ", &job.0),
         OneStep::Failed(ws, job) => out.two("failed ", &ws.0, " ", &job.0),
         OneStep::Ended(ws, job, rc) => put_ended(out, ws, job, *rc),
-        OneStep::Typed(ws, line) => put_typed(out, ws, line),
+        OneStep::Typed(ws, line) => put_typed(out, ws, line.line()),
         OneStep::Fulfil(ws, object, i) => put_fulfil(out, ws, object, *i),
     }
 }

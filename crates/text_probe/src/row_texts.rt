@@ -86,7 +86,7 @@ fn put_own(out: &mut Out, own: &OwnRow) {
         }
         OwnRow::Typed(line) => {
             out.word("type ");
-            put_line(out, line)
+            put_line(out, line.line())
         }
     }
 }

@@ -2,6 +2,7 @@
 use Rattle.std.proofs.Common.{◌==◌, ◌≡◌, ◌≢◌, ◌⊎◌, ℕ, Bool, Err, List, None, Ok, Option, arith, false, inl, inr, refl, true}
 use Rattle.std.proofs.lemmas.Bool.Decides.{Decides-eqb}
 use Rattle.std.specs.Io.KnownBytes.{Appends, Keeps}
+use Rattle.base_types.specs.Limits.{limit_number}
 use Rattle.base_types.specs.declared.LimitName.{LimitName}
 use Rattle.base_types.specs.declared.LimitName.TheVariants as limits
 use Rattle.composer_parser.specs.declared.Defs.{Defs}
@@ -18,7 +19,7 @@ use Rattle.outside.specs.Causes.{Rose}
 use Rattle.outside.specs.Streams.{Stream}
 use Rattle.whole_io.specs.Whole.{TakesCount}
 use Rattle.workload_defs.specs.Stations.{number_of}
-use Rattle.node_commands.specs.Ends.{IsTold, most_of, other_file_line}
+use Rattle.node_commands.specs.Ends.{IsTold, other_file_line}
 use Rattle.node_commands.specs.Forms.{Request, name_in}
 use Rattle.node_commands.specs.Services.{Asking, IsAsked, IsServed, IsService, ReadsDefs, RefusesDefs, Serving, UnservedCallsFor}
 
@@ -37,7 +38,7 @@ module _ (S : Serving) (A : Asking) (same but_link : Type 0) (request : Request)
     spent : n ≡ 8 → IsServed S request old new (Ran run.TurnsSpent) → Came n
     failed : n ≡ 6 → IsServed S request old new (Ran run.DiskFault) → Came n
     at_limit : n ≡ 10 → (name : LimitName) → IsServed S request old new (Ran (run.Limit name))
-        → Appends written written' (limit_line (limit_word name) (most_of name)) → Came n
+        → Appends written written' (limit_line (limit_word name) (limit_number name)) → Came n
     other_file : n ≡ 7 → (place : ℕ) → IsServed S request old new (Unmade (made.NotThisFile place))
         → Appends written written' (other_file_line place) → Came n
     unread : n ≡ 6 → IsServed S request old new (Unmade made.Disk) → Came n
@@ -204,7 +205,7 @@ module _ (S : Serving) (A : Asking) (same but_link : Type 0) (request : Request)
   pub row_10 : Came result → result ≡ 10
       → (TakesCount 16777217 old new × Appends written written' (limit_line (limit_word limits.Input) 16777216))
       ⊎ ((name : LimitName) × IsServed S request old new (Ran (run.Limit name))
-      × Appends written written' (limit_line (limit_word name) (most_of name)))
+      × Appends written written' (limit_line (limit_word name) (limit_number name)))
   row_10 (source_failed e rose keeps) is = absurd (omega (arith, e, is))
   row_10 (starved e) is = absurd (omega (arith, e, is))
   row_10 (too_long e takes wrote) is = inl (takes, wrote)

@@ -1,6 +1,7 @@
 -- The statuses of services one by one.
 use Rattle.std.specs.Prelude.{ℕ, ◌≡◌, ◌⊎◌, IfSome, List, None, Option, Some, slice_get}
 use Rattle.std.specs.Io.KnownBytes.{Appends}
+use Rattle.base_types.specs.Limits.{limit_number}
 use Rattle.base_types.specs.declared.LimitName.{LimitName}
 use Rattle.base_types.specs.declared.LimitName.TheVariants as limit
 use Rattle.base_types.specs.declared.Peer.{Peer}
@@ -16,7 +17,7 @@ use Rattle.replies.specs.Texts.{definitions_line, limit_line, limit_word}
 use Rattle.whole_io.specs.Whole.{TakesCount}
 use Rattle.workload_defs.specs.Nets.{net_of, peers_of}
 use Rattle.workload_defs.specs.Stations.{number_of}
-use Rattle.node_commands.specs.Ends.{most_of, other_file_line}
+use Rattle.node_commands.specs.Ends.{other_file_line}
 use Rattle.node_commands.specs.Forms.{AskOf, NodeFor, Request, name_in, request_of}
 use Rattle.node_commands.specs.Services.{ReadsDefs, RefusesDefs}
 
@@ -71,5 +72,5 @@ pub data PassesLimit (words : List (List ℕ)) (old new : Option Stream) (writte
       → Appends written written' (limit_line (limit_word limit.Input) 16777216)
       → PassesLimit words old new written written'
   of_run : (name : List ℕ) (turns : ℕ) (which : LimitName) → request_of words ≡ Some (NodeFor name turns)
-      → Appends written written' (limit_line (limit_word which) (most_of which))
+      → Appends written written' (limit_line (limit_word which) (limit_number which))
       → PassesLimit words old new written written'

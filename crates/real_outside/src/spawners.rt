@@ -231,15 +231,19 @@ impl<R: Processes + Files<File = File> + Clock + AllocGlobal + Clone + Drop> Chi
 
     /// Drops the note of a launch that is at work no more, and tells so by this word.
     fn drop_left(&mut self, launch: &Launch, word: &str) {
-        self.tell(word, launch, ("earlier", Value::Number(1)));
+        let fields = [
+            ("job", Value::Number(u64::from(launch.job))),
+            ("launch", Value::Number(u64::from(launch.number))),
+        ];
+        self.commons.tell(word, &fields);
         let _ = self.folder.drop_note(launch);
     }
 
-    /// Whether the process of this identity still runs.
+    /// Whether the process of this identity still runs. Where the system cannot tell, it may.
     fn is_there(&self, process: u32, known: &str) -> bool {
         match identity(self.alloc, &self.rt, process) {
             Ok(now) => now.as_str() == known,
-            Err(_) => false,
+            Err(error) => error.kind() != ErrorKind::NotFound,
         }
     }
 

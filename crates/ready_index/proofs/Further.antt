@@ -5,16 +5,16 @@ use Rattle.std.proofs.Common.{refl, subst, sym, true}
 use Rattle.std.proofs.lemmas.List.{append-nil, map-append}
 use Rattle.std.proofs.lemmas.List.Elements.{filter-append}
 use Rattle.std.specs.Option.{option_map_or}
-use Rattle.std.specs.Prelude.{◌==◌, ◌||◌, filter_map, not, unwrap_or}
-use Rattle.model.specs.Types.{At, Body, Deadline, Dep, Entry, Events, Feed, FollowsJob, FollowsStream, Job, Needs}
+use Rattle.std.specs.Prelude.{◌&&◌, ◌==◌, ◌||◌, filter_map, length, nat_le, nat_lt, not, take, unwrap_or}
+use Rattle.model.specs.Types.{At, Body, Cmd, Deadline, Dep, Entry, Events, Feed, FollowsJob, FollowsStream, Job, Needs}
 use Rattle.model.specs.Types.{Obj, Outside, Prompt, Stream, StreamDoc, Until}
 use Rattle.model.specs.Equalities.{feed_eq}
 use Rattle.model.specs.History.{View, list_of, view_of}
-use Rattle.model.specs.Words.{firsts, has}
+use Rattle.model.specs.Words.{firsts, has, last_or}
 use Rattle.model.specs.Catalogue.{StreamJob, catalogue, docs_in, is_member, job, jobs, jobs_in, jobs_of, members}
 use Rattle.model.specs.Catalogue.{members_with, named_members, owner, stream}
-use Rattle.model.specs.Facts.{commands, is_cancelled, is_due, is_ended, is_good, is_released, priority}
-use Rattle.model.specs.Dependencies.{NumberedDep, deps, document_deps, is_waived}
+use Rattle.model.specs.Facts.{commands, is_cancelled, is_due, is_ended, is_good, is_released, priority, priority_in}
+use Rattle.model.specs.Dependencies.{NumberedDep, deps, deps_added_by, document_deps, is_waived, is_waived_by}
 use Rattle.model.specs.Dependencies.{job_lets_followers_go, numbered_deps, owner_events, stream_lets_followers_go}
 use Rattle.model.specs.Dependencies.{unwaived_deps}
 use Rattle.model.specs.Readiness.{job_priority, stream_priority}
@@ -30,8 +30,9 @@ use Rattle.ready_index.specs.Standing.{IsIndexBut, IsIndexOf}
 use Rattle.ready_index.proofs.Standings.{after_entry, left_by}
 use Rattle.ready_index.proofs.Bests.{held}
 use Rattle.ready_index.proofs.Elements.{chosen_too, filter_same}
-use Rattle.ready_index.proofs.Quiet.{IsSmall, cancelled_same, commands_same, docs_same, due_before, ended_same}
-use Rattle.ready_index.proofs.Quiet.{good_before, names_same, released_same}
+use Rattle.ready_index.proofs.Quiet.{Endures, IsSmall, added_deps_endure, cancelled_same, commands_same, docs_same}
+use Rattle.ready_index.proofs.Quiet.{due_before, ended_same, good_before, names_same, priorities_endure}
+use Rattle.ready_index.proofs.Quiet.{released_same, waivers_endure}
 
 list_of-append : (G H : List Entry) (f : Feed) → list_of (G ++ H) f ≡ list_of G f ++ list_of H f
 unfolding list_of
@@ -129,8 +130,10 @@ module _ (kept : List Entry) (e : Entry) where
     owner_stays (Job j) = ap (option_map (λ (p : StreamJob). p.doc.ws)) (job_stays j)
     owner_stays (Stream s) = ap (option_map (λ (d : StreamDoc). d.ws)) (stream_stays s)
 
-    commands_stay : (v : ℕ) → commands (with_it (Events v)) ≡ commands (before (Events v))
-    commands_stay v = fact_same commands (commands_same e.body small) v
+    commands_stay : {X : Type 0} (fact : List Cmd → X) → Endures fact → (v : ℕ)
+        → fact (commands (with_it (Events v))) ≡ fact (commands (before (Events v)))
+    commands_stay fact endures v =
+        fact_same (λ (l : List Body). fact (commands l)) (commands_same fact endures e.body small) v
 
     cancelled_stays : (o : Obj) (v : ℕ) → is_cancelled o (with_it (Events v)) ≡ is_cancelled o (before (Events v))
     cancelled_stays o v = fact_same (is_cancelled o) (cancelled_same o e.body small) v
@@ -138,7 +141,8 @@ module _ (kept : List Entry) (e : Entry) where
     priority_stays : (o : Obj) (written v : ℕ)
         → priority o written (with_it (Events v)) ≡ priority o written (before (Events v))
     unfolding priority
-    priority_stays o written v = rw (commands_stay v) refl
+    priority_stays o written v =
+        ap (last_or written) (commands_stay (filter_map (priority_in o)) (priorities_endure o) v)
 
     stream_priority_stays : (d : StreamDoc) → stream_priority with_it d ≡ stream_priority before d
     unfolding stream_priority
@@ -148,17 +152,18 @@ module _ (kept : List Entry) (e : Entry) where
     unfolding job_priority
     job_priority_stays p = priority_stays (Job p.doc.no) p.doc.priority p.doc.ws
 
-    owner_commands_stay : (o : Obj) → commands (owner_events with_it o) ≡ commands (owner_events before o)
+    owner_commands_stay : {X : Type 0} (fact : List Cmd → X) → Endures fact → (o : Obj)
+        → fact (commands (owner_events with_it o)) ≡ fact (commands (owner_events before o))
     unfolding owner_events
-    owner_commands_stay o =
-        ap (λ (w : Option ℕ). commands (option_map_or (λ w. with_it (Events w)) w [])) (owner_stays o)
+    owner_commands_stay fact endures o =
+        ap (λ (w : Option ℕ). fact (commands (option_map_or (λ w. with_it (Events w)) w []))) (owner_stays o)
         ∙ go (owner before o)
       where
         go : (w : Option ℕ)
-            → commands (option_map_or (λ w. with_it (Events w)) w [])
-            ≡ commands (option_map_or (λ w. before (Events w)) w [])
+            → fact (commands (option_map_or (λ w. with_it (Events w)) w []))
+            ≡ fact (commands (option_map_or (λ w. before (Events w)) w []))
         go None = refl
-        go (Some v) = commands_stay v
+        go (Some v) = commands_stay fact endures v
 
     document_deps_stay : (o : Obj) → document_deps with_it o ≡ document_deps before o
     unfolding document_deps
@@ -169,11 +174,17 @@ module _ (kept : List Entry) (e : Entry) where
 
     deps_stay : (o : Obj) → deps with_it o ≡ deps before o
     unfolding deps
-    deps_stay o = rw (document_deps_stay o, owner_commands_stay o) refl
+    deps_stay o =
+        ap₂ (λ (written added : List Dep). take 65535 (written ++ added)) (document_deps_stay o)
+        (owner_commands_stay (flat_map (deps_added_by o)) (added_deps_endure o) o)
 
     waived_stays : (o : Obj) (i : ℕ) → is_waived with_it o i ≡ is_waived before o i
     unfolding is_waived
-    waived_stays o i = rw (deps_stay o, document_deps_stay o, owner_commands_stay o) refl
+    waived_stays o i =
+        rw (deps_stay o, document_deps_stay o)
+        (ap (λ (b : Bool). nat_lt 0 i && (nat_le i (length (deps before o)) && b))
+        (owner_commands_stay (is_waived_by o i (length (document_deps before o)))
+        (waivers_endure o i (length (document_deps before o))) o))
 
     unwaived_stay : (o : Obj) → unwaived_deps with_it o ≡ unwaived_deps before o
     unfolding unwaived_deps

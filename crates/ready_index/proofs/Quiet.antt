@@ -12,10 +12,10 @@ use Rattle.std.proofs.lemmas.List.Sums.{fold-append, sum_by-append}
 use Rattle.std.specs.Bool.{then_some}
 use Rattle.std.specs.List.{list_any}
 use Rattle.std.specs.Option.{option_map_or, option_or}
-use Rattle.std.specs.Prelude.{◌||◌, count_by, filter_map, is_none, not, option_and_then, slice_get}
-use Rattle.model.specs.Types.{Added, Body, Canc, Clock, Cont, Declined, Ended, Failed}
-use Rattle.model.specs.Types.{Fulfilled, Late, Launched, Lost, NewPlan, Obeyed, Obj, Order, Released, Started}
-use Rattle.model.specs.Types.{StreamDoc, StreamEnded, Suppr, UntilPassed}
+use Rattle.std.specs.Prelude.{◌||◌, count_by, filter_map, is_none, length, not, option_and_then, slice_get}
+use Rattle.model.specs.Types.{AddDep, Added, AltPri, Body, Canc, Cancel, Clock, Cmd, Confirm, Cont, Declined, DelDep, Dep}
+use Rattle.model.specs.Types.{Ended, Failed, Fulfilled, Late, Launched, Lost, NewPlan, Obeyed, Obj, Order, Release}
+use Rattle.model.specs.Types.{Released, Rerun, Started, StreamDoc, StreamEnded, Submit, Suppr, UntilPassed}
 use Rattle.model.specs.Catalogue.{docs_in, members_with}
 use Rattle.owner_fold.specs.Plans.{is_planning_body}
 use Rattle.owner_fold.proofs.Planless.{no_docs, no_names}
@@ -23,10 +23,11 @@ use Rattle.model.specs.Outcomes.{Outcome}
 use Rattle.model.specs.Facts.{LastLaunch, commands, end_of, first_end, is_cancel_of, is_cancelled, is_cancelling}
 use Rattle.model.specs.Facts.{is_confirm_of, is_due, is_end_of, is_ended, is_good, is_good_end, is_launch_of, is_open, is_rerun_of}
 use Rattle.model.specs.Facts.{is_release_of, is_released, last_launch, launch_here, launches, obeyed_command}
-use Rattle.model.specs.Facts.{open_launch, reruns}
+use Rattle.model.specs.Facts.{open_launch, priority_in, reruns}
+use Rattle.model.specs.Dependencies.{deps_added_by, is_waived_by, waives}
 use Rattle.ready_index.specs.declared.changes.Change.TheVariants.{At, Everything}
 use Rattle.ready_index.specs.declared.targets.Target.TheVariants.{EndOfJob, EndOfStream, ReleaseOf}
-use Rattle.ready_index.specs.Changes.{change_by}
+use Rattle.ready_index.specs.Changes.{change_by, change_by_command}
 
 -- an entry changes not everything
 abbrev pub IsSmall : Body → Type 0
@@ -51,24 +52,57 @@ no_plan (Declined a k why) h = refl
 no_plan (Order c) h = refl
 no_plan (Late p i) h = refl
 
--- it obeys no command
-no_command : (b : Body) → IsSmall b → obeyed_command b ≡ None
-no_command (NewPlan run cut carried docs) h = refl
-no_command (Added a k doc) h = refl
-no_command (Clock t) h = refl
-no_command (Released s seen) h = refl
-no_command (StreamEnded s seen) h = refl
-no_command (UntilPassed p i mark) h = refl
-no_command (Launched j n seen) h = refl
-no_command (Started j n) h = refl
-no_command (Failed j n) h = refl
-no_command (Ended j n rc good) h = refl
-no_command (Lost j n) h = refl
-no_command (Fulfilled p i) h = refl
-no_command (Obeyed a k c) h = absurd (h refl)
-no_command (Declined a k why) h = refl
-no_command (Order c) h = refl
-no_command (Late p i) h = refl
+-- no fact that an index knows is told by this command
+pub record IsUnfelt (c : Cmd) : Type 0 where
+  reruns_none : (j : ℕ) → is_rerun_of j c ≡ false
+  cancels_none : (o : Obj) → is_cancel_of o c ≡ false
+  confirms_none : (j : ℕ) → is_confirm_of j c ≡ false
+  sets_none : (o : Obj) → priority_in o c ≡ None
+  adds_none : (o : Obj) → deps_added_by o c ≡ []
+  waives_none : (o : Obj) (i n : ℕ) → waives o i n c ≡ false
+
+-- a command that does not change everything
+unfelt : (c : Cmd) → change_by_command c ≢ Everything → IsUnfelt c
+unfelt (AddDep o d) h = absurd (h refl)
+unfelt (DelDep o i) h = absurd (h refl)
+unfelt (Release o) h = absurd (h refl)
+unfelt (AltPri o n) h = absurd (h refl)
+unfelt (Cancel o) h = absurd (h refl)
+unfelt (Confirm j) h = absurd (h refl)
+unfelt (Rerun j) h = absurd (h refl)
+unfelt (Submit draft) h = absurd (h refl)
+unfelt _ h = record {
+  reruns_none = λ j. refl;
+  cancels_none = λ o. refl;
+  confirms_none = λ j. refl;
+  sets_none = λ o. refl;
+  adds_none = λ o. refl;
+  waives_none = λ o i n. refl;
+}
+
+-- a fact of commands that such a command leaves as it was
+abbrev pub Endures : {X : Type 0} → (List Cmd → X) → Type 0
+Endures fact = (c : Cmd) → IsUnfelt c → (cs : List Cmd) → fact (cs ++ c ∷ []) ≡ fact cs
+
+-- it obeys no command, or one that tells nothing
+told_nothing : {X : Type 0} (fact : List Cmd → X) → Endures fact → (b : Body) → IsSmall b → (cs : List Cmd)
+    → fact (cs ++ filter_map obeyed_command (b ∷ [])) ≡ fact cs
+told_nothing fact endures (Obeyed a k c) h cs = endures c (unfelt c h) cs
+told_nothing fact endures (NewPlan run cut carried docs) h cs = ap fact (append-nil cs)
+told_nothing fact endures (Added a k doc) h cs = ap fact (append-nil cs)
+told_nothing fact endures (Clock t) h cs = ap fact (append-nil cs)
+told_nothing fact endures (Released s seen) h cs = ap fact (append-nil cs)
+told_nothing fact endures (StreamEnded s seen) h cs = ap fact (append-nil cs)
+told_nothing fact endures (UntilPassed p i mark) h cs = ap fact (append-nil cs)
+told_nothing fact endures (Launched j n seen) h cs = ap fact (append-nil cs)
+told_nothing fact endures (Started j n) h cs = ap fact (append-nil cs)
+told_nothing fact endures (Failed j n) h cs = ap fact (append-nil cs)
+told_nothing fact endures (Ended j n rc good) h cs = ap fact (append-nil cs)
+told_nothing fact endures (Lost j n) h cs = ap fact (append-nil cs)
+told_nothing fact endures (Fulfilled p i) h cs = ap fact (append-nil cs)
+told_nothing fact endures (Declined a k why) h cs = ap fact (append-nil cs)
+told_nothing fact endures (Order c) h cs = ap fact (append-nil cs)
+told_nothing fact endures (Late p i) h cs = ap fact (append-nil cs)
 
 -- it cancels nothing
 no_cancelling : (o : Obj) (b : Body) → IsSmall b → is_cancelling o b ≡ false
@@ -100,30 +134,61 @@ pub names_same : (b : Body) → IsSmall b → (l : List Body)
     → fold members_with None (l ++ b ∷ []) ≡ fold members_with None l
 names_same b h l = fold-append members_with None l (b ∷ []) ∙ no_names (fold members_with None l) b (no_plan b h)
 
-pub commands_same : (b : Body) → IsSmall b → (l : List Body) → commands (l ++ b ∷ []) ≡ commands l
+-- what endures is of the commands that were obeyed as it was
+pub commands_same : {X : Type 0} (fact : List Cmd → X) → Endures fact → (b : Body) → IsSmall b → (l : List Body)
+    → fact (commands (l ++ b ∷ [])) ≡ fact (commands l)
 unfolding commands
-commands_same b h l =
-    filter_map-append obeyed_command l (b ∷ []) ∙ rw (no_command b h) (append-nil (filter_map obeyed_command l))
+commands_same fact endures b h l =
+    ap fact (filter_map-append obeyed_command l (b ∷ []))
+    ∙ told_nothing fact endures b h (filter_map obeyed_command l)
 
 or_false : (a b : Bool) → b ≡ false → (a || (b || false)) ≡ a
 or_false true b h = refl
 or_false false b h = rw h refl
 
 -- nobody passes a test because of it
-any_same : (p : Body → Bool) (b : Body) → p b ≡ false → (l : List Body) → list_any p (l ++ b ∷ []) ≡ list_any p l
+any_same : {X : Type 0} (p : X → Bool) (b : X) → p b ≡ false → (l : List X) → list_any p (l ++ b ∷ []) ≡ list_any p l
 any_same p b h l = list_any-append p l (b ∷ []) ∙ or_false (list_any p l) (p b) h
+
+reruns_endure : (j : ℕ) → Endures (count_by (is_rerun_of j))
+reruns_endure j c h cs =
+    let n : count_by (is_rerun_of j) (cs ++ c ∷ [])
+    ≡ count_by (is_rerun_of j) cs + count_by (is_rerun_of j) (c ∷ []) = sum_by-append _ cs (c ∷ []) in
+    let z : count_by (is_rerun_of j) (c ∷ []) ≡ 0 = rw (h.reruns_none j) refl in omega (arith, n, z)
+
+cancels_endure : (o : Obj) → Endures (list_any (is_cancel_of o))
+cancels_endure o c h cs = any_same (is_cancel_of o) c (h.cancels_none o) cs
+
+confirms_endure : (j : ℕ) → Endures (list_any (is_confirm_of j))
+confirms_endure j c h cs = any_same (is_confirm_of j) c (h.confirms_none j) cs
+
+pub priorities_endure : (o : Obj) → Endures (filter_map (priority_in o))
+priorities_endure o c h cs =
+    filter_map-append (priority_in o) cs (c ∷ []) ∙ rw (h.sets_none o) (append-nil (filter_map (priority_in o) cs))
+
+pub added_deps_endure : (o : Obj) → Endures (flat_map (deps_added_by o))
+added_deps_endure o c h cs =
+    flat_map-append (deps_added_by o) cs (c ∷ [])
+    ∙ ap (λ (ds : List Dep). flat_map (deps_added_by o) cs ++ (ds ++ [])) (h.adds_none o)
+    ∙ append-nil (flat_map (deps_added_by o) cs)
+
+pub waivers_endure : (o : Obj) (i n : ℕ) → Endures (is_waived_by o i n)
+waivers_endure o i n c h [] = rw (h.waives_none o i n) refl
+waivers_endure o i n c h (x ∷ cs) =
+    ap (λ (b : Bool). waives o i n x || b) (waivers_endure o i (n + length (deps_added_by o x)) c h cs)
 
 pub cancelled_same : (o : Obj) (b : Body) → IsSmall b → (l : List Body) → is_cancelled o (l ++ b ∷ []) ≡ is_cancelled o l
 unfolding is_cancelled
 cancelled_same o b h l =
-    ap₂ ◌||◌ (ap (list_any (is_cancel_of o)) (commands_same b h l)) (any_same (is_cancelling o) b (no_cancelling o b h) l)
+    ap₂ ◌||◌ (commands_same (list_any (is_cancel_of o)) (cancels_endure o) b h l)
+    (any_same (is_cancelling o) b (no_cancelling o b h) l)
 
 -- a job that is due with it was due before
 pub due_before : (j : ℕ) (b : Body) → IsSmall b → (l : List Body) → is_due j (l ++ b ∷ []) ≡ true → is_due j l ≡ true
 unfolding is_due launches reruns
 due_before j b h l e =
     let r : count_by (is_rerun_of j) (commands (l ++ b ∷ [])) ≡ count_by (is_rerun_of j) (commands l) =
-    ap (count_by (is_rerun_of j)) (commands_same b h l) in
+    commands_same (count_by (is_rerun_of j)) (reruns_endure j) b h l in
     let n : count_by (is_launch_of j) (l ++ b ∷ []) ≡ count_by (is_launch_of j) l + count_by (is_launch_of j) (b ∷ []) =
     sum_by-append _ l (b ∷ []) in
     fewer (count_by (is_launch_of j) l) (count_by (is_launch_of j) (b ∷ [])) (count_by (is_rerun_of j) (commands l))
@@ -223,7 +288,7 @@ due_same : (j : ℕ) (b : Body) → IsSmall b → is_launch_of j b ≡ false →
 unfolding is_due launches reruns
 due_same j b h none l =
     let r : count_by (is_rerun_of j) (commands (l ++ b ∷ [])) ≡ count_by (is_rerun_of j) (commands l) =
-    ap (count_by (is_rerun_of j)) (commands_same b h l) in
+    commands_same (count_by (is_rerun_of j)) (reruns_endure j) b h l in
     let n : count_by (is_launch_of j) (l ++ b ∷ []) ≡ count_by (is_launch_of j) l + count_by (is_launch_of j) (b ∷ []) =
     sum_by-append _ l (b ∷ []) in
     let z : count_by (is_launch_of j) (b ∷ []) ≡ 0 = counted_none (is_launch_of j) b none in
@@ -246,7 +311,7 @@ good_same j b h other none l =
   where
     go : (o : Option LastLaunch) → good_by j (is_due j l) (option_map (more b) o) ≡ good_by j (is_due j l) o
     go None = refl
-    go (Some m) = rw (end_same j m.number b other m.later, commands_same b h m.later) refl
+    go (Some m) = rw (end_same j m.number b other m.later, commands_same (list_any (is_confirm_of j)) (confirms_endure j) b h m.later) refl
 
 no_good : (a b : Bool) → ((a && false) && b) ≡ true → ⊥
 no_good true b h = cc

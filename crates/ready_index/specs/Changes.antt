@@ -1,8 +1,9 @@
 -- What an entry changes of what an index knows.
 use Rattle.std.specs.Prelude.{[], ℕ, ◌++◌, ◌∷◌, ◌≡◌, ◌≢◌, List, true}
-use Rattle.model.specs.Types.{Added, Body, Canc, Clock, Cont, Declined, Ended, Entry, Failed, Fulfilled, Late}
-use Rattle.model.specs.Types.{Launched, Lost, NewPlan, Obeyed, Order, Released, Started, StreamDoc, StreamEnded}
-use Rattle.model.specs.Types.{Suppr, UntilPassed}
+use Rattle.model.specs.Types.{AddDep, Added, AltPri, Body, Canc, Cancel, Clock, Cmd, Confirm, Cont, Declined, DelDep}
+use Rattle.model.specs.Types.{Ended, Entry, Failed, Fence, Fulfilled, Kill, Late, Launched, Limit, Lost, NewPlan}
+use Rattle.model.specs.Types.{Obeyed, Order, Release, Released, ReplyGlobal, ReplyOwn, Rerun, Started, Stop}
+use Rattle.model.specs.Types.{StreamDoc, StreamEnded, StreamLimit, Submit, Suppr, SwitchMgr, Total, UntilPassed}
 use Rattle.model.specs.History.{View, view_of}
 use Rattle.model.specs.Catalogue.{StreamJob, jobs_of}
 use Rattle.model.specs.Readiness.{job_priority, stream_priority}
@@ -12,11 +13,32 @@ use Rattle.ready_index.specs.declared.changes.Change.TheVariants.{At, Everything
 use Rattle.ready_index.specs.declared.targets.Target.{Target}
 use Rattle.ready_index.specs.declared.targets.Target.TheVariants.{EndOfJob, EndOfStream, ReleaseOf}
 
+-- what an obeyed command changes: everything, where it may change what is in play, a priority or what a job waits for
+abbrev pub change_by_command : Cmd → Change
+change_by_command (AddDep o d) = Everything
+change_by_command (DelDep o i) = Everything
+change_by_command (Release o) = Everything
+change_by_command (AltPri o n) = Everything
+change_by_command (Cancel o) = Everything
+change_by_command (Confirm j) = Everything
+change_by_command (Rerun j) = Everything
+change_by_command (Submit draft) = Everything
+change_by_command (Kill j) = Nothing
+change_by_command (Fence p) = Nothing
+change_by_command (Limit n) = Nothing
+change_by_command (StreamLimit s n) = Nothing
+change_by_command (Total r n) = Nothing
+change_by_command (ReplyGlobal p yes_) = Nothing
+change_by_command (ReplyOwn o i yes_) = Nothing
+change_by_command Cmd.Start = Nothing
+change_by_command Stop = Nothing
+change_by_command (SwitchMgr w) = Nothing
+
 -- what an entry with this body changes
 abbrev pub change_by : Body → Change
 change_by (NewPlan run cut carried docs) = Everything
 change_by (Added a k doc) = Everything
-change_by (Obeyed a k c) = Everything
+change_by (Obeyed a k c) = change_by_command c
 change_by (UntilPassed o i Canc) = Everything
 change_by (UntilPassed o i Suppr) = Nothing
 change_by (UntilPassed o i Cont) = Nothing

@@ -88,21 +88,7 @@ Endures fact = (c : Cmd) → IsUnfelt c → (cs : List Cmd) → fact (cs ++ c �
 told_nothing : {X : Type 0} (fact : List Cmd → X) → Endures fact → (b : Body) → IsSmall b → (cs : List Cmd)
     → fact (cs ++ filter_map obeyed_command (b ∷ [])) ≡ fact cs
 told_nothing fact endures (Obeyed a k c) h cs = endures c (unfelt c h) cs
-told_nothing fact endures (NewPlan run cut carried docs) h cs = ap fact (append-nil cs)
-told_nothing fact endures (Added a k doc) h cs = ap fact (append-nil cs)
-told_nothing fact endures (Clock t) h cs = ap fact (append-nil cs)
-told_nothing fact endures (Released s seen) h cs = ap fact (append-nil cs)
-told_nothing fact endures (StreamEnded s seen) h cs = ap fact (append-nil cs)
-told_nothing fact endures (UntilPassed p i mark) h cs = ap fact (append-nil cs)
-told_nothing fact endures (Launched j n seen) h cs = ap fact (append-nil cs)
-told_nothing fact endures (Started j n) h cs = ap fact (append-nil cs)
-told_nothing fact endures (Failed j n) h cs = ap fact (append-nil cs)
-told_nothing fact endures (Ended j n rc good) h cs = ap fact (append-nil cs)
-told_nothing fact endures (Lost j n) h cs = ap fact (append-nil cs)
-told_nothing fact endures (Fulfilled p i) h cs = ap fact (append-nil cs)
-told_nothing fact endures (Declined a k why) h cs = ap fact (append-nil cs)
-told_nothing fact endures (Order c) h cs = ap fact (append-nil cs)
-told_nothing fact endures (Late p i) h cs = ap fact (append-nil cs)
+told_nothing fact endures _ h cs = ap fact (append-nil cs)
 
 -- it cancels nothing
 no_cancelling : (o : Obj) (b : Body) → IsSmall b → is_cancelling o b ≡ false
@@ -311,7 +297,12 @@ good_same j b h other none l =
   where
     go : (o : Option LastLaunch) → good_by j (is_due j l) (option_map (more b) o) ≡ good_by j (is_due j l) o
     go None = refl
-    go (Some m) = rw (end_same j m.number b other m.later, commands_same (list_any (is_confirm_of j)) (confirms_endure j) b h m.later) refl
+    go (Some m) =
+        rw (
+          end_same j m.number b other m.later,
+          commands_same (list_any (is_confirm_of j)) (confirms_endure j) b h m.later,
+        )
+        refl
 
 no_good : (a b : Bool) → ((a && false) && b) ≡ true → ⊥
 no_good true b h = cc

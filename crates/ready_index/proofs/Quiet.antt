@@ -13,6 +13,7 @@ use Rattle.std.specs.Bool.{then_some}
 use Rattle.std.specs.List.{list_any}
 use Rattle.std.specs.Option.{option_map_or, option_or}
 use Rattle.std.specs.Prelude.{◌||◌, count_by, filter_map, is_none, length, not, option_and_then, slice_get}
+use Rattle.model_laws.proofs.Tidy.{launched_none}
 use Rattle.model.specs.Types.{AddDep, Added, AltPri, Body, Canc, Cancel, Clock, Cmd, Confirm, Cont, Declined, DelDep, Dep}
 use Rattle.model.specs.Types.{Ended, Failed, Fulfilled, Late, Launched, Lost, NewPlan, Obeyed, Obj, Order, Release}
 use Rattle.model.specs.Types.{Released, Rerun, Started, StreamDoc, StreamEnded, Submit, Suppr, UntilPassed}
@@ -88,21 +89,7 @@ Endures fact = (c : Cmd) → IsUnfelt c → (cs : List Cmd) → fact (cs ++ c �
 told_nothing : {X : Type 0} (fact : List Cmd → X) → Endures fact → (b : Body) → IsSmall b → (cs : List Cmd)
     → fact (cs ++ filter_map obeyed_command (b ∷ [])) ≡ fact cs
 told_nothing fact endures (Obeyed a k c) h cs = endures c (unfelt c h) cs
-told_nothing fact endures (NewPlan run cut carried docs) h cs = ap fact (append-nil cs)
-told_nothing fact endures (Added a k doc) h cs = ap fact (append-nil cs)
-told_nothing fact endures (Clock t) h cs = ap fact (append-nil cs)
-told_nothing fact endures (Released s seen) h cs = ap fact (append-nil cs)
-told_nothing fact endures (StreamEnded s seen) h cs = ap fact (append-nil cs)
-told_nothing fact endures (UntilPassed p i mark) h cs = ap fact (append-nil cs)
-told_nothing fact endures (Launched j n seen) h cs = ap fact (append-nil cs)
-told_nothing fact endures (Started j n) h cs = ap fact (append-nil cs)
-told_nothing fact endures (Failed j n) h cs = ap fact (append-nil cs)
-told_nothing fact endures (Ended j n rc good) h cs = ap fact (append-nil cs)
-told_nothing fact endures (Lost j n) h cs = ap fact (append-nil cs)
-told_nothing fact endures (Fulfilled p i) h cs = ap fact (append-nil cs)
-told_nothing fact endures (Declined a k why) h cs = ap fact (append-nil cs)
-told_nothing fact endures (Order c) h cs = ap fact (append-nil cs)
-told_nothing fact endures (Late p i) h cs = ap fact (append-nil cs)
+told_nothing fact endures _ h cs = ap fact (append-nil cs)
 
 -- it cancels nothing
 no_cancelling : (o : Obj) (b : Body) → IsSmall b → is_cancelling o b ≡ false
@@ -233,14 +220,10 @@ here_more j (Launched k n seen) b later = go (eqb j k)
     go false = refl
 here_more j _ b later = refl
 
-no_launch_here : (j : ℕ) (b : Body) (rest : List Body) → is_launch_of j b ≡ false → launch_here j b rest ≡ None
-no_launch_here j (Launched k n seen) rest h = rw h refl
-no_launch_here j _ rest h = refl
-
 last_more : (j : ℕ) (l : List Body) (b : Body) → is_launch_of j b ≡ false
     → last_launch j (l ++ b ∷ []) ≡ option_map (more b) (last_launch j l)
 unfolding last_launch
-last_more j [] b e = no_launch_here j b [] e
+last_more j [] b e = launched_none j b [] e
 last_more j (x ∷ l) b e = rw (last_more j l b e) (go (last_launch j l))
   where
     go : (o : Option LastLaunch)
@@ -311,7 +294,12 @@ good_same j b h other none l =
   where
     go : (o : Option LastLaunch) → good_by j (is_due j l) (option_map (more b) o) ≡ good_by j (is_due j l) o
     go None = refl
-    go (Some m) = rw (end_same j m.number b other m.later, commands_same (list_any (is_confirm_of j)) (confirms_endure j) b h m.later) refl
+    go (Some m) =
+        rw (
+          end_same j m.number b other m.later,
+          commands_same (list_any (is_confirm_of j)) (confirms_endure j) b h m.later,
+        )
+        refl
 
 no_good : (a b : Bool) → ((a && false) && b) ≡ true → ⊥
 no_good true b h = cc

@@ -10,8 +10,8 @@ use Rattle.std.proofs.lemmas.Bool.Decides.{nat_tests}
 use Rattle.std.proofs.lemmas.Str.{IsUtf8-append, IsUtf8-from_ascii, IsUtf8-from_is_utf8, is_utf8-from_IsUtf8}
 use Rattle.std.proofs.lemmas.Str.Ascii.{IsAscii-cons, IsAscii-nil}
 use Rattle.lemmas.proofs.Booleans.{and_parts}
-use Rattle.syntax.proofs.Escapes.{one_escaped}
-use Rattle.syntax.specs.Quotes.{is_escaped}
+use Rattle.syntax.proofs.Escapes.{escaped_utf8}
+use Rattle.syntax.specs.Quotes.{is_escaped, escaped, quoted_text}
 use Rattle.base_types.specs.declared.reports.Token.{Token}
 use Rattle.base_types.specs.declared.reports.TokenKind.{TokenKind}
 use Rattle.base_types.specs.declared.reports.TokenKind.TheVariants as kind
@@ -19,7 +19,6 @@ use Rattle.composer_lexer.specs.Tokens.{front, token, before, tokens_from, text_
 use Rattle.composer_lexer.proofs.Walks.{at_piece, at_space, at_line_end}
 use Rattle.composer_parser.specs.Kinds.{Shape, mark, quoted, word, Spelled}
 use Rattle.composer_parser.specs.Tokens.{as_text, piece, shape_of, spelled, all_spelled}
-use Rattle.composer_print.specs.Texts.{escaped, quoted_text}
 use Rattle.composer_print.proofs.Spelling.{quoted_back}
 use Rattle.composer_laws.specs.Written.{IsText, is_no_feed}
 
@@ -204,12 +203,6 @@ width_is (b ∷ v) rest h =
     ∙ width_front b (flat_map escaped v) rest (not_feed b parts.0)
     ∙ ap (λ o. with_bytes (length (escaped b)) 1 o) (width_is v rest parts.1)
     ∙ (λ i. Some (first i, second i))
-
-escaped_utf8 : (xs v : List ℕ) → IsUtf8 (xs ++ v) → IsUtf8 (xs ++ flat_map escaped v)
-escaped_utf8 xs [] u = u
-escaped_utf8 xs (b ∷ v) u =
-    rw (append_assoc xs (escaped b) (flat_map escaped v)) at
-    (escaped_utf8 (xs ++ escaped b) v (one_escaped xs v b (is_escaped b) refl u))
 
 quoted_utf8 : (v : List ℕ) → is_utf8 v ≡ true → is_utf8 (quoted_text v) ≡ true
 unfolding quoted_text

@@ -17,7 +17,7 @@ use Rattle.composer_parser.specs.Words.{lower}
 use Rattle.composer_parser.specs.Kinds.{word, quoted, keyword, a_name, a_text, a_value, a_word, a_number, a_time, a_date, a_plus, an_offset, is_free_name, is_time, is_offset, is_minus}
 use Rattle.composer_parser.specs.Grammars.{one, both, nothing}
 use Rattle.composer_parser.specs.Parts.{bytes_of, upper, capped, minutes, day_of, key, name, upper_word, value, text, number, time, date, plus, signed}
-use Rattle.composer_print.specs.Texts.{quoted_text}
+use Rattle.syntax.specs.Quotes.{quoted_text}
 use Rattle.calendars.specs.Dates.{days_in_month}
 use Rattle.composer_print.specs.Days.{time_text, date_text, date_of_day, date_after, two_digits, written_date}
 use Rattle.composer_print.proofs.Dates.{after_stands, late_year}

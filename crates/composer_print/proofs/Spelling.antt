@@ -10,7 +10,7 @@ use Rattle.std.proofs.lemmas.Bool.Decides.{nat_tests}
 use Rattle.std.proofs.lemmas.Fmt.{digits_decimal, digits_value-decimal, decimal_nonempty, first_decimal, decimal_digit}
 use Rattle.lemmas.proofs.Texts.{decimal_digits}
 use Rattle.syntax.specs.Numbers.{is_number, has_leading_zero}
-use Rattle.syntax.specs.Quotes.{is_escaped, byte_of, after_byte, unquoted, quoted_of, within_limit}
+use Rattle.syntax.specs.Quotes.{is_escaped, byte_of, after_byte, unquoted, quoted_of, within_limit, escaped, quoted_text}
 use Rattle.syntax.proofs.Escapes.{unquoted_more}
 use Rattle.calendars.specs.Dates as calendar
 use Rattle.calendars.specs.Dates.{days_in_month, days_before, last_day}
@@ -18,7 +18,6 @@ use Rattle.calendars.specs.Written.{digits_of, date_of, before_slash, behind_sla
 use Rattle.calendars.proofs.Calendar.{present}
 use Rattle.composer_parser.specs.Kinds.{is_time, is_date, is_plus, is_offset}
 use Rattle.composer_parser.specs.Parts.{capped, minutes, day_of}
-use Rattle.composer_print.specs.Texts.{escaped, quoted_text}
 use Rattle.composer_print.specs.Days.{date_after, date_of_day, two_digits, written_date, date_text, time_text}
 use Rattle.composer_print.proofs.Dates.{Stands, after_stands, late_year}
 

@@ -10,7 +10,7 @@ use Rattle.model.specs.Types.{Carry, Net, Node, PromptDef, Resource}
 use Rattle.base_types.specs.declared.Carry.TheVariants as carry
 use Rattle.plan_listing.specs.Networks.{hop_gap, hop_name, mark, node_line, prompt_line, resource_line}
 use Rattle.report_text.specs.Names.{name_of}
-use Rattle.report_text.specs.Quotes.{quoted_text}
+use Rattle.syntax.specs.Quotes.{quoted_text}
 use Rattle.syntax.specs.Splits.{after_word, first_word, words_of}
 use Rattle.record_rows.specs.declared.rows.Row.{Row}
 use Rattle.record_rows.specs.declared.rows.Row.TheVariants as row

@@ -2,7 +2,7 @@
 use Rattle.std.proofs.Common.{◌≡◌, ◌<◌, ◌≤◌, ◌+◌, ◌/◌, ◌%◌, ◌^◌, ℕ, zero, suc, Bool, true, false, ◌&&◌, ltb, leb, List}
 use Rattle.std.proofs.Common.{[]}
 use Rattle.std.proofs.Common.{◌∷◌, ◌++◌, length, get_or, flat_map, codes, Option, Some, None, slice_get, is_none, IsUtf8}
-use Rattle.std.proofs.Common.{refl, arith, append_assoc, decimal, if◌then◌else◌}
+use Rattle.std.proofs.Common.{refl, arith, decimal, if◌then◌else◌}
 use Rattle.std.specs.List.{AllByRecursion, list_all}
 use Rattle.std.specs.Option.{option_map_or}
 use Rattle.std.specs.Str.{is_utf8}
@@ -11,7 +11,7 @@ use Rattle.std.proofs.lemmas.Bool.Decides.{nat_tests}
 use Rattle.std.proofs.lemmas.Fmt.{IsAscii-decimal}
 use Rattle.std.proofs.lemmas.Str.{IsUtf8-append, IsUtf8-from_ascii, IsUtf8-from_is_utf8}
 use Rattle.std.proofs.lemmas.Str.{IsUtf8-nil}
-use Rattle.syntax.proofs.Escapes.{one_escaped}
+use Rattle.syntax.proofs.Escapes.{escaped_utf8}
 use Rattle.lemmas.proofs.Lists.{all_get}
 use Rattle.base_types.specs.Name.{is_name_byte, starts_with_letter}
 use Rattle.base_types.specs.declared.Carry.TheVariants as carry
@@ -21,8 +21,7 @@ use Rattle.model.specs.Spelling.{entry_bytes}
 use Rattle.model.specs.Types.{Carry, Entry, Net, Node, PromptDef, Resource, Start}
 use Rattle.plan_listing.specs.Networks.{carry_line, hop_gap, hop_name, mark, network_text, node_line, prompt_line, resource_line}
 use Rattle.report_text.specs.Names.{name_of}
-use Rattle.report_text.specs.Quotes.{escaped, quoted_text}
-use Rattle.syntax.specs.Quotes.{is_escaped}
+use Rattle.syntax.specs.Quotes.{escaped, quoted_text}
 use Rattle.history_script.specs.Digits.{digit, digits_of, is_byte}
 use Rattle.history_script.specs.Printed.{IsStartInRange, entry_line, head_text, history_text, start_line}
 use Rattle.history_laws.specs.Printables.{IsKeptName, IsNamedNode, IsNamedPrompt, IsNamedResource, IsPrintable}
@@ -88,12 +87,6 @@ digits_low (b ∷ bytes) all =
     rw (high, low, rest) refl
 
 -- Texts in quotes.
-
-escaped_utf8 : (xs v : List ℕ) → IsUtf8 (xs ++ v) → IsUtf8 (xs ++ flat_map escaped v)
-escaped_utf8 xs [] u = u
-escaped_utf8 xs (b ∷ v) u =
-    rw (append_assoc xs (escaped b) (flat_map escaped v)) at
-    (escaped_utf8 (xs ++ escaped b) v (one_escaped xs v b (is_escaped b) refl u))
 
 quoted_utf8 : (v : List ℕ) → is_utf8 v ≡ true → IsUtf8 (quoted_text v)
 unfolding quoted_text

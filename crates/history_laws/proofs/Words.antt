@@ -11,9 +11,8 @@ use Rattle.lemmas.proofs.Texts.{decimal_digits}
 use Rattle.lemmas.proofs.Booleans.{and_parts}
 use Rattle.base_types.specs.Name.{is_name_byte, is_name_of, starts_with_letter}
 use Rattle.composer_print.proofs.Spelling.{number_back, unquoted_back}
-use Rattle.report_text.specs.Quotes.{escaped, quoted_text}
+use Rattle.syntax.specs.Quotes.{escaped, quoted_text, is_escaped}
 use Rattle.syntax.specs.Names.{name_of}
-use Rattle.syntax.specs.Quotes.{is_escaped}
 use Rattle.record_rows.specs.declared.rows.Ranged.TheVariants.{Within, OutOfRange}
 use Rattle.record_rows.specs.Words.{limited, text_of, up_to}
 use Rattle.history_laws.specs.Printables.{IsKeptName, IsLineText, is_no_feed}

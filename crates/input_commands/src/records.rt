@@ -54,8 +54,10 @@ fn summary(alloc: Global, world: &World) -> Result<Bytes, NoMemory>
         → text ≡ spec.summary_at world.now.net x) }
 {
     let net = world.net();
+    // A network has a master.
     let _count = net.count();
     let counts = state_counts(alloc, net, world.node(Ws(0)).owners())?;
+    // What a world made is short.
     world.is_short();
     let events = counted(world.history().len());
     let starts = counted(world.starts().len());

@@ -1,10 +1,9 @@
 //! Streams and jobs by their states.
 ghost use Rattle.std.specs.Prelude.{◌≡◌, ◌++◌, ◌∷◌, [], IfOk, OnOk};
 ghost use Rattle.model.specs.History.{view_of};
-ghost use Rattle.symphony_view.specs.Words.{job_number, stream_number, told_job, told_stream};
 ghost use Rattle.symphony_view.specs.Counts as spec;
 
-use crate::states::{JobState, StreamState, job_state, stream_state};
+use crate::states::{job_number, job_state, stream_number, stream_state};
 use base_types::{Counts, Items, JobDoc, NoMemory, StreamDoc, StreamNo};
 use network_tree::Network;
 use owner_fold::Owners;
@@ -19,38 +18,6 @@ pub struct StateCounts {
     pub jobs: Counts,
 }
 
-/// The place of a stream's state among the words of states.
-fn stream_place(state: StreamState) -> u8
-    ensures { result ≡ stream_number (told_stream state) }
-{
-    match state {
-        StreamState::Hold => 0,
-        StreamState::Ready => 1,
-        StreamState::Exec => 2,
-        StreamState::Stuck => 3,
-        StreamState::Succ => 4,
-        StreamState::Abend => 5,
-        StreamState::Cancel => 6,
-    }
-}
-
-/// The place of a job's state among the words of states.
-fn job_place(state: JobState) -> u8
-    ensures { result ≡ job_number (told_job state) }
-{
-    match state {
-        JobState::Hold => 0,
-        JobState::Fence => 1,
-        JobState::Ready => 2,
-        JobState::Intro => 3,
-        JobState::Exec => 4,
-        JobState::Succ => 5,
-        JobState::Abend => 6,
-        JobState::Fail => 7,
-        JobState::Cancel => 8,
-    }
-}
-
 /// Adds the state of a stream, where the catalogue has it.
 fn add_stream(
     places: &mut Items<u8>,
@@ -62,7 +29,7 @@ fn add_stream(
 {
     match o.stream(s) {
         None => Ok(()),
-        Some(_) => places.push(stream_place(stream_state(net, o, s))),
+        Some(_) => places.push(stream_number(stream_state(net, o, s))),
     }
 }
 
@@ -88,7 +55,7 @@ fn add_job(places: &mut Items<u8>, net: &Network, o: &Owners, doc: &JobDoc) -> R
 {
     match o.planned_job(doc.no) {
         None => Ok(()),
-        Some(_) => places.push(job_place(job_state(net, o, doc.no))),
+        Some(_) => places.push(job_number(job_state(net, o, doc.no))),
     }
 }
 

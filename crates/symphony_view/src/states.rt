@@ -179,7 +179,7 @@ fn state_by_jobs(net: &Network, o: &Owners, doc: &StreamDoc) -> StreamState
     }
 }
 
-/// The number of a job's state in Symphony.
+/// The number of a job's state, by its place among the words of states.
 pub(crate) fn job_number(state: JobState) -> u8
     ensures { result ≡ words.job_number (told_job state) }
 {
@@ -196,7 +196,7 @@ pub(crate) fn job_number(state: JobState) -> u8
     }
 }
 
-/// The number of a stream's state in Symphony.
+/// The number of a stream's state, by its place among the words of states.
 pub(crate) fn stream_number(state: StreamState) -> u8
     ensures { result ≡ words.stream_number (told_stream state) }
 {

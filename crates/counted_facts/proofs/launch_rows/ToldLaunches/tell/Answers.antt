@@ -1,6 +1,6 @@
 use Rattle.lemmas.proofs.Results.{after_ok}
 use Rattle.counted_facts.proofs.LaunchTelling.{told_further}
-use Rattle.counted_facts.proofs.rows.ToldLaunches.tell.Goals as goal
+use Rattle.counted_facts.proofs.launch_rows.ToldLaunches.tell.Goals as goal
 
 pub returns : goal.returns
 returns c =

@@ -1,6 +1,6 @@
 use Rattle.std.proofs.Common.{◌≡◌, ◌++◌, drop, flat_map}
-use Rattle.report_text.specs.Quotes.{escaped}
-use Rattle.report_text.proofs.quotes.write_quoted.Given as goal
+use Rattle.syntax.specs.Quotes.{escaped}
+use Rattle.syntax.proofs.quotes.write_quoted.Given as goal
 
 abbrev pub invariant-loop-byte : goal.invariant-loop-byte
 invariant-loop-byte l =

@@ -83,6 +83,7 @@ impl Agent {
     fn file_entry(&self, object: &Obj, i: u16) -> Result<Entry, StepFault>
         ensures { IsKept self.now (types.Input.Local (types.Fulfil object.now i)) result }
     {
+        // The workstation of the node is in its network.
         let _net = self.net();
         if self.lacks_dep(object, i) {
             return Err(StepFault::NoDep);

@@ -68,6 +68,7 @@ impl Agent {
         ensures value { result ≡ live_launch self.now.live j }
         ensures inside { self.now.me < node_count (present_in self.now) }
     {
+        // The workstation of the node is in its network.
         let _net = self.net();
         live_launch_in(self.live().as_slice(), j)
     }

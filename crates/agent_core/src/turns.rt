@@ -201,6 +201,7 @@ impl Agent {
         requires { None ≡ spec.turn_body (present_in self.old) (view_in self.old) self.old.me self.old.live t }
         ensures { IsStep self.old (types.Input.Local (types.Turn t)) result self.new }
     {
+        // The workstation of the node is in its network.
         let _net = self.net();
         let mut outs = self.room_for_turn()?;
         self.put_sends(&mut outs);
@@ -236,6 +237,7 @@ impl Agent {
         requires { spec.turn_body (present_in self.now) (view_in self.now) self.now.me self.now.live t ≡ Some body }
         ensures { IsKept self.now (types.Input.Local (types.Turn t)) result }
     {
+        // The workstation of the node is in its network.
         let _net = self.net();
         self.own_event(body)
     }

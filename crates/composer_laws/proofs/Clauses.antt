@@ -16,7 +16,7 @@ use Rattle.composer_parser.specs.declared.clauses.PromptItem.TheVariants as ask
 use Rattle.composer_parser.specs.Kinds.{word}
 use Rattle.composer_parser.specs.Parts.{put}
 use Rattle.composer_parser.specs.Clauses as grammar
-use Rattle.composer_print.specs.Texts.{quoted_text}
+use Rattle.syntax.specs.Quotes.{quoted_text}
 use Rattle.composer_print.specs.Clauses.{plus_text, until_text, priority_text, name_text, pred_text, units_text, need_text, prompt_text, clause_text, clauses_text}
 use Rattle.composer_print.specs.Streams.{items}
 use Rattle.composer_laws.specs.Written.{IsText, IsName, IsNumber, WhenGiven, IsList, IsPred, IsNeed, IsPromptItem, IsClause, Stands, AreClauses}

@@ -10,7 +10,7 @@ use Rattle.composer_parser.specs.declared.definitions.JobDef.{JobDef}
 use Rattle.composer_parser.specs.Parts.{date}
 use Rattle.composer_parser.specs.Composer as grammar
 use Rattle.calendars.specs.Dates.{IsDay}
-use Rattle.composer_print.specs.Texts.{quoted_text}
+use Rattle.syntax.specs.Quotes.{quoted_text}
 use Rattle.composer_print.specs.Works.{work_text}
 use Rattle.composer_print.specs.Groups.{note_text, day_text, calendar_line, prompt_line, resource_line, job_line}
 use Rattle.composer_laws.specs.Written.{IsText, Each, WhenGiven, IsCalendar, IsPrompt, IsResource, IsJob}

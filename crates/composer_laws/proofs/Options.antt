@@ -4,7 +4,8 @@ use Rattle.std.proofs.lemmas.Grind.{common_steps}
 use Rattle.base_types.specs.declared.network.Carry.{Carry}
 use Rattle.base_types.specs.declared.network.Carry.TheVariants.{Yes, No, All}
 use Rattle.composer_parser.specs.Composer as grammar
-use Rattle.composer_print.specs.Texts.{quoted_text, item_of}
+use Rattle.composer_print.specs.Texts.{item_of}
+use Rattle.syntax.specs.Quotes.{quoted_text}
 use Rattle.composer_print.specs.Days.{time_text}
 use Rattle.composer_print.specs.Stations.{carry_word, start_texts, zone_texts, carry_texts, options_of, options_text}
 use Rattle.composer_laws.specs.Written.{IsText, IsTime, WhenGiven}

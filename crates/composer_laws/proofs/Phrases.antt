@@ -1,7 +1,7 @@
 -- Pieces of a line, and lines, that are cut into tokens.
 use Rattle.std.proofs.Common.{◌≡◌, ℕ, Bool, true, false, List, [], ◌∷◌, ◌++◌, get_or, refl, sym, subst, arith, append_assoc, append-nil, eqb}
 use Rattle.composer_parser.specs.Kinds.{Shape, mark, quoted, word}
-use Rattle.composer_print.specs.Texts.{quoted_text}
+use Rattle.syntax.specs.Quotes.{quoted_text}
 use Rattle.composer_laws.specs.Written.{IsText, IsWord}
 use Rattle.composer_laws.proofs.Cuts.{Cut, Ends, cut_word, cut_mark, cut_blank, cut_feed, cut_quoted}
 

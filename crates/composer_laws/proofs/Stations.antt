@@ -6,7 +6,7 @@ use Rattle.composer_parser.specs.declared.definitions.DomainDef.{DomainDef}
 use Rattle.composer_parser.specs.Kinds.{word}
 use Rattle.composer_parser.specs.Parts.{description}
 use Rattle.composer_parser.specs.Stations as grammar
-use Rattle.composer_print.specs.Texts.{quoted_text}
+use Rattle.syntax.specs.Quotes.{quoted_text}
 use Rattle.composer_print.specs.Stations.{machine_text, place_text, cpu_line, port_text, link_text, full_text, type_word, on_or_off, parent_text, domain_line}
 use Rattle.composer_laws.specs.Written.{IsNumber, IsName, WhenGiven, IsCpu, IsDomain}
 use Rattle.composer_laws.proofs.Readings.{Reads, made_reads, app, skip, left_reads, right_reads, many_reads, Runs, no_runs, one_run, more_runs, runs_to, ended, as_text, Opens, app_opens, left_opens, right_opens}

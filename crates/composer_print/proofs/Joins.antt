@@ -11,7 +11,8 @@ use Rattle.composer_parser.specs.declared.clauses.PromptItem.{PromptItem}
 use Rattle.composer_print.specs.declared.kinds.Once.{Once}
 use Rattle.composer_print.specs.declared.kinds.Once.TheVariants as once
 use Rattle.composer_print.specs.declared.kinds.Joined.TheVariants as joined
-use Rattle.composer_print.specs.Texts.{quoted_text, item_of}
+use Rattle.composer_print.specs.Texts.{item_of}
+use Rattle.syntax.specs.Quotes.{quoted_text}
 use Rattle.composer_print.specs.Clauses.{clause_text, clauses_text, list_text, pred_text, need_text, prompt_text}
 use Rattle.composer_print.specs.Scopes.{is_of, those, normal_pred, normal_need, normal_clauses, preds_in, needs_in, prompts_in, files_in, follows_of, needs_of, prompt_of, opens_of}
 use Rattle.composer_print.specs.Steps.{single_text, kind_text, texts_of, joined_text, all_text}

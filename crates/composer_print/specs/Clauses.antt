@@ -11,7 +11,8 @@ use Rattle.composer_parser.specs.declared.clauses.PredPart.TheVariants as part
 use Rattle.composer_parser.specs.declared.clauses.Need.{Need}
 use Rattle.composer_parser.specs.declared.clauses.PromptItem.{PromptItem}
 use Rattle.composer_parser.specs.declared.clauses.PromptItem.TheVariants.{Name, Own}
-use Rattle.composer_print.specs.Texts.{quoted_text, texts_from}
+use Rattle.composer_print.specs.Texts.{texts_from}
+use Rattle.syntax.specs.Quotes.{quoted_text}
 use Rattle.composer_print.specs.Days.{time_text}
 
 -- [ws#]name

@@ -6,7 +6,7 @@ use Rattle.composer_parser.specs.declared.definitions.Lined.{Lined}
 use Rattle.composer_parser.specs.declared.definitions.CalendarDef.{CalendarDef}
 use Rattle.composer_parser.specs.declared.definitions.ResourceDef.{ResourceDef}
 use Rattle.composer_parser.specs.declared.definitions.JobDef.{JobDef}
-use Rattle.composer_print.specs.Texts.{quoted_text}
+use Rattle.syntax.specs.Quotes.{quoted_text}
 use Rattle.composer_print.specs.Days.{date_text}
 use Rattle.composer_print.specs.Works.{work_text}
 

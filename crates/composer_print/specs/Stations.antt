@@ -6,7 +6,8 @@ use Rattle.base_types.specs.declared.network.Carry.{Carry}
 use Rattle.base_types.specs.declared.network.Carry.TheVariants.{Yes, No, All}
 use Rattle.composer_parser.specs.declared.definitions.CpuDef.{CpuDef}
 use Rattle.composer_parser.specs.declared.definitions.DomainDef.{DomainDef}
-use Rattle.composer_print.specs.Texts.{quoted_text, texts_from, begun_after, unless}
+use Rattle.composer_print.specs.Texts.{texts_from, begun_after, unless}
+use Rattle.syntax.specs.Quotes.{quoted_text}
 use Rattle.composer_print.specs.Days.{time_text}
 
 -- TIMEZONE is `UTC` where it is not given, and ENCARRYFORWARD is YES

@@ -11,7 +11,7 @@ use Rattle.composer_print.specs.declared.kinds.Once.{Once}
 use Rattle.composer_print.specs.declared.kinds.Once.TheVariants as once
 use Rattle.composer_print.specs.declared.kinds.Joined.{Joined}
 use Rattle.composer_print.specs.declared.kinds.Joined.TheVariants as joined
-use Rattle.composer_print.specs.Texts.{quoted_text}
+use Rattle.syntax.specs.Quotes.{quoted_text}
 use Rattle.composer_print.specs.Clauses.{moment_text, until_text, priority_text, pred_text, need_text, prompt_text, list_text}
 use Rattle.composer_print.specs.Scopes.{is_of, normal_pred, normal_need, preds_in, needs_in, prompts_in, files_in}
 

@@ -15,7 +15,8 @@ use Rattle.composer_parser.specs.declared.schedules.CycleDef.{CycleDef}
 use Rattle.composer_parser.specs.declared.schedules.FreeDef.{FreeDef}
 use Rattle.composer_parser.specs.declared.schedules.EntryDef.{EntryDef}
 use Rattle.composer_parser.specs.declared.schedules.ScheduleDef.{ScheduleDef}
-use Rattle.composer_print.specs.Texts.{quoted_text, texts_from}
+use Rattle.composer_print.specs.Texts.{texts_from}
+use Rattle.syntax.specs.Quotes.{quoted_text}
 use Rattle.composer_print.specs.Days.{date_text}
 use Rattle.composer_print.specs.Works.{work_text}
 use Rattle.composer_print.specs.Clauses.{name_text, clauses_text}

@@ -1,15 +1,6 @@
--- Texts in quotes, and texts one behind the other.
-use Rattle.std.specs.Prelude.{ℕ, Bool, true, false, ◌==◌, if◌then◌else◌, List, [], ◌∷◌, ◌++◌, codes, flat_map, Option, Some, None}
-use Rattle.syntax.specs.Quotes.{is_escaped}
+-- Texts one behind the other.
+use Rattle.std.specs.Prelude.{ℕ, Bool, true, false, ◌==◌, if◌then◌else◌, List, [], ◌∷◌, ◌++◌, Option, Some, None}
 use Rattle.composer_parser.specs.declared.definitions.Lined.{Lined}
-
--- a byte of a text, with a backslash before it where it is a quote or a backslash
-abbrev pub escaped : ℕ → List ℕ
-escaped b = if is_escaped b then codes "\\" ++ b ∷ [] else b ∷ []
-
--- `"TEXT"`
-unfoldable pub quoted_text : List ℕ → List ℕ
-quoted_text text = codes "\"" ++ flat_map escaped text ++ codes "\""
 
 -- what stands before a text of a list: a separator, or the beginning of the list where none stands before it
 abbrev pub lead : List ℕ → List ℕ → Bool → List ℕ

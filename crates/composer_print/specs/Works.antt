@@ -5,7 +5,7 @@ use Rattle.base_types.specs.declared.documents.Work.TheVariants.{Command, Script
 use Rattle.base_types.specs.declared.documents.Recovery.{Recovery}
 use Rattle.base_types.specs.declared.documents.Recovery.TheVariants.{Stop, Continue, Rerun}
 use Rattle.composer_parser.specs.declared.definitions.WorkDef.{WorkDef}
-use Rattle.composer_print.specs.Texts.{quoted_text}
+use Rattle.syntax.specs.Quotes.{quoted_text}
 
 -- SCRIPTNAME value | DOCOMMAND text
 unfoldable pub command_text : Work → List ℕ

@@ -4,11 +4,11 @@ ghost use Rattle.composer_print.specs.Normal.{bare};
 ghost use Rattle.composer_print.specs.Groups as spec;
 
 use crate::days::write_date;
-use crate::quotes::write_quoted;
 use crate::works::write_work;
 use base_types::{PromptDef, Text};
 use composer_parser::{CalendarDef, JobDef, Lined, ResourceDef};
 use std::io::{self, Write};
+use syntax::write_quoted;
 
 #[tactic(auto, unfolding(crate::specs::Groups::note_text))]
 fn write_note(out: &mut Vec<u8>, note: &Option<Text>) -> io::Result<()>

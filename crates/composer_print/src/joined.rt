@@ -1,17 +1,19 @@
 //! Clauses of which several are printed as one.
 ghost use Rattle.std.specs.Prelude.{◌≡◌, ◌++◌, IfOk, OnOk, codes, map};
-ghost use Rattle.composer_print.specs.Texts.{begun_after, quoted_text, texts_from};
+ghost use Rattle.composer_print.specs.Texts.{begun_after, texts_from};
+ghost use Rattle.syntax.specs.Quotes.{quoted_text};
 ghost use Rattle.composer_print.specs.Clauses.{pred_text, need_text, prompt_text};
 ghost use Rattle.composer_print.specs.Scopes as scope;
 ghost use Rattle.composer_print.specs.Steps.{joined_text, keyword_of, texts_of};
 
 use crate::jobs::Jobs;
 use crate::kinds::Joined;
-use crate::quotes::{write_lead, write_quoted};
+use crate::leads::write_lead;
 use crate::scopes::{write_need, write_pred};
 use base_types::Text;
 use composer_parser::{Clause, Lined, Need, Pred, PromptItem};
 use std::io::{self, Write};
+use syntax::write_quoted;
 
 #[tactic(auto, unfolding(crate::specs::Scopes::preds_in))]
 fn preds_in(clause: &Clause) -> &[Pred]

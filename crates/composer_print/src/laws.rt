@@ -2,13 +2,12 @@
 ghost use Rattle.std.specs.Prelude.{◌≡◌, ◌≤◌, ◌<◌, ◌^◌, ◌∷◌, ℕ, List, Some, length, true};
 ghost use Rattle.std.specs.Fmt.{decimal};
 ghost use Rattle.syntax.specs.Numbers.{is_number};
-ghost use Rattle.syntax.specs.Quotes.{quoted_of};
+ghost use Rattle.syntax.specs.Quotes.{quoted_of, quoted_text};
 ghost use Rattle.calendars.specs.Dates.{IsDay};
 ghost use Rattle.composer_parser.specs.declared.definitions.Defs.{Defs as Definitions};
 ghost use Rattle.composer_parser.specs.Kinds.{is_time, is_date, is_plus};
 ghost use Rattle.composer_parser.specs.Parts.{capped, minutes, day_of};
 ghost use Rattle.composer_print.specs.Days.{date_text, time_text};
-ghost use Rattle.composer_print.specs.Texts.{quoted_text};
 ghost use Rattle.composer_print.specs.Normal.{normal};
 
 /// The normal form of a normal form is itself.

@@ -6,10 +6,11 @@ ghost use Rattle.composer_print.specs.Streams as spec;
 ghost use Rattle.composer_print.specs.Streams.{items};
 
 use crate::days::write_date;
-use crate::quotes::{write_lead, write_quoted};
+use crate::leads::write_lead;
 use base_types::Text;
 use composer_parser::{CycleDef, Lined, Offset, OffsetUnit, OnDef, OnItem, Shift};
 use std::io::{self, Write};
+use syntax::write_quoted;
 
 #[tactic(auto, unfolding(crate::specs::Streams::weekday_text))]
 fn weekday_text(n: u8) -> &'static str

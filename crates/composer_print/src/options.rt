@@ -6,10 +6,11 @@ ghost use Rattle.composer_print.specs.Normal.{unlined};
 ghost use Rattle.composer_print.specs.Stations as spec;
 
 use crate::days::write_time;
-use crate::quotes::{write_lead, write_quoted};
+use crate::leads::write_lead;
 use base_types::{Carry, Text};
 use composer_parser::{Defs, Lined};
 use std::io::{self, Write};
+use syntax::write_quoted;
 
 /// Writes when a day begins, where that is not the default. Answers whether a line was begun.
 #[tactic(auto, unfolding(crate::specs::Stations::start_texts))]

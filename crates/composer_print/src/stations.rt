@@ -4,10 +4,10 @@ ghost use Rattle.composer_print.specs.Texts.{unless};
 ghost use Rattle.composer_print.specs.Normal.{bare, bare_cpu};
 ghost use Rattle.composer_print.specs.Stations as spec;
 
-use crate::quotes::write_quoted;
 use base_types::Text;
 use composer_parser::{CpuDef, DomainDef, Lined};
 use std::io::{self, Write};
+use syntax::write_quoted;
 
 /// Writes a port, where it is not the default.
 #[tactic(auto, unfolding(crate::specs::Stations::port_text))]

@@ -2,10 +2,10 @@
 ghost use Rattle.std.specs.Prelude.{◌≡◌, ◌++◌, OnOk};
 ghost use Rattle.composer_print.specs.Works as spec;
 
-use crate::quotes::write_quoted;
 use base_types::{Recovery, Text, Work};
 use composer_parser::WorkDef;
 use std::io::{self, Write};
+use syntax::write_quoted;
 
 #[tactic(auto, unfolding(crate::specs::Works::command_text))]
 fn write_command(out: &mut Vec<u8>, work: &Work) -> io::Result<()>

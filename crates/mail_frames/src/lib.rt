@@ -20,6 +20,9 @@ pub use frames::{Frame, Frames};
 pub use laws::{no_frame_begins_another, one_reading, what_was_written_is_read};
 pub use writes::write_frame;
 
+/// How many bytes tell the length of a frame, the highest first.
+pub const LENGTH: usize = 4;
+
 /// The byte that tells what a frame holds.
 const MAIL: u8 = 1;
 
@@ -32,6 +35,7 @@ const REPLY: u8 = 4;
 /// The greatest lengths that a frame may tell, which count its kind and its content.
 const LONGEST_MAIL: u32 = 4_194_305;
 
-const LONGEST_COMMAND: u32 = 4_097;
+/// The greatest length that a frame with a command may tell, which counts its kind and the command.
+pub const LONGEST_COMMAND: u32 = 4_097;
 
 const LONGEST_REPLY: u32 = 1_048_577;

@@ -107,6 +107,7 @@ impl World {
         ensures world { IsWorld self.now }
         ensures few { node_count self.now.net ≤ 256 }
     {
+        // A network has at most 256 workstations.
         let _count = self.net.count();
     }
 

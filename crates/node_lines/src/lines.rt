@@ -5,14 +5,14 @@ ghost use Rattle.composer_parser.specs.declared.Defs.{Defs};
 ghost use Rattle.conman_syntax.specs.declared.lines.Line.TheVariants as line;
 ghost use Rattle.conman_syntax.specs.Fit.{IsFitLine};
 ghost use Rattle.file_watch.specs.Asked.{Probe};
-ghost use Rattle.outside.specs.Calls.{SpawnerCalls};
-ghost use Rattle.outside.specs.Calls.Asked.{Close, Raise};
+ghost use Rattle.outside.specs.Calls.{Asks, SpawnerCalls};
 ghost use Rattle.node_replies.specs.Shown.{shown_lines};
 ghost use Rattle.symphony_view.specs.Listings.{listing_of};
 ghost use Rattle.conman_orders.specs.Names as names;
-ghost use Rattle.node_keeping.specs.Keeping.{IsReady};
+ghost use Rattle.node_inputs.specs.Keeping.{IsReady};
 ghost use Rattle.node_inputs.specs.Actions.{Each};
 ghost use Rattle.node_inputs.specs.Doings.{Does, DoesOutside, end_of};
+ghost use Rattle.node_lines.specs.Asking as asking;
 ghost use Rattle.node_lines.specs.Lines as spec;
 ghost use Rattle.node_lines.specs.Lines.{Answer, AnswerFrame, AskLink, HasFitPlans, Listen, Obey};
 ghost use Rattle.node_inputs.specs.Stepping.{AreKeepable};
@@ -25,12 +25,21 @@ use base_types::{NoMemory, Text, Ws};
 use conman_orders::workstation;
 use conman_syntax::{CommandFault, Line, parse_command};
 use mail_frames::{Decoder, Frame};
-use node_keeping::NodeEnd;
+use node_inputs::NodeEnd;
 use node_replies::{Refusal, Shows, link_asked, shown, shutdown, unlink_asked};
 use outside::{Keeper, Link, Spawner};
 use std::alloc::Global;
 use std::str;
 use workload_defs::Workload;
+
+/// What a line asks of a link.
+#[derive(Clone, Copy)]
+enum LinkAsk {
+    /// To begin.
+    Raise,
+    /// To end.
+    Close,
+}
 
 /// Answers each command in the bytes of a client; what is no command is dropped.
 pub fn listen<K: Keeper, L: Link, J: Spawner>(
@@ -176,8 +185,8 @@ fn obey<K: Keeper, L: Link, J: Spawner>(
         Line::ShowCpus(pattern) => show(alloc, agent, link, Shows::Cpus, pattern),
         Line::ShowPrompts(pattern) => show(alloc, agent, link, Shows::Prompts, pattern),
         Line::ShowResources(pattern) => show(alloc, agent, link, Shows::Resources, pattern),
-        Line::Link(name) => begin_link(alloc, agent, link, name),
-        Line::Unlink(name) => end_link(alloc, agent, link, name),
+        Line::Link(name) => ask_link(alloc, agent, link, LinkAsk::Raise, name),
+        Line::Unlink(name) => ask_link(alloc, agent, link, LinkAsk::Close, name),
         Line::Shutdown => shut_down(alloc, link),
         Line::JNextPlan(day) => plan_day(alloc, agent, workload, keeper, link, jobs, *day),
         _ => order(alloc, agent, keeper, link, jobs, line),
@@ -234,39 +243,44 @@ fn workstation_of(agent: &Agent, name: &Text) -> Option<Ws>
     workstation(agent.defined(), name.as_str())
 }
 
-/// Asks for a link to begin.
-fn begin_link<L: Link>(
+/// Asks for a link to begin or to end, where its workstation is another one than that of the node.
+fn ask_link<L: Link>(
     alloc: Global,
     agent: &Agent,
     link: &mut L,
+    ask: LinkAsk,
     name: &Text,
 ) -> Result<(), NodeEnd>
     ensures { (jobs : SpawnerCalls) (clock : Option (List ℕ)) (files : Option (List Probe)) →
-        DoesOutside (AskLink Raise spec.link_text name.now) agent.now agent.now (told_by (L.calls link.old) jobs clock files)
-        (told_by (L.calls link.new) jobs clock files) (end_of result) }
+        DoesOutside (AskLink (asking.call_of ask) (asking.asked_text ask) name.now) agent.now agent.now
+        (told_by (L.calls link.old) jobs clock files) (told_by (L.calls link.new) jobs clock files) (end_of result) }
 {
     match workstation_of(agent, name) {
         None => refuse(alloc, link, Refusal::UnknownName),
         Some(w) if w == agent.me() => refuse(alloc, link, Refusal::NotNeighbour),
         Some(w) => {
-            link.raise(Ws(w.0));
-            say(alloc, link, link_asked(alloc, agent.defined().net(), w)?)
+            raise_or_close(link, ask, Ws(w.0));
+            say(alloc, link, asked_text(alloc, agent, ask, w)?)
         }
     }
 }
 
-/// Asks for a link to end.
-fn end_link<L: Link>(alloc: Global, agent: &Agent, link: &mut L, name: &Text) -> Result<(), NodeEnd>
-    ensures { (jobs : SpawnerCalls) (clock : Option (List ℕ)) (files : Option (List Probe)) →
-        DoesOutside (AskLink Close spec.unlink_text name.now) agent.now agent.now (told_by (L.calls link.old) jobs clock files)
-        (told_by (L.calls link.new) jobs clock files) (end_of result) }
+/// Makes the call that is asked of a link.
+fn raise_or_close<L: Link>(link: &mut L, ask: LinkAsk, w: Ws)
+    ensures { Asks (asking.call_of ask w) (L.calls link.old) (L.calls link.new) }
 {
-    match workstation_of(agent, name) {
-        None => refuse(alloc, link, Refusal::UnknownName),
-        Some(w) if w == agent.me() => refuse(alloc, link, Refusal::NotNeighbour),
-        Some(w) => {
-            link.close(Ws(w.0));
-            say(alloc, link, unlink_asked(alloc, agent.defined().net(), w)?)
-        }
+    match ask {
+        LinkAsk::Raise => link.raise(w),
+        LinkAsk::Close => link.close(w),
+    }
+}
+
+/// What is said once a link was asked.
+fn asked_text(alloc: Global, agent: &Agent, ask: LinkAsk, w: Ws) -> Result<Text, NoMemory>
+    ensures { IfOk result (λ text. text ≡ asking.asked_text ask agent.now w) }
+{
+    match ask {
+        LinkAsk::Raise => link_asked(alloc, agent.defined().net(), w),
+        LinkAsk::Close => unlink_asked(alloc, agent.defined().net(), w),
     }
 }

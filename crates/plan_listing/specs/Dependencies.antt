@@ -6,7 +6,7 @@ use Rattle.model.specs.Types.{Net, PromptDef, Resource, OnUntil, Suppr, Cont, Ca
 use Rattle.model.specs.Types.{FollowsJob, FollowsStream, Needs, Prompt, At, Until, Outside, Deadline, Global, Own, Follows, Plain}
 use Rattle.model.specs.Words.{nth}
 use Rattle.report_text.specs.Names.{name_of}
-use Rattle.report_text.specs.Quotes.{quoted_text}
+use Rattle.syntax.specs.Quotes.{quoted_text}
 
 -- a resource and a prompt by its name, and nothing for a number that the network lacks
 abbrev pub resource_name : Net → ℕ → List ℕ

@@ -5,7 +5,7 @@ use Rattle.std.specs.Fmt.{decimal}
 use Rattle.model.specs.Types.{Carry, Net, Node, PromptDef, Resource}
 use Rattle.base_types.specs.declared.Carry.TheVariants.{Yes, No, All}
 use Rattle.report_text.specs.Names.{name_of}
-use Rattle.report_text.specs.Quotes.{quoted_text}
+use Rattle.syntax.specs.Quotes.{quoted_text}
 
 -- `ws NAME` for the master, and `ws NAME HOP` for another, with ` manager`, or else with ` on`
 abbrev pub hop_gap : Node → List ℕ

@@ -4,7 +4,7 @@ use Rattle.std.specs.Fmt.{decimal}
 use Rattle.model.specs.Types.{Net, Work, Command, Script, Recovery, JobDraft, StreamDraft}
 use Rattle.base_types.specs.declared.Recovery.TheVariants.{Stop, Continue, Rerun}
 use Rattle.report_text.specs.Names.{name_of}
-use Rattle.report_text.specs.Quotes.{quoted_text}
+use Rattle.syntax.specs.Quotes.{quoted_text}
 use Rattle.plan_listing.specs.Conditions.{cond_text}
 use Rattle.plan_listing.specs.Dependencies.{draft_dep_line}
 

@@ -1,12 +1,12 @@
 //! The lines of dependencies.
 ghost use Rattle.std.specs.Prelude.{◌≡◌, ◌++◌, OnOk, codes, flat_map};
-ghost use Rattle.report_text.specs.Quotes.{quoted_text};
+ghost use Rattle.syntax.specs.Quotes.{quoted_text};
 ghost use Rattle.plan_listing.specs.Dependencies as spec;
 
-use crate::quotes::write_quoted;
 use base_types::{Dep, DraftDep, Net, OnUntil, PromptRef, Text, Ws};
 use report_text::name;
 use std::io::{self, Write};
+use syntax::write_quoted;
 
 /// Writes a line for each dependency.
 pub(crate) fn write_dependencies(out: &mut Vec<u8>, net: &Net, deps: &[DraftDep]) -> io::Result<()>

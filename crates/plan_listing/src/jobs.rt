@@ -4,11 +4,11 @@ ghost use Rattle.plan_listing.specs.Streams as spec;
 
 use crate::conditions::cond_text;
 use crate::dependencies::write_dependencies;
-use crate::quotes::write_quoted;
 use base_types::{DEFAULT_PRIORITY, JobDraft, Net, NoMemory, Recovery, Text, Work};
 use report_text::name;
 use std::alloc::Global;
 use std::io::{self, Write};
+use syntax::write_quoted;
 
 /// Writes the lines of a job.
 pub(crate) fn put_job(

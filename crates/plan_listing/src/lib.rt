@@ -10,7 +10,6 @@ mod dependencies;
 mod jobs;
 mod listings;
 mod networks;
-mod quotes;
 mod streams;
 
 pub use listings::listing_of;

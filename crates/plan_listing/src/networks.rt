@@ -2,10 +2,10 @@
 ghost use Rattle.std.specs.Prelude.{◌≡◌, ◌++◌, OnOk, flat_map};
 ghost use Rattle.plan_listing.specs.Networks as spec;
 
-use crate::quotes::write_quoted;
 use base_types::{Carry, Net, Node, PromptDef, Resource};
 use report_text::name;
 use std::io::{self, Write};
+use syntax::write_quoted;
 
 /// Writes the workstations, resources, prompts and the option of a network: what differs from the defaults.
 ///

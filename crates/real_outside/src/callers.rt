@@ -2,6 +2,7 @@
 
 use crate::streams::{CLIENT, Come, GREETING, caller_of, is_waiting, take};
 use base_types::{Bytes, Ws};
+use mail_frames::{LENGTH, LONGEST_COMMAND};
 use std::alloc::{AllocError, Global};
 use std::collections::VecDeque;
 use std::io::Read;
@@ -13,12 +14,6 @@ const MOST: usize = 64;
 
 /// How many seconds one may stay.
 const PATIENCE: u64 = 5;
-
-/// The greatest length that the frame of a command tells.
-const LONGEST_COMMAND: u32 = 4_097;
-
-/// How many bytes tell the length of a frame.
-const LENGTH: usize = 4;
 
 /// One who called.
 #[derive(Drop)]

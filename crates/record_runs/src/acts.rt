@@ -30,6 +30,7 @@ fn master(world: &World) -> Ws
     ensures value { result ≡ 0 }
     ensures inside { 0 < node_count world.now.net }
 {
+    // A network has at least one workstation.
     let _count = world.net().count();
     Ws(0)
 }

@@ -9,7 +9,7 @@ use Rattle.base_types.specs.declared.PromptRef.TheVariants.{Global, Own}
 use Rattle.base_types.specs.declared.Dep.{Dep}
 use Rattle.base_types.specs.declared.Dep.TheVariants.{FollowsJob, FollowsStream, Needs, Prompt, At, Until, Outside}
 use Rattle.base_types.specs.declared.Dep.TheVariants.{Deadline}
-use Rattle.report_text.specs.Quotes.{quoted_text}
+use Rattle.syntax.specs.Quotes.{quoted_text}
 
 -- `job N` or `stream N`
 unfoldable pub obj_text : Obj → List ℕ

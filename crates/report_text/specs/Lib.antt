@@ -2,7 +2,6 @@
 -- printed by its number, in decimal digits.
 pub mod Names
 pub mod Lists
-pub mod Quotes
 pub mod Dependencies
 pub mod Commands
 pub mod Bodies

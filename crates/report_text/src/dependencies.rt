@@ -1,12 +1,13 @@
 //! Jobs, streams and dependencies.
 ghost use Rattle.std.specs.Prelude.{◌≡◌, ◌++◌, OnOk, codes};
 ghost use Rattle.std.specs.Fmt.{decimal};
+ghost use Rattle.syntax.specs.Quotes.{quoted_text};
 ghost use Rattle.report_text.specs.Dependencies as spec;
 
-use crate::quotes::write_quoted;
 use crate::words::{write_number, write_time, write_two};
 use base_types::{Dep, Moment, Obj, OnUntil, PromptRef, Text};
 use std::io::{self, Write};
+use syntax::write_quoted;
 
 /// Writes a word and a job or a stream by its number.
 #[tactic(auto, unfolding(crate::specs::Dependencies::obj_text))]
@@ -59,12 +60,20 @@ pub(crate) fn write_dep(out: &mut Vec<u8>, dep: &Dep) -> io::Result<()>
         Dep::Prompt(PromptRef::Global(prompt)) => {
             write_number(out, "prompt ", u32::from(*prompt))
         }
-        Dep::Prompt(PromptRef::Own(text)) => write_quoted(out, "prompt ", text),
+        Dep::Prompt(PromptRef::Own(text)) => write_text(out, "prompt ", text),
         Dep::At(time) => write_time(out, "at ", time),
         Dep::Until(time, then) => write_until(out, time, *then),
-        Dep::Outside(path) => write_quoted(out, "outside ", path),
+        Dep::Outside(path) => write_text(out, "outside ", path),
         Dep::Deadline(time) => write_time(out, "deadline ", time),
     }
+}
+
+/// Writes a word and a text in quotes.
+fn write_text(out: &mut Vec<u8>, word: &str, text: &Text) -> io::Result<()>
+    ensures { OnOk result (out.new.items ≡ out.old.items ++ (word.now ++ quoted_text text.now)) }
+{
+    write!(out, "{word}")?;
+    write_quoted(out, text)
 }
 
 fn write_until(out: &mut Vec<u8>, time: &Moment, then: OnUntil) -> io::Result<()>

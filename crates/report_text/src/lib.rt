@@ -12,7 +12,6 @@ mod commands;
 mod dependencies;
 mod lists;
 mod names;
-mod quotes;
 mod reports;
 mod states;
 mod summaries;

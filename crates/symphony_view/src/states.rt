@@ -17,7 +17,7 @@ use network_tree::Network;
 use owner_fold::{Outcome, Owners};
 
 /// The state of a job, in the order of the summary.
-#[derive(Clone, Copy, Debug, PartialEq, Eq)]
+#[derive(Clone, Copy, Debug)]
 pub enum JobState {
     /// Its stream is not released, or a dependency is not satisfied.
     Hold,
@@ -40,7 +40,7 @@ pub enum JobState {
 }
 
 /// The state of a stream, in the order of the summary.
-#[derive(Clone, Copy, Debug, PartialEq, Eq)]
+#[derive(Clone, Copy, Debug)]
 pub enum StreamState {
     /// It is not released, and a dependency is not satisfied.
     Hold,
@@ -179,7 +179,7 @@ fn state_by_jobs(net: &Network, o: &Owners, doc: &StreamDoc) -> StreamState
     }
 }
 
-/// The number of a job's state in Symphony.
+/// The number of a job's state, by its place among the words of states.
 pub(crate) fn job_number(state: JobState) -> u8
     ensures { result ≡ words.job_number (told_job state) }
 {
@@ -196,7 +196,7 @@ pub(crate) fn job_number(state: JobState) -> u8
     }
 }
 
-/// The number of a stream's state in Symphony.
+/// The number of a stream's state, by its place among the words of states.
 pub(crate) fn stream_number(state: StreamState) -> u8
     ensures { result ≡ words.stream_number (told_stream state) }
 {

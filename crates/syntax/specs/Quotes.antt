@@ -1,4 +1,5 @@
-use Rattle.std.specs.Prelude.{option_and_then, option_map, ℕ, Bool, ◌&&◌, ◌||◌, List, [], ◌∷◌, length, ◌==◌, nat_le, Some, None, if◌then◌else◌}
+use Rattle.std.specs.Prelude.{ℕ, Bool, ◌&&◌, ◌||◌, List, [], ◌∷◌, ◌++◌, codes, flat_map, length, ◌==◌, nat_le, Some, None}
+use Rattle.std.specs.Prelude.{if◌then◌else◌, option_and_then, option_map}
 use Rattle.std.specs.declared.option.Option.{Option}
 
 -- a quote or a backslash, which a backslash before it escapes
@@ -33,3 +34,11 @@ within_limit value = if nat_le (length value) 4096 then Some value else None
 unfoldable pub quoted_of : List ℕ → Option (List ℕ)
 quoted_of [] = None
 quoted_of (c ∷ cs) = if c == 34 then option_and_then within_limit (unquoted cs) else None
+
+-- a byte of a text, which has a backslash before it where it is a quote or a backslash
+abbrev pub escaped : ℕ → List ℕ
+escaped b = if is_escaped b then codes "\\" ++ b ∷ [] else b ∷ []
+
+-- `"TEXT"`
+unfoldable pub quoted_text : List ℕ → List ℕ
+quoted_text text = codes "\"" ++ flat_map escaped text ++ codes "\""

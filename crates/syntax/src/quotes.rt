@@ -1,11 +1,12 @@
 //! Texts in quotes.
-ghost use Rattle.std.specs.Prelude.{◌≡◌, IfOk, option_map};
+ghost use Rattle.std.specs.Prelude.{◌≡◌, ◌++◌, IfOk, OnOk, option_map};
 ghost use Rattle.std.specs.String.{string_bytes};
 ghost use Rattle.syntax.specs.Quotes as spec;
 ghost use Rattle.syntax.specs.Quotes.{after_byte, quoted_of};
 
 use base_types::{LONGEST_TEXT, NoMemory, Text};
 use std::alloc::Global;
+use std::io::{self, Write};
 
 /// The text that stands in quotes. `\"` and `\\` stand for a quote and a backslash, and another backslash for itself.
 /// None where the whole is not one text in quotes, which may be empty, or where its value has more than 4,096 bytes.
@@ -56,6 +57,29 @@ fn unescaped(first: u8, tail: &[u8]) -> (u8, &[u8])
         [second, after @ ..] if first == b'\\' && is_escaped(*second) => (*second, after),
         _ => (first, tail),
     }
+}
+
+/// Writes the text in quotes, each quote and each backslash of it behind a backslash. An error means that memory ran out;
+/// then a part of this may have been written.
+#[tactic(auto, unfolding(crate::specs::Quotes::quoted_text))]
+pub fn write_quoted(out: &mut Vec<u8>, text: &Text) -> io::Result<()>
+    ensures { OnOk result (out.new.items ≡ out.old.items ++ spec.quoted_text text.now) }
+{
+    write!(out, "\"")?;
+    for byte in text.as_str().as_bytes() {
+        write_byte(out, *byte)?;
+    }
+    write!(out, "\"")
+}
+
+fn write_byte(out: &mut Vec<u8>, byte: u8) -> io::Result<()>
+    ensures { OnOk result (out.new.items ≡ out.old.items ++ spec.escaped byte) }
+{
+    if is_escaped(byte) {
+        out.extend_from_slice(b"\\")?;
+    }
+    out.extend_from_slice(&[byte])?;
+    Ok(())
 }
 
 fn is_escaped(byte: u8) -> bool

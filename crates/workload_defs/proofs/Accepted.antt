@@ -1,18 +1,16 @@
 -- A network that is a tree, whose names stand once each and whose numbers are in range, is accepted.
-use Rattle.std.proofs.Common.{◌≡◌, ◌<◌, ◌≤◌, ◌+◌, ℕ, zero, suc, Bool, false, List, [], ◌∷◌, Option, Some, None}
-use Rattle.std.proofs.Common.{length, refl, ap, ◌∙◌, inl, inr, arith, eqb, option_map, slice_get, take}
+use Rattle.std.proofs.Common.{◌≡◌, ◌<◌, ◌≤◌, ℕ, zero, suc, Bool, false, List, [], ◌∷◌, Option, Some, None}
+use Rattle.std.proofs.Common.{length, refl, arith, slice_get, take}
 use Rattle.std.specs.Prelude.{nat_lt}
-use Rattle.std.specs.Bool.{then_some}
 use Rattle.std.specs.List.{list_any}
 use Rattle.std.specs.Option.{option_map_or}
-use Rattle.std.proofs.lemmas.Bool.Decides.{eqb_tells, nat_tests}
+use Rattle.std.proofs.lemmas.Bool.Decides.{nat_tests}
+use Rattle.network_tree.proofs.Accepted.{no_fault}
 use Rattle.model.specs.Types.{Net}
 use Rattle.model.specs.Network.{IsTree, node_count}
 use Rattle.network_tree.specs.Repeats.{has_repeat, stands_before}
-use Rattle.network_tree.specs.Faults.{are_one_prompt, are_one_resource, first_there, first_ws, has_bad_hop, have_one_name}
-use Rattle.network_tree.specs.Faults.{is_bad_resource, is_out_of_range, misses_the_master, net_fault, repeats_a_name}
-use Rattle.network_tree.specs.declared.faults.NetFault.{NetFault}
-use Rattle.network_tree.specs.declared.faults.NetFault.TheVariants.{BadHop, Duplicate, Empty, OutOfRange, TooMany, Tree}
+use Rattle.network_tree.specs.Faults.{are_one_prompt, are_one_resource, first_ws, have_one_name}
+use Rattle.network_tree.specs.Faults.{is_bad_resource, is_out_of_range, net_fault, repeats_a_name}
 use Rattle.network_tree.proofs.Belows.{any_nothing, find_nothing}
 use Rattle.workload_defs.proofs.Apart.{AreApart}
 
@@ -30,37 +28,12 @@ none_stands {A = A} same (x ∷ xs) apart (suc w) = go (slice_get xs w) refl (no
 no_repeat : {A : Type 0} (same : A → A → Bool) (xs : List A) → AreApart same xs → has_repeat same xs ≡ false
 no_repeat same xs apart = any_nothing (stands_before same xs) 0 (length xs) (λ k _ _. none_stands same xs apart k)
 
-no_bad_hop : (u : Net) → IsTree u → first_ws u (has_bad_hop u) ≡ None
-no_bad_hop u t = find_nothing (has_bad_hop u) 0 (node_count u) (λ w _ low. good w low)
-  where
-    good : (w : ℕ) → w < 0 + node_count u → has_bad_hop u w ≡ false
-    good w low =
-        elim (eqb_tells w 0) [
-          | inl e ↦ rw (e.1, t.top, t.managed) refl
-          | inr e ↦ rw (e.0, t.hops w (omega (arith, e.1)) (omega (arith, low))) refl
-        ]
-
-no_miss : (u : Net) → IsTree u → first_ws u (misses_the_master u) ≡ None
-no_miss u t =
-    find_nothing (misses_the_master u) 0 (node_count u)
-    (λ w _ low. rw (t.ends w (omega (arith, low))) refl)
-
--- the faults by their parts
-abbrev fault_by : Bool → Bool → Option ℕ → Option ℕ → Option ℕ → Bool → Option NetFault
-fault_by empty many twice bad missed out =
-    first_there
-    (then_some empty Empty ∷ then_some many TooMany ∷ option_map Duplicate twice ∷ option_map BadHop bad
-    ∷ option_map Tree missed ∷ then_some out OutOfRange ∷ [])
-
 pub accepted_by : (net : Net) → IsTree net → 0 < node_count net → node_count net ≤ 256
     → AreApart have_one_name net.nodes
     → length net.resources ≤ 65535 → AreApart are_one_resource net.resources
     → length net.prompts ≤ 65535 → AreApart are_one_prompt net.prompts
     → list_any (is_bad_resource net) net.resources ≡ false → net_fault net ≡ None
-unfolding net_fault
 accepted_by net t some few names few_r resources few_p prompts good =
-    let empty : eqb (node_count net) 0 ≡ false = grind (arith, nat_tests) in
-    let many : nat_lt 256 (node_count net) ≡ false = grind (arith, nat_tests) in
     let twice : first_ws net (repeats_a_name net) ≡ None =
     find_nothing (repeats_a_name net) 0 (node_count net) (λ w _ _. none_stands have_one_name net.nodes names w) in
     let most_r : nat_lt 65535 (length net.resources) ≡ false = grind (arith, nat_tests) in
@@ -68,12 +41,4 @@ accepted_by net t some few names few_r resources few_p prompts good =
     let once_r : has_repeat are_one_resource net.resources ≡ false = no_repeat are_one_resource net.resources resources in
     let once_p : has_repeat are_one_prompt net.prompts ≡ false = no_repeat are_one_prompt net.prompts prompts in
     let out : is_out_of_range net ≡ false = rw (most_r, most_p, good, once_r, once_p) refl in
-    ap (λ b. fault_by b (nat_lt 256 (node_count net)) (first_ws net (repeats_a_name net)) (first_ws net (has_bad_hop net))
-    (first_ws net (misses_the_master net)) (is_out_of_range net)) empty
-    ∙ ap (λ b. fault_by false b (first_ws net (repeats_a_name net)) (first_ws net (has_bad_hop net))
-    (first_ws net (misses_the_master net)) (is_out_of_range net)) many
-    ∙ ap (λ o. fault_by false false o (first_ws net (has_bad_hop net)) (first_ws net (misses_the_master net))
-    (is_out_of_range net)) twice
-    ∙ ap (λ o. fault_by false false None o (first_ws net (misses_the_master net)) (is_out_of_range net)) (no_bad_hop net t)
-    ∙ ap (λ o. fault_by false false None None o (is_out_of_range net)) (no_miss net t)
-    ∙ ap (λ b. fault_by false false None None None b) out
+    no_fault net t some few twice out

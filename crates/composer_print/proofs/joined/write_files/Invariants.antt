@@ -1,6 +1,6 @@
 use Rattle.std.proofs.Common.{◌≡◌, ◌++◌, codes, drop, map}
 use Rattle.composer_print.specs.Texts.{begun_after, texts_from}
-use Rattle.composer_print.specs.Texts.{quoted_text}
+use Rattle.syntax.specs.Quotes.{quoted_text}
 use Rattle.composer_print.proofs.joined.write_files.Given as goal
 
 abbrev pub invariant-loop-file : goal.invariant-loop-file

@@ -1,5 +1,5 @@
 use Rattle.std.proofs.Common.{ap, sym, ◌∙◌, ◌++◌, append_assoc, codes}
-use Rattle.composer_print.specs.Texts.{quoted_text}
+use Rattle.syntax.specs.Quotes.{quoted_text}
 use Rattle.composer_print.specs.Works.{command_text}
 use Rattle.composer_print.proofs.works.write_command.Goals as goal
 

@@ -46,15 +46,15 @@ pub returns-in-Link-clause-does : goal.returns-in-Link-clause-does
 returns-in-Link-clause-does g c = λ clock files.
     subst (λ (l : Line). Does g.K.Keeper.kept g.K.Keeper.size g.K.Keeper.faults g.K.Keeper.moment g.K.Keeper.may_leave g.K.Keeper.left_since g.K.Keeper.opens_since
     (Obey c.args.workload.now l) c.args.agent.now c.args.agent.now c.args.keeper.now c.args.keeper.now
-    (told_by (g.L.Link.calls c.args.link.now) (g.J.Spawner.calls c.args.jobs.now) clock files) (told_by (g.L.Link.calls c.begin_link.new.link) (g.J.Spawner.calls c.args.jobs.now) clock files) (end_of c.begin_link.result)) (sym c.in-Link.is)
-    (did_outside g.K.Keeper.spent c.args.keeper.now c.requires.ready (c.begin_link.ensures (g.J.Spawner.calls c.args.jobs.now) clock files))
+    (told_by (g.L.Link.calls c.args.link.now) (g.J.Spawner.calls c.args.jobs.now) clock files) (told_by (g.L.Link.calls c.ask_link.new.link) (g.J.Spawner.calls c.args.jobs.now) clock files) (end_of c.ask_link.result)) (sym c.in-Link.is)
+    (did_outside g.K.Keeper.spent c.args.keeper.now c.requires.ready (c.ask_link.ensures (g.J.Spawner.calls c.args.jobs.now) clock files))
 
 pub returns-in-Unlink-clause-does : goal.returns-in-Unlink-clause-does
 returns-in-Unlink-clause-does g c = λ clock files.
     subst (λ (l : Line). Does g.K.Keeper.kept g.K.Keeper.size g.K.Keeper.faults g.K.Keeper.moment g.K.Keeper.may_leave g.K.Keeper.left_since g.K.Keeper.opens_since
     (Obey c.args.workload.now l) c.args.agent.now c.args.agent.now c.args.keeper.now c.args.keeper.now
-    (told_by (g.L.Link.calls c.args.link.now) (g.J.Spawner.calls c.args.jobs.now) clock files) (told_by (g.L.Link.calls c.end_link.new.link) (g.J.Spawner.calls c.args.jobs.now) clock files) (end_of c.end_link.result)) (sym c.in-Unlink.is)
-    (did_outside g.K.Keeper.spent c.args.keeper.now c.requires.ready (c.end_link.ensures (g.J.Spawner.calls c.args.jobs.now) clock files))
+    (told_by (g.L.Link.calls c.args.link.now) (g.J.Spawner.calls c.args.jobs.now) clock files) (told_by (g.L.Link.calls c.ask_link-in-Unlink.new.link) (g.J.Spawner.calls c.args.jobs.now) clock files) (end_of c.ask_link-in-Unlink.result)) (sym c.in-Unlink.is)
+    (did_outside g.K.Keeper.spent c.args.keeper.now c.requires.ready (c.ask_link-in-Unlink.ensures (g.J.Spawner.calls c.args.jobs.now) clock files))
 
 pub returns-in-Shutdown-clause-does : goal.returns-in-Shutdown-clause-does
 returns-in-Shutdown-clause-does g c = λ clock files.

@@ -1,0 +1,55 @@
+use Rattle.std.proofs.Common.{◌≡◌, Err, List, None, Some, ap, false, inr, refl, rules, subst, true, ℕ}
+use Rattle.std.specs.Prelude.{◌==◌}
+use Rattle.conman_orders.specs.Names.{workstation}
+use Rattle.outside.specs.Calls.{Asks}
+use Rattle.node_inputs.specs.Traces.{Event}
+use Rattle.node_inputs.specs.declared.ends.NodeEnd.TheVariants.{NoMemory}
+use Rattle.node_inputs.specs.Doings.{DoesOutside, end_of}
+use Rattle.node_inputs.specs.Tellings.{told_by}
+use Rattle.node_inputs.proofs.Doing.{out_answer, out_as, out_call, out_stop, out_then}
+use Rattle.node_inputs.proofs.Telling.{ask_told}
+use Rattle.node_lines.specs.Asking.{asked_text, call_of}
+use Rattle.node_lines.specs.Lines.{Say}
+use Rattle.node_lines.proofs.Serving.{asks_itself, asks_other, asks_unknown}
+use Rattle.node_lines.proofs.lines.ask_link.Goals as goal
+
+pub returns-in_err-asked_text-in-Some-2 : goal.returns-in_err-asked_text-in-Some-2
+returns-in_err-asked_text-in-Some-2 g c = λ jobs clock files.
+    let is : c.from_residual.result ≡ Err NoMemory = search rules in
+    let there : workstation c.args.agent.now.net c.args.name.now ≡ Some c.in-Some-2.w = search rules in
+    let other : (c.in-Some-2.w == c.args.agent.now.me) ≡ false = search rules in
+    let same : c.w.inside.0 ≡ c.in-Some-2.w = search rules in
+    let asked : Asks (call_of c.args.ask c.in-Some-2.w) (g.L.Link.calls c.args.link.now) (g.L.Link.calls c.raise_or_close.new.link) =
+    subst (λ (x : ℕ). Asks (call_of c.args.ask x) (g.L.Link.calls c.args.link.now) (g.L.Link.calls c.raise_or_close.new.link)) same c.raise_or_close.ensures in
+    out_answer c.from_residual.result (Some NoMemory) (ap end_of is)
+    (out_as (λ trace h. asks_other (call_of c.args.ask) (asked_text c.args.ask) c.args.name.now c.in-Some-2.w c.args.agent.now trace (Some NoMemory) c.args.agent.now there other h)
+    (out_then
+    (out_call (Event.Asks (call_of c.args.ask c.in-Some-2.w)) c.args.agent.now refl (ask_told jobs clock files (g.L.Link.calls c.args.link.now) (g.L.Link.calls c.raise_or_close.new.link) (call_of c.args.ask c.in-Some-2.w) asked))
+    (out_as (λ trace h. inr h) (out_stop NoMemory c.args.agent.now (told_by (g.L.Link.calls c.raise_or_close.new.link) jobs clock files)))))
+
+pub returns-in-None : goal.returns-in-None
+returns-in-None g c = λ jobs clock files.
+    let none : workstation c.args.agent.now.net c.args.name.now ≡ None = search rules in
+    out_as (λ trace h. asks_unknown (call_of c.args.ask) (asked_text c.args.ask) c.args.name.now c.args.agent.now trace (end_of c.refuse.result) c.args.agent.now none h)
+    (c.refuse.ensures c.args.agent.now jobs clock files)
+
+pub returns-in-Some : goal.returns-in-Some
+returns-in-Some g c = λ jobs clock files.
+    let there : workstation c.args.agent.now.net c.args.name.now ≡ Some c.in-Some.w = search rules in
+    let itself : (c.in-Some.w == c.args.agent.now.me) ≡ true = search rules in
+    out_as (λ trace h. asks_itself (call_of c.args.ask) (asked_text c.args.ask) c.args.name.now c.in-Some.w c.args.agent.now trace (end_of c.refuse-in-Some.result) c.args.agent.now there itself h)
+    (c.refuse-in-Some.ensures c.args.agent.now jobs clock files)
+
+pub returns-in_ok-asked_text-in-Some-2 : goal.returns-in_ok-asked_text-in-Some-2
+returns-in_ok-asked_text-in-Some-2 g c = λ jobs clock files.
+    let there : workstation c.args.agent.now.net c.args.name.now ≡ Some c.in-Some-2.w = search rules in
+    let other : (c.in-Some-2.w == c.args.agent.now.me) ≡ false = search rules in
+    let same : c.w.inside.0 ≡ c.in-Some-2.w = search rules in
+    let asked : Asks (call_of c.args.ask c.in-Some-2.w) (g.L.Link.calls c.args.link.now) (g.L.Link.calls c.raise_or_close.new.link) =
+    subst (λ (x : ℕ). Asks (call_of c.args.ask x) (g.L.Link.calls c.args.link.now) (g.L.Link.calls c.raise_or_close.new.link)) same c.raise_or_close.ensures in
+    let text : c.in_ok-asked_text-in-Some-2.field-0 ≡ asked_text c.args.ask c.args.agent.now c.in-Some-2.w = search rules in
+    out_as (λ trace h. asks_other (call_of c.args.ask) (asked_text c.args.ask) c.args.name.now c.in-Some-2.w c.args.agent.now trace (end_of c.say.result) c.args.agent.now there other h)
+    (out_then
+    (out_call (Event.Asks (call_of c.args.ask c.in-Some-2.w)) c.args.agent.now refl (ask_told jobs clock files (g.L.Link.calls c.args.link.now) (g.L.Link.calls c.raise_or_close.new.link) (call_of c.args.ask c.in-Some-2.w) asked))
+    (subst (λ (t : List ℕ). DoesOutside (Say t) c.args.agent.now c.args.agent.now (told_by (g.L.Link.calls c.raise_or_close.new.link) jobs clock files) (told_by (g.L.Link.calls c.say.new.link) jobs clock files) (end_of c.say.result)) text
+    (c.say.ensures c.args.agent.now jobs clock files)))

@@ -7,7 +7,7 @@ use Rattle.model.specs.Catalogue.{StreamJob, catalogue, docs_in, jobs, jobs_in, 
 use Rattle.model.specs.Dependencies.{dep_cites}
 use Rattle.owner_fold.specs.Kept.{IsKeptBeside}
 use Rattle.owner_fold.specs.Numbers.{ArePlaces}
-use Rattle.owner_fold.specs.Pairs.{ArePairsAmong, ArePairsOf, HasAll, pairs_in}
+use Rattle.owner_fold.specs.Pairs.{ArePairsAmong, ArePairsOf, AreWorksOf, HasAll, pairs_in}
 use Rattle.owner_fold.specs.Plans.{IsPlanOf, is_planning}
 use Rattle.owner_fold.specs.Sets.{AreSetsAmong, AreSetsOf, Begins, Prepared, change_in}
 use Rattle.owner_fold.specs.DocPlaces.{AreJobPlaces, AreStreamPlaces, first_docs_among, first_jobs_among}
@@ -17,27 +17,31 @@ use Rattle.owner_fold.specs.declared.sets.Sets.{Sets}
 use Rattle.owner_fold.proofs.Changing.{sets_planned, sets_prepared, sets_with}
 use Rattle.owner_fold.proofs.Further.{docs_without, plan_without}
 use Rattle.owner_fold.proofs.Pairing.{pairs_changed, pairs_planned}
+use Rattle.owner_fold.proofs.Working.{works_stay}
 
 -- with any such list
-pub beside_same : (kept new : List Entry) (plan : Plan) (sets : Sets) (pairs : List ℕ) → new ≡ kept
-    → IsKeptBeside kept plan sets pairs → IsKeptBeside new plan sets pairs
-beside_same kept new plan sets pairs e h = subst (λ (l : List Entry). IsKeptBeside l plan sets pairs) (sym e) h
+pub beside_same : (kept new : List Entry) (plan : Plan) (sets : Sets) (pairs works : List ℕ) → new ≡ kept
+    → IsKeptBeside kept plan sets pairs works → IsKeptBeside new plan sets pairs works
+beside_same kept new plan sets pairs works e h =
+    subst (λ (l : List Entry). IsKeptBeside l plan sets pairs works) (sym e) h
 
 -- sets that are prepared, and more pairs
-pub beside_prepared : (kept new : List Entry) (plan : Plan) (old mid : Sets) (pairs more : List ℕ) → new ≡ kept
-    → Prepared old mid → HasAll more pairs → IsKeptBeside kept plan old pairs → IsKeptBeside new plan mid more
-beside_prepared kept new plan old mid pairs more e p keeps h =
-    beside_same kept new plan mid more e
+pub beside_prepared : (kept new : List Entry) (plan : Plan) (old mid : Sets) (pairs more works : List ℕ)
+    → new ≡ kept → Prepared old mid → HasAll more pairs → IsKeptBeside kept plan old pairs works
+    → IsKeptBeside new plan mid more works
+beside_prepared kept new plan old mid pairs more works e p keeps h =
+    beside_same kept new plan mid more works e
     (record {
       plan = h.plan;
       sets =
           sets_prepared kept (members (view_of kept)) (catalogue (view_of kept)) (jobs (view_of kept)) old mid p h.sets;
       pairs =
           record { streams = λ c k. keeps c (h.pairs.streams c k); jobs = λ c k. keeps c (h.pairs.jobs c k) };
+      works = h.works;
     })
 
 -- a plan or an added stream, for which plan and sets are made anew
-pub beside_planned : (kept new : List Entry) (e : Entry) (plan : Plan) (sets : Sets) (pairs : List ℕ)
+pub beside_planned : (kept new : List Entry) (e : Entry) (plan : Plan) (sets : Sets) (pairs works : List ℕ)
     → is_planning e ≡ true
     → IsPlanOf (kept ++ e ∷ []) plan
     → ((ms : List ℕ) (streams : List StreamDoc) (placed : List StreamJob) → ArePlaces ms plan.index.members
@@ -45,13 +49,13 @@ pub beside_planned : (kept new : List Entry) (e : Entry) (plan : Plan) (sets : S
     → AreJobPlaces (kept ++ e ∷ []) plan.doc_places.jobs placed → AreSetsAmong kept ms streams placed sets)
     → ArePairsAmong (dep_cites (view_of (kept ++ e ∷ []))) kept (catalogue (view_of (kept ++ e ∷ [])))
     (jobs (view_of (kept ++ e ∷ []))) pairs
-    → new ≡ kept ++ e ∷ [] → IsKeptBeside new plan sets pairs
+    → AreWorksOf (kept ++ e ∷ []) works → new ≡ kept ++ e ∷ [] → IsKeptBeside new plan sets pairs works
 unfolding catalogue jobs
-beside_planned kept new e plan sets pairs h p anew paired grown =
+beside_planned kept new e plan sets pairs works h p anew paired worked grown =
     let ms : List ℕ = members (view_of (kept ++ e ∷ [])) in
     let places : ArePlaces ms plan.index.members =
     subst (λ (l : List ℕ). ArePlaces l plan.index.members) p.members p.index.members in
-    beside_same (kept ++ e ∷ []) new plan sets pairs grown
+    beside_same (kept ++ e ∷ []) new plan sets pairs works grown
     (record {
       plan = p;
       sets =
@@ -59,20 +63,22 @@ beside_planned kept new e plan sets pairs h p anew paired grown =
           (anew ms (catalogue (view_of (kept ++ e ∷ []))) (jobs (view_of (kept ++ e ∷ []))) places p.doc_places.streams
           p.doc_places.jobs);
       pairs = pairs_planned kept e pairs h paired;
+      works = worked;
     })
 
 -- another entry, for which the sets were prepared
 pub beside_changed : (kept new : List Entry) (e : Entry) (plan : Plan) (old mid last_ : Sets)
-    (change_ : Change) (pairs more : List ℕ) → IsKeptBeside kept plan old pairs → is_planning e ≡ false → change_ ≡ change_in e.body e.feed → Prepared old mid
+    (change_ : Change) (pairs more works : List ℕ) → IsKeptBeside kept plan old pairs works → is_planning e ≡ false
+    → change_ ≡ change_in e.body e.feed → Prepared old mid
     → Begins plan.index change_ mid → new ≡ kept ++ e ∷ []
     → ((ms : List ℕ) (streams : List StreamDoc) (placed : List StreamJob)
     → ArePlaces (map (λ (d : StreamDoc). d.no) streams) plan.index.streams
     → ArePlaces (map (λ (p : StreamJob). p.doc.no) placed) plan.index.jobs
     → AreSetsAmong new ms streams placed mid → AreSetsAmong new ms streams placed last_)
     → HasAll more pairs → HasAll more (pairs_in (dep_cites (view_of (kept ++ e ∷ []))) e.body e.feed)
-    → IsKeptBeside new plan last_ more
+    → IsKeptBeside new plan last_ more works
 unfolding catalogue jobs
-beside_changed kept new e plan old mid last_ change_ pairs more h other one p begins grown settled keeps brought =
+beside_changed kept new e plan old mid last_ change_ pairs more works h other one p begins grown settled keeps brought =
     let ms : List ℕ = members (view_of kept) in
     let docs : List StreamDoc = flat_map docs_in (list_of kept (Events 0)) in
     let all : List StreamJob = flat_map jobs_in (first_docs_among docs) in
@@ -105,6 +111,7 @@ beside_changed kept new e plan old mid last_ change_ pairs more h other one p be
           (sym same) (settled ms (first_docs_among docs) (first_jobs_among all) streams placed then_));
       pairs =
           subst (λ (l : List Entry). ArePairsOf l more) (sym grown) (pairs_changed kept e pairs more other keeps brought h.pairs);
+      works = subst (λ (l : List Entry). AreWorksOf l works) (sym grown) (works_stay kept e works other h.works);
     }
 
 -- no entries

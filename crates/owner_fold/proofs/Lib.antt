@@ -16,3 +16,4 @@ mod Giving
 mod Growing
 mod Pairing
 mod Passing
+mod Working

@@ -1,6 +1,7 @@
 -- Pairs of workstations: one has a stream with a job on the other, or an object that cites it. A pair is a code of a group
 -- and a place.
-use Rattle.std.specs.Prelude.{[], ℕ, ◌++◌, ◌∷◌, ◌≡◌, List, flat_map, map, true}
+use Rattle.std.specs.List.{list_any}
+use Rattle.std.specs.Prelude.{[], ℕ, ◌&&◌, ◌++◌, ◌<◌, ◌==◌, ◌^◌, ◌∷◌, ◌≡◌, Bool, List, flat_map, map, true}
 use Rattle.grouped_places.specs.Codes.{code}
 use Rattle.model.specs.Types.{AddDep, Body, Dep, Entry, Events, Feed, Job, Obeyed, Obj, Orders, Stream, StreamDoc}
 use Rattle.model.specs.Words.{has}
@@ -53,3 +54,14 @@ pairs_by cite w _ = []
 abbrev pub pairs_in : (Dep → List ℕ) → Body → Feed → List ℕ
 pairs_in cite b (Events w) = pairs_by cite w b
 pairs_in cite b (Orders a w) = []
+
+-- the job is on x, and its stream is of v
+abbrev pub is_work : ℕ → ℕ → StreamJob → Bool
+is_work v x p = (p.parent.ws == v) && (p.doc.ws == x)
+
+-- of these jobs exactly the pairs of the workstation of the stream and that of the job
+abbrev pub AreWorksAmong : List StreamJob → List ℕ → Type 0
+AreWorksAmong placed works = (v x : ℕ) → x < 2 ^ 32 → has works (code v x) ≡ list_any (is_work v x) placed
+
+abbrev pub AreWorksOf : List Entry → List ℕ → Type 0
+AreWorksOf kept works = AreWorksAmong (jobs (view_of kept)) works

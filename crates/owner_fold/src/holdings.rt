@@ -27,7 +27,7 @@ use crate::changes::change_of;
 use crate::doc_places::{
     JobPlace, StreamPlace, job_place_at, planned_job_at, stream_at, stream_place_at,
 };
-use crate::pairs::{pairs_of, put_brought};
+use crate::pairs::{pairs_of, put_brought, works_of};
 use crate::plans::{Plan, is_planning};
 use crate::sets::Sets;
 use base_types::{
@@ -44,7 +44,10 @@ pub struct Owners {
     kept: Kept,
     plan: Plan,
     sets: Sets,
+    /// Who may have to do with whom.
     pairs: Groups,
+    /// Whose streams have a job on whom.
+    works: Groups,
 }
 
 /// Written out, so that dropping one is a call for whoever owns it.
@@ -55,6 +58,7 @@ impl Drop for Owners {
             plan: _plan,
             sets: _sets,
             pairs: _pairs,
+            works: _works,
         } = self;
     }
 }
@@ -68,7 +72,7 @@ impl Model for Owners {
 
     ghost view = { λ o. o.kept };
 
-    ghost invariant = { λ o. IsKeptBeside o.kept o.plan o.sets o.pairs };
+    ghost invariant = { λ o. IsKeptBeside o.kept o.plan o.sets o.pairs o.works };
 }
 
 impl Owners {
@@ -81,6 +85,7 @@ impl Owners {
             plan: Plan::new(alloc),
             sets: Sets::new(alloc),
             pairs: Groups::new(alloc),
+            works: Groups::new(alloc),
         }
     }
 
@@ -118,10 +123,12 @@ impl Owners {
             .sets
             .anew(&self.kept, &e, &plan.doc_places, &plan.index.members)?;
         let pairs = pairs_of(self.pairs.empty(), &self.kept, &e, &plan)?;
+        let works = works_of(&self.works, &self.kept, &e, &plan)?;
         self.kept.take_own(e)?;
         self.plan = plan;
         self.sets = sets;
         self.pairs = pairs;
+        self.works = works;
         Ok(())
     }
 
@@ -251,6 +258,13 @@ impl Owners {
             list_any (λ o. has (cites (view_of self.now) o) x) (objects_of (view_of self.now) v) ≡ false }
     {
         self.pairs.has(u32::from(v.0), u32::from(x.0))
+    }
+
+    /// Whether a stream of v has a job on x, by one look-up.
+    pub fn works_on(&self, v: Ws, x: Ws) -> bool
+        ensures { result ≡ works_on (view_of self.now) v x }
+    {
+        self.works.has(u32::from(v.0), u32::from(x.0))
     }
 
     /// The greatest number of a stream in the catalogue, 0 where it is empty.

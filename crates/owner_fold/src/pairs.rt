@@ -1,7 +1,7 @@
 //! Pairs of workstations: who has work on whom, and who cites whom.
-ghost use Rattle.std.specs.Prelude.{◌≡◌, ◌++◌, [], ◌∷◌, List, Some, flat_map, option_and_then, option_map, slice_get, true};
+ghost use Rattle.std.specs.Prelude.{◌≡◌, ◌==◌, ◌<◌, ◌^◌, ◌++◌, ◌&&◌, ◌||◌, [], ◌∷◌, ℕ, List, Some, false, flat_map, option_and_then, option_map, slice_get, true};
 ghost use Rattle.std.specs.Prelude.{IfOk, OnOk};
-ghost use Rattle.std.specs.Option.{option_copied};
+ghost use Rattle.std.specs.Option.{option_copied, option_map_or};
 ghost use Rattle.grouped_places.specs.Codes.{code};
 ghost use Rattle.model.specs.Types.{Dep as Given, Entry as Taken, Events, FollowsJob, FollowsStream, StreamDoc as Doc};
 ghost use Rattle.model.specs.Words.{has};
@@ -9,7 +9,8 @@ ghost use Rattle.model.specs.History.{list_of, view_of};
 ghost use Rattle.model.specs.Catalogue.{StreamJob, catalogue, job, jobs, stream};
 ghost use Rattle.model.specs.Dependencies.{dep_cites, deps_added_by};
 ghost use Rattle.model.specs.Facts.{commands};
-ghost use Rattle.owner_fold.specs.Pairs.{ArePairsAmong, Grows, HasAll, dep_pairs, job_pairs, object_pairs, pairs_in, stream_pairs};
+ghost use Rattle.owner_fold.specs.Pairs.{ArePairsAmong, AreWorksOf, Grows, HasAll, dep_pairs, is_work, job_pairs, object_pairs};
+ghost use Rattle.owner_fold.specs.Pairs.{pairs_in, stream_pairs};
 ghost use Rattle.owner_fold.specs.Plans.{IsPlanOf};
 ghost use Rattle.owner_fold.specs.DocPlaces.{doc_at, job_at, stream_job};
 
@@ -93,6 +94,8 @@ fn job_then<'a>(
 fn put_pair(pairs: &mut Groups, w: Ws, x: Ws) -> Result<(), NoMemory>
     ensures keeps { HasAll pairs.new pairs.old }
     ensures there { OnOk result (has pairs.new (code w x) ≡ true) }
+    ensures exact { OnOk result ((v y : ℕ) → y < 2 ^ 32
+        → has pairs.new (code v y) ≡ (has pairs.old (code v y) || ((w == v) && (x == y)))) }
 {
     pairs.add(u32::from(w.0), usize::from(x.0))?;
     Ok(())
@@ -328,6 +331,40 @@ pub(crate) fn pairs_of(
     put_streams(&mut pairs, kept, e, plan)?;
     put_jobs(&mut pairs, kept, e, plan)?;
     Ok(pairs)
+}
+
+/// Puts in the workstation of the stream with that of the job at this place.
+fn put_work(
+    works: &mut Groups,
+    kept: &Kept,
+    e: &Entry,
+    doc_place: &JobPlace,
+) -> Result<(), NoMemory>
+    ensures { OnOk result ((v x : ℕ) → x < 2 ^ 32 → has works.new (code v x)
+        ≡ (has works.old (code v x)
+        || option_map_or (is_work v x) (job_at (kept.now ++ e.now ∷ []) doc_place.now) false)) }
+{
+    match job_there(kept, e, doc_place) {
+        None => Ok(()),
+        Some((parent, doc)) => put_pair(works, parent.ws, doc.ws),
+    }
+}
+
+/// Whose streams have a job on whom in a plan, where `e` comes after the others. On the allocator of the older ones.
+pub(crate) fn works_of(
+    older: &Groups,
+    kept: &Kept,
+    e: &Entry,
+    plan: &Plan,
+) -> Result<Groups, NoMemory>
+    requires { IsPlanOf (kept.now ++ e.now ∷ []) plan.now }
+    ensures { IfOk result (AreWorksOf (kept.now ++ e.now ∷ [])) }
+{
+    let mut works = older.empty();
+    for doc_place in plan.doc_places.jobs.as_slice() {
+        put_work(&mut works, kept, e, doc_place)?;
+    }
+    Ok(works)
 }
 
 /// Puts in the pairs that an entry brings which is no plan. Where memory runs out none that was there is lost.

@@ -1,5 +1,5 @@
 -- The plan and the sets beside the entries, one entry further.
-use Rattle.std.proofs.Common.{[], ℕ, ◌++◌, ◌∙◌, ◌∷◌, ◌≡◌, List, None, Some, ap, false, flat_map, map, slice_get, subst, sym, true}
+use Rattle.std.proofs.Common.{[], ℕ, ◌++◌, ◌∙◌, ◌∷◌, ◌≡◌, ◌||◌, Bool, List, None, Some, ap, false, flat_map, map, slice_get, subst, sym, true}
 use Rattle.grouped_places.proofs.Finding.{nothing_there}
 use Rattle.model.specs.Types.{Entry, Events, StreamDoc}
 use Rattle.model.specs.History.{list_of, view_of}
@@ -7,6 +7,7 @@ use Rattle.model.specs.Catalogue.{StreamJob, catalogue, docs_in, jobs, jobs_in, 
 use Rattle.model.specs.Dependencies.{dep_cites}
 use Rattle.owner_fold.specs.Kept.{IsKeptBeside}
 use Rattle.owner_fold.specs.Numbers.{ArePlaces}
+use Rattle.owner_fold.specs.Ordered.{has_orders, is_of_orders}
 use Rattle.owner_fold.specs.Pairs.{ArePairsAmong, ArePairsOf, AreWorksOf, HasAll, pairs_in}
 use Rattle.owner_fold.specs.Plans.{IsPlanOf, is_planning}
 use Rattle.owner_fold.specs.Sets.{AreSetsAmong, AreSetsOf, Begins, Prepared, change_in}
@@ -16,21 +17,22 @@ use Rattle.owner_fold.specs.declared.plans.Plan.{Plan}
 use Rattle.owner_fold.specs.declared.sets.Sets.{Sets}
 use Rattle.owner_fold.proofs.Changing.{sets_planned, sets_prepared, sets_with}
 use Rattle.owner_fold.proofs.Further.{docs_without, plan_without}
+use Rattle.owner_fold.proofs.Ordering.{orders_planned, orders_with}
 use Rattle.owner_fold.proofs.Pairing.{pairs_changed, pairs_planned}
 use Rattle.owner_fold.proofs.Working.{works_stay}
 
 -- with any such list
-pub beside_same : (kept new : List Entry) (plan : Plan) (sets : Sets) (pairs works : List ℕ) → new ≡ kept
-    → IsKeptBeside kept plan sets pairs works → IsKeptBeside new plan sets pairs works
-beside_same kept new plan sets pairs works e h =
-    subst (λ (l : List Entry). IsKeptBeside l plan sets pairs works) (sym e) h
+pub beside_same : (kept new : List Entry) (plan : Plan) (sets : Sets) (pairs works : List ℕ) (ordered : Bool)
+    → new ≡ kept → IsKeptBeside kept plan sets pairs works ordered → IsKeptBeside new plan sets pairs works ordered
+beside_same kept new plan sets pairs works ordered e h =
+    subst (λ (l : List Entry). IsKeptBeside l plan sets pairs works ordered) (sym e) h
 
 -- sets that are prepared, and more pairs
 pub beside_prepared : (kept new : List Entry) (plan : Plan) (old mid : Sets) (pairs more works : List ℕ)
-    → new ≡ kept → Prepared old mid → HasAll more pairs → IsKeptBeside kept plan old pairs works
-    → IsKeptBeside new plan mid more works
-beside_prepared kept new plan old mid pairs more works e p keeps h =
-    beside_same kept new plan mid more works e
+    (ordered : Bool) → new ≡ kept → Prepared old mid → HasAll more pairs → IsKeptBeside kept plan old pairs works ordered
+    → IsKeptBeside new plan mid more works ordered
+beside_prepared kept new plan old mid pairs more works ordered e p keeps h =
+    beside_same kept new plan mid more works ordered e
     (record {
       plan = h.plan;
       sets =
@@ -38,24 +40,26 @@ beside_prepared kept new plan old mid pairs more works e p keeps h =
       pairs =
           record { streams = λ c k. keeps c (h.pairs.streams c k); jobs = λ c k. keeps c (h.pairs.jobs c k) };
       works = h.works;
+      ordered = h.ordered;
     })
 
 -- a plan or an added stream, for which plan and sets are made anew
 pub beside_planned : (kept new : List Entry) (e : Entry) (plan : Plan) (sets : Sets) (pairs works : List ℕ)
-    → is_planning e ≡ true
+    (ordered : Bool) → is_planning e ≡ true
     → IsPlanOf (kept ++ e ∷ []) plan
     → ((ms : List ℕ) (streams : List StreamDoc) (placed : List StreamJob) → ArePlaces ms plan.index.members
     → AreStreamPlaces (kept ++ e ∷ []) plan.doc_places.streams streams
     → AreJobPlaces (kept ++ e ∷ []) plan.doc_places.jobs placed → AreSetsAmong kept ms streams placed sets)
     → ArePairsAmong (dep_cites (view_of (kept ++ e ∷ []))) kept (catalogue (view_of (kept ++ e ∷ [])))
     (jobs (view_of (kept ++ e ∷ []))) pairs
-    → AreWorksOf (kept ++ e ∷ []) works → new ≡ kept ++ e ∷ [] → IsKeptBeside new plan sets pairs works
+    → AreWorksOf (kept ++ e ∷ []) works → ordered ≡ has_orders kept → new ≡ kept ++ e ∷ []
+    → IsKeptBeside new plan sets pairs works ordered
 unfolding catalogue jobs
-beside_planned kept new e plan sets pairs works h p anew paired worked grown =
+beside_planned kept new e plan sets pairs works ordered h p anew paired worked told grown =
     let ms : List ℕ = members (view_of (kept ++ e ∷ [])) in
     let places : ArePlaces ms plan.index.members =
     subst (λ (l : List ℕ). ArePlaces l plan.index.members) p.members p.index.members in
-    beside_same (kept ++ e ∷ []) new plan sets pairs works grown
+    beside_same (kept ++ e ∷ []) new plan sets pairs works ordered grown
     (record {
       plan = p;
       sets =
@@ -64,11 +68,13 @@ beside_planned kept new e plan sets pairs works h p anew paired worked grown =
           p.doc_places.jobs);
       pairs = pairs_planned kept e pairs h paired;
       works = worked;
+      ordered = told ∙ sym (orders_planned kept e h);
     })
 
 -- another entry, for which the sets were prepared
 pub beside_changed : (kept new : List Entry) (e : Entry) (plan : Plan) (old mid last_ : Sets)
-    (change_ : Change) (pairs more works : List ℕ) → IsKeptBeside kept plan old pairs works → is_planning e ≡ false
+    (change_ : Change) (pairs more works : List ℕ) (before now : Bool)
+    → IsKeptBeside kept plan old pairs works before → is_planning e ≡ false
     → change_ ≡ change_in e.body e.feed → Prepared old mid
     → Begins plan.index change_ mid → new ≡ kept ++ e ∷ []
     → ((ms : List ℕ) (streams : List StreamDoc) (placed : List StreamJob)
@@ -76,9 +82,9 @@ pub beside_changed : (kept new : List Entry) (e : Entry) (plan : Plan) (old mid 
     → ArePlaces (map (λ (p : StreamJob). p.doc.no) placed) plan.index.jobs
     → AreSetsAmong new ms streams placed mid → AreSetsAmong new ms streams placed last_)
     → HasAll more pairs → HasAll more (pairs_in (dep_cites (view_of (kept ++ e ∷ []))) e.body e.feed)
-    → IsKeptBeside new plan last_ more works
+    → now ≡ (is_of_orders e.feed || before) → IsKeptBeside new plan last_ more works now
 unfolding catalogue jobs
-beside_changed kept new e plan old mid last_ change_ pairs more works h other one p begins grown settled keeps brought =
+beside_changed kept new e plan old mid last_ change_ pairs more works before now h other one p begins grown settled keeps brought told =
     let ms : List ℕ = members (view_of kept) in
     let docs : List StreamDoc = flat_map docs_in (list_of kept (Events 0)) in
     let all : List StreamJob = flat_map jobs_in (first_docs_among docs) in
@@ -112,6 +118,9 @@ beside_changed kept new e plan old mid last_ change_ pairs more works h other on
       pairs =
           subst (λ (l : List Entry). ArePairsOf l more) (sym grown) (pairs_changed kept e pairs more other keeps brought h.pairs);
       works = subst (λ (l : List Entry). AreWorksOf l works) (sym grown) (works_stay kept e works other h.works);
+      ordered =
+          told ∙ ap (λ (b : Bool). is_of_orders e.feed || b) h.ordered ∙ sym (orders_with kept e)
+          ∙ ap has_orders (sym grown);
     }
 
 -- no entries

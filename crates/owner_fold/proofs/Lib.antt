@@ -17,3 +17,4 @@ mod Growing
 mod Pairing
 mod Passing
 mod Working
+mod Ordering

@@ -15,3 +15,4 @@ pub mod Times
 pub mod Files
 pub mod Searches
 pub mod Pairs
+pub mod Ordered

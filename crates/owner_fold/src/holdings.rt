@@ -1,5 +1,5 @@
 //! What a node holds: the entries that it took.
-ghost use Rattle.std.specs.Prelude.{◌≡◌, ◌+◌, ◌++◌, ◌==◌, [], ◌∷◌, ℕ, false, true, filter, filter_map, length, OnOk, OnErr};
+ghost use Rattle.std.specs.Prelude.{◌≡◌, ◌+◌, ◌++◌, ◌==◌, ◌||◌, [], ◌∷◌, ℕ, false, true, filter, filter_map, length, OnOk, OnErr};
 ghost use Rattle.std.specs.List.{list_any};
 ghost use Rattle.std.specs.Prelude.{option_and_then, option_map};
 ghost use Rattle.std.specs.Option.{option_copied};
@@ -14,6 +14,7 @@ ghost use Rattle.model.specs.Forwarding.{objects_of, works_on};
 ghost use Rattle.model.specs.NewPlan.{last_job, last_stream};
 ghost use Rattle.owner_rows.specs.Standing.{has_issued};
 ghost use Rattle.owner_fold.specs.Holders.{is_open_here, is_under_way, open_jobs, streams_under_way};
+ghost use Rattle.owner_fold.specs.Ordered.{has_orders, is_of_orders};
 ghost use Rattle.owner_fold.specs.Plans.{is_planning};
 ghost use Rattle.owner_fold.specs.Sets as spec;
 ghost use Rattle.owner_fold.specs.Sets.{is_waiting_here, streams_waiting};
@@ -39,6 +40,16 @@ use owner_rows::Kept;
 use std::alloc::Global;
 use std::marker::Model;
 
+/// Whether any order was taken once an entry of this feed is.
+fn is_ordered_with(ordered: bool, feed: &Feed) -> bool
+    ensures { result ≡ (is_of_orders feed.now || ordered) }
+{
+    match feed {
+        Feed::Events(_) => ordered,
+        Feed::Orders(_, _) => true,
+    }
+}
+
 /// The entries that a node took. A contract sees them as a list, in the order in which they were taken.
 pub struct Owners {
     kept: Kept,
@@ -48,6 +59,8 @@ pub struct Owners {
     pairs: Groups,
     /// Whose streams have a job on whom.
     works: Groups,
+    /// Whether any order was taken.
+    ordered: bool,
 }
 
 /// Written out, so that dropping one is a call for whoever owns it.
@@ -59,6 +72,7 @@ impl Drop for Owners {
             sets: _sets,
             pairs: _pairs,
             works: _works,
+            ordered: _,
         } = self;
     }
 }
@@ -72,7 +86,7 @@ impl Model for Owners {
 
     ghost view = { λ o. o.kept };
 
-    ghost invariant = { λ o. IsKeptBeside o.kept o.plan o.sets o.pairs o.works };
+    ghost invariant = { λ o. IsKeptBeside o.kept o.plan o.sets o.pairs o.works o.ordered };
 }
 
 impl Owners {
@@ -86,6 +100,7 @@ impl Owners {
             sets: Sets::new(alloc),
             pairs: Groups::new(alloc),
             works: Groups::new(alloc),
+            ordered: false,
         }
     }
 
@@ -142,9 +157,19 @@ impl Owners {
         let change = change_of(&e);
         self.sets.prepare(&self.plan.index, &change)?;
         put_brought(&mut self.pairs, &self.kept, &e, &self.plan)?;
+        let ordered = is_ordered_with(self.ordered, &e.feed);
         self.kept.take_own(e)?;
         self.sets.settle(&self.kept, &self.plan.index, &change);
+        self.ordered = ordered;
         Ok(())
+    }
+
+    /// Whether any order was taken.
+    pub fn has_orders(&self) -> bool
+        ensures orders { result ≡ has_orders self.now }
+        ensures nothing { result ≡ false → (a w : ℕ) → list_of self.now (Orders a w) ≡ [] }
+    {
+        self.ordered
     }
 
     /// Whether any orders that a workstation issued were taken.

@@ -18,15 +18,15 @@ works_of-requires c =
 pub invariant_of-self : goal.invariant_of-self
 invariant_of-self c =
     beside_same c.self.inside.kept c.take_own.new.self c.self.inside.plan c.self.inside.sets c.self.inside.pairs
-    c.self.inside.works c.in_err-take_own.ensures.err c.self.invariant
+    c.self.inside.works c.self.inside.ordered c.in_err-take_own.ensures.err c.self.invariant
 
 pub invariant_of-self-2 : goal.invariant_of-self-2
 invariant_of-self-2 c =
     beside_planned c.self.inside.kept c.take_own.new.self c.args.e c.in_ok-plan.plan c.in_ok-sets.sets c.in_ok-pairs.pairs
-    c.in_ok-works.works c.requires.planning
+    c.in_ok-works.works c.self.inside.ordered c.requires.planning
     (subst (λ (l : List Entry). IsPlanOf (l ++ c.args.e ∷ []) c.in_ok-plan.plan) c.entries.ensures.list
     c.in_ok-plan.ensures)
-    c.in_ok-sets.ensures c.in_ok-pairs.ensures c.in_ok-works.ensures c.in_ok-take_own.ensures.ok
+    c.in_ok-sets.ensures c.in_ok-pairs.ensures c.in_ok-works.ensures c.self.invariant.ordered c.in_ok-take_own.ensures.ok
 
 on_err : {T E P : Type 0} (r : Result T E) → P → OnErr r P
 on_err (Ok x) p = tt

@@ -1,9 +1,10 @@
 -- The faults of a step, one behind the other, and its effect where none applies.
-use Rattle.std.proofs.Common.{◌≡◌, ◌∷◌, ◌∙◌, ◌+◌, ◌++◌, ℕ, Bool, Err, List, None, Ok, Option, Result, Some, ap, arith, false}
+use Rattle.std.proofs.Common.{◌≡◌, ◌∷◌, ◌∙◌, ◌+◌, ◌++◌, ℕ, Bool, Err, List, None, Ok, Option, Result, Some, ap, false}
 use Rattle.std.proofs.Common.{length, refl, sym, true}
 use Rattle.std.specs.List.{list_all}
 use Rattle.std.specs.Option.{option_to_list}
 use Rattle.std.specs.Prelude.{◌&&◌, ◌==◌, nat_lt, not}
+use Rattle.lemmas.proofs.Numbers.{one_plus}
 use Rattle.model.specs.Types.{Body, Entry, Feed, Input, Net, Out}
 use Rattle.model.specs.Words.{some_is}
 use Rattle.model.specs.Network.{node_count}
@@ -88,9 +89,6 @@ pub no_fault : (n : NodeState) (i : Input) → Passes n i → is_place_spent (vi
 unfolding node_step step_fault
 no_fault n i p l m o = rw (p.inside_, p.other, p.master, p.runs, p.waits, l, m, o) refl
 
-swap_one : (n : ℕ) → 1 + n ≡ n + 1
-swap_one n = omega arith
-
 -- the next entry of a feed of the node's own is what an input keeps
 pub own_kept : (n : NodeState) (i : Input) (f : Feed) (b : Body) (r : Result Entry StepFault) → Passes n i
     → plan_fault (present_in n) (view_in n) i ≡ None → made_by n i ≡ Some (next_entry (view_in n) f b)
@@ -102,7 +100,7 @@ own_kept n i f b (Ok e) p m k h =
           no_fault n i p (ap (is_place_spent (view_in n)) made ∙ h.1.0) m (ap is_too_long made ∙ h.1.1);
       made = made;
       next =
-          ap (λ (d : Entry). d.place) h.0 ∙ swap_one (length (list_of n.kept f))
+          ap (λ (d : Entry). d.place) h.0 ∙ one_plus (length (list_of n.kept f))
           ∙ ap (λ (d : Entry). length (list_of n.kept d.feed) + 1) (sym h.0);
     }
 own_kept n i f b (Err PlaceSpent) p m k h = place_spent n i p (ap (is_place_spent (view_in n)) k ∙ h)

@@ -1,10 +1,11 @@
 -- Turns that keep nothing until something changes or a time comes.
-use Rattle.std.proofs.Common.{[], ℕ, ◌&&◌, ◌∷◌, ◌≡◌, ◌≤◌, ◌||◌, Bool, List, None, Option, Some, arith, false, filter}
+use Rattle.std.proofs.Common.{[], ℕ, ◌&&◌, ◌∷◌, ◌≡◌, ◌≤◌, Bool, List, None, Option, Some, arith, false, filter}
 use Rattle.std.proofs.Common.{option_map, refl, subst, sym, true, unwrap_or}
 use Rattle.std.specs.Bool.{then_some}
 use Rattle.std.specs.List.{list_any}
 use Rattle.std.specs.Option.{option_or}
 use Rattle.std.specs.Prelude.{nat_le, nat_lt}
+use Rattle.lemmas.proofs.Booleans.{neither}
 use Rattle.model.specs.Types.{Entry, Events, LiveJob, Net, Obj}
 use Rattle.model.specs.Words.{least}
 use Rattle.model.specs.History.{View, view_of}
@@ -78,10 +79,6 @@ still_nothing net V me live t u h quiet =
 -- what has not come by a reading has not come by an earlier one
 earlier_each : (n t u x : ℕ) → t ≤ u → (nat_lt n x && nat_le x u) ≡ false → (nat_lt n x && nat_le x t) ≡ false
 earlier_each n t u x le h = grind (arith, le, h)
-
-neither : (a b : Bool) → (a || b) ≡ false → (a ≡ false) × (b ≡ false)
-neither false b h = (refl, h)
-neither true b h = absurd (cc)
 
 earlier_in : (n t u : ℕ) → t ≤ u → (ts : List ℕ) → list_any (λ x. nat_lt n x && nat_le x u) ts ≡ false
     → list_any (λ x. nat_lt n x && nat_le x t) ts ≡ false

@@ -4,6 +4,7 @@ use Rattle.std.proofs.Common.{true}
 use Rattle.std.proofs.lemmas.Bool.{eqb-true}
 use Rattle.std.specs.Option.{option_map_or}
 use Rattle.std.specs.Prelude.{◌&&◌, ◌++◌, ◌==◌, filter}
+use Rattle.lemmas.proofs.Booleans.{and_false, and_true, or_false, or_regroup}
 use Rattle.model.specs.Types.{Events, Job, Obj, Stream, StreamDoc}
 use Rattle.model.specs.Words.{firsts, has}
 use Rattle.model.specs.Equalities.{obj_among, obj_eq}
@@ -16,18 +17,6 @@ use Rattle.agent_core.specs.Owning.{is_own_job, is_own_stream}
 abbrev any_such : {X : Type 0} → (X → ℕ) → (X → Bool) → (X → Bool) → ℕ → List X → Bool
 any_such number a b j [] = false
 any_such number a b j (x ∷ xs) = ((number x == j) && (a x && b x)) || any_such number a b j xs
-
-or_false : (b : Bool) → (b || false) ≡ b
-or_false true = refl
-or_false false = refl
-
-and_false : (b : Bool) → (b && false) ≡ false
-and_false true = refl
-and_false false = refl
-
-and_true : (b : Bool) → (b && true) ≡ b
-and_true true = refl
-and_true false = refl
 
 differ : false ≡ true → ⊥
 differ q = cc
@@ -73,15 +62,11 @@ found_such {X} number a b j known (x ∷ xs) =
         ∙ or_false (a x && b x))
     go same next false false m = rw m next
 
-or_assoc : (p q r : Bool) → (p || (q || r)) ≡ ((p || q) || r)
-or_assoc true q r = refl
-or_assoc false q r = refl
-
 among_append : (xs ys : List Obj) (o : Obj) → obj_among (xs ++ ys) o ≡ (obj_among xs o || obj_among ys o)
 among_append [] ys o = refl
 among_append (x ∷ xs) ys o =
     ap (λ (b : Bool). obj_eq x o || b) (among_append xs ys o)
-    ∙ or_assoc (obj_eq x o) (obj_among xs o) (obj_among ys o)
+    ∙ or_regroup (obj_eq x o) (obj_among xs o) (obj_among ys o)
 
 -- no stream is a job
 streams_are_no_jobs : (ds : List StreamDoc) (j : ℕ) → obj_among (map (λ (d : StreamDoc). Stream d.no) ds) (Job j) ≡ false

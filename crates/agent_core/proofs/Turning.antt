@@ -5,6 +5,7 @@ use Rattle.std.proofs.lemmas.List.{append-nil}
 use Rattle.std.proofs.lemmas.Grind.{flat_map-append}
 use Rattle.std.specs.Option.{option_map_or}
 use Rattle.std.specs.Prelude.{◌++◌, filter, option_map}
+use Rattle.lemmas.proofs.Numbers.{minus_further, minus_nothing}
 use Rattle.model.specs.Types as types
 use Rattle.model.specs.Types.{AddDep, AltPri, Cancel, Confirm, DelDep, Fence, Limit, Release, ReplyGlobal, ReplyOwn, Rerun, Stop}
 use Rattle.model.specs.Types.{StreamLimit, Submit, SwitchMgr, Total}
@@ -262,13 +263,6 @@ turn_taken old held new t e live launch kill outs k one on is l x o =
       outs_ = turn_outs new t e ∙ sym given;
     })
 
--- the sends of a walk over the workstations
-less : (i n : ℕ) → i < n → n - i ≡ suc (n - (i + 1))
-less i n h = omega (arith, h)
-
-none_left : (i n : ℕ) → n ≤ i → n - i ≡ 0
-none_left i n h = omega (arith, h)
-
 abbrev pub sends_from : NodeState → ℕ → List Out
 sends_from n i = sends_among n (numbers_from i (node_count (present_in n) - i))
 
@@ -298,7 +292,7 @@ sends_next n i outs after all h a o =
     ap (λ (l : List Out). l ++ sends_from n (i + 1)) a
     ∙ append_assoc outs (sends_among n (i ∷ [])) (sends_from n (i + 1))
     ∙ ap (λ (l : List Out). outs ++ l)
-    (sym (ap (λ (k : ℕ). sends_among n (numbers_from i k)) (less i (node_count (present_in n)) h)
+    (sym (ap (λ (k : ℕ). sends_among n (numbers_from i k)) (minus_further i (node_count (present_in n)) h)
     ∙ one_then n i (node_count (present_in n) - (i + 1))))
     ∙ o
 
@@ -335,5 +329,5 @@ pub sends_end : (n : NodeState) (i : ℕ) (outs all : List Out) → node_count (
 sends_end n i outs all h o =
     sym (append-nil outs)
     ∙ ap (λ (l : List Out). outs ++ l)
-    (sym (ap (λ (k : ℕ). sends_among n (numbers_from i k)) (none_left i (node_count (present_in n)) h)))
+    (sym (ap (λ (k : ℕ). sends_among n (numbers_from i k)) (minus_nothing i (node_count (present_in n)) h)))
     ∙ o

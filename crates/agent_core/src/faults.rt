@@ -13,7 +13,7 @@ pub struct Step {
 }
 
 /// Why a node refuses an input, in the order in which the causes are tested.
-#[derive(Clone, Copy, Debug, PartialEq, Eq)]
+#[derive(Clone, Copy, Debug)]
 pub enum StepFault {
     /// The input names a workstation outside the network.
     NotInNetwork,

@@ -8,7 +8,7 @@ ghost use Rattle.agent_core.specs.Steps.{HoldsOneMore, IsKeeping, IsOwnEntry, Li
 use crate::agents::Agent;
 use crate::faults::{Step, StepFault};
 use base_types::{Body, Entry, Feed, Items, Live, NoMemory};
-use entry_sizes::entry_size;
+use entry_checks::entry_size;
 use manager_switch::present_after;
 use network_tree::Network;
 

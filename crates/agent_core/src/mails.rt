@@ -14,9 +14,8 @@ ghost use Rattle.agent_core.specs.Steps.{IsFault, IsStep, Makes, due, step_at};
 use crate::agents::Agent;
 use crate::faults::{Step, StepFault};
 use base_types::{Copied, Entry, Growing, NoMemory, Out, Packet, Ws};
-use entry_sizes::entry_size;
+use entry_checks::{entry_size, is_entry_inside};
 use mailman_core::{accepts, acknowledgement};
-use named_workstations::is_entry_inside;
 
 /// Whether an entry has more bytes than a record may have.
 #[tactic(auto, unfolding(model::specs::Sizes::entry_size))]

@@ -11,7 +11,7 @@ ghost use Rattle.agent_core.specs.Steps.{IsKept, IsOwnEntry, IsStep};
 use crate::agents::Agent;
 use crate::faults::{Step, StepFault};
 use base_types::{Body, Cmd, Copied, Entry, Feed, Ws};
-use named_workstations::is_cmd_inside;
+use entry_checks::is_cmd_inside;
 
 impl Agent {
     /// Whether the node itself, the workstation `to` and those that a command names are in the network.

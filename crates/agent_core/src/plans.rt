@@ -12,7 +12,7 @@ use crate::agents::Agent;
 use crate::faults::{Step, StepFault};
 use base_types::{Body, Entry, Feed, StreamDrafts};
 use carry_forward::{CarryFault, next_plan};
-use named_workstations::are_drafts_inside;
+use entry_checks::are_drafts_inside;
 
 /// The fault of a step that has no plan.
 fn no_plan(fault: CarryFault) -> StepFault

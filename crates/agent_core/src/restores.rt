@@ -11,14 +11,14 @@ ghost use Rattle.agent_core.specs.declared.restores.RestoreFault.TheVariants.{No
 use crate::agents::Agent;
 use crate::trackers::Tracker;
 use base_types::{Copied, Entries, Entry, Items, NoMemory, Ws};
+use entry_checks::is_entry_inside;
 use mailman_core::Mail;
-use named_workstations::is_entry_inside;
 use network_tree::Network;
 use owner_fold::Owners;
 use std::alloc::Global;
 
 /// Why no node is made of entries, in the order in which the causes are tested.
-#[derive(Clone, Copy, Debug, PartialEq, Eq)]
+#[derive(Clone, Copy, Debug)]
 pub enum RestoreFault {
     /// The workstation is outside the network.
     NotInNetwork,

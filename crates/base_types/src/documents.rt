@@ -29,14 +29,14 @@ pub type StreamDocs = Items<StreamDoc>;
 pub type StreamDrafts = Items<StreamDraft>;
 
 /// A job or a job stream.
-#[derive(Clone, Copy, Debug, PartialEq, Eq)]
+#[derive(Clone, Copy, Debug, PartialEq)]
 pub enum Obj {
     Job(JobNo),
     Stream(StreamNo),
 }
 
 /// What comes when the time of an UNTIL has passed before its object began.
-#[derive(Clone, Copy, Debug, PartialEq, Eq)]
+#[derive(Clone, Copy, Debug)]
 pub enum OnUntil {
     /// The object begins no more.
     Suppr,
@@ -110,7 +110,7 @@ pub enum Work {
 }
 
 /// What comes after a job that ended badly.
-#[derive(Clone, Copy, Debug, PartialEq, Eq)]
+#[derive(Clone, Copy, Debug)]
 pub enum Recovery {
     Stop,
     Continue,
@@ -118,7 +118,7 @@ pub enum Recovery {
 }
 
 /// How a return code is compared.
-#[derive(Clone, Copy, Debug, PartialEq, Eq)]
+#[derive(Clone, Copy, Debug)]
 pub enum Rel {
     Eq,
     Ne,

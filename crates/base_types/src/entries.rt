@@ -8,7 +8,7 @@ use crate::sightings::Seen;
 pub type Entries = Items<Entry>;
 
 /// A list of entries that one workstation makes.
-#[derive(Clone, Copy, Debug, PartialEq, Eq, PartialOrd, Ord, Hash)]
+#[derive(Clone, Copy, Debug, PartialEq, Eq, PartialOrd, Ord)]
 pub enum Feed {
     /// What the workstation decided or saw.
     Events(Ws),
@@ -89,7 +89,7 @@ impl Drop for Entry {
 }
 
 /// What one workstation sends to its neighbour.
-#[derive(Clone, Copy, PartialEq, Eq)]
+#[derive(Clone, Copy, PartialEq)]
 pub enum Packet {
     /// The entry of this feed and place.
     Mail(Feed, u32),

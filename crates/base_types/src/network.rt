@@ -51,7 +51,7 @@ pub struct PromptDef {
 }
 
 /// Which unfinished streams a new plan carries.
-#[derive(Clone, Copy, Debug, PartialEq, Eq)]
+#[derive(Clone, Copy, Debug)]
 pub enum Carry {
     /// Those that are marked to be carried.
     Yes,

@@ -1,21 +1,16 @@
 -- Whom the dependencies of an object cite, one dependency further.
 use Rattle.std.proofs.Common.{◌≡◌, ◌∙◌, ◌∷◌, ◌+◌, [], ℕ, List, None, Option, Some, add-one, ap, drop}
-use Rattle.std.proofs.Common.{refl, subst, suc, sym, zero}
+use Rattle.std.proofs.Common.{refl, subst, sym}
 use Rattle.std.specs.Option.{option_map_or}
 use Rattle.std.specs.Prelude.{flat_map, option_map, slice_get}
+use Rattle.lemmas.proofs.Lists.{drop_none, drop_past, drop_some}
 use Rattle.model.specs.Types.{Dep, Obj, StreamDoc}
 use Rattle.model.specs.Words.{ascending, nth}
 use Rattle.model.specs.History.{View}
 use Rattle.model.specs.Catalogue.{stream_of}
 use Rattle.model.specs.Dependencies.{cites, dep, dep_cites, deps}
-use Rattle.dependencies.proofs.Behind.{drop_none, drop_some}
 use Rattle.batchman_core.specs.Gathered.{with_all}
 use Rattle.batchman_core.proofs.Gatherings.{all_gathered, gathered_some}
-
-drop_past : {X : Type 0} (xs : List X) (n : ℕ) → slice_get xs n ≡ None → drop (suc n) xs ≡ []
-drop_past [] n e = refl
-drop_past (x ∷ xs) zero e = cc
-drop_past (x ∷ xs) (suc n) e = drop_past xs n e
 
 -- what the dependencies behind the first n cite, among others
 abbrev pub cited_behind : View → Obj → ℕ → List ℕ → List ℕ

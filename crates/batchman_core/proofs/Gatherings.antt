@@ -1,22 +1,10 @@
 -- Numbers put one by one among ascending ones, in whatever order.
-use Rattle.std.proofs.Common.{◌≡◌, ◌≢◌, ◌⊎◌, ◌∙◌, ◌∷◌, ◌++◌, ◌<◌, [], ℕ, Bool, List, ap, arith, cond, false, inl, inr}
+use Rattle.std.proofs.Common.{◌≡◌, ◌≢◌, ◌⊎◌, ◌∙◌, ◌∷◌, ◌++◌, ◌<◌, [], ℕ, Bool, List, ap, arith, false, inl, inr}
 use Rattle.std.proofs.Common.{refl, subst, sym, true}
 use Rattle.std.proofs.lemmas.Bool.Decides.{eqb_tells, nat_tests}
-use Rattle.std.specs.BTreeSet.{insert_key}
-use Rattle.std.specs.Ordering.{match_ordering, nat_cmp}
-use Rattle.std.specs.Prelude.{◌==◌, flat_map, nat_lt}
+use Rattle.std.specs.Prelude.{flat_map, nat_lt}
 use Rattle.model.specs.Words.{ascending, insert_once}
 use Rattle.batchman_core.specs.Gathered.{with_all}
-
-one_key : (k x : ℕ) (a b c : List ℕ) → match_ordering (nat_cmp k x) a b c ≡ cond (k == x) b (cond (nat_lt k x) a c)
-one_key k x a b c = grind (arith, nat_tests)
-
--- a set puts in a key as the definitions do
-pub key_inserted : (ks : List ℕ) (k : ℕ) → insert_key nat_cmp ks k ≡ insert_once k ks
-key_inserted [] k = refl
-key_inserted (x ∷ xs) k =
-    one_key k x (k ∷ x ∷ xs) (x ∷ xs) (x ∷ insert_key nat_cmp xs k)
-    ∙ ap (λ (l : List ℕ). cond (k == x) (x ∷ xs) (cond (nat_lt k x) (k ∷ x ∷ xs) (x ∷ l))) (key_inserted xs k)
 
 at_place : (x y : ℕ) (ys : List ℕ) → x ≡ y → insert_once x (y ∷ ys) ≡ y ∷ ys
 at_place x y ys h = grind (arith, nat_tests)

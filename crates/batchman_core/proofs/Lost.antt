@@ -3,6 +3,7 @@ use Rattle.std.proofs.Common.{◌≡◌, ◌∙◌, ◌∷◌, [], ℕ, Bool, Li
 use Rattle.std.proofs.Common.{sym, true}
 use Rattle.std.specs.Option.{option_map_or}
 use Rattle.std.specs.Prelude.{◌&&◌, ◌==◌, filter, not}
+use Rattle.lemmas.proofs.Lists.{filter_filter}
 use Rattle.model.specs.Types.{Events, LiveJob}
 use Rattle.model.specs.Words.{least}
 use Rattle.model.specs.History.{View}
@@ -12,7 +13,7 @@ use Rattle.model.specs.Turn.{is_alive, lost_jobs}
 use Rattle.dependencies.specs.Planned.{ArePlannedJobs, IsPlannedJob}
 use Rattle.dependencies.proofs.Found.{jobs_planned}
 use Rattle.model_laws.proofs.Lists.{all_filter}
-use Rattle.dependencies.proofs.Lowest.{filter_filter, lower_of, numbers_among, numbers_of}
+use Rattle.dependencies.proofs.Lowest.{lower_of, numbers_among, numbers_of}
 
 -- every item
 abbrev pub any : {X : Type 0} → X → Bool

@@ -1,6 +1,8 @@
 -- An own member that may be released or may end, by its document; and that each of them waits or is under way.
 use Rattle.std.proofs.Common.{◌≡◌, ◌∙◌, ◌∷◌, [], ℕ, Bool, List, None, ap, false, refl, subst, sym, true}
 use Rattle.std.specs.Prelude.{◌==◌, ◌&&◌, filter, not}
+use Rattle.lemmas.proofs.Booleans.{and_again}
+use Rattle.lemmas.proofs.Lists.{filter_filter}
 use Rattle.model.specs.Types.{Events, Net, Stream, StreamDoc}
 use Rattle.model.specs.Words.{all_of, least}
 use Rattle.model.specs.History.{View}
@@ -13,24 +15,19 @@ use Rattle.owner_fold.specs.Sets.{is_waiting}
 use Rattle.dependencies.specs.Planned.{ArePlannedStreams, IsPlannedStream}
 use Rattle.dependencies.proofs.Found.{streams_planned}
 use Rattle.model_laws.proofs.Lists.{all_filter}
-use Rattle.dependencies.proofs.Lowest.{filter_filter, lower_of, numbers_among, numbers_of}
-
-twice : (a b c : Bool) → (a && (b && (a && (b && c)))) ≡ (a && (b && c))
-twice true true c = refl
-twice true false c = refl
-twice false b c = refl
+use Rattle.dependencies.proofs.Lowest.{lower_of, numbers_among, numbers_of}
 
 -- it is an own member that may be released
 pub releasable : (net : Net) (V : View) (w : ℕ) (d : StreamDoc) → IsPlannedStream V d
     → ((d.ws == w) && (is_member V d.no && may_release net V w d.no)) ≡ may_release_in net V w d
 unfolding may_release
-releasable net V w d h = rw h.found (twice (d.ws == w) (is_member V d.no) _)
+releasable net V w d h = rw h.found (and_again (d.ws == w) (is_member V d.no) _)
 
 -- it is an own member that may end
 pub endable : (V : View) (w : ℕ) (d : StreamDoc) → IsPlannedStream V d
     → ((d.ws == w) && (is_member V d.no && may_end V w d.no)) ≡ may_end_in V w d
 unfolding may_end
-endable V w d h = rw h.found (twice (d.ws == w) (is_member V d.no) _)
+endable V w d h = rw h.found (and_again (d.ws == w) (is_member V d.no) _)
 
 -- the streams that wait are planned
 pub waiting_planned : (V : View) (w : ℕ) (left : List StreamDoc)

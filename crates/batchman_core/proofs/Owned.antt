@@ -1,20 +1,22 @@
 -- Whose job is lost, and whose is the best, which is due.
-use Rattle.std.proofs.Common.{◌≡◌, ◌∙◌, ◌∷◌, [], ℕ, Bool, List, None, Option, Some, ap, cond, false, find, map}
+use Rattle.std.proofs.Common.{◌≡◌, ◌∙◌, ◌∷◌, [], ℕ, Bool, List, None, Option, Some, ap, cond, false, map}
 use Rattle.std.proofs.Common.{refl, subst, sym, true}
 use Rattle.std.proofs.lemmas.Bool.{eqb-true}
 use Rattle.std.specs.List.{AllByRecursion}
 use Rattle.std.specs.Option.{option_map_or}
-use Rattle.std.specs.Prelude.{◌==◌, IfSome, filter, nat_lt, not}
+use Rattle.std.specs.Prelude.{◌==◌, filter, not}
+use Rattle.lemmas.proofs.Lists.{all_map}
+use Rattle.model_laws.proofs.Decisions.{all_true, job_number}
 use Rattle.model.specs.Types.{Events, Job, LiveJob, Net}
-use Rattle.model.specs.Words.{all_of, least, lesser}
+use Rattle.model.specs.Words.{least}
 use Rattle.model.specs.History.{View}
 use Rattle.model.specs.Catalogue.{StreamJob, job, jobs, jobs_of, owner}
 use Rattle.model.specs.Facts.{is_due, open_launch}
 use Rattle.model.specs.Readiness.{best, is_ready, is_ready_in, ready_conditions}
 use Rattle.model.specs.Turn.{is_alive, lost_jobs}
 use Rattle.model_laws.proofs.Bests.{best_is}
-use Rattle.model_laws.proofs.Growth.{and_left, and_right, ready_owner}
-use Rattle.model_laws.proofs.Options.{find_passes, there_if}
+use Rattle.model_laws.proofs.Growth.{ready_owner}
+use Rattle.model_laws.proofs.Options.{there_if, least_all}
 use Rattle.dependencies.specs.Planned.{IsPlannedJob}
 use Rattle.dependencies.proofs.Found.{jobs_planned}
 use Rattle.model_laws.proofs.Lists.{all_filter}
@@ -40,23 +42,6 @@ owned_jobs : (V : View) (w : ℕ) → AllByRecursion (λ (p : StreamJob). Owns V
 unfolding jobs_of
 owned_jobs V w = owned_among V w (jobs V) (jobs_planned V)
 
-all_map : {A B : Type 0} (P : B → Type 0) (f : A → B) (xs : List A)
-    → AllByRecursion (λ a. P (f a)) xs → AllByRecursion P (map f xs)
-all_map P f [] h = tt
-all_map P f (x ∷ xs) h = (h.0, all_map P f xs h.1)
-
-least_all : (P : ℕ → Type 0) (xs : List ℕ) → AllByRecursion P xs → IfSome (least xs) P
-least_all P [] h = tt
-least_all P (x ∷ xs) h = go (least xs) (least_all P xs h.1)
-  where
-    go : (o : Option ℕ) → IfSome o P → P (lesser x o)
-    go None k = h.0
-    go (Some m) k = either (nat_lt m x)
-      where
-        either : (b : Bool) → P (cond b m x)
-        either true = k
-        either false = h.0
-
 -- a lost job is w's
 pub lost_owned : (V : View) (w : ℕ) (live : List LiveJob) (j : ℕ) → Some j ≡ least (lost_jobs V w live)
     → owner V (Job j) ≡ Some w
@@ -72,17 +57,6 @@ lost_owned V w live j e =
 pub best_owned : (net : Net) (V : View) (w j : ℕ) → Some j ≡ best net V w → owner V (Job j) ≡ Some w
 best_owned net V w j e = ready_owner net V w j (best_is net V w j (sym e)).ready
 
-its_number : (V : View) (j : ℕ) (p : StreamJob) → job V j ≡ Some p → p.doc.no ≡ j
-unfolding job
-its_number V j p e =
-    let is_it : StreamJob → Bool = λ q. q.doc.no == j in
-    eqb-true p.doc.no j
-    (there_if (λ (q : StreamJob). is_it q ≡ true) (find is_it (jobs V)) p (find_passes is_it (jobs V)) e)
-
-all_true : (bs : List Bool) → all_of bs ≡ true → AllByRecursion (λ b. b ≡ true) bs
-all_true [] h = tt
-all_true (b ∷ bs) h = (and_left b (all_of bs) h, all_true bs (and_right b (all_of bs) h))
-
 -- a job that is ready is due
 ready_due : (net : Net) (V : View) (w j : ℕ) → is_ready net V w j ≡ true → is_due j (V (Events w)) ≡ true
 unfolding is_ready
@@ -96,7 +70,7 @@ ready_due net V w j h = go (job V j) refl h
         all_true (ready_conditions net V w p) k
         in
         let due : is_due p.doc.no (V (Events w)) ≡ true = all.1.1.1.1.1.1.0 in
-        subst (λ (i : ℕ). is_due i (V (Events w)) ≡ true) (its_number V j p e) due
+        subst (λ (i : ℕ). is_due i (V (Events w)) ≡ true) (job_number V j p e) due
 
 -- and so is the best
 pub best_due : (net : Net) (V : View) (w j : ℕ) → Some j ≡ best net V w → is_due j (V (Events w)) ≡ true

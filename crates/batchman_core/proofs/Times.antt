@@ -5,6 +5,7 @@ use Rattle.std.proofs.lemmas.List.Elements.{filter_map-append}
 use Rattle.std.specs.List.{cons_option, list_any}
 use Rattle.std.specs.Option.{option_map_or}
 use Rattle.std.specs.Prelude.{◌&&◌, ◌||◌, filter, filter_map, flat_map}
+use Rattle.lemmas.proofs.Lists.{any_append}
 use Rattle.model.specs.Types.{Events, Job, Obj, Stream, StreamDoc}
 use Rattle.model.specs.History.{View}
 use Rattle.model.specs.Dependencies.{NumberedDep, unwaived_deps}
@@ -13,15 +14,6 @@ use Rattle.model.specs.Facts.{now}
 use Rattle.model.specs.OwnMembers.{own_jobs, own_objects, own_streams}
 use Rattle.model.specs.Turn.{dep_time, is_clock_due, own_times}
 use Rattle.batchman_core.specs.Reached.{is_any_reached, is_any_reached_of, is_reached}
-
-any_append : {X : Type 0} (p : X → Bool) (xs ys : List X) → list_any p (xs ++ ys) ≡ (list_any p xs || list_any p ys)
-any_append p [] ys = refl
-any_append p (x ∷ xs) ys =
-    ap (λ (b : Bool). p x || b) (any_append p xs ys) ∙ regroup (p x) (list_any p xs) (list_any p ys)
-  where
-    regroup : (a b c : Bool) → (a || (b || c)) ≡ ((a || b) || c)
-    regroup true b c = refl
-    regroup false b c = refl
 
 reached_append : (clock t : ℕ) (ps qs : List NumberedDep)
     → is_any_reached clock t (ps ++ qs) ≡ (is_any_reached clock t ps || is_any_reached clock t qs)

@@ -11,7 +11,7 @@ pub use puts::{put_i32, put_text, put_u8, put_u16, put_u32, put_u64};
 pub use takes::{take_i32, take_text, take_u8, take_u16, take_u32, take_u64};
 
 /// Why a field was not taken.
-#[derive(Clone, Copy, Debug, PartialEq, Eq)]
+#[derive(Clone, Copy, Debug)]
 pub enum FieldFault {
     /// Too few bytes are left.
     Short,

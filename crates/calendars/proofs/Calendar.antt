@@ -20,7 +20,7 @@ present y m d h = rw h refl
 pub short_month : (y m d : ℕ) → is_date y m d ≡ true → d ≤ 31
 short_month y m d h = let most : days_in_month y m ≤ 31 = grind arith in grind (arith, nat_tests)
 
-first_day : (y m d : ℕ) → is_date y m d ≡ true → 1 ≤ d
+pub first_day : (y m d : ℕ) → is_date y m d ≡ true → 1 ≤ d
 first_day y m d h = grind (arith, nat_tests)
 
 pub exists_there : (y m d : ℕ) → is_date y m d ≡ true → jiff.IsDate (pos y) (pos m) (pos d)
@@ -33,7 +33,7 @@ no_years : days_of_years 0 ≡ 0
 unfolding days_of_years
 no_years = refl
 
-year_here : (n : ℕ) → days_of_years (suc n) ≡ days_of_years n + days_in_year (1970 + n)
+pub year_here : (n : ℕ) → days_of_years (suc n) ≡ days_of_years n + days_in_year (1970 + n)
 unfolding days_of_years
 year_here n = refl
 
@@ -53,7 +53,7 @@ unfolding days_of_months jiff.days_of_months
 months y zero = refl
 months y (suc n) = let same : suc n ≡ 1 + n = omega arith in rw (months y n, same) refl
 
-no_months : (y : ℕ) → days_of_months y 0 ≡ 0
+pub no_months : (y : ℕ) → days_of_months y 0 ≡ 0
 unfolding days_of_months
 no_months y = refl
 

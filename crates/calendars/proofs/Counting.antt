@@ -6,12 +6,6 @@ use Rattle.calendars.specs.Nth.{below}
 range_by : (a n k : ℕ) → k ≡ suc n → range_with_len a k ≡ a ∷ range_with_len (a + 1) n
 range_by a n k e = rw e refl
 
-pub range-step : (a end : ℕ) → a < end → range_with_len a (end - a) ≡ a ∷ range_with_len (a + 1) (end - (a + 1))
-range-step a end h = range_by a (end - (a + 1)) (end - a) (omega (arith, h))
-
-pub range-end : (a end : ℕ) → end ≤ a → range_with_len a (end - a) ≡ []
-range-end a end h = let none : end - a ≡ 0 = omega (arith, h) in rw none refl
-
 pub below-step : (n : ℕ) → 0 < n → below n ≡ (n - 1) ∷ below (n - 1)
 unfolding below
 below-step zero h = absurd (omega (arith, h))

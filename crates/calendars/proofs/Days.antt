@@ -1,7 +1,8 @@
 -- Each date is a day that there is.
-use Rattle.std.proofs.Common.{◌≡◌, ◌≤◌, ◌&&◌, cond, ℕ, Bool, true, false, List, leb}
-use Rattle.std.proofs.Common.{Option, Some, None, option_and_then, refl, ap, sym, subst, ◌∙◌, arith, pos, neg_ℤ, ◌≤ℤ◌}
+use Rattle.std.proofs.Common.{◌≡◌, ◌≤◌, cond, ℕ, Bool, true, false, List, leb}
+use Rattle.std.proofs.Common.{Option, Some, None, option_and_then, refl, ap, sym, subst, ◌∙◌, arith, neg_ℤ, pos, ◌≤ℤ◌}
 use Rattle.std.proofs.lemmas.Bool.Decides.{nat_tests}
+use Rattle.lemmas.proofs.Booleans.{and_parts}
 use Rattle.jiff_core.specs.declared.civil.date.Date.{Date as Civil}
 use Rattle.jiff_core.specs.Date.{epoch_day}
 use Rattle.jiff_core.proofs.DateLemmas.{epoch_day_range}
@@ -10,12 +11,9 @@ use Rattle.calendars.specs.Dates.{IsDay, days_before, days_in_month, day_of, is_
 use Rattle.calendars.specs.Written.{date_of, digits_of, before_slash, behind_slash}
 use Rattle.calendars.proofs.Calendar.{day_number}
 
-both_true : (a b : Bool) → (a && b) ≡ true → (a ≡ true) × (b ≡ true)
-both_true true b h = (refl, h)
-both_true false b h = cc
-
-near : (y : ℕ) → y ≤ 9999 → (neg_ℤ (pos 9999) ≤ℤ pos y) × (pos y ≤ℤ pos 9999)
-near y h = (omega (arith, signed_arith), omega (arith, signed_arith, h))
+-- a year of at most four digits is a year that a date may have
+pub year_within : (y : ℕ) → y ≤ 9999 → (neg_ℤ (pos 9999) ≤ℤ pos y) × (pos y ≤ℤ pos 9999)
+year_within y h = (omega (arith, signed_arith), omega (arith, signed_arith, h))
 
 there : (y m d : ℕ) → 1970 ≤ y → y ≤ 9999 → 1 ≤ m → m ≤ 12 → 1 ≤ d → d ≤ days_in_month y m → IsDay (days_before y m d)
 there y m d from late some last low high =
@@ -23,7 +21,7 @@ there y m d from late some last low high =
       year = pos y;
       month = m;
       day = d;
-      year_in = near y late;
+      year_in = year_within y late;
       month_in = (some, last);
       day_in = (low, high);
     } in
@@ -42,11 +40,11 @@ day_there y m d n e = by_test (is_date y m d) refl
   where
     by_test : (b : Bool) → is_date y m d ≡ b → IsDay n
     by_test true h =
-        let p1 = both_true (leb 1970 y) _ h in
-        let p2 = both_true (leb y 9999) _ p1.1 in
-        let p3 = both_true (leb 1 m) _ p2.1 in
-        let p4 = both_true (leb m 12) _ p3.1 in
-        let p5 = both_true (leb 1 d) (leb d (days_in_month y m)) p4.1 in
+        let p1 = and_parts (leb 1970 y) _ h in
+        let p2 = and_parts (leb y 9999) _ p1.1 in
+        let p3 = and_parts (leb 1 m) _ p2.1 in
+        let p4 = and_parts (leb m 12) _ p3.1 in
+        let p5 = and_parts (leb 1 d) (leb d (days_in_month y m)) p4.1 in
         let found : Some (days_before y m d) ≡ Some n = ap (λ b. cond b (Some (days_before y m d)) None) (sym h) ∙ e in
         let same : days_before y m d ≡ n = cc in
         subst (λ (k : ℕ). IsDay k) same

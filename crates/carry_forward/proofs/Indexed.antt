@@ -1,15 +1,15 @@
 -- An index of names, one job or stream further.
 use Rattle.std.proofs.Common.{[], ℕ, ◌&&◌, ◌+◌, ◌++◌, ◌<◌, ◌∙◌, ◌∷◌, ◌≡◌, Bool, Bor, List, None, Option, Some}
-use Rattle.std.proofs.Common.{ap, arith, bytes_eq, cond, drop, eqb, false, filter_map, find, get_or, inl, inr, length}
+use Rattle.std.proofs.Common.{ap, arith, bytes_eq, cond, drop, eqb, false, filter_map, find, get_or, length}
 use Rattle.std.proofs.Common.{map, option_and_then, option_map, refl, subst, sym, take, true}
-use Rattle.std.proofs.lemmas.Bool.Decides.{eqb_tells}
 use Rattle.std.proofs.lemmas.List.{drop_more, map-append, reverse-append}
 use Rattle.std.specs.List.{enumerate_from}
 use Rattle.std.specs.Prelude.{reverse}
 use Rattle.std.specs.Map.{lookup}
 use Rattle.std.specs.Option.{option_copied, option_or}
+use Rattle.lemmas.proofs.Numbers.{eqb_turned}
 use Rattle.indexmap.specs.IndexMap.{insert_entry}
-use Rattle.name_keys.proofs.Inserted.{are_one_key, key_inserted, key_of, name_inserted}
+use Rattle.lemmas.proofs.Inserted.{are_one_key, key_inserted, key_of, name_inserted}
 use Rattle.model.specs.Types.{JobDoc, JobDraft, StreamDoc}
 use Rattle.model.specs.Equalities.{text_eq}
 use Rattle.model.specs.History.{View}
@@ -20,19 +20,12 @@ use Rattle.carry_forward.specs.Known.{named_jobs, numbered_jobs, told_at, told_n
 use Rattle.carry_forward.specs.declared.names.Target.{Target}
 use Rattle.carry_forward.proofs.Counts.{made_none, made_some}
 
-eqb_flip : (a b : ℕ) → eqb a b ≡ eqb b a
-eqb_flip a b =
-    elim (eqb_tells a b) [
-      | inl e ↦ elim (eqb_tells b a) [ inl f ↦ e.0 ∙ sym f.0 | inr f ↦ absurd (f.1 (sym e.1)) ]
-      | inr e ↦ elim (eqb_tells b a) [ inl f ↦ absurd (e.1 (sym f.1)) | inr f ↦ e.0 ∙ sym f.0 ]
-    ]
-
 -- both say whether two texts are one
 text_bytes : (a b : List ℕ) → text_eq a b ≡ bytes_eq b a
 text_bytes [] [] = refl
 text_bytes [] (y ∷ ys) = refl
 text_bytes (x ∷ xs) [] = refl
-text_bytes (x ∷ xs) (y ∷ ys) = λ j. eqb_flip x y j && text_bytes xs ys j
+text_bytes (x ∷ xs) (y ∷ ys) = λ j. eqb_turned x y j && text_bytes xs ys j
 
 -- one more job, which comes before the others
 pub jobs_more : (es new : List (Bor (List ℕ) × ℕ)) (k : Bor (List ℕ)) (number : ℕ)
@@ -90,7 +83,7 @@ module _ (es new : List ((ℕ × Bor (List ℕ)) × Target)) (k : ℕ × Bor (Li
       ∙ (ap (option_map told_target) (key_inserted es k t (w, name))
       ∙ ap (λ (b : Bool). option_map told_target
       (cond b (Some t) (lookup (λ (l : ℕ × Bor (List ℕ)). are_one_key (w, name) (key_of l)) es)))
-      (λ j. (eqb_flip w k.0 ∙ ap (λ (v : ℕ). eqb v w) ws) j
+      (λ j. (eqb_turned w k.0 ∙ ap (λ (v : ℕ). eqb v w) ws) j
       && (sym (text_bytes k.1.now name) ∙ ap (λ (n : List ℕ). text_eq n name) named) j))
 
   -- a fresh stream, which comes before the others

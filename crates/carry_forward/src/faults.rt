@@ -5,7 +5,7 @@ ghost use Rattle.carry_forward.specs.declared.faults.CarryFault.TheVariants.{NoM
 use base_types::NoMemory;
 
 /// Why there is no plan of a new day, or no document of a submitted stream.
-#[derive(Clone, Copy, Debug, PartialEq, Eq)]
+#[derive(Clone, Copy, Debug)]
 pub enum CarryFault {
     /// The run would pass 4,294,967,295.
     RunsSpent,

@@ -5,11 +5,12 @@ use Rattle.std.specs.List.{list_all, prefix_len}
 use Rattle.std.specs.Option.{option_map_or}
 use Rattle.std.specs.Prelude.{slice_range}
 use Rattle.std.specs.Str.{is_utf8, IsUtf8, IsAscii}
-use Rattle.std.proofs.Math.Seq.{take-append_seam, drop-append_seam, get_or-append_seam}
 use Rattle.std.proofs.lemmas.List.{take_at, drop_at}
 use Rattle.std.proofs.lemmas.Bool.Decides.{nat_tests}
-use Rattle.std.proofs.lemmas.Str.{IsUtf8-append, IsUtf8-from_ascii, IsUtf8-from_is_utf8, is_utf8-from_IsUtf8, IsUtf8-take, IsUtf8-drop, IsCharBoundary-before_ascii}
+use Rattle.std.proofs.lemmas.Str.{IsUtf8-append, IsUtf8-from_ascii, IsUtf8-from_is_utf8, is_utf8-from_IsUtf8}
 use Rattle.std.proofs.lemmas.Str.Ascii.{IsAscii-cons, IsAscii-nil}
+use Rattle.lemmas.proofs.Booleans.{and_parts}
+use Rattle.syntax.proofs.Escapes.{one_escaped}
 use Rattle.syntax.specs.Quotes.{is_escaped}
 use Rattle.base_types.specs.declared.reports.Token.{Token}
 use Rattle.base_types.specs.declared.reports.TokenKind.{TokenKind}
@@ -97,16 +98,12 @@ abbrev pub Ends : List ℕ → Type 0
 Ends [] = Unit {0}
 Ends (b ∷ bs) = is_word_byte b ≡ false
 
-pub both_true : (a b : Bool) → (a && b) ≡ true → (a ≡ true) × (b ≡ true)
-both_true true b h = (refl, h)
-both_true false b h = cc
-
 word_prefix : (xs rest : List ℕ) → list_all is_word_byte xs ≡ true → Ends rest
     → prefix_len is_word_byte (xs ++ rest) ≡ length xs
 word_prefix [] [] h e = refl
 word_prefix [] (b ∷ rest) h e = rw e refl
 word_prefix (x ∷ xs) rest h e =
-    let parts = both_true (is_word_byte x) (list_all is_word_byte xs) h in
+    let parts = and_parts (is_word_byte x) (list_all is_word_byte xs) h in
     let later = word_prefix xs rest parts.1 e in
     let one : 1 + length xs ≡ suc (length xs) = omega arith in
     rw (parts.0, later) one
@@ -128,7 +125,7 @@ pub word_step : (b : ℕ) (bs rest : List ℕ) (first : Bool) (line place : ℕ)
     → IsStep first kind.Word line place (b ∷ bs) rest
 unfolding front
 word_step b bs rest first line place all plain small e =
-    let one = (both_true (is_word_byte b) (list_all is_word_byte bs) all).0 in
+    let one = (and_parts (is_word_byte b) (list_all is_word_byte bs) all).0 in
     let count = word_prefix (b ∷ bs) rest all e in
     let room : leb (length (b ∷ bs)) 4096 ≡ true = grind (arith, nat_tests) in
     at_piece line first place (length (b ∷ bs)) kind.Word ((b ∷ bs) ++ rest) (omega arith)
@@ -139,7 +136,7 @@ word_step b bs rest first line place all plain small e =
 pub ascii_word : (xs : List ℕ) → list_all is_word_byte xs ≡ true → IsAscii xs
 ascii_word [] h = IsAscii-nil
 ascii_word (x ∷ xs) h =
-    let parts = both_true (is_word_byte x) (list_all is_word_byte xs) h in
+    let parts = and_parts (is_word_byte x) (list_all is_word_byte xs) h in
     let low : is_word_byte x ≡ true → x < 128 = grind (arith, nat_tests) in
     IsAscii-cons x xs (low parts.0) (ascii_word xs parts.1)
 
@@ -199,7 +196,7 @@ width_is : (v rest : List ℕ) → list_all is_no_feed v ≡ true
     → text_width (flat_map escaped v ++ 34 ∷ rest) ≡ Some (length (flat_map escaped v) + 1, length v)
 width_is [] rest h = closing rest
 width_is (b ∷ v) rest h =
-    let parts = both_true (is_no_feed b) (list_all is_no_feed v) h in
+    let parts = and_parts (is_no_feed b) (list_all is_no_feed v) h in
     let first : length (flat_map escaped v) + 1 + length (escaped b) ≡ length (escaped b ++ flat_map escaped v) + 1 =
     omega (arith, length-append (escaped b) (flat_map escaped v)) in
     let second : length v + 1 ≡ suc (length v) = omega arith in
@@ -207,26 +204,6 @@ width_is (b ∷ v) rest h =
     ∙ width_front b (flat_map escaped v) rest (not_feed b parts.0)
     ∙ ap (λ o. with_bytes (length (escaped b)) 1 o) (width_is v rest parts.1)
     ∙ (λ i. Some (first i, second i))
-
--- a text without one of its ASCII characters
-pub utf8_before : (xs ys : List ℕ) (b : ℕ) → b < 128 → IsUtf8 (xs ++ b ∷ ys) → IsUtf8 xs × IsUtf8 (b ∷ ys)
-utf8_before xs ys b h u =
-    let long : length xs < length (xs ++ b ∷ ys) = omega (arith, length-append xs (b ∷ ys)) in
-    let small : get_or (xs ++ b ∷ ys) (length xs) 0 < 128 = rw (get_or-append_seam xs b ys 0) h in
-    let border = IsCharBoundary-before_ascii (xs ++ b ∷ ys) (length xs) long small in (
-      rw (take-append_seam xs (b ∷ ys)) at (IsUtf8-take (xs ++ b ∷ ys) (length xs) u border),
-      rw (drop-append_seam xs (b ∷ ys)) at (IsUtf8-drop (xs ++ b ∷ ys) (length xs) u border),
-    )
-
-one_escaped : (xs v : List ℕ) (b : ℕ) (t : Bool) → is_escaped b ≡ t → IsUtf8 (xs ++ b ∷ v)
-    → IsUtf8 ((xs ++ cond t (92 ∷ b ∷ []) (b ∷ [])) ++ v)
-one_escaped xs v b true e u =
-    let small : is_escaped b ≡ true → b < 128 = grind (arith, nat_tests) in
-    let parts = utf8_before xs v b (small e) u in
-    let slash : IsUtf8 (92 ∷ []) = IsUtf8-from_ascii (92 ∷ []) (IsAscii-cons 92 [] (omega arith) IsAscii-nil) in
-    rw (append_assoc xs (92 ∷ b ∷ []) v)
-    (IsUtf8-append xs (92 ∷ b ∷ v) parts.0 (IsUtf8-append (92 ∷ []) (b ∷ v) slash parts.1))
-one_escaped xs v b false e u = rw (append_assoc xs (b ∷ []) v) u
 
 escaped_utf8 : (xs v : List ℕ) → IsUtf8 (xs ++ v) → IsUtf8 (xs ++ flat_map escaped v)
 escaped_utf8 xs [] u = u

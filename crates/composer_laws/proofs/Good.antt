@@ -5,8 +5,10 @@ use Rattle.std.specs.List.{list_all}
 use Rattle.std.specs.Option.{option_map_or}
 use Rattle.std.specs.Str.{is_utf8, IsUtf8}
 use Rattle.std.proofs.lemmas.Bool.Decides.{nat_tests}
-use Rattle.std.proofs.lemmas.Str.{IsUtf8-from_ascii, IsUtf8-from_is_utf8, is_utf8-from_IsUtf8, IsUtf8-drop, IsCharBoundary-after_ascii}
+use Rattle.std.proofs.lemmas.Str.{IsUtf8-from_ascii, IsUtf8-from_is_utf8, is_utf8-from_IsUtf8}
 use Rattle.std.proofs.lemmas.Str.Ascii.{IsAscii-nil}
+use Rattle.lemmas.proofs.Texts.{utf8_after, utf8_before}
+use Rattle.lemmas.proofs.Booleans.{and_parts}
 use Rattle.syntax.specs.Quotes.{is_escaped, byte_of, after_byte, unquoted, quoted_of, within_limit}
 use Rattle.syntax.proofs.Escapes.{unquoted_more, still_text}
 use Rattle.base_types.specs.declared.reports.Token.{Token}
@@ -19,7 +21,7 @@ use Rattle.composer_lexer.proofs.Places.{slices}
 use Rattle.composer_parser.specs.Kinds.{Shape, mark, quoted, word, Spelled}
 use Rattle.composer_parser.specs.Tokens.{as_text, piece, shape_of, spelled, all_spelled}
 use Rattle.composer_laws.specs.Written.{IsWord, IsText, is_no_feed, Each}
-use Rattle.composer_laws.proofs.Cuts.{both_true, ascii_word, text_is, utf8_before}
+use Rattle.composer_laws.proofs.Cuts.{ascii_word, text_is}
 
 abbrev pub GoodShape : Shape → Type 0
 GoodShape (word w) = IsWord w
@@ -33,9 +35,6 @@ Good t = GoodShape t.shape
 empty_text : IsText []
 empty_text = record { utf8 = is_utf8-from_IsUtf8 [] (IsUtf8-from_ascii [] IsAscii-nil); room = omega arith; line = refl }
 
-utf8_after : (b : ℕ) (ys : List ℕ) → b < 128 → IsUtf8 (b ∷ ys) → IsUtf8 ys
-utf8_after b ys h u = IsUtf8-drop (b ∷ ys) 1 u (IsCharBoundary-after_ascii (b ∷ ys) 0 u (omega arith) h)
-
 -- what stands behind the opening quote
 only_quote : (front cs v : List ℕ) → IsUtf8 (front ++ 34 ∷ cs) → list_all is_no_feed (34 ∷ cs) ≡ true
     → unquoted (34 ∷ cs) ≡ Some v → (v ≡ []) × (cs ≡ [])
@@ -46,13 +45,13 @@ only_quote front (c ∷ cs) v u f e = cc
 after_feed : (c d : ℕ) (cs : List ℕ) (b : Bool) → (eqb c 92 && is_escaped d) ≡ b → list_all is_no_feed (c ∷ d ∷ cs) ≡ true
     → (is_no_feed (cond b d c) ≡ true) × (list_all is_no_feed (cond b cs (d ∷ cs)) ≡ true)
 after_feed c d cs true e h =
-    let one = both_true (is_no_feed c) _ h in
-    let two = both_true (is_no_feed d) (list_all is_no_feed cs) one.1 in (two.0, two.1)
-after_feed c d cs false e h = let one = both_true (is_no_feed c) _ h in (one.0, one.1)
+    let one = and_parts (is_no_feed c) _ h in
+    let two = and_parts (is_no_feed d) (list_all is_no_feed cs) one.1 in (two.0, two.1)
+after_feed c d cs false e h = let one = and_parts (is_no_feed c) _ h in (one.0, one.1)
 
 byte_feed : (c : ℕ) (cs : List ℕ) → list_all is_no_feed (c ∷ cs) ≡ true
     → (is_no_feed (byte_of c cs) ≡ true) × (list_all is_no_feed (after_byte c cs) ≡ true)
-byte_feed c [] h = ((both_true (is_no_feed c) true h).0, refl)
+byte_feed c [] h = ((and_parts (is_no_feed c) true h).0, refl)
 byte_feed c (d ∷ cs) h = after_feed c d cs (eqb c 92 && is_escaped d) refl h
 
 shorter_by : (b : Bool) (d : ℕ) (cs : List ℕ) → length (cond b cs (d ∷ cs)) ≤ suc (length cs)
@@ -129,7 +128,7 @@ quoted_is (c ∷ cs) v u f e = by_quote (eqb c 34) refl
         ap (λ b. cond b (option_and_then within_limit (unquoted cs)) None) (sym h) ∙ e in
         let parts = limit_is (unquoted cs) v found in
         let utf8 : IsUtf8 (34 ∷ cs) = subst (λ (x : ℕ). IsUtf8 (x ∷ cs)) is (IsUtf8-from_is_utf8 (c ∷ cs) u) in
-        let value = value_of (length cs) (34 ∷ []) cs v (omega arith) utf8 (both_true (is_no_feed c) (list_all is_no_feed cs) f).1 parts.0 in
+        let value = value_of (length cs) (34 ∷ []) cs v (omega arith) utf8 (and_parts (is_no_feed c) (list_all is_no_feed cs) f).1 parts.0 in
         record { utf8 = is_utf8-from_IsUtf8 v (utf8_after 34 v (omega arith) value.0); room = parts.1; line = value.1 }
     by_quote false h = let no : None ≡ Some v = ap (λ b. cond b (option_and_then within_limit (unquoted cs)) None) (sym h) ∙ e in cc
 

@@ -2,6 +2,7 @@
 use Rattle.std.proofs.Common.{◌≡◌, inl, inr, ℕ, Bool, true, false, not, ◌&&◌, ◌||◌, List, [], ◌∷◌, ◌++◌, refl, ap, sym, subst, ◌∙◌, codes, append_assoc, append-nil, arith}
 use Rattle.std.specs.List.{list_any}
 use Rattle.std.proofs.lemmas.List.{map-append}
+use Rattle.lemmas.proofs.Booleans.{and_parts}
 use Rattle.composer_parser.specs.declared.definitions.Lined.{Lined}
 use Rattle.composer_parser.specs.declared.clauses.Clause.{Clause}
 use Rattle.composer_parser.specs.declared.clauses.Clause.TheVariants.{At, Until, Deadline, Priority, Limit, CarryForward, Follows, Needs, Prompt, Opens as Files}
@@ -13,7 +14,6 @@ use Rattle.composer_parser.specs.Parts.{once}
 use Rattle.composer_parser.specs.Clauses as grammar
 use Rattle.composer_print.specs.Streams.{items}
 use Rattle.composer_laws.specs.Written.{IsText, IsNumber, WhenGiven, Each, IsList, IsPred, IsNeed, IsPromptItem, IsClause, Stands, AreClauses}
-use Rattle.composer_laws.proofs.Words.{both_true}
 use Rattle.composer_laws.proofs.Good.{Good}
 use Rattle.composer_laws.proofs.Keeps.{Keeps, kept_made, kept_any, kept_app, kept_skip, kept_or, kept_many_by, kept_commas}
 use Rattle.composer_laws.proofs.Leaves.{kept_name, kept_text, kept_number, kept_time, kept_plus, kept_scoped, kept_pred}
@@ -174,11 +174,11 @@ by_items p st h = sym (any_items p st) ∙ h
 six_of : (a b c d e f : Bool) → (a && (b && (c && (d && (e && f))))) ≡ true
     → (a ≡ true) × (b ≡ true) × (c ≡ true) × (d ≡ true) × (e ≡ true) × (f ≡ true)
 six_of a b c d e f h =
-    let p1 = both_true a (b && (c && (d && (e && f)))) h in
-    let p2 = both_true b (c && (d && (e && f))) p1.1 in
-    let p3 = both_true c (d && (e && f)) p2.1 in
-    let p4 = both_true d (e && f) p3.1 in
-    let p5 = both_true e f p4.1 in
+    let p1 = and_parts a (b && (c && (d && (e && f)))) h in
+    let p2 = and_parts b (c && (d && (e && f))) p1.1 in
+    let p3 = and_parts c (d && (e && f)) p2.1 in
+    let p4 = and_parts d (e && f) p3.1 in
+    let p5 = and_parts e f p4.1 in
     (p1.0, p2.0, p3.0, p4.0, p5.0, p5.1)
 
 abbrev Six : Bool → List (Lined Clause) → Spelled → Type 0

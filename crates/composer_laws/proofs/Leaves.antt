@@ -23,9 +23,11 @@ use Rattle.composer_parser.specs.Kinds.{Kind, Shape, word, quoted, mark, Spelled
 use Rattle.composer_parser.specs.Grammars.{one}
 use Rattle.composer_parser.specs.Parts.{bytes_of, upper, capped, minutes, day_of, name, upper_word, value, text, number, time, date, plus, signed, ws_of, own_of, pred, pred_of, part_of}
 use Rattle.composer_laws.specs.Written.{IsWord, IsText, IsName, IsNumber, IsTime, WhenGiven, IsPart, IsPred, is_no_feed}
-use Rattle.composer_laws.proofs.Words.{both_true, two_true, all_follow, free_parts, name_parts, all_both}
+use Rattle.composer_laws.proofs.Words.{all_follow, free_parts, name_parts, all_both}
 use Rattle.composer_laws.proofs.Scopes.{holds_not, other_than, no_hash, no_dot, no_at}
 use Rattle.std.proofs.lemmas.Str.{IsUtf8-from_ascii, is_utf8-from_IsUtf8}
+use Rattle.lemmas.proofs.Booleans.{and_made, and_parts, three_true}
+use Rattle.syntax.proofs.Digits.{name_byte_upper}
 use Rattle.composer_laws.proofs.Cuts.{ascii_word}
 use Rattle.composer_laws.proofs.Good.{Good}
 use Rattle.composer_laws.proofs.Keeps.{Keeps, kept_one}
@@ -47,17 +49,11 @@ upper_all : (p : ℕ → Bool) → ((b : ℕ) → p b ≡ true → p (to_ascii_u
     → list_all p (upper w) ≡ true
 upper_all p h [] e = refl
 upper_all p h (b ∷ w) e =
-    let parts = both_true (p b) (list_all p w) e in
-    two_true (p (to_ascii_uppercase b)) (list_all p (upper w)) (h b parts.0) (upper_all p h w parts.1)
-
-name_byte_upper : (b : ℕ) → is_name_byte b ≡ true → is_name_byte (to_ascii_uppercase b) ≡ true
-name_byte_upper b h = grind (arith, nat_tests)
+    let parts = and_parts (p b) (list_all p w) e in
+    and_made (p (to_ascii_uppercase b)) (list_all p (upper w)) (h b parts.0) (upper_all p h w parts.1)
 
 word_byte_upper : (b : ℕ) → is_word_byte b ≡ true → is_word_byte (to_ascii_uppercase b) ≡ true
 word_byte_upper b h = grind (arith, nat_tests)
-
-three : (a b c : Bool) → a ≡ true → b ≡ true → c ≡ true → (a && b && c) ≡ true
-three a b c p q r = rw (p, q, r) refl
 
 reserved_upper : (w : List ℕ) → is_reserved (upper w) ≡ is_reserved w
 unfolding is_reserved
@@ -65,15 +61,15 @@ reserved_upper w = ap (λ l. list_any (λ k. bytes_eq l (lower k)) reserved_word
 
 pub upper_name : (w : List ℕ) → is_free_name w ≡ true → IsName (upper w)
 upper_name w h =
-    let free = both_true (is_name_of w) (not (is_reserved w)) h in
+    let free = and_parts (is_name_of w) (not (is_reserved w)) h in
     let parts = name_parts w free.0 in
     let same : length (upper w) ≡ length w = length-map w to_ascii_uppercase in
     let short : leb (length (upper w)) 40 ≡ true = let small = parts.1 in grind (arith, nat_tests) in
     let name : is_name_of (upper w) ≡ true =
-    three (starts_with_letter (upper w)) (leb (length (upper w)) 40) (list_all is_name_byte (upper w)) (upper_letter w parts.0) short
+    three_true (starts_with_letter (upper w)) (leb (length (upper w)) 40) (list_all is_name_byte (upper w)) (upper_letter w parts.0) short
     (upper_all is_name_byte name_byte_upper w parts.2) in
     record {
-      free = two_true (is_name_of (upper w)) (not (is_reserved (upper w))) name (ap not (reserved_upper w) ∙ free.1);
+      free = and_made (is_name_of (upper w)) (not (is_reserved (upper w))) name (ap not (reserved_upper w) ∙ free.1);
       high = upper_upper w;
     }
 
@@ -141,9 +137,9 @@ kept_signed = kept_one an_offset _ (λ t good ok. capped_is (drop 1 (bytes_of t.
 early : (w : List ℕ) → is_time w ≡ true → minutes w < 1440
 unfolding is_time
 early w h =
-    let first = both_true (eqb (length w) 4) _ h in
-    let second = both_true (list_all is_ascii_digit w) _ first.1 in
-    let third = both_true (ltb (two_digits (get_or w 0 0) (get_or w 1 0)) 24) (ltb (two_digits (get_or w 2 0) (get_or w 3 0)) 60) second.1 in
+    let first = and_parts (eqb (length w) 4) _ h in
+    let second = and_parts (list_all is_ascii_digit w) _ first.1 in
+    let third = and_parts (ltb (two_digits (get_or w 0 0) (get_or w 1 0)) 24) (ltb (two_digits (get_or w 2 0) (get_or w 3 0)) 60) second.1 in
     by_parts (two_digits (get_or w 0 0) (get_or w 1 0)) (two_digits (get_or w 2 0) (get_or w 3 0)) third.0 third.1
   where
     by_parts : (a b : ℕ) → ltb a 24 ≡ true → ltb b 60 ≡ true → 60 * a + b < 1440
@@ -181,8 +177,8 @@ placed_parts : (w : List ℕ) → is_placed w ≡ true
     → (holds 35 w ≡ true) × (is_free_name (before 35 w) ≡ true) × (is_free_name (behind 35 w) ≡ true)
 unfolding is_placed
 placed_parts w h =
-    let first = both_true (holds 35 w) _ h in
-    let second = both_true (is_free_name (before 35 w)) (is_free_name (behind 35 w)) first.1 in
+    let first = and_parts (holds 35 w) _ h in
+    let second = and_parts (is_free_name (before 35 w)) (is_free_name (behind 35 w)) first.1 in
     (first.0, second.0, second.1)
 
 pub scoped_is : (w : List ℕ) → is_scoped w ≡ true → IsScoped w
@@ -238,7 +234,7 @@ scoped_dotless w h = by_name (is_free_name w) refl h
         let right = free_holds 46 (behind 35 w) no_dot parts.2 in
         let all : list_all (other_than 46) (before 35 w ++ (get_or w pos 0 ∷ behind 35 w)) ≡ true =
         all_both (other_than 46) (before 35 w) (get_or w pos 0 ∷ behind 35 w) left
-        (two_true (other_than 46 (get_or w pos 0)) (list_all (other_than 46) (behind 35 w)) (hash_dotless (get_or w pos 0) mark) right) in
+        (and_made (other_than 46 (get_or w pos 0)) (list_all (other_than 46) (behind 35 w)) (hash_dotless (get_or w pos 0) mark) right) in
         subst (λ (xs : List ℕ). list_all (other_than 46) xs ≡ true) (sym cut) all
 
 part_is : (w : List ℕ) → (bytes_eq w (codes "@") || is_free_name w) ≡ true → IsPart (part_of w)
@@ -265,7 +261,7 @@ pred_is w h = by_dot (holds 46 w) refl
         by_scoped true k all =
             let no : true ≡ false = sym e ∙ holds_not 46 w (scoped_dotless w k) in cc
         by_scoped false k all =
-            let parts = both_true (is_scoped (before 46 w)) _ all in
+            let parts = and_parts (is_scoped (before 46 w)) _ all in
             let scoped = scoped_is (before 46 w) parts.0 in
             record { ws = scoped.0; name = scoped.1; part = part_is (behind 46 w) parts.1 }
     by_dot false e =

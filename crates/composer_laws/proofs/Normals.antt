@@ -3,6 +3,7 @@ use Rattle.std.proofs.Common.{◌≡◌, ◌⊎◌, inl, inr, ◌<◌, ℕ, suc,
 use Rattle.std.specs.List.{list_any}
 use Rattle.std.specs.Str.{bytes_eq}
 use Rattle.std.proofs.lemmas.List.Folds.{list_any-append}
+use Rattle.composer_print.proofs.Joins.{items_unlined}
 use Rattle.composer_parser.specs.declared.definitions.Lined.{Lined}
 use Rattle.composer_parser.specs.declared.definitions.Defs.{Defs}
 use Rattle.composer_parser.specs.declared.definitions.CpuDef.{CpuDef}
@@ -21,7 +22,8 @@ use Rattle.composer_print.specs.Texts.{unless, item_of}
 use Rattle.composer_print.specs.Stations.{unless_utc}
 use Rattle.composer_print.specs.Scopes.{or_home, is_own, pred_ws, whole_part, normal_pred, normal_need, is_own_priority, is_of, preds_in, needs_in, prompts_in, files_in, follows_of, needs_of, prompt_of, opens_of, normal_clauses}
 use Rattle.composer_print.specs.Streams.{items}
-use Rattle.composer_print.specs.Normal.{unlined, bare, bare_cpu, all_unlined, manager_of, only, master_of, entry_names, normal_entry, normal_schedule, normal}
+use Rattle.composer_print.specs.Normal.{unlined, bare, bare_cpu, manager_of, only, master_of, entry_names, normal_entry}
+use Rattle.composer_print.specs.Normal.{normal_schedule, normal}
 use Rattle.composer_laws.specs.Written.{IsName, IsText, IsNumber, IsTime, WhenGiven, Each, IsList, IsCpu, IsDomain, IsPart, IsPred, IsNeed, IsPromptItem, IsClause, Stands, AreClauses, IsOn, IsEntry, IsSchedule, AreDefs}
 
 -- defaults
@@ -100,7 +102,7 @@ each_mapped : {A B : Type 0} (P : A → Type 0) (Q : B → Type 0) (f : A → B)
 each_mapped P Q f h [] e = tt
 each_mapped P Q f h (x ∷ xs) e = (h x e.0, each_mapped P Q f h xs e.1)
 
-each_both : {A : Type 0} (P : A → Type 0) (xs ys : List A) → Each P xs → Each P ys → Each P (xs ++ ys)
+pub each_both : {A : Type 0} (P : A → Type 0) (xs ys : List A) → Each P xs → Each P ys → Each P (xs ++ ys)
 each_both P [] ys h k = k
 each_both P (x ∷ xs) ys h k = (h.0, each_both P xs ys h.1 k)
 
@@ -387,10 +389,6 @@ clauses_normal stream names home own cs h k l =
     (each_mapped IsNeed IsNeed (normal_need own) (λ n e. kept_need own n e l) (flat_map needs_in cs) (each_flat IsNeed needs_in each_need cs all)))
     (single_prompts stream (flat_map prompts_in cs) (each_flat IsPromptItem prompts_in each_prompt cs all))
     (single_files stream (flat_map files_in cs) (each_flat IsText files_in each_file cs all))
-
-items_unlined : {A : Type 0} (xs : List A) → items (all_unlined xs) ≡ xs
-items_unlined [] = refl
-items_unlined (x ∷ xs) = ap (λ l. x ∷ l) (items_unlined xs)
 
 -- entries and streams
 entry_normal : (names : List (List ℕ)) (home : Option (List ℕ)) (e : Lined EntryDef) → IsEntry e.item → WhenGiven IsName home

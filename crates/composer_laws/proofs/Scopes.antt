@@ -1,10 +1,12 @@
 -- Names with their workstations that are read back.
-use Rattle.std.proofs.Common.{◌≡◌, ◌≤◌, ◌<◌, ◌+◌, ◌||◌, not, ℕ, suc, Bool, true, false, List, [], ◌∷◌, ◌++◌, length, drop, get_or, codes, eqb, ltb}
+use Rattle.std.proofs.Common.{◌≡◌, ◌≤◌, ◌<◌, ◌+◌, not, ℕ, suc, Bool, true, false, List, [], ◌∷◌, ◌++◌, length, drop}
+use Rattle.std.proofs.Common.{get_or, codes, eqb, ltb}
 use Rattle.std.proofs.Common.{Option, Some, None, refl, ap, sym, subst, ◌∙◌, arith, append_assoc, append-nil, length-append}
 use Rattle.std.specs.List.{list_all, position_or_len}
 use Rattle.std.specs.Str.{bytes_eq}
 use Rattle.std.proofs.lemmas.List.{take_at, drop_at}
 use Rattle.std.proofs.lemmas.Bool.Decides.{nat_tests}
+use Rattle.lemmas.proofs.Booleans.{and_made, and_parts, or_made_right}
 use Rattle.base_types.specs.Name.{is_name_byte, starts_with_letter}
 use Rattle.composer_lexer.specs.Tokens.{is_word_byte}
 use Rattle.composer_parser.specs.declared.clauses.Pred.{Pred}
@@ -18,7 +20,7 @@ use Rattle.composer_print.specs.Clauses.{name_text, part_text, pred_text}
 use Rattle.composer_laws.specs.Written.{IsWord, IsName, WhenGiven, IsPart, IsPred}
 use Rattle.composer_laws.proofs.Phrases.{head_word, led_word}
 use Rattle.composer_laws.proofs.Readings.{Reads, one_reads}
-use Rattle.composer_laws.proofs.Words.{both_true, two_true, all_follow, all_both, name_byte, free_parts, lettered}
+use Rattle.composer_laws.proofs.Words.{all_follow, all_both, name_byte, free_parts, lettered}
 
 abbrev pub other_than : ℕ → ℕ → Bool
 other_than c b = not (eqb b c)
@@ -27,14 +29,14 @@ at_mark : (c : ℕ) (w n : List ℕ) → list_all (other_than c) w ≡ true
     → position_or_len (λ b. eqb b c) (w ++ c ∷ n) ≡ length w
 at_mark c [] n h = let same : eqb c c ≡ true = grind (arith, nat_tests) in rw same refl
 at_mark c (b ∷ w) n h =
-    let parts = both_true (other_than c b) (list_all (other_than c) w) h in
+    let parts = and_parts (other_than c b) (list_all (other_than c) w) h in
     let one : 1 + length w ≡ suc (length w) = omega arith in
     rw (parts.0, at_mark c w n parts.1) one
 
 no_mark : (c : ℕ) (w : List ℕ) → list_all (other_than c) w ≡ true → position_or_len (λ b. eqb b c) w ≡ length w
 no_mark c [] h = refl
 no_mark c (b ∷ w) h =
-    let parts = both_true (other_than c b) (list_all (other_than c) w) h in
+    let parts = and_parts (other_than c b) (list_all (other_than c) w) h in
     let one : 1 + length w ≡ suc (length w) = omega arith in
     rw (parts.0, no_mark c w parts.1) one
 
@@ -95,16 +97,12 @@ first_kept : (w n : List ℕ) → 0 < length w → eqb (get_or w 0 0) 35 ≡ fal
 first_kept [] n some h = absurd (omega (arith, some))
 first_kept (b ∷ w) n some h = h
 
-or_right : (a b : Bool) → b ≡ true → (a || b) ≡ true
-or_right true b h = refl
-or_right false b h = h
-
 pub placed_is : (w n : List ℕ) → IsName w → IsName n → is_placed (w ++ 35 ∷ n) ≡ true
 unfolding is_placed
 placed_is w n h k =
     let free = all_follow is_name_byte (other_than 35) no_hash w (free_parts w h.free).2 in
     rw (holds_at 35 w n free, before_at 35 w n free, behind_at 35 w n free)
-    (two_true (is_free_name w) (is_free_name n) h.free k.free)
+    (and_made (is_free_name w) (is_free_name n) h.free k.free)
 
 placed_scope : (w n : List ℕ) → IsName w → IsName n → IsScope (Some w) n (w ++ 35 ∷ n)
 unfolding is_scoped ws_of own_of
@@ -118,7 +116,7 @@ placed_scope w n h k =
     let right = behind_at 35 w n free in
     let size : length (w ++ 35 ∷ n) ≤ 81 = omega (arith, length-append w (35 ∷ n), first.1, second.1) in
     record {
-      scoped = or_right (is_free_name (w ++ 35 ∷ n)) (is_placed (w ++ 35 ∷ n)) (placed_is w n h k);
+      scoped = or_made_right (is_free_name (w ++ 35 ∷ n)) (is_placed (w ++ 35 ∷ n)) (placed_is w n h k);
       place = rw (holding, left) (ap (λ x. Some x) h.high);
       own = rw (holding, right) k.high;
       word = record {
@@ -201,12 +199,12 @@ pred_kind : (ws : Option (List ℕ)) (n : List ℕ) (q : PredPart) (x : List ℕ
 unfolding part_text is_pred
 pred_kind ws n part.Plain x is h = rw (append-nil x, is.scoped) refl
 pred_kind ws n part.All x is h =
-    or_right (is_scoped (x ++ 46 ∷ 64 ∷ [])) _
+    or_made_right (is_scoped (x ++ 46 ∷ 64 ∷ [])) _
     (rw (holds_at 46 x (64 ∷ []) is.dotless, before_at 46 x (64 ∷ []) is.dotless, behind_at 46 x (64 ∷ []) is.dotless, is.scoped) refl)
 pred_kind ws n (part.Job j) x is h =
-    or_right (is_scoped (x ++ 46 ∷ j)) _
+    or_made_right (is_scoped (x ++ 46 ∷ j)) _
     (rw (holds_at 46 x j is.dotless, before_at 46 x j is.dotless, behind_at 46 x j is.dotless, is.scoped)
-    (or_right (bytes_eq j (codes "@")) (is_free_name j) h.free))
+    (or_made_right (bytes_eq j (codes "@")) (is_free_name j) h.free))
 
 pred_value : (ws : Option (List ℕ)) (n : List ℕ) (q : PredPart) (x : List ℕ) → IsScope ws n x → IsPart q
     → pred_of (x ++ part_text q) ≡ record { ws = ws; name = n; part = q }

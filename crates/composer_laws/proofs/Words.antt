@@ -1,16 +1,17 @@
 -- Words and texts that are read back.
-use Rattle.std.proofs.Common.{◌≡◌, ◌≤◌, ◌<◌, ◌+◌, ◌/◌, ◌%◌, ◌^◌, ◌&&◌, ◌||◌, not, ℕ, Bool, true, false, List, [], ◌∷◌, ◌++◌, length, drop, get_or, codes, eqb, leb, ltb}
+use Rattle.std.proofs.Common.{◌≡◌, ◌≤◌, ◌<◌, ◌+◌, ◌/◌, ◌%◌, ◌^◌, ◌&&◌, ◌||◌, ℕ, Bool, true, false, List, [], ◌∷◌, ◌++◌}
+use Rattle.std.proofs.Common.{length, drop, get_or, codes, eqb, leb}
 use Rattle.std.proofs.Common.{Some, refl, arith}
 use Rattle.std.specs.Char.{is_ascii_digit}
 use Rattle.std.specs.List.{list_all}
-use Rattle.std.specs.Str.{bytes_eq}
 use Rattle.std.specs.Fmt.{decimal}
-use Rattle.std.specs.Cmp.Lexicographic.{bytes_decides}
 use Rattle.std.proofs.lemmas.Bool.Decides.{nat_tests}
 use Rattle.std.proofs.lemmas.Fmt.{length-decimal-le}
+use Rattle.lemmas.proofs.Booleans.{and_made, and_parts}
+use Rattle.lemmas.proofs.Texts.{text_itself}
+use Rattle.syntax.proofs.Digits.{digits_of_number}
 use Rattle.base_types.specs.Name.{is_name_of, is_name_byte, starts_with_letter}
 use Rattle.calendars.specs.Dates.{IsDay, last_day}
-use Rattle.syntax.specs.Numbers.{is_number, has_leading_zero}
 use Rattle.composer_lexer.specs.Tokens.{is_word_byte}
 use Rattle.composer_parser.specs.Words.{lower}
 use Rattle.composer_parser.specs.Kinds.{word, quoted, keyword, a_name, a_text, a_value, a_word, a_number, a_time, a_date, a_plus, an_offset, is_free_name, is_time, is_offset, is_minus}
@@ -20,27 +21,18 @@ use Rattle.composer_print.specs.Texts.{quoted_text}
 use Rattle.calendars.specs.Dates.{days_in_month}
 use Rattle.composer_print.specs.Days.{time_text, date_text, date_of_day, date_after, two_digits, written_date}
 use Rattle.composer_print.proofs.Dates.{after_stands, late_year}
-use Rattle.composer_print.proofs.Spelling.{number_back, capped_back, plus_back, offset_plus_back, time_back, minutes_back, is_date_back, day_back}
+use Rattle.composer_print.proofs.Spelling.{number_back, capped_back, plus_back, offset_plus_back, time_back}
+use Rattle.composer_print.proofs.Spelling.{minutes_back, is_date_back, day_back, short_month}
 use Rattle.composer_laws.specs.Written.{IsWord, IsText, IsName, IsNumber, IsTime}
 use Rattle.composer_laws.proofs.Phrases.{head_word, led_word, led_text}
 use Rattle.composer_laws.proofs.Readings.{Reads, Opens, one_reads, opens}
-
-pub both_true : (a b : Bool) → (a && b) ≡ true → (a ≡ true) × (b ≡ true)
-both_true true b h = (refl, h)
-both_true false b h = cc
-
-pub two_true : (a b : Bool) → a ≡ true → b ≡ true → (a && b) ≡ true
-two_true a b p q = rw (p, q) refl
-
-pub same_bytes : (w : List ℕ) → bytes_eq w w ≡ true
-same_bytes w = (bytes_decides w w).1 refl
 
 -- a property of bytes that follows from another one
 pub all_follow : (p q : ℕ → Bool) → ((b : ℕ) → p b ≡ true → q b ≡ true) → (w : List ℕ) → list_all p w ≡ true
     → list_all q w ≡ true
 all_follow p q h [] e = refl
 all_follow p q h (b ∷ w) e =
-    let parts = both_true (p b) (list_all p w) e in two_true (q b) (list_all q w) (h b parts.0) (all_follow p q h w parts.1)
+    let parts = and_parts (p b) (list_all p w) e in and_made (q b) (list_all q w) (h b parts.0) (all_follow p q h w parts.1)
 
 -- keywords
 abbrev pub is_key : List ℕ → Bool
@@ -48,8 +40,8 @@ is_key k = list_all is_word_byte k && (leb 1 (length k) && leb (length k) 40)
 
 key_word : (k : List ℕ) → is_key k ≡ true → IsWord k
 key_word k h =
-    let parts = both_true (list_all is_word_byte k) (leb 1 (length k) && leb (length k) 40) h in
-    let sizes = both_true (leb 1 (length k)) (leb (length k) 40) parts.1 in
+    let parts = and_parts (list_all is_word_byte k) (leb 1 (length k) && leb (length k) 40) h in
+    let sizes = and_parts (leb 1 (length k)) (leb (length k) 40) parts.1 in
     let some : leb 1 (length k) ≡ true → 1 ≤ length k = grind (arith, nat_tests) in
     let room : leb (length k) 40 ≡ true → length k ≤ 4096 = grind (arith, nat_tests) in
     record { bytes = parts.0; some = some sizes.0; room = room sizes.1 }
@@ -59,16 +51,16 @@ Any a = Unit {0}
 
 pub key_reads : (k : List ℕ) → is_key k ≡ true → Reads false false (key k) (32 ∷ k) Any
 key_reads k h =
-    one_reads (keyword k) (λ t. t.line) (word k) (led_word k (key_word k h)) (same_bytes (lower k)) (λ line. tt)
+    one_reads (keyword k) (λ t. t.line) (word k) (led_word k (key_word k h)) (text_itself (lower k)) (λ line. tt)
 
 pub key_begins : (k : List ℕ) → is_key k ≡ true → eqb (get_or k 0 0) 35 ≡ false → Reads true false (key k) k Any
 key_begins k h plain =
-    one_reads (keyword k) (λ t. t.line) (word k) (head_word k (key_word k h) plain) (same_bytes (lower k)) (λ line. tt)
+    one_reads (keyword k) (λ t. t.line) (word k) (head_word k (key_word k h) plain) (text_itself (lower k)) (λ line. tt)
 
 -- a keyword that begins a piece
 pub key_opens : {C : Type 0} {R : C → Type 0} {c : ℕ → C} (k : List ℕ) → is_key k ≡ true → ((line : ℕ) → R (c line))
     → Opens false false (both (λ f v. f v) (nothing c) (key k)) (32 ∷ k) (word k) R
-key_opens k h made = opens (keyword k) (λ t. t.line) (word k) (led_word k (key_word k h)) (same_bytes (lower k)) made
+key_opens k h made = opens (keyword k) (λ t. t.line) (word k) (led_word k (key_word k h)) (text_itself (lower k)) made
 
 -- names
 pub name_byte : (b : ℕ) → is_name_byte b ≡ true → is_word_byte b ≡ true
@@ -77,14 +69,14 @@ name_byte b h = grind (arith, nat_tests)
 pub name_parts : (n : List ℕ) → is_name_of n ≡ true
     → (starts_with_letter n ≡ true) × (length n ≤ 40) × (list_all is_name_byte n ≡ true)
 name_parts n h =
-    let first = both_true (starts_with_letter n && leb (length n) 40) (list_all is_name_byte n) h in
-    let second = both_true (starts_with_letter n) (leb (length n) 40) first.0 in
+    let first = and_parts (starts_with_letter n && leb (length n) 40) (list_all is_name_byte n) h in
+    let second = and_parts (starts_with_letter n) (leb (length n) 40) first.0 in
     let room : leb (length n) 40 ≡ true → length n ≤ 40 = grind (arith, nat_tests) in
     (second.0, room second.1, first.1)
 
 pub free_parts : (n : List ℕ) → is_free_name n ≡ true
     → (starts_with_letter n ≡ true) × (length n ≤ 40) × (list_all is_name_byte n ≡ true)
-free_parts n h = name_parts n (both_true (is_name_of n) _ h).0
+free_parts n h = name_parts n (and_parts (is_name_of n) _ h).0
 
 pub lettered : (n : List ℕ) → starts_with_letter n ≡ true → (0 < length n) × (eqb (get_or n 0 0) 35 ≡ false)
 lettered [] h = cc
@@ -123,19 +115,12 @@ value_reads v h = one_reads a_value (λ t. bytes_of t.shape) (quoted v) (led_tex
 digit_byte : (b : ℕ) → is_ascii_digit b ≡ true → is_word_byte b ≡ true
 digit_byte b h = grind (arith, nat_tests)
 
-number_parts : (w : List ℕ) → is_number w ≡ true → (0 < length w) × (list_all is_ascii_digit w ≡ true)
-number_parts w h =
-    let first = both_true (ltb 0 (length w)) (not (has_leading_zero w) && list_all is_ascii_digit w) h in
-    let second = both_true (not (has_leading_zero w)) (list_all is_ascii_digit w) first.1 in
-    let some : ltb 0 (length w) ≡ true → 0 < length w = grind (arith, nat_tests) in
-    (some first.0, second.1)
-
 short : (n : ℕ) → n < 2 ^ 32 → length (decimal n) ≤ 10
 short n h = length-decimal-le 10 n (omega arith) (omega (arith, h)) (omega (arith, h))
 
 number_word : (n : ℕ) → n < 2 ^ 32 → IsWord (decimal n)
 number_word n h =
-    let parts = number_parts (decimal n) (number_back n (omega (arith, h))) in
+    let parts = digits_of_number (decimal n) (number_back n (omega (arith, h))) in
     record {
       bytes = all_follow is_ascii_digit is_word_byte digit_byte (decimal n) parts.1;
       some = parts.0;
@@ -151,7 +136,7 @@ signed_word : (c n : ℕ) → is_word_byte c ≡ true → n < 2 ^ 32 → IsWord 
 signed_word c n ok h =
     let all = number_word n h in
     record {
-      bytes = two_true (is_word_byte c) (list_all is_word_byte (decimal n)) ok all.bytes;
+      bytes = and_made (is_word_byte c) (list_all is_word_byte (decimal n)) ok all.bytes;
       some = omega arith;
       room = omega (arith, short n h);
     }
@@ -165,8 +150,8 @@ plus_reads n h =
 four_digits : (w : List ℕ) → is_time w ≡ true → (length w ≡ 4) × (list_all is_ascii_digit w ≡ true)
 unfolding is_time
 four_digits w h =
-    let first = both_true (eqb (length w) 4) _ h in
-    let second = both_true (list_all is_ascii_digit w) _ first.1 in
+    let first = and_parts (eqb (length w) 4) _ h in
+    let second = and_parts (list_all is_ascii_digit w) _ first.1 in
     let four : eqb (length w) 4 ≡ true → length w ≡ 4 = grind (arith, nat_tests) in
     (four first.0, second.0)
 
@@ -187,20 +172,17 @@ time_reads t h =
 date_byte : (b : ℕ) → (is_ascii_digit b || eqb b 47) ≡ true → is_word_byte b ≡ true
 date_byte b h = grind (arith, nat_tests)
 
-short_month : (y m : ℕ) → days_in_month y m ≤ 31
-short_month y m = grind arith
-
 digit_pair : (n : ℕ) → n < 100 → list_all (λ b. is_ascii_digit b || eqb b 47) (two_digits n) ≡ true
 digit_pair n h =
     let a : (is_ascii_digit (48 + n / 10) || eqb (48 + n / 10) 47) ≡ true = grind (arith, nat_tests) in
     let b : (is_ascii_digit (48 + n % 10) || eqb (48 + n % 10) 47) ≡ true = grind (arith, nat_tests) in
-    two_true _ _ a (two_true _ _ b refl)
+    and_made _ _ a (and_made _ _ b refl)
 
 pub all_both : (p : ℕ → Bool) (xs ys : List ℕ) → list_all p xs ≡ true → list_all p ys ≡ true → list_all p (xs ++ ys) ≡ true
 all_both p [] ys h k = k
 all_both p (x ∷ xs) ys h k =
-    let parts = both_true (p x) (list_all p xs) h in
-    two_true (p x) (list_all p (xs ++ ys)) parts.0 (all_both p xs ys parts.1 k)
+    let parts = and_parts (p x) (list_all p xs) h in
+    and_made (p x) (list_all p (xs ++ ys)) parts.0 (all_both p xs ys parts.1 k)
 
 written_bytes : (y m d : ℕ) → y < 10000 → m < 100 → d < 100
     → (list_all (λ b. is_ascii_digit b || eqb b 47) (written_date (Some (y, m, d))) ≡ true)

@@ -2,6 +2,7 @@
 use Rattle.std.proofs.Common.{◌≡◌, ℕ, false, List, [], ◌∷◌, ◌++◌, codes, arith, Option, Some, None, refl, ap, ◌∙◌, is_some}
 use Rattle.std.specs.Option.{option_map_or}
 use Rattle.std.proofs.lemmas.Grind.{common_steps}
+use Rattle.lemmas.proofs.Booleans.{and_made}
 use Rattle.base_types.specs.declared.documents.Work.{Work}
 use Rattle.base_types.specs.declared.documents.Work.TheVariants.{Command, Script}
 use Rattle.base_types.specs.declared.documents.Recovery.{Recovery}
@@ -12,7 +13,7 @@ use Rattle.composer_parser.specs.Works as grammar
 use Rattle.composer_print.specs.Works.{command_text, logon_text, cond_text, recovery_text, work_text}
 use Rattle.composer_laws.specs.Written.{IsText, WhenGiven, IsCommand, IsWork}
 use Rattle.composer_laws.proofs.Readings.{Reads, Opens, Runs, made_reads, app, left_reads, right_reads, app_opens, skip_opens, left_opens, right_opens, many_reads, no_runs, one_run, more_runs, runs_to, as_text}
-use Rattle.composer_laws.proofs.Words.{Any, key_reads, key_opens, text_reads, value_reads, two_true}
+use Rattle.composer_laws.proofs.Words.{Any, key_reads, key_opens, text_reads, value_reads}
 use Rattle.composer_laws.proofs.Lists.{other}
 
 command_reads : (w : Work) → IsCommand w → Reads false false grammar.command (command_text w) (λ x. x ≡ w)
@@ -69,8 +70,8 @@ unfolding logon_text
 logon_run None h = no_runs
 logon_run (Some v) h =
     one_run (logon_opens v h) (λ s f k r. ((r s).0, (r s).1 ∙ k.1, (r s).2 ∙ k.2))
-    (λ s line k. two_true _ _ (rw k.0 refl) (two_true _ _ (other s.description)
-    (two_true _ _ (other s.task_type) (two_true _ _ (other (is_some s.cond)) (other (is_some s.recovery))))))
+    (λ s line k. and_made _ _ (rw k.0 refl) (and_made _ _ (other s.description)
+    (and_made _ _ (other s.task_type) (and_made _ _ (other (is_some s.cond)) (other (is_some s.recovery))))))
 
 cond_run : (logon o : Option (List ℕ)) → WhenGiven IsText o
     → Runs false false grammar.after_work_flag grammar.may_work_flag grammar.work_flag
@@ -80,8 +81,8 @@ unfolding cond_text
 cond_run logon None h = no_runs
 cond_run logon (Some v) h =
     one_run (cond_opens v h) (λ s f k r. ((r s).1 ∙ k.0, (r s).0, (r s).2 ∙ k.2))
-    (λ s line k. two_true _ _ (other (is_some s.logon)) (two_true _ _ (other s.description)
-    (two_true _ _ (other s.task_type) (two_true _ _ (rw k.1 refl) (other (is_some s.recovery))))))
+    (λ s line k. and_made _ _ (other (is_some s.logon)) (and_made _ _ (other s.description)
+    (and_made _ _ (other s.task_type) (and_made _ _ (rw k.1 refl) (other (is_some s.recovery))))))
 
 recovery_run : (logon cond : Option (List ℕ)) (r : Recovery)
     → Runs false false grammar.after_work_flag grammar.may_work_flag grammar.work_flag
@@ -93,13 +94,13 @@ recovery_run logon cond recovers.Stop =
 recovery_run logon cond recovers.Continue =
     one_run (recovery_opens recovers.Continue (32 ∷ codes "CONTINUE") continue_reads)
     (λ s f k r. ((r s).1 ∙ k.0, (r s).2 ∙ k.1, ap (λ o. option_map_or (λ x. x) o recovers.Stop) (r s).0))
-    (λ s line k. two_true _ _ (other (is_some s.logon)) (two_true _ _ (other s.description)
-    (two_true _ _ (other s.task_type) (two_true _ _ (other (is_some s.cond)) (rw k.2 refl)))))
+    (λ s line k. and_made _ _ (other (is_some s.logon)) (and_made _ _ (other s.description)
+    (and_made _ _ (other s.task_type) (and_made _ _ (other (is_some s.cond)) (rw k.2 refl)))))
 recovery_run logon cond recovers.Rerun =
     one_run (recovery_opens recovers.Rerun (32 ∷ codes "RERUN") rerun_reads)
     (λ s f k r. ((r s).1 ∙ k.0, (r s).2 ∙ k.1, ap (λ o. option_map_or (λ x. x) o recovers.Stop) (r s).0))
-    (λ s line k. two_true _ _ (other (is_some s.logon)) (two_true _ _ (other s.description)
-    (two_true _ _ (other s.task_type) (two_true _ _ (other (is_some s.cond)) (rw k.2 refl)))))
+    (λ s line k. and_made _ _ (other (is_some s.logon)) (and_made _ _ (other s.description)
+    (and_made _ _ (other s.task_type) (and_made _ _ (other (is_some s.cond)) (rw k.2 refl)))))
 
 flags_reads : (w : WorkDef) → IsWork w
     → Reads false false grammar.work_flags (logon_text w.logon ++ (cond_text w.cond ++ recovery_text w.recovery))

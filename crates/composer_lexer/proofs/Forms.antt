@@ -1,11 +1,13 @@
 -- What stands at the front of a text, as a slice of it.
 use Rattle.std.proofs.Common.{◌≡◌, ◌≤◌, ◌+◌, ◌&&◌, ◌==◌, not, cond, ℕ, zero, suc, Bool, true, false, List, [], ◌∷◌, length, take, get_or, leb}
-use Rattle.std.proofs.Common.{Option, Some, None, ◌⊎◌, refl, ap, sym, subst, ◌∙◌, inl, inr, arith}
+use Rattle.std.proofs.Common.{Option, Some, None, ◌⊎◌, refl, ap, sym, subst, inl, inr, arith}
 use Rattle.std.specs.List.{list_all, prefix_len}
 use Rattle.std.proofs.lemmas.Bool.{leb-true}
 use Rattle.std.proofs.lemmas.Bool.Decides.{eqb_tells}
 use Rattle.std.proofs.lemmas.List.Sums.{prefix_len-le-length}
 use Rattle.std.proofs.lemmas.List.Folds.{length-prefix_len}
+use Rattle.lemmas.proofs.Booleans.{and_parts}
+use Rattle.lemmas.proofs.Numbers.{eq_tells}
 use Rattle.syntax.specs.Quotes.{is_escaped, unquoted, quoted_of}
 use Rattle.base_types.specs.declared.reports.TokenKind.TheVariants as kind
 use Rattle.composer_lexer.specs.declared.fronts.Front.{Front}
@@ -27,13 +29,6 @@ IsFront bs (Space w) = Runs w bs
 IsFront bs (Piece k w) = Runs w bs × HasForm k (take w bs)
 IsFront bs (Bad t) = Unit {0}
 
-pub both_true : (a b : Bool) → (a && b) ≡ true → (a ≡ true) × (b ≡ true)
-both_true true b h = (refl, h)
-both_true false b h = cc
-
-eqb_is : (a b : ℕ) → (a == b) ≡ true → a ≡ b
-eqb_is a b h = elim (eqb_tells a b) [ inl e ↦ e.1 | inr e ↦ (let no : true ≡ false = sym h ∙ e.0 in cc) ]
-
 all_prefix : (p : ℕ → Bool) (xs : List ℕ) → list_all p (take (prefix_len p xs) xs) ≡ true
 all_prefix p [] = refl
 all_prefix p (x ∷ xs) = by_first (p x) refl (all_prefix p xs)
@@ -48,13 +43,13 @@ all_prefix p (x ∷ xs) = by_first (p x) refl (all_prefix p xs)
 
 word_no_feed : (c : ℕ) → is_word_byte c ≡ true → is_no_feed c ≡ true
 word_no_feed c h =
-    let least = leb-true 33 c (both_true _ _ h).0 in
+    let least = leb-true 33 c (and_parts _ _ h).0 in
     elim (eqb_tells c 10) [ inl e ↦ absurd (omega (arith, least, e.1)) | inr e ↦ ap not e.0 ]
 
 words_no_feed : (xs : List ℕ) → list_all is_word_byte xs ≡ true → list_all is_no_feed xs ≡ true
 words_no_feed [] h = refl
 words_no_feed (x ∷ xs) h =
-    let parts = both_true (is_word_byte x) (list_all is_word_byte xs) h in
+    let parts = and_parts (is_word_byte x) (list_all is_word_byte xs) h in
     rw (word_no_feed x parts.0, words_no_feed xs parts.1) refl
 
 -- what the quotes of a text hold, up to the closing one
@@ -78,7 +73,7 @@ inside_escape c d cs None quote feed escape h = tt
 inside_escape c d cs (Some (w, v)) quote feed escape ((some, within, feeds), (value, is, count)) =
     let two : w + 2 ≡ suc (suc w) = omega arith in
     let more : v + 1 ≡ suc v = omega arith in
-    let escaped = (both_true (c == 92) (is_escaped d) escape).1 in
+    let escaped = (and_parts (c == 92) (is_escaped d) escape).1 in
     rw (two, more) (
       (omega arith, omega arith, rw (feed, escape_feed d escaped) feeds),
       (d ∷ value, rw (quote, escape, is) refl, ap suc count),
@@ -113,7 +108,7 @@ inside_more c d cs two one = by_quote (c == 34) refl
     by_quote : (b : Bool) → (c == 34) ≡ b
         → Inside (c ∷ d ∷ cs) (cond b (Some (1, 0)) (cond (c == 10) None (cond (c == 92 && is_escaped d) (with_bytes 2 1 (text_width cs)) (with_bytes 1 1 (text_width (d ∷ cs))))))
     by_quote true e =
-        let is = (eqb_is c 34 e) in ((omega arith, omega arith, rw is refl), ([], rw is refl, refl))
+        let is = (eq_tells c 34 e) in ((omega arith, omega arith, rw is refl), ([], rw is refl, refl))
     by_quote false e = by_feed (c == 10) e refl
 
 inside : (bs : List ℕ) → Inside bs (text_width bs)
@@ -123,7 +118,7 @@ inside (c ∷ []) = by_quote (c == 34) refl
   where
     by_quote : (b : Bool) → (c == 34) ≡ b → Inside (c ∷ []) (cond b (Some (1, 0)) None)
     by_quote true e =
-        let is = (eqb_is c 34 e) in ((omega arith, omega arith, rw is refl), ([], rw is refl, refl))
+        let is = (eq_tells c 34 e) in ((omega arith, omega arith, rw is refl), ([], rw is refl, refl))
     by_quote false e = tt
 inside (c ∷ d ∷ cs) = inside_more c d cs (inside cs) (inside (d ∷ cs))
 
@@ -172,7 +167,7 @@ by_test bs false f g h k = k refl
 pub front_form : (first : Bool) (b : ℕ) (bs : List ℕ) → IsFront (b ∷ bs) (front first (b ∷ bs))
 unfolding front
 front_form first b bs =
-    by_test (b ∷ bs) (b == 10) _ _ (λ e. eqb_is b 10 e) (λ feed.
+    by_test (b ∷ bs) (b == 10) _ _ (λ e. eq_tells b 10 e) (λ feed.
     by_test (b ∷ bs) (first && b == 35) _ _ (λ e. comment_form b bs feed) (λ e.
     by_test (b ∷ bs) (is_blank b) _ _ (λ e2. one_byte b bs feed) (λ e2.
     by_test (b ∷ bs) (is_mark b) _ _ (λ mark. (one_byte b bs feed, (b, refl, mark))) (λ e3.
@@ -182,4 +177,4 @@ front_form first b bs =
     text_at : (b == 34) ≡ true → IsFront (b ∷ bs) (text_front (text_width bs))
     text_at quote =
         let P : ℕ → Type 0 = λ x. IsFront (x ∷ bs) (text_front (text_width bs)) in
-        subst P (sym (eqb_is b 34 quote)) (text_form bs (text_width bs) (inside bs))
+        subst P (sym (eq_tells b 34 quote)) (text_form bs (text_width bs) (inside bs))

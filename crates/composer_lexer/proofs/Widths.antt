@@ -1,7 +1,8 @@
 -- The width of a text, one byte of its value further.
-use Rattle.std.proofs.Common.{◌≡◌, ◌≤◌, ◌<◌, ◌+◌, ◌&&◌, ◌==◌, cond, ℕ, Bool, true, false, List, [], ◌∷◌, length, drop, get_or, Option, Some, None, inl, inr, length-drop, refl, ap, sym, ◌∙◌, arith}
-use Rattle.std.proofs.lemmas.Bool.Decides.{eqb_tells}
+use Rattle.std.proofs.Common.{◌≡◌, ◌≤◌, ◌<◌, ◌+◌, ◌&&◌, ◌==◌, cond, ℕ, Bool, true, false, List, [], ◌∷◌, length, drop}
+use Rattle.std.proofs.Common.{get_or, Option, Some, None, length-drop, refl, ap, sym, ◌∙◌, arith}
 use Rattle.std.proofs.lemmas.List.{drop-drop}
+use Rattle.lemmas.proofs.Numbers.{eq_refused}
 use Rattle.syntax.specs.Quotes.{is_escaped}
 use Rattle.composer_lexer.specs.Tokens.{text_width, with_bytes, char_width}
 
@@ -35,9 +36,6 @@ text_step bytes at value n here is some quote feed =
     (ap (λ zs. with_bytes n 1 (text_width zs)) (sym (drop-drop n at bytes))
     ∙ ap (λ k. with_bytes k 1 (text_width (drop k (drop at bytes)))) is
     ∙ sym (step (drop at bytes) some quote feed))
-
-is_not : (a b : ℕ) → (a ≡ b → ⊥) → (a == b) ≡ false
-is_not a b h = elim (eqb_tells a b) [ inl e ↦ absurd (h e.1) | inr e ↦ e.0 ]
 
 some_left : (at : ℕ) (bytes : List ℕ) → at < length bytes → 0 < length (drop at bytes)
 some_left at bytes h = omega (arith, length-drop at bytes)
@@ -83,6 +81,6 @@ pub at_more : (bytes : List ℕ) (at value n : ℕ) → at < length bytes → n 
     → with_bytes at value (text_width (drop at bytes)) ≡ text_width bytes
     → with_bytes (at + n) (value + 1) (text_width (drop (at + n) bytes)) ≡ text_width bytes
 at_more bytes at value n h is quote feed same =
-    text_step bytes at value n h is (some_left at bytes h) (is_not (get_or (drop at bytes) 0 0) 34 quote)
-    (is_not (get_or (drop at bytes) 0 0) 10 feed)
+    text_step bytes at value n h is (some_left at bytes h) (eq_refused (get_or (drop at bytes) 0 0) 34 quote)
+    (eq_refused (get_or (drop at bytes) 0 0) 10 feed)
     ∙ same

@@ -8,7 +8,7 @@ use base_types::NoMemory;
 use thiserror::Error;
 
 /// Why a text has no tokens, with the line of the first such place, counted from 1.
-#[derive(Clone, Copy, Debug, PartialEq, Eq, Error)]
+#[derive(Clone, Copy, Debug, Error)]
 pub enum LexFault {
     /// A character stands there that only texts and comments may have.
     #[error("line {0}: a character that stands in texts and comments alone")]

@@ -5,6 +5,7 @@ use Rattle.std.specs.Str.{bytes_eq}
 use Rattle.std.proofs.lemmas.Slice.Eq.{bytes_eq-Decides}
 use Rattle.std.proofs.lemmas.Bool.Decides.{nat_tests}
 use Rattle.std.proofs.lemmas.Str.Ascii.{lowercase-lowercase}
+use Rattle.lemmas.proofs.Booleans.{and_parts}
 use Rattle.composer_parser.specs.Words.{lower, is_one_of}
 use Rattle.composer_parser.specs.Rules.{is_rule, is_foreign_rule, are_like_rule, are_known, are_formed, parts_of}
 use Rattle.composer_parser.specs.Kinds.{Shape, mark, quoted, word, Spelled, is_reserved, reserved_words, is, shape_is, word_is}
@@ -14,7 +15,6 @@ use Rattle.composer_parser.specs.Kinds.{a_number, a_time, a_plus, an_offset}
 use Rattle.composer_parser.specs.Groups.{Lead, letter, digit, sign, other, lead, same_lead, apart, group_of, kinds_apart}
 use Rattle.composer_parser.specs.Groups.{Group, marks, texts, rules, foreign_rules, words, others, names, led, anything, word_in, shape_in}
 use Rattle.composer_parser.specs.Reading.{is_any}
-use Rattle.composer_parser.proofs.Fronts.{both_true}
 use Rattle.composer_parser.proofs.Leads.{name_in, placed_in, scoped_in, pred_in, in_names, number_in}
 use Rattle.composer_parser.proofs.Leads.{time_in, plus_in, offset_in, date_in}
 
@@ -114,7 +114,7 @@ word_name k w a b n = by_reserved (is_reserved k) refl n
     same = (bytes_eq-Decides (lower w) k).0 a
 
     parts : (not (is_reserved w) ≡ true) × (same_lead letter (lead (lower w)) ≡ true)
-    parts = both_true (not (is_reserved w)) (same_lead letter (lead (lower w))) b
+    parts = and_parts (not (is_reserved w)) (same_lead letter (lead (lower w))) b
 
     alike : is_reserved k ≡ is_reserved w
     alike =
@@ -141,7 +141,7 @@ word_other k w ks a b n = not_true (is_one_of ks w) b (sym alike ∙ n)
 name_led : (w : List ℕ) (l : Lead) → word_in names w ≡ true → same_lead l (lead (lower w)) ≡ true
     → not (same_lead letter l) ≡ true → ⊥
 name_led w l a b n =
-    let parts = both_true (not (is_reserved w)) (same_lead letter (lead (lower w))) a in
+    let parts = and_parts (not (is_reserved w)) (same_lead letter (lead (lower w))) a in
     two_leads letter l (lead (lower w)) parts.1 b n
 
 no_shared_word : (g h : Group) (w : List ℕ) → apart g h ≡ true → word_in g w ≡ true → word_in h w ≡ true → ⊥
@@ -216,9 +216,9 @@ no_shared_mark anything h d n a b = cc
 rule_known : (v : List ℕ) → is_rule v ≡ true → is_foreign_rule v ≡ true → ⊥
 unfolding is_rule is_foreign_rule
 rule_known v a b =
-    let formed = both_true (are_like_rule (parts_of v)) (are_known (parts_of v) && are_formed (parts_of v)) a in
-    let known = both_true (are_known (parts_of v)) (are_formed (parts_of v)) formed.1 in
-    let foreign = both_true (are_like_rule (parts_of v)) (not (are_known (parts_of v))) b in
+    let formed = and_parts (are_like_rule (parts_of v)) (are_known (parts_of v) && are_formed (parts_of v)) a in
+    let known = and_parts (are_known (parts_of v)) (are_formed (parts_of v)) formed.1 in
+    let foreign = and_parts (are_like_rule (parts_of v)) (not (are_known (parts_of v))) b in
     not_true (are_known (parts_of v)) foreign.1 known.0
 
 no_shared_text : (g h : Group) (v : List ℕ) → apart g h ≡ true → shape_in g (quoted v) ≡ true
@@ -280,7 +280,7 @@ no_shared_one k [] t n a b = cc
 no_shared_one k (l ∷ ls) t n a b = by_first (is l t) refl b (λ c. no_shared_one k ls t parts.1 a c)
   where
     parts : (apart (group_of k) (group_of l) ≡ true) × (list_all (λ m. apart (group_of k) (group_of m)) ls ≡ true)
-    parts = both_true (apart (group_of k) (group_of l)) (list_all (λ m. apart (group_of k) (group_of m)) ls) n
+    parts = and_parts (apart (group_of k) (group_of l)) (list_all (λ m. apart (group_of k) (group_of m)) ls) n
 
     by_first : (x : Bool) → is l t ≡ x → (x || is_any ls t) ≡ true → (is_any ls t ≡ true → ⊥) → ⊥
     by_first true e h rec =
@@ -294,7 +294,7 @@ no_shared [] ls t n a b = cc
 no_shared (k ∷ ks) ls t n a b = by_first (is k t) refl a (λ c. no_shared ks ls t parts.1 c b)
   where
     parts : (list_all (λ m. apart (group_of k) (group_of m)) ls ≡ true) × (kinds_apart ks ls ≡ true)
-    parts = both_true (list_all (λ m. apart (group_of k) (group_of m)) ls) (kinds_apart ks ls) n
+    parts = and_parts (list_all (λ m. apart (group_of k) (group_of m)) ls) (kinds_apart ks ls) n
 
     by_first : (x : Bool) → is k t ≡ x → (x || is_any ks t) ≡ true → (is_any ks t ≡ true → ⊥) → ⊥
     by_first true e h rec = no_shared_one k ls t parts.0 e b

@@ -1,6 +1,7 @@
 -- Each sentence is read whole, whatever follows that does not go on with it.
 use Rattle.std.proofs.Common.{◌≡◌, ◌≤◌, inl, inr, ◌&&◌, not, cond, ℕ, Bool, true, false, List, [], ◌∷◌, ◌++◌}
 use Rattle.std.proofs.Common.{length, refl, ap, sym, ◌∙◌, append_assoc, length-append, arith}
+use Rattle.lemmas.proofs.Booleans.{and_parts, not_holds}
 use Rattle.composer_parser.specs.Kinds.{Kind, Spelled}
 use Rattle.composer_parser.specs.Grammars.{Grammar, nothing, one, left_out, both, either, many, Spells, Pieces}
 use Rattle.composer_parser.specs.Reading.{is_any, begins, empty, has, tries, goes_on, decided}
@@ -8,8 +9,8 @@ use Rattle.composer_parser.specs.Groups.{kinds_apart}
 use Rattle.composer_parser.specs.Reading.{done, and_then, read, repeat}
 use Rattle.composer_parser.proofs.Apart.{no_shared}
 use Rattle.composer_parser.proofs.Firsts.{empty_sentence, tries_sentence}
-use Rattle.composer_parser.proofs.Fronts.{both_true, none_of_two}
-use Rattle.composer_parser.proofs.Halts.{joined, repeat_step, repeat_ends, repeat_none, is_false}
+use Rattle.composer_parser.proofs.Fronts.{none_of_two}
+use Rattle.composer_parser.proofs.Halts.{joined, repeat_step, repeat_ends, repeat_none}
 
 pub is_not : (b : Bool) → (b ≡ true → ⊥) → b ≡ false
 is_not true h = absurd (h refl)
@@ -114,31 +115,31 @@ complete (nothing x) d xs rest c (none, v) ends = rw (none, v) refl
 complete (one k f) d xs rest c (t, all, ok, v) ends = rw (all, ok, v) refl
 complete (left_out k) d xs rest c h ends = absurd h
 complete (both f g h) d ts rest c (xs, ys, a, b, split, left, right, v) ends =
-    let d1 = both_true (decided g) (decided h && (has g && (has h && kinds_apart (goes_on g) (tries h)))) d in
-    let d2 = both_true (decided h) (has g && (has h && kinds_apart (goes_on g) (tries h))) d1.1 in
-    let d3 = both_true (has g) (has h && kinds_apart (goes_on g) (tries h)) d2.1 in
-    let d4 = both_true (has h) (kinds_apart (goes_on g) (tries h)) d3.1 in
+    let d1 = and_parts (decided g) (decided h && (has g && (has h && kinds_apart (goes_on g) (tries h)))) d in
+    let d2 = and_parts (decided h) (has g && (has h && kinds_apart (goes_on g) (tries h))) d1.1 in
+    let d3 = and_parts (has g) (has h && kinds_apart (goes_on g) (tries h)) d2.1 in
+    let d4 = and_parts (has h) (kinds_apart (goes_on g) (tries h)) d3.1 in
     both_complete f g h xs ys ts rest a b split
     (complete g d1.0 xs (ys ++ rest) a left (ends_first f g h ys rest b d4.1 right ends))
     (complete h d2.0 ys rest b right (goes_on_first (empty h) (goes_on h) (goes_on g) rest ends))
     ∙ ap (λ x. done x rest) (sym v)
 complete (either g h) d xs rest c (inl s) ends =
-    let d1 = both_true (decided g) (decided h && (not (empty g) && kinds_apart (tries g) (tries h))) d in
-    let d2 = both_true (decided h) (not (empty g) && kinds_apart (tries g) (tries h)) d1.1 in
-    let d3 = both_true (not (empty g)) (kinds_apart (tries g) (tries h)) d2.1 in
+    let d1 = and_parts (decided g) (decided h && (not (empty g) && kinds_apart (tries g) (tries h))) d in
+    let d2 = and_parts (decided h) (not (empty g) && kinds_apart (tries g) (tries h)) d1.1 in
+    let d3 = and_parts (not (empty g)) (kinds_apart (tries g) (tries h)) d2.1 in
     let e1 = goes_on_first (empty h) (goes_on g ++ goes_on h) (tries g) rest ends in
     let e2 = none_of_two (goes_on g) (goes_on h) rest e1 in
-    rw (left_begins g xs rest c (is_false (empty g) d3.0) s) (complete g d1.0 xs rest c s e2.0)
+    rw (left_begins g xs rest c (not_holds (empty g) d3.0) s) (complete g d1.0 xs rest c s e2.0)
 complete (either g h) d xs rest c (inr s) ends =
-    let d1 = both_true (decided g) (decided h && (not (empty g) && kinds_apart (tries g) (tries h))) d in
-    let d2 = both_true (decided h) (not (empty g) && kinds_apart (tries g) (tries h)) d1.1 in
-    let d3 = both_true (not (empty g)) (kinds_apart (tries g) (tries h)) d2.1 in
+    let d1 = and_parts (decided g) (decided h && (not (empty g) && kinds_apart (tries g) (tries h))) d in
+    let d2 = and_parts (decided h) (not (empty g) && kinds_apart (tries g) (tries h)) d1.1 in
+    let d3 = and_parts (not (empty g)) (kinds_apart (tries g) (tries h)) d2.1 in
     let e1 = goes_on_first (empty h) (goes_on g ++ goes_on h) (tries g) rest ends in
     let e2 = none_of_two (goes_on g) (goes_on h) rest e1 in
     rw (right_begins g h xs rest c d3.1 s ends) (complete h d2.0 xs rest c s e2.1)
 complete (many s after may g f) d xs rest c (items, end, pieces, v) ends =
-    let d1 = both_true (decided g) (not (empty g) && kinds_apart (goes_on g) (tries g)) d in
-    let d2 = both_true (not (empty g)) (kinds_apart (goes_on g) (tries g)) d1.1 in
+    let d1 = and_parts (decided g) (not (empty g) && kinds_apart (goes_on g) (tries g)) d in
+    let d2 = and_parts (not (empty g)) (kinds_apart (goes_on g) (tries g)) d1.1 in
     let e1 = none_of_two (tries g) (goes_on g) rest ends in
     ap (λ o. and_then o (λ x last. done (f x) last))
     (pieces_complete after may g d2.1 (λ ys more a. complete g d1.0 ys more a) items (length (xs ++ rest)) s end xs rest

@@ -4,6 +4,7 @@ use Rattle.std.proofs.Common.{Some, None, sym, ap, ◌∙◌, refl, arith}
 use Rattle.std.proofs.Math.Seq.{take-length}
 use Rattle.std.proofs.lemmas.List.{take_more}
 use Rattle.std.proofs.lemmas.Bool.Decides.{nat_tests}
+use Rattle.lemmas.proofs.Texts.{not_first}
 use Rattle.syntax.specs.Numbers.{is_number}
 use Rattle.composer_parser.specs.Kinds.{is_minus, is_plus, is_offset}
 use Rattle.composer_parser.specs.Parts.{capped}
@@ -24,11 +25,6 @@ not_last (b ∷ bs) h =
 
 pub no_end : (bs : List ℕ) → ((front : List ℕ) → bs ≢ front ++ 59 ∷ []) → bs ≡ without_last bs
 no_end bs h = rw (not_last bs h) refl
-
-not_first : (bs : List ℕ) → ((rest : List ℕ) → bs ≢ 45 ∷ rest) → eqb (get_or bs 0 0) 45 ≡ false
-not_first [] h = refl
-not_first (b ∷ bs) h =
-    let other : b ≢ 45 = λ e. h bs (ap (λ n. n ∷ bs) e) in grind (arith, nat_tests)
 
 not_plus : (bs : List ℕ) → ((rest : List ℕ) → bs ≢ 43 ∷ rest) → eqb (get_or bs 0 0) 43 ≡ false
 not_plus [] h = refl

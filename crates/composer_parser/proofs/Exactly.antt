@@ -1,12 +1,12 @@
 -- The answer of reading all tokens has its cause, and comes where its cause is there.
 use Rattle.std.proofs.Common.{◌≡◌, ◌⊎◌, inl, inr, true, List, [], ◌∷◌, ◌++◌}
 use Rattle.std.proofs.Common.{refl, ap, sym, subst, ◌∙◌, append_assoc, append-nil}
+use Rattle.lemmas.proofs.Booleans.{and_parts}
 use Rattle.composer_parser.specs.Kinds.{Spelled}
 use Rattle.composer_parser.specs.declared.stops.Why.{Why}
 use Rattle.composer_parser.specs.Grammars.{Grammar, Spells}
 use Rattle.composer_parser.specs.Reading.{Outcome, done, stuck, read, decided, has}
 use Rattle.composer_parser.specs.Answers.{Begins, StopsAt, whole, read_whole, ReadsExactly, is_sound}
-use Rattle.composer_parser.proofs.Fronts.{both_true}
 use Rattle.composer_parser.proofs.Halts.{Good, good, CanGoOn, sentence_of}
 use Rattle.composer_parser.proofs.Completes.{complete}
 
@@ -159,7 +159,7 @@ all_stops_by g ts d h o good_one before rest split stop (stuck w last) e =
 
 pub reads_exactly : {C : Type 0} (g : Grammar C) (ts : List Spelled) → is_sound g ≡ true → ReadsExactly g ts
 reads_exactly g ts sound =
-    let parts = both_true (decided g) (has g) sound in
+    let parts = and_parts (decided g) (has g) sound in
     let good_one = good g ts parts.0 in
     record {
       value = λ c e. value_by g ts (read g ts) good_one c e;

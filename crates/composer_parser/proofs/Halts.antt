@@ -1,6 +1,7 @@
 -- Where reading stops: what was read so far begins a sentence, and no more than the next token was looked at.
 use Rattle.std.proofs.Common.{◌≡◌, ◌≤◌, ◌⊎◌, inl, inr, ◌||◌, ◌&&◌, not, cond, ℕ, zero, suc, Bool, true, false, List, [], ◌∷◌, ◌++◌}
 use Rattle.std.proofs.Common.{Some, length, refl, ap, sym, subst, ◌∙◌, append_assoc, append-nil, length-append, arith}
+use Rattle.lemmas.proofs.Booleans.{and_parts, not_holds}
 use Rattle.composer_parser.specs.Kinds.{Kind, Spelled, is}
 use Rattle.composer_parser.specs.declared.stops.Why.TheVariants.{NotExpected, IsLeftOut}
 use Rattle.composer_parser.specs.Grammars.{Grammar, nothing, one, left_out, both, either, many, Spells, Pieces}
@@ -8,7 +9,7 @@ use Rattle.composer_parser.specs.Reading.{is_any, begins, empty, has, tries, goe
 use Rattle.composer_parser.specs.Groups.{kinds_apart, example}
 use Rattle.composer_parser.specs.Reading.{Outcome, done, stuck, and_then, read, repeat}
 use Rattle.composer_parser.proofs.Firsts.{empty_sentence}
-use Rattle.composer_parser.proofs.Fronts.{next, next_behind, next_empty, next_token, begins_alike, both_true}
+use Rattle.composer_parser.proofs.Fronts.{next, next_behind, next_empty, next_token, begins_alike}
 
 -- a grammar that has sentences has one
 pub sentence_of : {C : Type 0} (g : Grammar C) → has g ≡ true
@@ -18,7 +19,7 @@ sentence_of (one k f) h =
     (example k ∷ [], f (example k), (example k, refl, h, refl))
 sentence_of (left_out k) h = cc
 sentence_of (both f g h) has_both =
-    let parts = both_true (has g) (has h) has_both in
+    let parts = and_parts (has g) (has h) has_both in
     let left = sentence_of g parts.0 in
     let right = sentence_of h parts.1 in
     (left.0 ++ right.0, f left.1 right.1, (left.0, right.0, left.1, right.1, refl, left.2, right.2, refl))
@@ -338,10 +339,6 @@ many_good s after may g f ts (stuck w rest) (xs, split, (m, items, end, pieces),
       (near more (length (xs ++ more)) alike (omega arith)),
 )
 
-pub is_false : (b : Bool) → not b ≡ true → b ≡ false
-is_false true h = cc
-is_false false h = refl
-
 pub good : {C : Type 0} (g : Grammar C) (ts : List Spelled) → decided g ≡ true → Good (Spells g) (read g) ts (read g ts)
 good (nothing c) ts d = ([], refl, (refl, refl), λ more alike. refl)
 good (one k f) [] d = (
@@ -363,19 +360,19 @@ good {C = C} (left_out k) [] d = (
 )
 good {C = C} (left_out k) (t ∷ ts) d = left_out_good C k t ts (is k t) refl
 good (both f g h) ts d =
-    let d1 = both_true (decided g) (decided h && (has g && (has h && kinds_apart (goes_on g) (tries h)))) d in
-    let d2 = both_true (decided h) (has g && (has h && kinds_apart (goes_on g) (tries h))) d1.1 in
-    let d3 = both_true (has g) (has h && kinds_apart (goes_on g) (tries h)) d2.1 in
-    let d4 = both_true (has h) (kinds_apart (goes_on g) (tries h)) d3.1 in
+    let d1 = and_parts (decided g) (decided h && (has g && (has h && kinds_apart (goes_on g) (tries h)))) d in
+    let d2 = and_parts (decided h) (has g && (has h && kinds_apart (goes_on g) (tries h))) d1.1 in
+    let d3 = and_parts (has g) (has h && kinds_apart (goes_on g) (tries h)) d2.1 in
+    let d4 = and_parts (has h) (kinds_apart (goes_on g) (tries h)) d3.1 in
     both_good f g h ts d4.0 (read g ts) (good g ts d1.0) (λ rest. good h rest d2.0)
 good (either g h) ts d =
-    let d1 = both_true (decided g) (decided h && (not (empty g) && kinds_apart (tries g) (tries h))) d in
-    let d2 = both_true (decided h) (not (empty g) && kinds_apart (tries g) (tries h)) d1.1 in
+    let d1 = and_parts (decided g) (decided h && (not (empty g) && kinds_apart (tries g) (tries h))) d in
+    let d2 = and_parts (decided h) (not (empty g) && kinds_apart (tries g) (tries h)) d1.1 in
     either_good g h ts (begins (tries g) ts) refl (good g ts d1.0) (good h ts d2.0)
 good (many s after may g f) ts d =
-    let d1 = both_true (decided g) (not (empty g) && kinds_apart (goes_on g) (tries g)) d in
-    let d2 = both_true (not (empty g)) (kinds_apart (goes_on g) (tries g)) d1.1 in
+    let d1 = and_parts (decided g) (not (empty g) && kinds_apart (goes_on g) (tries g)) d in
+    let d2 = and_parts (not (empty g)) (kinds_apart (goes_on g) (tries g)) d1.1 in
     many_good s after may g f ts
     (repeat after (λ x t. is_any (tries g) t && may x t) (λ xs. read g xs) (length ts) s ts)
-    (pieces_good after may (λ x t. is_any (tries g) t && may x t) g (is_false (empty g) d2.0)
-    (λ x t h. (both_true (is_any (tries g) t) (may x t) h).1) (λ us. good g us d1.0) (length ts) s ts (omega arith))
+    (pieces_good after may (λ x t. is_any (tries g) t && may x t) g (not_holds (empty g) d2.0)
+    (λ x t h. (and_parts (is_any (tries g) t) (may x t) h).1) (λ us. good g us d1.0) (length ts) s ts (omega arith))

@@ -10,6 +10,7 @@ use Rattle.base_types.specs.Name.{is_name_of, starts_with_letter}
 use Rattle.syntax.specs.Numbers.{is_number}
 use Rattle.std.proofs.Common.{Option, Some, None}
 use Rattle.std.specs.Option.{is_some}
+use Rattle.lemmas.proofs.Booleans.{and_parts}
 use Rattle.calendars.specs.Written.{date_of, digits_of, before_slash}
 use Rattle.composer_parser.specs.Words.{lower, holds, before, behind}
 use Rattle.composer_parser.specs.Kinds.{is_reserved, reserved_words, is}
@@ -18,7 +19,6 @@ use Rattle.composer_parser.specs.Kinds.{is_free_name, is_placed, is_scoped, is_p
 use Rattle.composer_parser.specs.Kinds.{is_plus, is_minus, is_offset}
 use Rattle.composer_parser.specs.Groups.{letter, digit, sign, lead, lead_of, same_lead}
 use Rattle.composer_parser.specs.Groups.{names, word_in}
-use Rattle.composer_parser.proofs.Fronts.{both_true}
 
 -- with what a word in lower case begins
 lower_letter : (c : ℕ) → is_ascii_alphabetic c ≡ true → same_lead letter (lead_of (to_ascii_lowercase c)) ≡ true
@@ -46,10 +46,10 @@ first_of_three false b c h = cc
 
 name_starts : (w : List ℕ) → is_free_name w ≡ true → starts_with_letter w ≡ true
 name_starts w h =
-    first_of_three (starts_with_letter w) _ _ (both_true (is_name_of w) (not (is_reserved w)) h).0
+    first_of_three (starts_with_letter w) _ _ (and_parts (is_name_of w) (not (is_reserved w)) h).0
 
 name_free : (w : List ℕ) → is_free_name w ≡ true → not (is_reserved w) ≡ true
-name_free w h = (both_true (is_name_of w) (not (is_reserved w)) h).1
+name_free w h = (and_parts (is_name_of w) (not (is_reserved w)) h).1
 
 pub name_in : (w : List ℕ) → is_free_name w ≡ true → word_in names w ≡ true
 name_in w h = rw (name_free w h, starts_lower w (name_starts w h)) refl
@@ -112,7 +112,7 @@ none_holds : (c : ℕ) (w : List ℕ) (ks : List (List ℕ)) → list_any (λ b.
     → no_mark c ks ≡ true → list_any (λ k. bytes_eq (lower w) (lower k)) ks ≡ false
 none_holds c w [] h all = refl
 none_holds c w (k ∷ ks) h all =
-    let parts = both_true (not (list_any (λ b. b == c) (lower k))) (no_mark c ks) all in
+    let parts = and_parts (not (list_any (λ b. b == c) (lower k))) (no_mark c ks) all in
     let other : bytes_eq (lower w) (lower k) ≡ false =
     by_eq (bytes_eq (lower w) (lower k)) (bytes_eq-Decides (lower w) (lower k)).0 parts.0 in
     rw other (none_holds c w ks h parts.1)
@@ -140,8 +140,8 @@ no_dot = refl
 pub placed_in : (w : List ℕ) → is_placed w ≡ true → (starts_with_letter w ≡ true) × (not (is_reserved w) ≡ true)
 unfolding is_placed
 placed_in w h =
-    let a = both_true (holds 35 w) (is_free_name (before 35 w) && is_free_name (behind 35 w)) h in
-    let b = both_true (is_free_name (before 35 w)) (is_free_name (behind 35 w)) a.1 in
+    let a = and_parts (holds 35 w) (is_free_name (before 35 w) && is_free_name (behind 35 w)) h in
+    let b = and_parts (is_free_name (before 35 w)) (is_free_name (behind 35 w)) a.1 in
     (starts_before (λ x. x == 35) w (name_starts (before 35 w) b.0), marked_free 35 w refl no_hash a.0)
 
 pub scoped_in : (w : List ℕ) → is_scoped w ≡ true → (starts_with_letter w ≡ true) × (not (is_reserved w) ≡ true)
@@ -163,8 +163,8 @@ pred_in w h = by_scoped (is_scoped w) refl h
         → (starts_with_letter w ≡ true) × (not (is_reserved w) ≡ true)
     by_scoped true e h2 = scoped_in w e
     by_scoped false e h2 =
-        let a = both_true (holds 46 w) _ h2 in
-        let b = both_true (is_scoped (before 46 w)) _ a.1 in
+        let a = and_parts (holds 46 w) _ h2 in
+        let b = and_parts (is_scoped (before 46 w)) _ a.1 in
         (starts_before (λ x. x == 46) w (scoped_in (before 46 w) b.0).0, marked_free 46 w refl no_dot a.0)
 
 pub in_names : (w : List ℕ) → (starts_with_letter w ≡ true) × (not (is_reserved w) ≡ true) → word_in names w ≡ true
@@ -173,17 +173,17 @@ in_names w h = rw (h.1, starts_lower w h.0) refl
 pub number_in : (w : List ℕ) → is_number w ≡ true → same_lead digit (lead (lower w)) ≡ true
 number_in [] h = cc
 number_in (c ∷ w) h =
-    let a = both_true (ltb 0 (length (c ∷ w))) _ h in
-    let b = both_true _ (list_all is_ascii_digit (c ∷ w)) a.1 in
-    lower_digit c (both_true (is_ascii_digit c) (list_all is_ascii_digit w) b.1).0
+    let a = and_parts (ltb 0 (length (c ∷ w))) _ h in
+    let b = and_parts _ (list_all is_ascii_digit (c ∷ w)) a.1 in
+    lower_digit c (and_parts (is_ascii_digit c) (list_all is_ascii_digit w) b.1).0
 
 pub time_in : (w : List ℕ) → is_time w ≡ true → same_lead digit (lead (lower w)) ≡ true
 unfolding is_time
 time_in [] h = cc
 time_in (c ∷ w) h =
-    let a = both_true _ _ h in
-    let b = both_true (list_all is_ascii_digit (c ∷ w)) _ a.1 in
-    lower_digit c (both_true (is_ascii_digit c) (list_all is_ascii_digit w) b.0).0
+    let a = and_parts _ _ h in
+    let b = and_parts (list_all is_ascii_digit (c ∷ w)) _ a.1 in
+    lower_digit c (and_parts (is_ascii_digit c) (list_all is_ascii_digit w) b.0).0
 
 both_if : (a b : Bool) → cond a b false ≡ true → a ≡ true
 both_if true b h = refl
@@ -233,7 +233,7 @@ first_digit (c ∷ w) some all = by_slash (c == 47) refl
         rw (e, one_more (prefix_len (λ x. not (x == 47)) w)) refl in
         let head : (is_ascii_digit c && list_all is_ascii_digit (take (prefix_len (λ x. not (x == 47)) w) w)) ≡ true =
         ap (λ zs. list_all is_ascii_digit zs) (sym more) ∙ all in
-        lower_digit c (both_true (is_ascii_digit c) _ head).0
+        lower_digit c (and_parts (is_ascii_digit c) _ head).0
 
 two_of : (w : List ℕ) (n : ℕ) → digits_of 2 w ≡ Some n → (0 < length w) × (list_all is_ascii_digit w ≡ true)
 two_of w n h = by_test (length w == 2 && list_all is_ascii_digit w) refl h
@@ -241,7 +241,7 @@ two_of w n h = by_test (length w == 2 && list_all is_ascii_digit w) refl h
     by_test : (b : Bool) → (length w == 2 && list_all is_ascii_digit w) ≡ b
         → cond b (Some (digits_value 10 w)) None ≡ Some n → (0 < length w) × (list_all is_ascii_digit w ≡ true)
     by_test true e k =
-        let parts = both_true (length w == 2) (list_all is_ascii_digit w) e in
+        let parts = and_parts (length w == 2) (list_all is_ascii_digit w) e in
         let two : length w ≡ 2 = grind (arith, nat_tests, parts.0) in
         (omega (arith, two), parts.1)
     by_test false e k = cc

@@ -1,6 +1,7 @@
 -- Where reading stops at a token that the grammar leaves out.
 use Rattle.std.proofs.Common.{◌≡◌, ◌≤◌, inl, inr, ◌&&◌, not, cond, ℕ, zero, suc, Bool, true, false, List, [], ◌∷◌, ◌++◌}
 use Rattle.std.proofs.Common.{Some, length, refl, ap, sym, ◌∙◌, append_assoc, length-append, arith}
+use Rattle.lemmas.proofs.Booleans.{and_parts, not_holds}
 use Rattle.composer_parser.specs.Kinds.{Kind, Spelled, is}
 use Rattle.composer_parser.specs.declared.stops.Why.{Why}
 use Rattle.composer_parser.specs.declared.stops.Why.TheVariants.{NotExpected, IsLeftOut}
@@ -10,8 +11,8 @@ use Rattle.composer_parser.specs.Reading.{Outcome, done, stuck, and_then, read, 
 use Rattle.composer_parser.specs.Groups.{kinds_apart}
 use Rattle.composer_parser.proofs.Apart.{no_shared}
 use Rattle.composer_parser.proofs.Firsts.{empty_sentence, tries_sentence, by_empty, behind_empty}
-use Rattle.composer_parser.proofs.Fronts.{next, both_true, in_first, in_second}
-use Rattle.composer_parser.proofs.Halts.{Good, good, joined, repeat_step, is_false}
+use Rattle.composer_parser.proofs.Fronts.{next, in_first, in_second}
+use Rattle.composer_parser.proofs.Halts.{Good, good, joined, repeat_step}
 use Rattle.composer_parser.proofs.Completes.{complete, ends_piece, is_not, by_length}
 
 -- a token that is left out is one that reading tries
@@ -102,28 +103,28 @@ left_complete (one k f) d before t rest h = absurd h
 left_complete {C = C} (left_out k) d before t rest (none, ok) =
     ap (λ zs. read (left_out {C = C} k) (zs ++ t ∷ rest)) none ∙ rw ok refl
 left_complete (both f g h) d before t rest (inl left) =
-    let d1 = both_true (decided g) (decided h && (has g && (has h && kinds_apart (goes_on g) (tries h)))) d in
+    let d1 = and_parts (decided g) (decided h && (has g && (has h && kinds_apart (goes_on g) (tries h)))) d in
     ap (λ o. joined f o (λ zs. read h zs)) (left_complete g d1.0 before t rest left)
 left_complete (both f g h) d before t rest (inr (xs, ys, a, split, left, right)) =
-    let d1 = both_true (decided g) (decided h && (has g && (has h && kinds_apart (goes_on g) (tries h)))) d in
-    let d2 = both_true (decided h) (has g && (has h && kinds_apart (goes_on g) (tries h))) d1.1 in
-    let d3 = both_true (has g) (has h && kinds_apart (goes_on g) (tries h)) d2.1 in
-    let d4 = both_true (has h) (kinds_apart (goes_on g) (tries h)) d3.1 in
+    let d1 = and_parts (decided g) (decided h && (has g && (has h && kinds_apart (goes_on g) (tries h)))) d in
+    let d2 = and_parts (decided h) (has g && (has h && kinds_apart (goes_on g) (tries h))) d1.1 in
+    let d3 = and_parts (has g) (has h && kinds_apart (goes_on g) (tries h)) d2.1 in
+    let d4 = and_parts (has h) (kinds_apart (goes_on g) (tries h)) d3.1 in
     ap (λ zs. read (both f g h) (zs ++ t ∷ rest)) split ∙ ap (λ zs. read (both f g h) zs) (append_assoc xs ys (t ∷ rest))
     ∙ ap (λ o. joined f o (λ zs. read h zs))
     (complete g d1.0 xs (ys ++ t ∷ rest) a left (none_goes_on (goes_on g) h ys t rest d4.1 right))
     ∙ ap (λ o. and_then o (λ y last. done (f a y) last)) (left_complete h d2.0 ys t rest right)
 left_complete (either g h) d before t rest (inl left) =
-    let d1 = both_true (decided g) (decided h && (not (empty g) && kinds_apart (tries g) (tries h))) d in
+    let d1 = and_parts (decided g) (decided h && (not (empty g) && kinds_apart (tries g) (tries h))) d in
     rw (begins_first (tries g) before t rest ∙ leaves_tries g before t left) (left_complete g d1.0 before t rest left)
 left_complete (either g h) d before t rest (inr right) =
-    let d1 = both_true (decided g) (decided h && (not (empty g) && kinds_apart (tries g) (tries h))) d in
-    let d2 = both_true (decided h) (not (empty g) && kinds_apart (tries g) (tries h)) d1.1 in
-    let d3 = both_true (not (empty g)) (kinds_apart (tries g) (tries h)) d2.1 in
+    let d1 = and_parts (decided g) (decided h && (not (empty g) && kinds_apart (tries g) (tries h))) d in
+    let d2 = and_parts (decided h) (not (empty g) && kinds_apart (tries g) (tries h)) d1.1 in
+    let d3 = and_parts (not (empty g)) (kinds_apart (tries g) (tries h)) d2.1 in
     rw (none_goes_on (tries g) h before t rest d3.1 right) (left_complete h d2.0 before t rest right)
 left_complete (many s after may g f) d before t rest (items, now, xs, ys, split, pieces, ok, leaves) =
-    let d1 = both_true (decided g) (not (empty g) && kinds_apart (goes_on g) (tries g)) d in
-    let d2 = both_true (not (empty g)) (kinds_apart (goes_on g) (tries g)) d1.1 in
+    let d1 = and_parts (decided g) (not (empty g) && kinds_apart (goes_on g) (tries g)) d in
+    let d2 = and_parts (not (empty g)) (kinds_apart (goes_on g) (tries g)) d1.1 in
     let same = ap (λ zs. zs ++ t ∷ rest) split ∙ append_assoc xs ys (t ∷ rest) in
     ap (λ zs. read (many s after may g f) zs) same
     ∙ ap (λ o. and_then o (λ x last. done (f x) last))
@@ -250,7 +251,7 @@ pieces_sound {S = S} {A = A} after may g t rest d some piece (suc n) s (u ∷ us
         → LeftPieces after may g s (u ∷ us) t rest
     by_test false e k others = cc
     by_test true e k others =
-        pieces_first after may g s n u us t rest some (both_true (is_any (tries g) u) (may s u) e).1 (read g (u ∷ us))
+        pieces_first after may g s n u us t rest some (and_parts (is_any (tries g) u) (may s u) e).1 (read g (u ∷ us))
         (good g (u ∷ us) d) refl (piece (u ∷ us)) others k
 
 pub left_sound : {C : Type 0} (g : Grammar C) → decided g ≡ true → (ts : List Spelled) (t : Spelled) (rest : List Spelled)
@@ -261,13 +262,13 @@ left_sound (one k f) d (u ∷ us) t rest h = absurd (one_left k f u us t rest (i
 left_sound (left_out k) d [] t rest h = cc
 left_sound {C = C} (left_out k) d (u ∷ us) t rest h = kind_left C k u us t rest (is k u) refl h
 left_sound (both f g h) d ts t rest k =
-    let d1 = both_true (decided g) (decided h && (has g && (has h && kinds_apart (goes_on g) (tries h)))) d in
-    let d2 = both_true (decided h) (has g && (has h && kinds_apart (goes_on g) (tries h))) d1.1 in
+    let d1 = and_parts (decided g) (decided h && (has g && (has h && kinds_apart (goes_on g) (tries h)))) d in
+    let d2 = and_parts (decided h) (has g && (has h && kinds_apart (goes_on g) (tries h))) d1.1 in
     both_left f g h ts t rest (read g ts) (good g ts d1.0) (left_sound g d1.0 ts t rest)
     (λ us. left_sound h d2.0 us t rest) refl k
 left_sound (either g h) d ts t rest k =
-    let d1 = both_true (decided g) (decided h && (not (empty g) && kinds_apart (tries g) (tries h))) d in
-    let d2 = both_true (decided h) (not (empty g) && kinds_apart (tries g) (tries h)) d1.1 in
+    let d1 = and_parts (decided g) (decided h && (not (empty g) && kinds_apart (tries g) (tries h))) d in
+    let d2 = and_parts (decided h) (not (empty g) && kinds_apart (tries g) (tries h)) d1.1 in
     by_side (begins (tries g) ts) k (left_sound g d1.0 ts t rest) (left_sound h d2.0 ts t rest)
   where
     by_side : (b : Bool) → cond b (read g ts) (read h ts) ≡ stuck IsLeftOut (t ∷ rest)
@@ -276,10 +277,10 @@ left_sound (either g h) d ts t rest k =
     by_side true e first second = let found = first e in (found.0, found.1, inl found.2)
     by_side false e first second = let found = second e in (found.0, found.1, inr found.2)
 left_sound (many s after may g f) d ts t rest k =
-    let d1 = both_true (decided g) (not (empty g) && kinds_apart (goes_on g) (tries g)) d in
-    let d2 = both_true (not (empty g)) (kinds_apart (goes_on g) (tries g)) d1.1 in
+    let d1 = and_parts (decided g) (not (empty g) && kinds_apart (goes_on g) (tries g)) d in
+    let d2 = and_parts (not (empty g)) (kinds_apart (goes_on g) (tries g)) d1.1 in
     by_end (repeat after (λ x w. is_any (tries g) w && may x w) (λ zs. read g zs) (length ts) s ts) refl k
-    (pieces_sound after may g t rest d1.0 (is_false (empty g) d2.0) (λ us. left_sound g d1.0 us t rest) (length ts) s ts)
+    (pieces_sound after may g t rest d1.0 (not_holds (empty g) d2.0) (λ us. left_sound g d1.0 us t rest) (length ts) s ts)
   where
     by_end : (o : Outcome _) → repeat after (λ x w. is_any (tries g) w && may x w) (λ zs. read g zs) (length ts) s ts ≡ o
         → and_then o (λ x last. done (f x) last) ≡ stuck IsLeftOut (t ∷ rest)

@@ -11,10 +11,10 @@ use Rattle.composer_parser.specs.declared.stops.Stop.TheVariants.{Here, NoMemory
 use Rattle.composer_parser.specs.Reading.{is_any, begins, empty, tries, decided, begins_piece, turns}
 use Rattle.composer_parser.specs.Reading.{Outcome, done, stuck, and_then, read, repeat}
 use Rattle.std.proofs.lemmas.List.{length-map}
+use Rattle.lemmas.proofs.Booleans.{and_parts}
 use Rattle.base_types.specs.declared.reports.Token.{Token}
 use Rattle.composer_parser.specs.Tokens.{all_spelled, Gives, StopsWith}
 use Rattle.composer_parser.specs.Parts.{put, always, any_number, with_commas}
-use Rattle.composer_parser.proofs.Fronts.{both_true}
 use Rattle.composer_parser.proofs.Firsts.{empty_sentence}
 use Rattle.composer_parser.proofs.Halts.{Good, good, GoodPieces, pieces_good, repeat_step, repeat_ends}
 
@@ -55,7 +55,7 @@ enough : {S A : Type 0} (after : S → A → S) (may : S → Spelled → Bool) (
 enough after may g d some s ts n small =
     enough_by after may (λ x t. is_any (tries g) t && may x t) g s ts n small (turns after may g s ts)
     (pieces_good after may (λ x t. is_any (tries g) t && may x t) g some
-    (λ x t h. (both_true (is_any (tries g) t) (may x t) h).1) (λ us. good g us d) (length ts) s ts (omega arith))
+    (λ x t h. (and_parts (is_any (tries g) t) (may x t) h).1) (λ us. good g us d) (length ts) s ts (omega arith))
 
 turn_more : {S A : Type 0} (after : S → A → S) (may : S → Spelled → Bool) (g : Grammar A) → decided g ≡ true
     → empty g ≡ false → (s : S) (ts : List Spelled) (a : A) (rest : List Spelled)

@@ -4,6 +4,7 @@ use Rattle.std.proofs.Common.{refl, ap, sym, subst, ◌∙◌, arith, length-app
 use Rattle.std.proofs.lemmas.List.{length-map, drop-map}
 use Rattle.std.specs.List.{take-map}
 use Rattle.std.proofs.Math.Seq.{drop-append_seam, take-append_seam}
+use Rattle.lemmas.proofs.Booleans.{and_parts, or_made_left, or_made_right}
 use Rattle.base_types.specs.declared.reports.Token.{Token}
 use Rattle.composer_parser.specs.declared.definitions.Defs.{Defs}
 use Rattle.composer_parser.specs.declared.stops.Why.{Why}
@@ -17,7 +18,6 @@ use Rattle.composer_parser.specs.Answers.{whole, read_whole, StopsAt}
 use Rattle.composer_parser.specs.Composer.{defs}
 use Rattle.composer_parser.specs.Faults.{answer, fault_of, before_rest, is_left, is_left_word, IsLeft, HasUnexpected, HasLeftOut}
 use Rattle.composer_parser.specs.Tokens.{all_spelled, spelled, StopsWith}
-use Rattle.composer_parser.proofs.Fronts.{both_true}
 use Rattle.composer_parser.proofs.Exactly.{reads_exactly}
 use Rattle.composer_parser.proofs.Leaves.{left_sound, left_complete}
 use Rattle.composer_parser.proofs.Sound.{defs_sound}
@@ -39,14 +39,6 @@ left_read (done d []) rest h = cc
 left_read (done d (t ∷ us)) rest h = cc
 left_read (stuck w us) rest h = h
 
-or_left : (a b : Bool) → a ≡ true → (a || b) ≡ true
-or_left true b h = refl
-or_left false b h = cc
-
-or_right : (a b : Bool) → b ≡ true → (a || b) ≡ true
-or_right true b h = refl
-or_right false b h = h
-
 -- whether the token at which reading stops is left out
 tells_left : {C : Type 0} (g : Grammar C) (ts before : List Spelled) (t : Spelled) (rest : List Spelled) (w : Why)
     → decided g ≡ true → ts ≡ before ++ t ∷ rest → read_whole g ts ≡ stuck w (t ∷ rest)
@@ -61,18 +53,18 @@ tells_left {C = C} g ts before t rest IsLeftOut d split e h =
 is_told_left : {C : Type 0} (g : Grammar C) (ts before : List Spelled) (t : Spelled) (rest : List Spelled) (w : Why)
     → decided g ≡ true → ts ≡ before ++ t ∷ rest → read_whole g ts ≡ stuck w (t ∷ rest) → IsLeft g before t
     → (is_left w || is_left_word before t) ≡ true
-is_told_left g ts before t rest w d split e (inl h) = or_right (is_left w) (is_left_word before t) h
+is_told_left g ts before t rest w d split e (inl h) = or_made_right (is_left w) (is_left_word before t) h
 is_told_left {C = C} g ts before t rest w d split e (inr h) =
     let here = ap (λ zs. read_whole g zs) split ∙ ap (λ (o : Outcome C). whole o) (left_complete g d before t rest h) in
     let both : stuck w (t ∷ rest) ≡ stuck IsLeftOut (t ∷ rest) = sym e ∙ here in
     let same : w ≡ IsLeftOut = cc in
-    or_left (is_left w) (is_left_word before t) (ap (λ x. is_left x) same)
+    or_made_left (is_left w) (is_left_word before t) (ap (λ x. is_left x) same)
 
 abbrev pub Answered : ℕ → List Spelled → Result Defs SyntaxFault → Type 0
 Answered last ts r = (r ≡ answer last ts (read (defs last) ts)) ⊎ (r ≡ Err NoMemory)
 
 parts : (last : ℕ) → (decided (defs last) ≡ true) × (has (defs last) ≡ true)
-parts last = both_true (decided (defs last)) (has (defs last)) (defs_sound last)
+parts last = and_parts (decided (defs last)) (has (defs last)) (defs_sound last)
 
 value_of : (last : ℕ) (ts : List Spelled) (o : Outcome Defs) (d : Defs) → answer last ts o ≡ Ok d → whole o ≡ done d []
 value_of last ts (done x []) d h = let same : x ≡ d = cc in ap (λ y. done y []) same

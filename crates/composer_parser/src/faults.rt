@@ -3,7 +3,7 @@ use thiserror::Error;
 
 /// Why tokens are no definitions, with the line of the first token that nothing in the grammar has behind those before it.
 /// At the end of the text that is its last line. Lines are counted from 1.
-#[derive(Clone, Copy, Debug, PartialEq, Eq, Error)]
+#[derive(Clone, Copy, Debug, Error)]
 pub enum SyntaxFault {
     /// Something else is expected there.
     #[error("line {0}: something else is expected")]

@@ -1,7 +1,7 @@
 -- What is chosen of clauses that were chosen before.
-use Rattle.std.proofs.Common.{◌≡◌, ℕ, Bool, true, false, cond, eqb, not, List, [], ◌∷◌, ◌++◌, filter, flat_map, refl, ap, sym, ◌∙◌, append-nil, inl, inr}
-use Rattle.std.proofs.lemmas.Bool.{false≢true}
-use Rattle.std.proofs.lemmas.Bool.Decides.{eqb_tells}
+use Rattle.std.proofs.Common.{◌≡◌, ℕ, Bool, true, false, cond, eqb, not, List, [], ◌∷◌, ◌++◌, filter, flat_map, refl}
+use Rattle.std.proofs.Common.{ap, sym, ◌∙◌, append-nil}
+use Rattle.lemmas.proofs.Numbers.{number_tells}
 use Rattle.composer_parser.specs.declared.clauses.Clause.{Clause}
 use Rattle.composer_parser.specs.declared.clauses.Clause.TheVariants.{At, Until, Deadline, Priority, Limit, CarryForward, Follows, Needs, Prompt, Opens}
 use Rattle.composer_parser.specs.declared.clauses.Pred.{Pred}
@@ -50,14 +50,11 @@ is_number once.Limit (Priority n) = no_default (eqb n 10) 4 refl refl
 is_number once.CarryForward (Priority n) = no_default (eqb n 10) 5 refl refl
 is_number k c = refl
 
-equal : (a b : ℕ) → eqb a b ≡ true → a ≡ b
-equal a b e = elim (eqb_tells a b) [ inl t ↦ t.1 | inr t ↦ absurd (false≢true (sym t.0 ∙ e)) ]
-
 -- a clause of one kind is of another where the kinds are one
 told : (k j : Once) (c : Clause) → is_of j c ≡ true → is_of k c ≡ eqb (number j) (number k)
 told k j c h =
     is_number k c
-    ∙ ap (λ n. eqb n (number k)) (equal (class_no c) (number j) (sym (is_number j c) ∙ h))
+    ∙ ap (λ n. eqb n (number k)) (number_tells (class_no c) (number j) (sym (is_number j c) ∙ h))
 
 kept_by : (k : Once) (c : Clause) (cs : List Clause) (b : Bool) → is_of k c ≡ b
     → filter (is_of k) (c ∷ cs) ≡ cond b (c ∷ filter (is_of k) cs) (filter (is_of k) cs)

@@ -9,7 +9,8 @@ use Rattle.jiff_core.specs.declared.civil.date.Date.{Date as Civil}
 use Rattle.jiff_core.specs.Date.{epoch_day}
 use Rattle.jiff_core.proofs.DateLemmas.{epoch_day_injective, days_from_civil-max}
 use Rattle.calendars.specs.Dates.{is_leap, days_in_year, days_in_month, days_of_years, days_of_months, days_before, last_day}
-use Rattle.calendars.proofs.Calendar.{day_number}
+use Rattle.calendars.proofs.Calendar.{day_number, no_months, year_here}
+use Rattle.calendars.proofs.Days.{year_within}
 use Rattle.composer_print.specs.Days.{Date, next_date, date_after}
 
 -- a date from 1970 on that exists
@@ -33,14 +34,6 @@ eleven_months y = omega arith
 month_more : (y n : ℕ) → days_of_months y (suc n) ≡ days_of_months y n + days_in_month y (1 + n)
 unfolding days_of_months
 month_more y n = refl
-
-year_more : (n : ℕ) → days_of_years (suc n) ≡ days_of_years n + days_in_year (1970 + n)
-unfolding days_of_years
-year_more n = refl
-
-no_months : (y : ℕ) → days_of_months y 0 ≡ 0
-unfolding days_of_months
-no_months y = refl
 
 before_is : (y m d : ℕ) → days_before y m d ≡ days_of_years (y - 1970) + days_of_months y (m - 1) + (d - 1)
 unfolding days_before
@@ -67,7 +60,7 @@ next_year y d from last =
     let n = y - 1970 in
     let later : y + 1 - 1970 ≡ suc n = omega (arith, from) in
     let here : 1970 + n ≡ y = omega (arith, from) in
-    let step : days_of_years (suc n) ≡ days_of_years n + days_in_year y = year_more n ∙ ap (λ k. days_of_years n + days_in_year k) here in
+    let step : days_of_years (suc n) ≡ days_of_years n + days_in_year y = year_here n ∙ ap (λ k. days_of_years n + days_in_year k) here in
     rw (before_is (y + 1) 1 1, before_is y 12 d, later, step, no_months (y + 1), eleven_months y, year_is y, last) (omega arith)
 
 one_more : (y m d : ℕ) → Stands (y, m, d) → Stands (next_date (y, m, d)) × (number_of (next_date (y, m, d)) ≡ 1 + days_before y m d)
@@ -119,7 +112,7 @@ later_years : (n k : ℕ) → days_of_years n ≤ days_of_years (n + k)
 later_years n zero = let e : n + 0 ≡ n = omega arith in rw e (omega arith)
 later_years n (suc k) =
     let e : n + suc k ≡ suc (n + k) = omega arith in
-    rw (e, year_more (n + k)) (omega (arith, later_years n k))
+    rw (e, year_here (n + k)) (omega (arith, later_years n k))
 
 all_years : days_of_years 8030 ≡ 2932897
 all_years =
@@ -146,9 +139,6 @@ late_year n h = by_year (date_after n).0 (date_after n).1 (date_after n).2 (afte
             let many2 : days_of_years 8030 ≤ days_of_years (y - 1970) = subst (λ (j : ℕ). days_of_years 8030 ≤ days_of_years j) years many in
             omega (arith, many2, all_years, e, before_is y m d, h)
 
-near : (y : ℕ) → y ≤ 9999 → (neg_ℤ (pos 9999) ≤ℤ pos y) × (pos y ≤ℤ pos 9999)
-near y h = (omega (arith, signed_arith), omega (arith, signed_arith, h))
-
 -- the date of `jiff` with the number of a day is the date of that day
 pub civil_is : (c : Civil) (n : ℕ) → epoch_day c ≡ pos n → n ≤ last_day
     → (c.year ≡ pos (date_after n).0) × (c.month ≡ (date_after n).1) × (c.day ≡ (date_after n).2)
@@ -158,7 +148,7 @@ civil_is c n e late =
       year = pos (date_after n).0;
       month = (date_after n).1;
       day = (date_after n).2;
-      year_in = near (date_after n).0 (late_year n late);
+      year_in = year_within (date_after n).0 (late_year n late);
       month_in = (stands.0.1, stands.0.2);
       day_in = (stands.0.3, stands.0.4);
     } in

@@ -1,26 +1,16 @@
 -- The names of a set.
 use Rattle.std.proofs.Common.{◌≡◌, ℕ, Bool, true, false, cond, ◌||◌, Bor, bytes_eq, List, [], ◌∷◌, ◌++◌, length, get_or, take, ◌<◌, ◌+◌, refl, ap, sym, ◌∙◌}
 use Rattle.std.specs.List.{list_any}
-use Rattle.std.specs.Cmp.Lexicographic.{bytes_decides}
 use Rattle.std.proofs.lemmas.List.{take_more, map-append}
 use Rattle.std.proofs.lemmas.List.Folds.{list_any-append}
+use Rattle.lemmas.proofs.Texts.{text_tells}
+use Rattle.lemmas.proofs.Booleans.{or_false, or_true}
 use Rattle.indexmap.specs.IndexSet.{insert_key}
 use Rattle.composer_parser.specs.declared.definitions.Lined.{Lined}
 use Rattle.composer_parser.specs.declared.schedules.EntryDef.{EntryDef}
 use Rattle.composer_print.specs.Normal.{entry_names}
 use Rattle.composer_print.specs.Scopes.{has_name}
 use Rattle.composer_print.specs.Steps.{has_key}
-
-same_text : (a b : List ℕ) → bytes_eq a b ≡ true → a ≡ b
-same_text a b h = (bytes_decides a b).0 h
-
-or_true : (a : Bool) → (a || true) ≡ true
-or_true true = refl
-or_true false = refl
-
-or_false : (a : Bool) → (a || false) ≡ a
-or_false true = refl
-or_false false = refl
 
 -- a name that equals one of the set is in the set
 among : (ks : List (Bor (List ℕ))) (k n : List ℕ) → list_any (λ x. bytes_eq k x.now) ks ≡ true → bytes_eq n k ≡ true
@@ -31,7 +21,7 @@ among (x ∷ ks) k n h e = by_test (bytes_eq k x.now) refl (λ g. among ks k n g
     by_test : (b : Bool) → bytes_eq k x.now ≡ b → (list_any (λ y. bytes_eq k y.now) ks ≡ true → has_key ks n ≡ true)
         → has_key (x ∷ ks) n ≡ true
     by_test true p rec =
-        ap (λ t. t || has_key ks n) (ap (λ w. bytes_eq n w) (sym (same_text k x.now p)) ∙ e)
+        ap (λ t. t || has_key ks n) (ap (λ w. bytes_eq n w) (sym (text_tells k x.now p)) ∙ e)
     by_test false p rec =
         ap (λ t. bytes_eq n x.now || t) (rec (ap (λ t. t || list_any (λ y. bytes_eq k y.now) ks) (sym p) ∙ h))
         ∙ or_true (bytes_eq n x.now)

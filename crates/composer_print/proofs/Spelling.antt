@@ -1,12 +1,14 @@
 -- Numbers, times, dates and texts in quotes that are read back.
-use Rattle.std.proofs.Common.{◌≡◌, ℕ, zero, suc, ◌+◌, ◌-◌, ◌*◌, ◌/◌, ◌%◌, ◌^◌, ◌≤◌, ◌<◌, Bool, true, false, cond, ◌&&◌, not, eqb, ltb, leb, List, [], ◌∷◌, ◌++◌, length, get_or, Some, option_map, option_and_then, flat_map, codes, refl, ap, sym, ◌∙◌, arith, rules, append_assoc}
+use Rattle.std.proofs.Common.{◌≡◌, ℕ, zero, suc, ◌+◌, ◌-◌, ◌*◌, ◌/◌, ◌%◌, ◌^◌, ◌≤◌, ◌<◌, Bool, true, false, cond, ◌&&◌}
+use Rattle.std.proofs.Common.{not, eqb, ltb, leb, List, [], ◌∷◌, ◌++◌, length, get_or, Some, option_map}
+use Rattle.std.proofs.Common.{option_and_then, flat_map, codes, refl, ap, sym, ◌∙◌, arith, append_assoc}
 use Rattle.std.specs.Char.{is_ascii_digit, digit_value}
 use Rattle.std.specs.List.{list_all}
 use Rattle.std.specs.Fmt.{decimal}
 use Rattle.std.specs.Str.Parse.{digits_value}
 use Rattle.std.proofs.lemmas.Bool.Decides.{nat_tests}
-use Rattle.std.proofs.lemmas.Str.Parse.{IsNumeralModel, numerals_by_value}
 use Rattle.std.proofs.lemmas.Fmt.{digits_decimal, digits_value-decimal, decimal_nonempty, first_decimal, decimal_digit}
+use Rattle.lemmas.proofs.Texts.{decimal_digits}
 use Rattle.syntax.specs.Numbers.{is_number, has_leading_zero}
 use Rattle.syntax.specs.Quotes.{is_escaped, byte_of, after_byte, unquoted, quoted_of, within_limit}
 use Rattle.syntax.proofs.Escapes.{unquoted_more}
@@ -19,9 +21,6 @@ use Rattle.composer_parser.specs.Parts.{capped, minutes, day_of}
 use Rattle.composer_print.specs.Texts.{escaped, quoted_text}
 use Rattle.composer_print.specs.Days.{date_after, date_of_day, two_digits, written_date, date_text, time_text}
 use Rattle.composer_print.proofs.Dates.{Stands, after_stands, late_year}
-
-own : IsNumeralModel (λ ds. list_all is_ascii_digit ds ≡ true) (digits_value 10)
-own = numerals_by_value _ (search rules)
 
 -- numbers
 no_leading : (n : ℕ) → n < 2 ^ 64 → has_leading_zero (decimal n) ≡ false
@@ -43,7 +42,7 @@ not_empty k h = grind (arith, nat_tests)
 pub number_back : (n : ℕ) → n < 2 ^ 64 → is_number (decimal n) ≡ true
 number_back n h =
     three_tests (ltb 0 (length (decimal n))) (has_leading_zero (decimal n)) (list_all is_ascii_digit (decimal n))
-    (not_empty (length (decimal n)) (decimal_nonempty n h)) (no_leading n h) (digits_decimal own n h)
+    (not_empty (length (decimal n)) (decimal_nonempty n h)) (no_leading n h) (digits_decimal decimal_digits n h)
 
 capped_by : (v n : ℕ) → v ≡ n → n < 2 ^ 32 → cond (ltb v (2 ^ 32)) v (2 ^ 32 - 1) ≡ n
 capped_by v n e h = grind (arith, nat_tests)
@@ -51,7 +50,7 @@ capped_by v n e h = grind (arith, nat_tests)
 pub capped_back : (n : ℕ) → n < 2 ^ 32 → capped (decimal n) ≡ n
 capped_back n h =
     let small : n < 2 ^ 64 = omega (arith, h) in
-    capped_by (digits_value 10 (decimal n)) n (digits_value-decimal own n small) h
+    capped_by (digits_value 10 (decimal n)) n (digits_value-decimal decimal_digits n small) h
 
 pub plus_back : (n : ℕ) → n < 2 ^ 64 → is_plus (43 ∷ decimal n) ≡ true
 unfolding is_plus
@@ -204,14 +203,14 @@ cut_behind a b rest p q = rw (no_slash a p, no_slash b q) refl
 small_month : (m : ℕ) → m ≤ 12 → m < 100
 small_month m h = omega (arith, h)
 
-short_days : (y m : ℕ) → days_in_month y m ≤ 31
-short_days y m = grind arith
+pub short_month : (y m : ℕ) → days_in_month y m ≤ 31
+short_month y m = grind arith
 
 date_by : (y m d : ℕ) → Stands (y, m, d) → y ≤ 9999 → date_of (written_date (Some (y, m, d))) ≡ calendar.day_of y m d
 unfolding date_of
 date_by y m d (from, some, last, low, high) late =
     let month : m < 100 = small_month m last in
-    let days : days_in_month y m ≤ 31 = short_days y m in
+    let days : days_in_month y m ≤ 31 = short_month y m in
     let day : d < 100 = omega (arith, high, days) in
     let year : y < 10000 = omega (arith, late) in
     let tail : List ℕ = two_digits (y / 100) ++ two_digits (y % 100) in

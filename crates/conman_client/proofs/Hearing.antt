@@ -2,6 +2,7 @@
 use Rattle.std.proofs.Common.{◌≡◌, ℕ, List, [], ◌∷◌, ◌++◌, Option, Some, None, Bool, true, false, not, ◌==◌, if◌then◌else◌, slice_get, filter_map, refl, sym, ◌∙◌, ap, subst}
 use Rattle.std.proofs.lemmas.List.{flat_map_more}
 use Rattle.std.proofs.lemmas.List.Elements.{filter_map-append}
+use Rattle.lemmas.proofs.Lists.{no_first}
 use Rattle.outside.specs.declared.links.Arrival.{Arrival}
 use Rattle.outside.specs.declared.links.Arrival.TheVariants.{Bytes}
 use Rattle.mail_frames.specs.declared.frames.Frame.{Frame}
@@ -14,16 +15,12 @@ bytes_more : (ws : ℕ) (arrivals : List Arrival) (arrival : Arrival)
     → bytes_of ws (arrivals ++ arrival ∷ []) ≡ bytes_of ws arrivals ++ bytes_in ws arrival
 bytes_more ws arrivals arrival = sym (flat_map_more (bytes_in ws) [] arrivals arrival)
 
-none_first : {X : Type 0} (xs : List X) → slice_get xs 0 ≡ None → xs ≡ []
-none_first [] h = refl
-none_first (x ∷ xs) h = cc
-
 first_more : (given frames : List Frame) → first_reply given ≡ None
     → first_reply (given ++ frames) ≡ first_reply frames
 first_more given frames h =
     ap (λ (l : List (List ℕ)). slice_get l 0)
     (filter_map-append reply_of given frames
-    ∙ ap (λ (l : List (List ℕ)). l ++ filter_map reply_of frames) (none_first (filter_map reply_of given) h))
+    ∙ ap (λ (l : List (List ℕ)). l ++ filter_map reply_of frames) (no_first (filter_map reply_of given) h))
 
 pub first_heard : (decoder : Decoding) (ws : ℕ) (arrivals : List Arrival) (reply : Option (List ℕ))
     → Heard decoder ws arrivals reply → IsFirstReply ws arrivals reply

@@ -6,7 +6,7 @@ use base_types::NoMemory;
 use outside::Failed;
 
 /// Why an ask has no reply.
-#[derive(Clone, Copy, Debug, PartialEq, Eq)]
+#[derive(Clone, Copy)]
 pub enum AskEnd {
     /// The link failed, or no reply was whole after 600 polls.
     NoAnswer,

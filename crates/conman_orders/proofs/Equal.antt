@@ -3,6 +3,7 @@ use Rattle.std.proofs.Common.{[], ℕ, ◌&&◌, ◌+◌, ◌<◌, ◌∷◌, �
 use Rattle.std.proofs.Common.{drop, false}
 use Rattle.std.proofs.Common.{◌||◌, filter, find, is_some, length, not, option_map, refl, slice_get, suc, true, zero}
 use Rattle.std.specs.List.{list_any}
+use Rattle.lemmas.proofs.Lists.{first_left}
 use Rattle.model.specs.Types.{Dep, Obj}
 use Rattle.model.specs.Words.{nth}
 use Rattle.model.specs.Equalities.{dep_eq}
@@ -20,12 +21,6 @@ equal_from V o d n ds =
 pub equal_all : (V : View) (o : Obj) (d : Dep) → first_equal V o d ≡ equal_from V o d 1 (deps V o)
 unfolding first_equal unwaived_deps
 equal_all V o d = refl
-
-first_left : {X : Type 0} (xs : List X) (i : ℕ) → i < length xs
-    → (x : X) × ((drop i xs ≡ x ∷ drop (suc i) xs) × (slice_get xs i ≡ Some x))
-first_left [] i h = absurd (omega arith)
-first_left (x ∷ xs) zero h = (x, (refl, refl))
-first_left (x ∷ xs) (suc i) h = first_left xs i (omega arith)
 
 one_more : (V : View) (o : Obj) (d : Dep) (n : ℕ) (e : Dep) (ds : List Dep) → nth (deps V o) n ≡ Some e
     → equal_from V o d n (e ∷ ds) ≡ cond (is_equal_at V o d n) (Some n) (equal_from V o d (n + 1) ds)

@@ -1,12 +1,14 @@
 -- The last of several, and what stands behind it.
 use Rattle.std.proofs.Common.{[], ℕ, ◌+◌, ◌∙◌, ◌||◌, ◌∷◌, ◌≡◌, ◌≤◌, Bool, List, None, Option, Some, ap, arith, cond}
-use Rattle.std.proofs.Common.{drop, eqb, false, filter, find, flat_map, inl, inr, length, map, refl, slice_get, suc}
+use Rattle.std.proofs.Common.{drop, false, filter, find, flat_map, inl, inr, length, map, refl, slice_get, suc}
 use Rattle.std.proofs.Common.{sym}
 use Rattle.std.proofs.Common.{true, zero}
 use Rattle.std.specs.Bool.{then_some}
 use Rattle.std.specs.Option.{option_map_or, option_or}
 use Rattle.std.specs.Prelude.{◌==◌}
 use Rattle.std.proofs.lemmas.Bool.Decides.{eqb_tells}
+use Rattle.lemmas.proofs.Booleans.{neither_left, neither_right}
+use Rattle.lemmas.proofs.Numbers.{eqb_turned}
 use Rattle.model.specs.Types.{Events, StreamDoc}
 use Rattle.model.specs.Words.{firsts, has}
 use Rattle.model.specs.History.{View}
@@ -17,29 +19,14 @@ use Rattle.conman_orders.specs.Names.{is_called, last_member, last_that}
 itself : (s : ℕ) → s == s ≡ true
 itself s = elim (eqb_tells s s) [ inl e ↦ e.0 | inr e ↦ absurd (e.1 refl) ]
 
-flip : (a b : ℕ) → eqb a b ≡ eqb b a
-flip a b =
-    elim (eqb_tells a b) [
-      | inl e ↦ elim (eqb_tells b a) [ inl f ↦ e.0 ∙ sym f.0 | inr f ↦ absurd (f.1 (sym e.1)) ]
-      | inr e ↦ elim (eqb_tells b a) [ inl f ↦ absurd (e.1 (sym f.1)) | inr f ↦ e.0 ∙ sym f.0 ]
-    ]
-
-or_left : (a b : Bool) → (a || b) ≡ false → a ≡ false
-or_left true b h = cc
-or_left false b h = refl
-
-or_right : (a b : Bool) → (a || b) ≡ false → b ≡ false
-or_right true b h = cc
-or_right false b h = h
-
 -- where s is not among the numbers, it makes no difference that it is looked for too
 pub absent : (others : List ℕ) (s : ℕ) (ns : List ℕ) → has ns s ≡ false
     → last_that (has (s ∷ others)) ns ≡ last_that (has others) ns
 absent others s [] h = refl
 absent others s (x ∷ xs) h =
-    let apart : s == x ≡ false = flip s x ∙ or_left (x == s) (has xs s) h in
+    let apart : s == x ≡ false = eqb_turned s x ∙ neither_left (x == s) (has xs s) h in
     let rest : last_that (has (s ∷ others)) xs ≡ last_that (has others) xs =
-    absent others s xs (or_right (x == s) (has xs s) h)
+    absent others s xs (neither_right (x == s) (has xs s) h)
     in
     rw (rest, apart) refl
 

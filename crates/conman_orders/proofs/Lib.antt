@@ -3,5 +3,4 @@ mod Equal
 pub mod Fits
 mod Latest
 mod Reasons
-mod Sizes
 mod Texts

@@ -19,7 +19,7 @@ use network_tree::Network;
 use owner_fold::Owners;
 
 /// The workstation of this name.
-#[tactic(auto, using(crate::proofs::Sizes::few_nodes), unfolding(crate::specs::Names::workstation))]
+#[tactic(auto, using(network_tree::proofs::Sizes::few_nodes), unfolding(crate::specs::Names::workstation))]
 pub fn workstation(network: &Network, name: &str) -> Option<Ws>
     ensures { result ≡ spec.workstation network.now name.now }
 {
@@ -59,7 +59,7 @@ pub fn is_domain_of(net: &Net, w: Ws, name: &str) -> bool
 }
 
 /// The number, from 1, of the network's prompt of this name.
-#[tactic(auto, using(crate::proofs::Sizes::few_prompts), unfolding(crate::specs::Names::prompt_named))]
+#[tactic(auto, using(network_tree::proofs::Sizes::few_prompts), unfolding(crate::specs::Names::prompt_named))]
 pub fn prompt(network: &Network, name: &str) -> Option<u16>
     ensures { result ≡ spec.prompt_named network.now name.now }
 {
@@ -80,7 +80,7 @@ fn is_resource(resource: &Resource, w: Ws, name: &str) -> bool
 }
 
 /// The number, from 1, of the resource of this name on a workstation.
-#[tactic(auto, using(crate::proofs::Sizes::few_resources), unfolding(crate::specs::Names::resource_on))]
+#[tactic(auto, using(network_tree::proofs::Sizes::few_resources), unfolding(crate::specs::Names::resource_on))]
 fn resource_on(network: &Network, w: Ws, name: &str) -> Option<u16>
     ensures { result ≡ spec.resource_on network.now w name.now }
 {

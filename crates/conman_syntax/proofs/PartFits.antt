@@ -3,10 +3,11 @@ use Rattle.std.proofs.Common.{[], if◌then◌else◌, ℕ, ◌&&◌, ◌+◌, �
 use Rattle.std.proofs.Common.{IfSome, List, None, Ok, Option, Result, Some, arith, codes, drop, false}
 use Rattle.std.proofs.Common.{get_or, length, map, nat_le, nat_lt, option_and_then, option_map, refl, take, true}
 use Rattle.std.proofs.lemmas.List.{length-drop, length-map, length-take}
-use Rattle.std.proofs.lemmas.Bool.Decides.{nat_tests}
 use Rattle.std.specs.Char.{to_ascii_uppercase}
 use Rattle.std.specs.List.{list_all}
 use Rattle.std.specs.Str.{bytes_eq}
+use Rattle.lemmas.proofs.Numbers.{le_true_turned}
+use Rattle.lemmas.proofs.Options.{some_followed, some_mapped}
 use Rattle.base_types.specs.Name.{is_name_byte, starts_with_letter}
 use Rattle.base_types.specs.declared.documents.OnUntil.TheVariants.{Suppr}
 use Rattle.syntax.specs.Names.{name_of}
@@ -37,17 +38,6 @@ use Rattle.conman_syntax.specs.declared.references.LimitTarget.{LimitTarget}
 use Rattle.conman_syntax.specs.declared.references.LimitTarget.TheVariants as limited
 use Rattle.conman_syntax.specs.declared.references.ReplyTarget.{ReplyTarget}
 use Rattle.conman_syntax.specs.declared.references.ReplyTarget.TheVariants as replied
-
--- what holds of what is found, of what is read of it, and of either of two
-and_then : {A B : Type 0} (P : A → Type 0) (Q : B → Type 0) (o : Option A) (f : A → Option B) → IfSome o P
-    → ((a : A) → P a → IfSome (f a) Q) → IfSome (option_and_then f o) Q
-and_then P Q None f p h = tt
-and_then P Q (Some a) f p h = h a p
-
-mapped : {A B : Type 0} (P : A → Type 0) (Q : B → Type 0) (o : Option A) (f : A → B) → IfSome o P
-    → ((a : A) → P a → Q (f a)) → IfSome (option_map f o) Q
-mapped P Q None f p h = tt
-mapped P Q (Some a) f p h = h a p
 
 pub anything : {A : Type 0} (o : Option A) → IfSome o (λ a. Unit {0})
 anything None = tt
@@ -98,20 +88,17 @@ few_bytes true true false n h x e = tt
 few_bytes true false c n h x e = tt
 few_bytes false b c n h x e = tt
 
-at_most : (m n : ℕ) → nat_le n m ≡ true → n ≤ m
-at_most m n h = grind (arith, nat_tests)
-
 pub name_fits : (word : List ℕ) → IfSome (name_of word) IsFitName
 unfolding name_of
 name_fits word =
     few_bytes (starts_with_letter word) (nat_le (length word) 40) (list_all is_name_byte word) (length word)
-    (at_most 40 (length word)) (map to_ascii_uppercase word) (length-map word to_ascii_uppercase)
+    (le_true_turned 40 (length word)) (map to_ascii_uppercase word) (length-map word to_ascii_uppercase)
 
 limited_fits : (value : List ℕ) → IfSome (within_limit value) IsFitText
 limited_fits value = go (nat_le (length value) 4096) refl
   where
     go : (b : Bool) → nat_le (length value) 4096 ≡ b → IfSome (if b then Some value else None) IsFitText
-    go true e = at_most 4096 (length value) e
+    go true e = le_true_turned 4096 (length value) e
     go false e = tt
 
 quoted_fits : (text : List ℕ) → IfSome (quoted_of text) IsFitText
@@ -119,7 +106,7 @@ unfolding quoted_of
 quoted_fits [] = tt
 quoted_fits (c ∷ cs) =
     found IsFitText (c == 34) (option_and_then within_limit (unquoted cs)) None
-    (and_then (λ v. Unit {0}) IsFitText (unquoted cs) within_limit (anything (unquoted cs)) (λ v u. limited_fits v)) tt
+    (some_followed (λ v. Unit {0}) IsFitText (unquoted cs) within_limit (anything (unquoted cs)) (λ v u. limited_fits v)) tt
 
 -- streams, jobs and resources
 stream_at_fits : (ws : Option (List ℕ)) (text : List ℕ) → IfSome ws IsFitName → IfSome (stream_at ws text) IsFitStream
@@ -129,14 +116,14 @@ stream_at_fits ws text w =
     (option_and_then (λ name. option_and_then (λ no. Some (record { ws = ws; name = name; no = Some no }))
     (bracketed_of (behind 91 text))) (name_of (before 91 text)))
     (option_and_then (λ name. Some (record { ws = ws; name = name; no = None })) (name_of text))
-    (and_then IsFitName IsFitStream (name_of (before 91 text))
+    (some_followed IsFitName IsFitStream (name_of (before 91 text))
     (λ name. option_and_then (λ no. Some (record { ws = ws; name = name; no = Some no })) (bracketed_of (behind 91 text)))
     (name_fits (before 91 text))
     (λ name n.
-    and_then (λ no. Unit {0}) IsFitStream (bracketed_of (behind 91 text))
+    some_followed (λ no. Unit {0}) IsFitStream (bracketed_of (behind 91 text))
     (λ no. Some (record { ws = ws; name = name; no = Some no })) (anything (bracketed_of (behind 91 text)))
     (λ no u. (w, n))))
-    (and_then IsFitName IsFitStream (name_of text) (λ name. Some (record { ws = ws; name = name; no = None }))
+    (some_followed IsFitName IsFitStream (name_of text) (λ name. Some (record { ws = ws; name = name; no = None }))
     (name_fits text) (λ name n. (w, n)))
 
 stream_fits : (text : List ℕ) → IfSome (stream_of text) IsFitStream
@@ -144,26 +131,26 @@ unfolding stream_of
 stream_fits text =
     found IsFitStream (has 35 text)
     (option_and_then (λ ws. stream_at (Some ws) (behind 35 text)) (name_of (before 35 text))) (stream_at None text)
-    (and_then IsFitName IsFitStream (name_of (before 35 text)) (λ ws. stream_at (Some ws) (behind 35 text))
+    (some_followed IsFitName IsFitStream (name_of (before 35 text)) (λ ws. stream_at (Some ws) (behind 35 text))
     (name_fits (before 35 text)) (λ ws w. stream_at_fits (Some ws) (behind 35 text) w))
     (stream_at_fits None text tt)
 
 pub job_fits : (text : List ℕ) → IfSome (job_of text) IsFitJob
 unfolding job_of
 job_fits text =
-    and_then IsFitStream IsFitJob (stream_of (before 46 text))
+    some_followed IsFitStream IsFitJob (stream_of (before 46 text))
     (λ stream. option_and_then (λ name. Some (record { stream = stream; name = name })) (name_of (behind 46 text)))
     (stream_fits (before 46 text))
     (λ stream s.
-    and_then IsFitName IsFitJob (name_of (behind 46 text)) (λ name. Some (record { stream = stream; name = name }))
+    some_followed IsFitName IsFitJob (name_of (behind 46 text)) (λ name. Some (record { stream = stream; name = name }))
     (name_fits (behind 46 text)) (λ name n. (s, n)))
 
 pub job_or_stream_fits : (text : List ℕ) → IfSome (job_or_stream_of text) IsFitObj
 unfolding job_or_stream_of
 job_or_stream_fits text =
     found IsFitObj (has 46 text) (option_map object.Job (job_of text)) (option_map object.Stream (stream_of text))
-    (mapped IsFitJob IsFitObj (job_of text) object.Job (job_fits text) (λ r h. h))
-    (mapped IsFitStream IsFitObj (stream_of text) object.Stream (stream_fits text) (λ r h. h))
+    (some_mapped IsFitJob IsFitObj (job_of text) object.Job (job_fits text) (λ r h. h))
+    (some_mapped IsFitStream IsFitObj (stream_of text) object.Stream (stream_fits text) (λ r h. h))
 
 abbrev pub AreFitNames : List ℕ × List ℕ → Type 0
 AreFitNames names = IsFitName names.0 × IsFitName names.1
@@ -171,22 +158,22 @@ AreFitNames names = IsFitName names.0 × IsFitName names.1
 pub resource_fits : (text : List ℕ) → IfSome (resource_of text) AreFitNames
 unfolding resource_of
 resource_fits text =
-    and_then IsFitName AreFitNames (name_of (before 35 text))
+    some_followed IsFitName AreFitNames (name_of (before 35 text))
     (λ ws. option_and_then (λ name. Some (ws, name)) (name_of (behind 35 text))) (name_fits (before 35 text))
     (λ ws w.
-    and_then IsFitName AreFitNames (name_of (behind 35 text)) (λ name. Some (ws, name)) (name_fits (behind 35 text))
+    some_followed IsFitName AreFitNames (name_of (behind 35 text)) (λ name. Some (ws, name)) (name_fits (behind 35 text))
     (λ name n. (w, n)))
 
 object_from_fits : (kind : What) (text : List ℕ) → IfSome (object_from kind text) IsFitObj
-object_from_fits Job text = mapped IsFitJob IsFitObj (job_of text) object.Job (job_fits text) (λ r h. h)
-object_from_fits Sched text = mapped IsFitStream IsFitObj (stream_of text) object.Stream (stream_fits text) (λ r h. h)
+object_from_fits Job text = some_mapped IsFitJob IsFitObj (job_of text) object.Job (job_fits text) (λ r h. h)
+object_from_fits Sched text = some_mapped IsFitStream IsFitObj (stream_of text) object.Stream (stream_fits text) (λ r h. h)
 object_from_fits Cpu text = tt
 object_from_fits DoCommand text = tt
 
 pub object_fits : (what : Option What) (argument : List ℕ) → IfSome (object_of what argument) IsFitObj
 unfolding object_of
 object_fits what argument =
-    and_then (λ kind. Unit {0}) IsFitObj (what_of what argument)
+    some_followed (λ kind. Unit {0}) IsFitObj (what_of what argument)
     (λ kind. object_from kind (named_by what argument)) (anything (what_of what argument))
     (λ kind u. object_from_fits kind (named_by what argument))
 
@@ -195,16 +182,16 @@ IsFitLimit (limited.Cpu ws) = IsFitName ws
 IsFitLimit (limited.Stream r) = IsFitStream r
 
 limit_from_fits : (kind : What) (text : List ℕ) → IfSome (limit_target_from kind text) IsFitLimit
-limit_from_fits Cpu text = mapped IsFitName IsFitLimit (name_of text) limited.Cpu (name_fits text) (λ r h. h)
+limit_from_fits Cpu text = some_mapped IsFitName IsFitLimit (name_of text) limited.Cpu (name_fits text) (λ r h. h)
 limit_from_fits Sched text =
-    mapped IsFitStream IsFitLimit (stream_of text) limited.Stream (stream_fits text) (λ r h. h)
+    some_mapped IsFitStream IsFitLimit (stream_of text) limited.Stream (stream_fits text) (λ r h. h)
 limit_from_fits Job text = tt
 limit_from_fits DoCommand text = tt
 
 pub limit_fits : (what : Option What) (argument : List ℕ) → IfSome (limit_target_of what argument) IsFitLimit
 unfolding limit_target_of
 limit_fits what argument =
-    and_then (λ kind. Unit {0}) IsFitLimit (what_of what argument)
+    some_followed (λ kind. Unit {0}) IsFitLimit (what_of what argument)
     (λ kind. limit_target_from kind (named_by what argument)) (anything (what_of what argument))
     (λ kind u. limit_from_fits kind (named_by what argument))
 
@@ -217,8 +204,8 @@ unfolding reply_target_of
 reply_target_fits argument =
     found IsFitReply (has 32 argument) (option_map replied.Own (object_of None argument))
     (option_map replied.Prompt (name_of argument))
-    (mapped IsFitObj IsFitReply (object_of None argument) replied.Own (object_fits None argument) (λ r h. h))
-    (mapped IsFitName IsFitReply (name_of argument) replied.Prompt (name_fits argument) (λ r h. h))
+    (some_mapped IsFitObj IsFitReply (object_of None argument) replied.Own (object_fits None argument) (λ r h. h))
+    (some_mapped IsFitName IsFitReply (name_of argument) replied.Prompt (name_fits argument) (λ r h. h))
 
 abbrev pub IsFitWork : List ℕ × List ℕ → Type 0
 IsFitWork work = IsFitName work.0 × IsFitText work.1
@@ -226,10 +213,10 @@ IsFitWork work = IsFitName work.0 × IsFitText work.1
 work_from_fits : (text : List ℕ) → IfSome (work_from text) IsFitWork
 unfolding work_from
 work_from_fits text =
-    and_then IsFitName IsFitWork (name_of (before 35 text))
+    some_followed IsFitName IsFitWork (name_of (before 35 text))
     (λ ws. option_and_then (λ command. Some (ws, command)) (quoted_of (behind 35 text))) (name_fits (before 35 text))
     (λ ws w.
-    and_then IsFitText IsFitWork (quoted_of (behind 35 text)) (λ command. Some (ws, command))
+    some_followed IsFitText IsFitWork (quoted_of (behind 35 text)) (λ command. Some (ws, command))
     (quoted_fits (behind 35 text)) (λ command n. (w, n)))
 
 work_for_fits : (kind : What) (text : List ℕ) → IfSome (work_for kind text) IsFitWork
@@ -241,7 +228,7 @@ work_for_fits Cpu text = tt
 pub work_fits : (what : Option What) (argument : List ℕ) → IfSome (work_of what argument) IsFitWork
 unfolding work_of
 work_fits what argument =
-    and_then (λ kind. Unit {0}) IsFitWork (what_of what argument) (λ kind. work_for kind (named_by what argument))
+    some_followed (λ kind. Unit {0}) IsFitWork (what_of what argument) (λ kind. work_for kind (named_by what argument))
     (anything (what_of what argument)) (λ kind u. work_for_fits kind (named_by what argument))
 
 -- dependencies
@@ -252,12 +239,12 @@ follows_fits (object.Stream r) h = h
 needs_fits : (value : List ℕ) → IfSome (needs_of value) IsFitDep
 unfolding needs_of
 needs_fits value =
-    and_then (λ units. Unit {0}) IsFitDep (number_of 16 (before 32 value))
+    some_followed (λ units. Unit {0}) IsFitDep (number_of 16 (before 32 value))
     (λ units. option_and_then (λ (names : List ℕ × List ℕ). Some (Needs units names.0 names.1))
     (resource_of (behind 32 value)))
     (anything (number_of 16 (before 32 value)))
     (λ units u.
-    and_then AreFitNames IsFitDep (resource_of (behind 32 value))
+    some_followed AreFitNames IsFitDep (resource_of (behind 32 value))
     (λ (names : List ℕ × List ℕ). Some (Needs units names.0 names.1)) (resource_fits (behind 32 value))
     (λ names h. h))
 
@@ -266,18 +253,18 @@ unfolding prompt_of
 prompt_fits value =
     found IsFitDep (get_or value 0 0 == 34) (option_map PromptText (quoted_of value))
     (option_map PromptName (name_of value))
-    (mapped IsFitText IsFitDep (quoted_of value) PromptText (quoted_fits value) (λ t h. h))
-    (mapped IsFitName IsFitDep (name_of value) PromptName (name_fits value) (λ t h. h))
+    (some_mapped IsFitText IsFitDep (quoted_of value) PromptText (quoted_fits value) (λ t h. h))
+    (some_mapped IsFitName IsFitDep (name_of value) PromptName (name_fits value) (λ t h. h))
 
 dep_fits : (key value : List ℕ) → IfSome (dep_by_key key value) IsFitDep
 unfolding dep_by_key
 dep_fits key value =
     found IsFitDep (bytes_eq key (codes "follows")) (option_map follows_from (job_or_stream_of value)) _
-    (mapped IsFitObj IsFitDep (job_or_stream_of value) follows_from (job_or_stream_fits value) follows_fits)
+    (some_mapped IsFitObj IsFitDep (job_or_stream_of value) follows_from (job_or_stream_fits value) follows_fits)
     (found IsFitDep (bytes_eq key (codes "needs")) (needs_of value) _ (needs_fits value)
     (found IsFitDep (bytes_eq key (codes "prompt")) (prompt_of value) _ (prompt_fits value)
     (found IsFitDep (bytes_eq key (codes "at")) (option_map At (number_of 64 value)) None
-    (mapped (λ t. Unit {0}) IsFitDep (number_of 64 value) At (anything (number_of 64 value)) (λ t h. tt)) tt)))
+    (some_mapped (λ t. Unit {0}) IsFitDep (number_of 64 value) At (anything (number_of 64 value)) (λ t h. tt)) tt)))
 
 until_fits : (left : List ℕ) → IfOk (until_from left) IsFitDep
 unfolding until_from

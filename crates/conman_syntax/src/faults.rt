@@ -6,7 +6,7 @@ ghost use Rattle.conman_syntax.specs.declared.faults.ArgumentFault.TheVariants a
 use base_types::NoMemory;
 
 /// Why a text is no line.
-#[derive(Clone, Copy, Debug, PartialEq, Eq)]
+#[derive(Clone, Copy, Debug)]
 pub enum CommandFault {
     /// The first word is no command's.
     UnknownCommand,

@@ -10,6 +10,9 @@ use Rattle.std.specs.Bool.{then_some}
 use Rattle.std.specs.List.{AllByRecursion, list_any}
 use Rattle.std.specs.Option.{option_or}
 use Rattle.std.specs.Prelude.{◌==◌, ◌||◌, find, fold, unwrap_or}
+use Rattle.lemmas.proofs.Booleans.{contrary}
+use Rattle.lemmas.proofs.Lists.{all_map, all_such, either_first, flat_all}
+use Rattle.model_laws.proofs.Inside.{firsts_all}
 use Rattle.model.specs.Types.{Events, JobDoc, StreamDoc}
 use Rattle.model.specs.Words.{firsts, has}
 use Rattle.model.specs.History.{View}
@@ -17,16 +20,13 @@ use Rattle.model.specs.Catalogue.{StreamJob, catalogue, docs_in, is_member, job,
 use Rattle.model.specs.Catalogue.{members, members_with, named_members, stream, streams_of}
 use Rattle.model_laws.proofs.Firsts.{firsts-append, firsts_fresh, known_after}
 use Rattle.model_laws.proofs.Growth.{Grows, job_grows, stream_grows}
-use Rattle.model_laws.proofs.Lists.{all_map, all_such, each_such}
+use Rattle.model_laws.proofs.Lists.{each_such}
 use Rattle.model_laws.proofs.Options.{filter_all, there_if}
 use Rattle.dependencies.specs.Planned.{IsPlannedJob, IsPlannedStream}
-use Rattle.dependencies.proofs.Found.{firsts_all, job_planned, jobs_left_planned, streams_left_planned}
-use Rattle.dependencies.proofs.Lists.{all_found, flat_all}
+use Rattle.dependencies.proofs.Found.{job_planned, jobs_left_planned, streams_left_planned}
+use Rattle.dependencies.proofs.Lists.{all_found}
 use Rattle.counted_facts.specs.Facts.{is_named}
 use Rattle.counted_facts.specs.Subjects.{brings}
-
-apart : {b : Bool} → b ≡ true → b ≡ false → ⊥
-apart x y = cc
 
 -- a number that is known
 known_so : (known : List ℕ) (m n : ℕ) → has known m ≡ true → (m == n) ≡ true → has known n ≡ true
@@ -36,10 +36,6 @@ or_turned : (a b c : Bool) → ((a || b) || c) ≡ (b || (a || c))
 or_turned true true c = refl
 or_turned true false c = refl
 or_turned false b c = refl
-
-or_true : (a : Bool) → (a || true) ≡ true
-or_true true = refl
-or_true false = refl
 
 module _ {X : Type 0} (number : X → ℕ) where
   -- one has the number where one counts of it
@@ -59,7 +55,7 @@ module _ {X : Type 0} (number : X → ℕ) where
           → is_some (find (λ (y : X). number y == n)
           (cond a (firsts number known xs) (x ∷ firsts number (number x ∷ known) xs)))
           ≡ (b || list_any (λ (y : X). number y == n) xs)
-      go true f true e old new = absurd (apart (known_so known (number x) n f e) h)
+      go true f true e old new = absurd (contrary (known_so known (number x) n f e) h)
       go true f false e old new = old
       go false f true e old new = rw e refl
       go false f false e old new = rw e (new e)
@@ -110,17 +106,6 @@ front_passes {X} p all xs ys e yes_ no_ =
     sym (ap (filter p) e ∙ filter-append p xs ys
     ∙ ap (λ (l : List X). l ++ filter p ys) (all_pass p xs yes_)
     ∙ ap (λ (l : List X). xs ++ l) (none_pass p ys no_) ∙ append-nil xs)
-
-pub either_first : {X : Type 0} (p q : X → Bool) (xs : List X) → filter p (filter q xs) ≡ filter q (filter p xs)
-either_first p q [] = refl
-either_first {X} p q (x ∷ xs) = go (p x) (q x) refl refl (either_first p q xs)
-  where
-    go : (a b : Bool) → p x ≡ a → q x ≡ b → filter p (filter q xs) ≡ filter q (filter p xs)
-        → filter p (filter q (x ∷ xs)) ≡ filter q (filter p (x ∷ xs))
-    go true true e f h = rw (e, f, e) (ap (λ (l : List X). x ∷ l) h)
-    go true false e f h = rw (e, f) h
-    go false true e f h = rw (e, f, e) h
-    go false false e f h = rw (e, f) h
 
 has_filter : (p : ℕ → Bool) (ns : List ℕ) (n : ℕ) → has (filter p ns) n ≡ (p n && has ns n)
 has_filter p [] n = sym (none (p n))

@@ -1,8 +1,9 @@
 -- Who holds units, and how many launches are open, as a decision sees it.
 use Rattle.std.proofs.Common.{[], ℕ, ◌&&◌, ◌+◌, ◌∙◌, ◌∷◌, ◌≡◌, Bool, List, Some, ap, arith, cond, false, filter}
-use Rattle.std.proofs.Common.{fold, length, map, not, refl, sym, true}
-use Rattle.std.proofs.lemmas.List.Sums.{length-filter, sum_by-append, sum_by-cons}
+use Rattle.std.proofs.Common.{fold, map, not, refl, sym, true}
+use Rattle.std.proofs.lemmas.List.Sums.{sum_by-append, sum_by-cons}
 use Rattle.std.specs.Prelude.{◌==◌, count_by, sum_by}
+use Rattle.lemmas.proofs.Lists.{all_such, count_both, either_first, filter_filter}
 use Rattle.model.specs.Types.{Body, Events, Job, Stream, StreamDoc}
 use Rattle.model.specs.History.{View}
 use Rattle.model.specs.Catalogue.{StreamJob, catalogue, jobs_of, owner, streams_of}
@@ -11,11 +12,10 @@ use Rattle.model.specs.Dependencies.{holders, units, used}
 use Rattle.model.specs.Readiness.{open_launch_count}
 use Rattle.model_laws.proofs.Firsts.{jobs_owned, streams_owned}
 use Rattle.model_laws.proofs.Growth.{Grows}
-use Rattle.model_laws.proofs.Lists.{all_filter, all_such, sum_same}
-use Rattle.dependencies.proofs.Lowest.{filter_filter}
+use Rattle.model_laws.proofs.Lists.{all_filter, sum_same}
 use Rattle.owner_fold.specs.Holders.{streams_under_way}
 use Rattle.counted_decisions.specs.Units.{holding_jobs, holding_streams}
-use Rattle.counted_decisions.proofs.Catalogues.{brought, either_first, jobs_of_seen, of_stream_brought, streams_of_seen}
+use Rattle.counted_decisions.proofs.Catalogues.{brought, jobs_of_seen, of_stream_brought, streams_of_seen}
 use Rattle.counted_decisions.proofs.Owned.{units_seen}
 
 -- sums
@@ -35,10 +35,6 @@ sum_map : {X Y : Type 0} (f : Y → ℕ) (g : X → Y) (n : ℕ) (xs : List X)
     → fold (λ a y. a + f y) n (map g xs) ≡ fold (λ a x. a + f (g x)) n xs
 sum_map f g n [] = refl
 sum_map f g n (x ∷ xs) = sum_map f g (n + f (g x)) xs
-
-count_both : {X : Type 0} (p q : X → Bool) (xs : List X) → count_by p (filter q xs) ≡ count_by q (filter p xs)
-count_both p q xs =
-    sym (length-filter p (filter q xs)) ∙ ap length (either_first p q xs) ∙ length-filter q (filter p xs)
 
 -- the units in use are those of both
 pub used_split : (U : View) (w r : ℕ)

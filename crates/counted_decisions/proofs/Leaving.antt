@@ -5,20 +5,13 @@ use Rattle.std.proofs.lemmas.Bool.Decides.{leb_tells}
 use Rattle.std.proofs.lemmas.List.Sums.{sum_by-cons}
 use Rattle.std.specs.Bool.{then_some}
 use Rattle.std.specs.Prelude.{sum_by}
+use Rattle.lemmas.proofs.Numbers.{le_refused, le_told}
+use Rattle.lemmas.proofs.Options.{some_same}
 use Rattle.counted_decisions.specs.Units.{left_of}
-
-le_told : (a b : ℕ) → a ≤ b → nat_le a b ≡ true
-le_told a b h = elim (leb_tells a b) [ inl t ↦ t.0 | inr t ↦ let less = t.1 in absurd (omega (arith, h, less)) ]
-
-gt_told : (a b : ℕ) → b + 1 ≤ a → nat_le a b ≡ false
-gt_told a b h = elim (leb_tells a b) [ inl t ↦ let less = t.1 in absurd (omega (arith, h, less)) | inr t ↦ t.0 ]
 
 there : (b : Bool) (x : ℕ) → is_some (then_some b x) ≡ b
 there true x = refl
 there false x = refl
-
-inside : (x y : ℕ) → Some x ≡ Some y → x ≡ y
-inside x y e = cc
 
 -- there are enough where something is left
 pub left_tells : (free units : ℕ) → is_some (left_of free units) ≡ nat_le units free
@@ -26,7 +19,7 @@ left_tells free units = there (nat_le units free) (free - units)
 
 enough : (free units next : ℕ) → left_of free units ≡ Some next → (units ≤ free) × (next ≡ free - units)
 enough free units next e = elim (leb_tells units free) [
-  | inl t ↦ (t.1, inside next (free - units) (sym e ∙ ap (λ (b : Bool). then_some b (free - units)) t.0))
+  | inl t ↦ (t.1, some_same next (free - units) (sym e ∙ ap (λ (b : Bool). then_some b (free - units)) t.0))
   | inr t ↦ absurd (apart (sym e ∙ ap (λ (b : Bool). then_some b (free - units)) t.0))
 ]
   where
@@ -46,7 +39,7 @@ too_few free units e = elim (leb_tells units free) [
 pub left_none : (free units rest : ℕ) → left_of free units ≡ None → left_of free (units + rest) ≡ None
 left_none free units rest e =
     let few = too_few free units e in
-    ap (λ (b : Bool). then_some b (free - (units + rest))) (gt_told (units + rest) free (omega (arith, few)))
+    ap (λ (b : Bool). then_some b (free - (units + rest))) (le_refused (units + rest) free (omega (arith, few)))
 
 pub left_some : (free units rest next : ℕ) → left_of free units ≡ Some next
     → left_of free (units + rest) ≡ left_of next rest
@@ -64,7 +57,7 @@ left_some free units rest next e =
       | inr t ↦ (
           let less = t.1 in
           ap (λ (b : Bool). then_some b (free - (units + rest)))
-          (gt_told (units + rest) free (omega (arith, within, is, less)))
+          (le_refused (units + rest) free (omega (arith, within, is, less)))
           ∙ sym (ap (λ (b : Bool). then_some b (next - rest)) t.0))
     ]
 

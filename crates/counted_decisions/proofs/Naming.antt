@@ -1,35 +1,24 @@
 -- Workstations that are named one by one.
 use Rattle.std.proofs.Common.{[], ℕ, ◌+◌, ◌++◌, ◌∙◌, ◌∷◌, ◌≡◌, ◌≤◌, Bool, List, None, Option, Some, add-one, ap, drop, false}
-use Rattle.std.proofs.Common.{flat_map, length, nat_eq, option_map, refl, subst, suc, sym, true, zero}
+use Rattle.std.proofs.Common.{flat_map, length, nat_eq, option_map, refl, subst, sym, true}
 use Rattle.std.specs.List.{list_all, list_any}
 use Rattle.std.specs.Option.{option_map_or}
-use Rattle.std.specs.Prelude.{◌==◌, ◌||◌, Err, Ok, OnOk, Result, slice_get}
+use Rattle.std.specs.Prelude.{◌==◌, ◌||◌, slice_get}
+use Rattle.lemmas.proofs.Booleans.{or_false}
+use Rattle.lemmas.proofs.Lists.{drop_at_end, drop_none, drop_past, drop_some}
+use Rattle.model_laws.proofs.Lists.{has_append}
 use Rattle.indexmap.specs.IndexSet.{IndexSet, contains}
 use Rattle.model.specs.Types.{Dep, Obj, StreamDoc}
 use Rattle.model.specs.Words.{has, nth}
 use Rattle.model.specs.History.{Seen, View}
 use Rattle.model.specs.Dependencies.{dep, dep_cites, deps}
-use Rattle.dependencies.proofs.Behind.{drop_all, drop_none, drop_some}
 use Rattle.counted_decisions.specs.Named.{AddsAll, may_name}
 use Rattle.counted_decisions.specs.Sights.{counts_only}
-
-or_assoc : (a b c : Bool) → ((a || b) || c) ≡ (a || (b || c))
-or_assoc true b c = refl
-or_assoc false b c = refl
 
 or_turned : (a b c : Bool) → ((a || b) || c) ≡ (b || (a || c))
 or_turned true true c = refl
 or_turned true false c = refl
 or_turned false b c = refl
-
-or_none : (a : Bool) → (a || false) ≡ a
-or_none true = refl
-or_none false = refl
-
-has_append : (xs ys : List ℕ) (v : ℕ) → has (xs ++ ys) v ≡ (has xs v || has ys v)
-has_append [] ys v = refl
-has_append (x ∷ xs) ys v =
-    ap (λ (b : Bool). (x == v) || b) (has_append xs ys v) ∙ sym (or_assoc (x == v) (has xs v) (has ys v))
 
 module _ {S : Type 0} where
   -- all that are to be named are among those that are left, or are named already
@@ -56,7 +45,7 @@ module _ {S : Type 0} where
       → AddsAll (w ∷ ws) old next
   both_added w ws old now next first then_ v =
       then_ v ∙ ap (λ (b : Bool). has ws v || b) (first v)
-      ∙ ap (λ (b : Bool). has ws v || (b || contains nat_eq old v)) (or_none (w == v))
+      ∙ ap (λ (b : Bool). has ws v || (b || contains nat_eq old v)) (or_false (w == v))
       ∙ sym (or_turned (w == v) (has ws v) (contains nat_eq old v))
 
   -- whoever may be named
@@ -64,7 +53,7 @@ module _ {S : Type 0} where
       → may_name now w v ≡ has (w ∷ 0 ∷ ws) v
   named_as w ws old now none added v =
       ap (λ (b : Bool). (w == v) || ((0 == v) || b))
-      (added v ∙ ap (λ (l : List ℕ). has ws v || list_any (nat_eq v) l) none ∙ or_none (has ws v))
+      (added v ∙ ap (λ (l : List ℕ). has ws v || list_any (nat_eq v) l) none ∙ or_false (has ws v))
 
   pub only_named : (w : ℕ) (ws : List ℕ) (old now : IndexSet ℕ S) (seen : Seen) → old.keys ≡ [] → AddsAll ws old now
       → list_all (λ (p : ℕ × ℕ). may_name now w p.0) seen ≡ counts_only (w ∷ 0 ∷ ws) seen
@@ -80,22 +69,17 @@ next_cited U V o n d e =
     let next : drop n (deps V o) ≡ d ∷ drop (n + 1) (deps V o) = rw add-one (drop_some (deps V o) n d at_n) in
     ap (flat_map (dep_cites U)) next
 
-still_none : {X : Type 0} (xs : List X) (n : ℕ) → slice_get xs n ≡ None → drop (suc n) xs ≡ []
-still_none [] n e = refl
-still_none (x ∷ xs) zero e = cc
-still_none (x ∷ xs) (suc n) e = still_none xs n e
-
 pub none_cited : (U V : View) (o : Obj) (n : ℕ) → dep V o (n + 1) ≡ None
     → flat_map (dep_cites U) (drop n (deps V o)) ≡ [] ++ flat_map (dep_cites U) (drop (n + 1) (deps V o))
 none_cited U V o n e =
     let at_n : slice_get (deps V o) n ≡ None = subst (λ i. nth (deps V o) i ≡ None) (add-one n) e in
     let here : drop n (deps V o) ≡ [] = drop_none (deps V o) n at_n in
-    let next : drop (n + 1) (deps V o) ≡ [] = rw add-one (still_none (deps V o) n at_n) in
+    let next : drop (n + 1) (deps V o) ≡ [] = rw add-one (drop_past (deps V o) n at_n) in
     ap (flat_map (dep_cites U)) (here ∙ sym next)
 
 pub all_cited : (U V : View) (o : Obj) (n : ℕ) → length (deps V o) ≤ n
     → flat_map (dep_cites U) (drop n (deps V o)) ≡ []
-all_cited U V o n h = ap (flat_map (dep_cites U)) (drop_all (deps V o) n h)
+all_cited U V o n h = ap (flat_map (dep_cites U)) (drop_at_end (deps V o) n h)
 
 -- the stream's owner
 pub owner_found : (o : Option StreamDoc) (w : ℕ) (ws : List ℕ) → Some w ≡ option_map (λ (d : StreamDoc). d.ws) o
@@ -107,8 +91,3 @@ pub no_owner : (o : Option StreamDoc) (ws : List ℕ) → None ≡ option_map (�
     → option_map_or (λ (d : StreamDoc). d.ws ∷ ws) o [] ≡ []
 no_owner None ws e = refl
 no_owner (Some d) ws e = cc
-
--- what holds after a call that went well
-pub after_ok : {X E P Q : Type 0} (r : Result X E) → OnOk r P → (P → Q) → OnOk r Q
-after_ok (Ok x) h f = f h
-after_ok (Err e) h f = h

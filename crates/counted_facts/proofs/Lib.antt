@@ -7,3 +7,4 @@ mod Placing
 mod Naming
 mod Asking
 mod Membership
+pub mod LaunchTelling

@@ -1,11 +1,13 @@
 -- Where bodies stand tells which streams are brought and named, and which prompts are answered.
 use Rattle.std.proofs.Common.{[], ℕ, ◌&&◌, ◌+◌, ◌++◌, ◌∙◌, ◌∷◌, ◌≡◌, ◌≤◌, Bool, List, None, Option, Some, ap, arith, cond, false}
-use Rattle.std.proofs.Common.{filter_map, inl, inr, is_some, map, nat_le, nat_lt, option_map, refl, sym, true}
+use Rattle.std.proofs.Common.{filter_map, is_some, map, nat_le, nat_lt, option_map, refl, sym, true}
 use Rattle.std.proofs.lemmas.Bool.{le-ltb, lt-ltb}
-use Rattle.std.proofs.lemmas.Bool.Decides.{leb_tells}
 use Rattle.std.specs.Bool.{then_some}
 use Rattle.std.specs.List.{cons_option, list_any}
 use Rattle.std.specs.Prelude.{◌==◌, ◌||◌, fold, unwrap_or}
+use Rattle.lemmas.proofs.Booleans.{or_false, or_turned, true_or}
+use Rattle.lemmas.proofs.Numbers.{le_refused, le_told}
+use Rattle.model_laws.proofs.Lists.{has_append}
 use Rattle.model.specs.Types.{Added, Body, NewPlan, Obeyed, ReplyGlobal, StreamDoc}
 use Rattle.model.specs.Words.{has, is_yes, last_or}
 use Rattle.model.specs.Catalogue.{members_with}
@@ -13,26 +15,9 @@ use Rattle.model.specs.Facts.{global_reply, global_reply_in}
 use Rattle.counted_facts.specs.Facts.{is_named}
 use Rattle.counted_facts.specs.Places.{brought_at, named_at, place_from, place_with, planned_at, replied_at}
 use Rattle.counted_facts.specs.Subjects.{brings, have_number, says_named, says_planned, says_reply}
-use Rattle.counted_facts.proofs.Numbered.{or_assoc, or_none}
-
-or_true : (a : Bool) → true ≡ (a || true)
-or_true true = refl
-or_true false = refl
-
-or_turned : (a b : Bool) → (a || b) ≡ (b || a)
-or_turned true true = refl
-or_turned true false = refl
-or_turned false true = refl
-or_turned false false = refl
 
 above : (k : ℕ) → nat_lt 0 (k + 1) ≡ true
 above k = lt-ltb 0 (k + 1) (omega arith)
-
-le_told : (a b : ℕ) → a ≤ b → nat_le a b ≡ true
-le_told a b h = elim (leb_tells a b) [ inl t ↦ t.0 | inr t ↦ let less = t.1 in absurd (omega (arith, h, less)) ]
-
-gt_told : (a b : ℕ) → b + 1 ≤ a → nat_le a b ≡ false
-gt_told a b h = elim (leb_tells a b) [ inl t ↦ let less = t.1 in absurd (omega (arith, h, less)) | inr t ↦ t.0 ]
 
 lt_told : (a b : ℕ) → a + 1 ≤ b → nat_lt a b ≡ true
 lt_told a b h = lt-ltb a b (omega (arith, h))
@@ -44,23 +29,17 @@ ge_told a b h = le-ltb a b h
 some_place : (test : Body → Bool) (passed found : ℕ) (events : List Body)
     → nat_lt 0 (place_from (λ b. then_some (test b) true) passed found events)
     ≡ (nat_lt 0 found || list_any test events)
-some_place test passed found [] = sym (or_none (nat_lt 0 found))
+some_place test passed found [] = sym (or_false (nat_lt 0 found))
 some_place test passed found (b ∷ bs) =
     some_place test (passed + 1) (place_with (then_some (test b) true) (passed + 1) found) bs ∙ go (test b)
   where
     go : (a : Bool) → (nat_lt 0 (place_with (then_some a true) (passed + 1) found) || list_any test bs)
         ≡ (nat_lt 0 found || (a || list_any test bs))
-    go true = ap (λ (c : Bool). c || list_any test bs) (above passed) ∙ or_true (nat_lt 0 found)
+    go true = ap (λ (c : Bool). c || list_any test bs) (above passed) ∙ true_or (nat_lt 0 found)
     go false = refl
 
 pub brought_told : (s : ℕ) (events : List Body) → nat_lt 0 (brought_at s events) ≡ list_any (brings s) events
 brought_told s events = some_place (brings s) 0 0 events
-
--- streams that are named
-has_append : (xs ys : List ℕ) (s : ℕ) → has (xs ++ ys) s ≡ (has xs s || has ys s)
-has_append [] ys s = refl
-has_append (x ∷ xs) ys s =
-    ap (λ (b : Bool). (x == s) || b) (has_append xs ys s) ∙ sym (or_assoc (x == s) (has xs s) (has ys s))
 
 has_numbers : (docs : List StreamDoc) (s : ℕ) → has (map (λ (d : StreamDoc). d.no) docs) s ≡ have_number docs s
 has_numbers [] s = refl
@@ -74,7 +53,7 @@ within_place (Some false) k found h = omega arith
 by_plan : (a : Bool) (k found : ℕ) → found ≤ k
     → a ≡ (nat_lt 0 (k + 1) && nat_le (k + 1) (place_with (then_some a true) (k + 1) found))
 by_plan true k found h = rw (above k, le_told (k + 1) (k + 1) (omega arith)) refl
-by_plan false k found h = rw (above k, gt_told (k + 1) found (omega (arith, h))) refl
+by_plan false k found h = rw (above k, le_refused (k + 1) found (omega (arith, h))) refl
 
 by_addition : (acc : Option (List ℕ)) (s n k plan found : ℕ)
     → has (unwrap_or acc []) s ≡ (nat_lt 0 plan && nat_le plan found) → is_some acc ≡ nat_lt 0 plan → plan ≤ k
@@ -86,9 +65,9 @@ by_addition (Some ms) s n k plan found e there less = has_append ms (n ∷ []) s
   where
     go : (a : Bool) → (has ms s || (a || false))
         ≡ (nat_lt 0 plan && nat_le plan (place_with (then_some ((a || false) || false) true) (k + 1) found))
-    go true = sym (or_true (has ms s))
+    go true = sym (true_or (has ms s))
         ∙ (rw (← there, le_told plan (k + 1) (omega (arith, less))) refl)
-    go false = or_none (has ms s) ∙ e
+    go false = or_false (has ms s) ∙ e
 
 named_law : (s : ℕ) (events : List Body) (acc : Option (List ℕ)) (k plan found : ℕ)
     → has (unwrap_or acc []) s ≡ (nat_lt 0 plan && nat_le plan found) → is_some acc ≡ nat_lt 0 plan → plan ≤ k

@@ -3,19 +3,19 @@ use Rattle.std.proofs.Common.{[], ℕ, ◌&&◌, ◌+◌, ◌++◌, ◌∙◌, �
 use Rattle.std.proofs.Common.{refl, subst, sym, true}
 use Rattle.std.specs.Bool.{then_some}
 use Rattle.std.specs.Prelude.{◌==◌, ◌||◌, option_and_then}
+use Rattle.lemmas.proofs.Numbers.{eq_refused, number_itself}
+use Rattle.lemmas.proofs.Booleans.{contrary, or_assoc, or_false, or_made_left, or_made_right}
 use Rattle.model.specs.Types.{Body, Entry, Events, Feed, Orders, StreamDoc}
 use Rattle.model.specs.Words.{has}
 use Rattle.model.specs.History.{list_of}
 use Rattle.model.specs.Catalogue.{docs_in}
 use Rattle.owner_rows.specs.Subjects.{key_at, key_in}
-use Rattle.owner_rows.proofs.Keys.{itself}
 use Rattle.counted_facts.specs.Places.{last_place, place_with, replied_at}
 use Rattle.counted_facts.specs.Subjects.{carried_in, have_number, names, reply_in, says_reply}
 use Rattle.counted_facts.specs.Timelines.{AreTimelines, HasOneMore, TellsPlace}
 use Rattle.counted_facts.specs.declared.timelines.Timelines.{Timelines}
-use Rattle.counted_facts.proofs.Numbered.{or_assoc, or_left, or_none, or_right}
 use Rattle.counted_facts.proofs.Placing.{place_more, quiet_place}
-use Rattle.counted_facts.proofs.Steps.{all_told, apart, grown, one_told, other_number}
+use Rattle.counted_facts.proofs.Steps.{all_told, grown, one_told}
 
 -- some of these
 pub fewer : (fact : ℕ → List Body → ℕ) (G : List Entry) (e : Entry) (w place : ℕ) (these some : ℕ → Bool)
@@ -33,10 +33,10 @@ module _ (body : Body) (docs : List StreamDoc) (carried : List ℕ) (is_docs : d
       ∙ ap (λ (l : List ℕ). have_number docs m || has l m) (sym is_carried)
 
   pub docs_named : (m : ℕ) → have_number docs m ≡ true → names m body ≡ true
-  docs_named m h = names_as m ∙ or_left (have_number docs m) (has carried m) h
+  docs_named m h = names_as m ∙ or_made_left (have_number docs m) (has carried m) h
 
   pub carried_named : (m : ℕ) → has carried m ≡ true → names m body ≡ true
-  carried_named m h = names_as m ∙ or_right (have_number docs m) (has carried m) h
+  carried_named m h = names_as m ∙ or_made_right (have_number docs m) (has carried m) h
 
   pub both_named : (done : ℕ → Bool) (m : ℕ)
       → (done m || names m body) ≡ ((done m || have_number docs m) || has carried m)
@@ -54,7 +54,7 @@ plan_named false e done m = cc
 
 pub no_plan_named : (b : Bool) → b ≡ false → (done : ℕ → Bool) (m : ℕ) → (done m || (b && (0 == m))) ≡ done m
 no_plan_named true e done m = cc
-no_plan_named false e done m = or_none (done m)
+no_plan_named false e done m = or_false (done m)
 
 -- a reply
 no_reply : (o : Option (ℕ × Bool)) (f : Feed) (w : ℕ) → key_at o f ≡ None → Events w ≡ f → o ≡ None
@@ -101,8 +101,8 @@ reply_one G e w p m place value yes_ old new key same is next more h =
     ∙ place_more (says_reply p) (list_of G (Events w)) e.body
     ∙ ap (λ (o : Option Bool).
     place_with o (length (list_of G (Events w)) + 1) (last_place (says_reply p) (list_of G (Events w))))
-    (says p ∙ ap (λ (b : Bool). then_some b yes_) (itself p))))
-    (itself p) (λ n other. other_number p n (λ f. other (sym f))))
+    (says p ∙ ap (λ (b : Bool). then_some b yes_) (number_itself p))))
+    (number_itself p) (λ n other. eq_refused p n (λ f. other (sym f))))
     (λ v n there f. quiet_place says_reply (list_of G (Events v)) e.body n
     (says n ∙ ap (λ (b : Bool). then_some b yes_)
-    (other_number n p (λ g. apart (itself p) (subst (λ (k : ℕ). (p == k) ≡ false) g f)))))
+    (eq_refused n p (λ g. contrary (number_itself p) (subst (λ (k : ℕ). (p == k) ≡ false) g f)))))

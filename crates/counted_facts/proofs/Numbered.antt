@@ -4,34 +4,14 @@ use Rattle.std.proofs.Common.{subst, suc, sym, take, true, zero}
 use Rattle.std.proofs.lemmas.List.{take_more}
 use Rattle.std.proofs.lemmas.List.Folds.{list_any-append}
 use Rattle.std.specs.List.{list_any}
-use Rattle.std.specs.Prelude.{◌==◌, ◌||◌, Err, Ok, OnOk, Result}
+use Rattle.std.specs.Prelude.{◌==◌, ◌||◌}
+use Rattle.lemmas.proofs.Booleans.{or_assoc, or_false, or_made_left, or_made_right}
+use Rattle.lemmas.proofs.Numbers.{eq_refused, number_itself}
 use Rattle.model.specs.Types.{Body, Entry}
 use Rattle.model.specs.Words.{has}
-use Rattle.owner_rows.proofs.Keys.{itself}
 use Rattle.counted_facts.specs.Timelines.{AreHalfTold, HasOneMore, TellsPlace}
 use Rattle.counted_facts.specs.declared.timelines.Timelines.{Timelines}
-use Rattle.counted_facts.proofs.Steps.{half_same, one_told, other_number}
-
--- what holds after a call that went well
-pub after_ok : {X E P Q : Type 0} (r : Result X E) → OnOk r P → (P → Q) → OnOk r Q
-after_ok (Ok x) h f = f h
-after_ok (Err e) h f = h
-
-pub or_right : (a b : Bool) → b ≡ true → (a || b) ≡ true
-or_right true b h = refl
-or_right false b h = h
-
-pub or_left : (a b : Bool) → a ≡ true → (a || b) ≡ true
-or_left true b h = refl
-or_left false b h = cc
-
-pub or_none : (a : Bool) → (a || false) ≡ a
-or_none true = refl
-or_none false = refl
-
-pub or_assoc : (a b c : Bool) → ((a || b) || c) ≡ (a || (b || c))
-or_assoc true b c = refl
-or_assoc false b c = refl
+use Rattle.counted_facts.proofs.Steps.{half_same, one_told}
 
 -- one number
 pub number_told : (fact : ℕ → List Body → ℕ) (G : List Entry) (e : Entry) (w place n : ℕ) (done : ℕ → Bool)
@@ -39,8 +19,8 @@ pub number_told : (fact : ℕ → List Body → ℕ) (G : List Entry) (e : Entry
     → HasOneMore (w, n) place place old new → AreHalfTold fact G e (λ m. done m || (n == m)) new
 number_told fact G e w place n done old new at h more =
     one_told fact G e done (λ m. done m || (n == m)) w n place place old new h more at.feed at.next
-    (sym (at.value n (itself n))) (or_right (done n) (n == n) (itself n))
-    (λ m other. ap (λ (b : Bool). done m || b) (other_number n m (λ f. other (sym f))) ∙ or_none (done m))
+    (sym (at.value n (number_itself n))) (or_made_right (done n) (n == n) (number_itself n))
+    (λ m other. ap (λ (b : Bool). done m || b) (eq_refused n m (λ f. other (sym f))) ∙ or_false (done m))
 
 module _ {X : Type 0} (number : X → ℕ) where
   -- one of them has this number
@@ -50,16 +30,16 @@ module _ {X : Type 0} (number : X → ℕ) where
   among_here : (xs : List X) (i : ℕ) (d : X) (m : ℕ) → i < length xs → (number (get_or xs i d) == m) ≡ true
       → among xs m ≡ true
   among_here [] i d m less h = absurd (omega (arith, less))
-  among_here (x ∷ xs) zero d m less h = or_left (number x == m) (among xs m) h
+  among_here (x ∷ xs) zero d m less h = or_made_left (number x == m) (among xs m) h
   among_here (x ∷ xs) (suc i) d m less h =
-      or_right (number x == m) (among xs m) (among_here xs i d m (omega (arith, less)) h)
+      or_made_right (number x == m) (among xs m) (among_here xs i d m (omega (arith, less)) h)
 
   among_more : (xs : List X) (i : ℕ) (d : X) (m : ℕ) → i < length xs
       → among (take (i + 1) xs) m ≡ (among (take i xs) m || (number (get_or xs i d) == m))
   among_more xs i d m less =
       ap (λ (l : List X). among l m) (take_more xs i d less)
       ∙ list_any-append (λ (x : X). number x == m) (take i xs) (get_or xs i d ∷ [])
-      ∙ ap (λ (b : Bool). among (take i xs) m || b) (or_none (number (get_or xs i d) == m))
+      ∙ ap (λ (b : Bool). among (take i xs) m || b) (or_false (number (get_or xs i d) == m))
 
   -- the next of them is one of these
   pub next_tells : (fact : ℕ → List Body → ℕ) (G : List Entry) (e : Entry) (w place : ℕ) (these : ℕ → Bool)
@@ -89,7 +69,7 @@ module _ {X : Type 0} (number : X → ℕ) where
   -- before the first, and behind the last
   pub first_half : (fact : ℕ → List Body → ℕ) (G : List Entry) (e : Entry) (done : ℕ → Bool) (t : Timelines ℕ)
       → AreHalfTold fact G e done t → AreHalfTold fact G e (λ m. done m || false) t
-  first_half fact G e done t h = half_same fact G e done (λ m. done m || false) t (λ m. or_none (done m)) h
+  first_half fact G e done t h = half_same fact G e done (λ m. done m || false) t (λ m. or_false (done m)) h
 
   all_taken : (xs : List X) (i : ℕ) → length xs ≤ i → take i xs ≡ xs
   all_taken [] zero h = refl

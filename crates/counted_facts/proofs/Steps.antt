@@ -4,13 +4,16 @@ use Rattle.std.proofs.Common.{arith, cond, false, inl, inr, length, length-appen
 use Rattle.std.proofs.lemmas.Bool.Decides.{eqb_tells}
 use Rattle.std.proofs.lemmas.List.{take-append-le}
 use Rattle.std.specs.Prelude.{◌==◌}
+use Rattle.lemmas.proofs.Numbers.{eq_refused, number_itself}
+use Rattle.lemmas.proofs.Options.{some_same}
+use Rattle.lemmas.proofs.Booleans.{contrary}
 use Rattle.model.specs.Types.{Body, Entry, Events, Feed, Orders}
 use Rattle.model.specs.Equalities.{feed_eq}
 use Rattle.model.specs.History.{list_of}
 use Rattle.owner_rows.specs.Subjects.{key_at, key_in}
 use Rattle.owner_rows.specs.Tables.{keys_meet, same_key}
 use Rattle.owner_rows.proofs.Feeds.{feed_cases, list_with, list_without}
-use Rattle.owner_rows.proofs.Keys.{itself, key_is_itself, key_tells}
+use Rattle.owner_rows.proofs.Keys.{key_is_itself, key_tells}
 use Rattle.counted_facts.specs.Timelines.{AreHalfTold, AreTimelines, HasOneMore, IsTimelineOf, change_in, count_in}
 use Rattle.counted_facts.specs.declared.timelines.Timelines.{Timelines}
 use Rattle.counted_facts.proofs.Lines.{alike, pushed, stays}
@@ -28,13 +31,7 @@ three_false true false c h = refl
 three_false false b c h = refl
 
 meet_at : (w n a b : ℕ) → keys_meet same_key (w, (n, a)) (w, (n, b)) ≡ (a == b)
-meet_at w n a b = rw (itself w, itself n) refl
-
-pub other_number : (a b : ℕ) → (a ≡ b → ⊥) → (a == b) ≡ false
-other_number a b h = elim (eqb_tells a b) [ inl t ↦ absurd (h t.1) | inr t ↦ t.0 ]
-
-pub apart : {b : Bool} → b ≡ true → b ≡ false → ⊥
-apart x y = cc
+meet_at w n a b = rw (number_itself w, number_itself n) refl
 
 module _ {X : Type 0} (fact : ℕ → List Body → X) (G : List Entry) (e : Entry) where
   list_half : (a : Bool) (w : ℕ) → feed_eq (Events w) e.feed ≡ false
@@ -44,7 +41,7 @@ module _ {X : Type 0} (fact : ℕ → List Body → X) (G : List Entry) (e : Ent
 
   module _ (w : ℕ) (here : Events w ≡ e.feed) where
     same_feed : feed_eq (Events w) e.feed ≡ true
-    same_feed = subst (λ (f : Feed). feed_eq (Events w) f ≡ true) here (itself w)
+    same_feed = subst (λ (f : Feed). feed_eq (Events w) f ≡ true) here (number_itself w)
 
     pub grown : list_of (G ++ e ∷ []) (Events w) ≡ list_of G (Events w) ++ e.body ∷ []
     grown = list_with G e (Events w) same_feed
@@ -90,14 +87,14 @@ module _ {X : Type 0} (fact : ℕ → List Body → X) (G : List Entry) (e : Ent
     before i less =
         changed i
         ∙ ap (λ (b : Bool). cond b (from, value) (change_in old (w0, (n0, i))))
-        (other_number (count_in old (w0, n0) + 1) i (λ f. omega (arith, f, less)))
+        (eq_refused (count_in old (w0, n0) + 1) i (λ f. omega (arith, f, less)))
 
     at_end : change_in new (w0, (n0, count_in old (w0, n0) + 1))
         ≡ (length (list_of (G ++ e ∷ []) (Events w0)), fact n0 (list_of (G ++ e ∷ []) (Events w0)))
     at_end =
         changed (count_in old (w0, n0) + 1)
         ∙ ap (λ (b : Bool). cond b (from, value) (change_in old (w0, (n0, count_in old (w0, n0) + 1))))
-        (itself (count_in old (w0, n0) + 1))
+        (number_itself (count_in old (w0, n0) + 1))
         ∙ ap (λ (m : ℕ). (m, value)) (is_from ∙ sym (one_longer w0 here))
         ∙ ap (λ (x : X). (length (list_of (G ++ e ∷ []) (Events w0)), x)) is_value
 
@@ -121,11 +118,11 @@ module _ {X : Type 0} (fact : ℕ → List Body → X) (G : List Entry) (e : Ent
       where
         not_here : n ≡ n0 → (w ≡ w0 → ⊥)
         not_here f g =
-            apart (key_is_itself (w0, n0)) (subst (λ (v : ℕ). same_key (w0, n0) (v, n0) ≡ false) g
+            contrary (key_is_itself (w0, n0)) (subst (λ (v : ℕ). same_key (w0, n0) (v, n0) ≡ false) g
             (subst (λ (m : ℕ). same_key (w0, n0) (w, m) ≡ false) f other))
 
         elsewhere : n ≡ n0 → feed_eq (Events w) e.feed ≡ false
-        elsewhere f = subst (λ (g : Feed). feed_eq (Events w) g ≡ false) here (other_number w w0 (not_here f))
+        elsewhere f = subst (λ (g : Feed). feed_eq (Events w) g ≡ false) here (eq_refused w w0 (not_here f))
 
     pub one_told : AreHalfTold fact G e after new
     one_told w n = elim (key_cases (w0, n0) (w, n)) [
@@ -200,9 +197,6 @@ no_key None (Events v) w n h f g = cc
 no_key (Some m) (Events v) w n h f g = cc
 no_key o (Orders a v) w n h f g = cc
 
-some_is_one : (m n : ℕ) → Some m ≡ Some n → m ≡ n
-some_is_one m n e = cc
-
 module _ {X : Type 0} (fact : ℕ → List Body → X) (subject : Body → Option ℕ) (quiet : Quiet fact subject)
     (G : List Entry) (e : Entry) where
   -- the entry speaks of nobody
@@ -221,7 +215,7 @@ module _ {X : Type 0} (fact : ℕ → List Body → X) (subject : Body → Optio
       let number : subject e.body ≡ Some n0 = key_number (subject e.body) e.feed w0 n0 key in
       all_told fact G e (λ n. n0 == n) new
       (one_told fact G e (λ n. false) (λ n. n0 == n) w0 n0 from value old new h more here
-      (is_from ∙ sym (ap (λ (f : Feed). length (list_of G f) + 1) here)) is_value (itself n0)
-      (λ n other. other_number n0 n (λ f. other (sym f))))
+      (is_from ∙ sym (ap (λ (f : Feed). length (list_of G f) + 1) here)) is_value (number_itself n0)
+      (λ n other. eq_refused n0 n (λ f. other (sym f))))
       (λ w n there f. quiet (list_of G (Events w)) e.body n
-      (λ s. apart (itself n) (subst (λ (m : ℕ). (m == n) ≡ false) (some_is_one n0 n (sym number ∙ s)) f)))
+      (λ s. contrary (number_itself n) (subst (λ (m : ℕ). (m == n) ≡ false) (some_same n0 n (sym number ∙ s)) f)))

@@ -1,12 +1,12 @@
 -- What is told of an entry by its key.
 use Rattle.std.proofs.Common.{[], ℕ, ◌+◌, ◌++◌, ◌∙◌, ◌∷◌, ◌≡◌, List, None, Option, Some, ap, length, subst, sym}
 use Rattle.std.specs.Prelude.{OnOk, Result}
+use Rattle.lemmas.proofs.Results.{after_ok}
 use Rattle.model.specs.Types.{Body, Entry, Events}
 use Rattle.model.specs.History.{list_of}
 use Rattle.owner_rows.specs.Subjects.{key_in}
 use Rattle.counted_facts.specs.Timelines.{AreTimelines, HasOneMore}
 use Rattle.counted_facts.specs.declared.timelines.Timelines.{Timelines}
-use Rattle.counted_facts.proofs.Numbered.{after_ok}
 use Rattle.counted_facts.proofs.Steps.{Quiet, none_told, told_one}
 
 module _ {X : Type 0} (fact : ℕ → List Body → X) (subject : Body → Option ℕ) (quiet : Quiet fact subject)

@@ -4,6 +4,8 @@ use Rattle.std.proofs.Common.{inl, inr, option_map, refl, sym, true}
 use Rattle.std.specs.Bool.{then_some}
 use Rattle.std.specs.Option.{option_map_or, option_or}
 use Rattle.std.specs.Prelude.{◌==◌, ◌||◌, filter_map}
+use Rattle.lemmas.proofs.Booleans.{or_false, or_middles}
+use Rattle.lemmas.proofs.Lists.{any_with}
 use Rattle.model.specs.Types.{Added, Body, Canc, Cancel, Clock, Cmd, Cont, Declined, Ended, Failed, Fulfilled, Job, Late}
 use Rattle.model.specs.Types.{Launched, Lost, NewPlan, Obeyed, Obj, Order, Released, Started, Stream, StreamEnded}
 use Rattle.model.specs.Types.{StreamLimit, Suppr, UntilPassed}
@@ -22,7 +24,7 @@ use Rattle.owner_rows.specs.declared.jobs.Last.{Last}
 use Rattle.owner_rows.specs.declared.launches.Outcome.{Outcome}
 use Rattle.owner_rows.specs.declared.launches.Outcome.TheVariants.{EndedBad, EndedGood, Failed as FailedOne, Lost as LostOne}
 use Rattle.owner_rows.specs.declared.streams.StreamRow.{StreamRow}
-use Rattle.owner_rows.proofs.Further.{any_command_with, any_with, apart}
+use Rattle.owner_rows.proofs.Further.{any_command_with, apart}
 use Rattle.owner_rows.proofs.JobFacts.{good_told}
 use Rattle.owner_rows.proofs.JobTelling.{job_quiet}
 use Rattle.owner_rows.proofs.StreamTelling.{stream_quiet}
@@ -80,28 +82,17 @@ good_stays events b j h =
     (job_quiet events b j (job_row j events) h (job_row_told j events)))
     ∙ good_told events j (job_row j events) (job_row_told j events)
 
--- what is cancelled
-shuffle : (c x a y : Bool) → ((c || x) || (a || y)) ≡ ((c || a) || (x || y))
-shuffle true x a y = refl
-shuffle false true true y = refl
-shuffle false true false y = refl
-shuffle false false a y = refl
-
 cancelled_with : (o : Obj) (events : List Body) (b : Body)
     → is_cancelled o (events ++ b ∷ []) ≡ (is_cancelled o events || cancels o b)
 unfolding is_cancelled
 cancelled_with o events b =
     rw (any_command_with (is_cancel_of o) events b, any_with (is_cancelling o) events b)
-    (shuffle _ (option_map_or (is_cancel_of o) (obeyed_command b) false) _ (is_cancelling o b))
-
-or_none : (a : Bool) → (a || false) ≡ a
-or_none true = refl
-or_none false = refl
+    (or_middles _ (option_map_or (is_cancel_of o) (obeyed_command b) false) _ (is_cancelling o b))
 
 cancelled_stays : (o : Obj) (events : List Body) (b : Body) → cancels o b ≡ false
     → is_cancelled o (events ++ b ∷ []) ≡ is_cancelled o events
 cancelled_stays o events b h =
-    cancelled_with o events b ∙ ap (λ (t : Bool). is_cancelled o events || t) h ∙ or_none (is_cancelled o events)
+    cancelled_with o events b ∙ ap (λ (t : Bool). is_cancelled o events || t) h ∙ or_false (is_cancelled o events)
 
 other_job : (j : ℕ) (o : Obj) → job_of_object o ≢ Some j → obj_eq (Job j) o ≡ false
 other_job j (Job k) h = apart j k h
@@ -115,7 +106,7 @@ job_not_cancelled : (j : ℕ) (b : Body) → job_told_in b ≢ Some j → cancel
 job_not_cancelled j (UntilPassed o i Canc) h = other_job j o h
 job_not_cancelled j (UntilPassed o i Cont) h = refl
 job_not_cancelled j (UntilPassed o i Suppr) h = refl
-job_not_cancelled j (Obeyed a k (Cancel o)) h = or_none (obj_eq (Job j) o) ∙ other_job j o h
+job_not_cancelled j (Obeyed a k (Cancel o)) h = or_false (obj_eq (Job j) o) ∙ other_job j o h
 job_not_cancelled j (Obeyed a k c) h = refl
 job_not_cancelled j (NewPlan run cut carried docs) h = refl
 job_not_cancelled j (Added a k doc) h = refl
@@ -136,7 +127,7 @@ stream_not_cancelled : (s : ℕ) (b : Body) → stream_told_in b ≢ Some s → 
 stream_not_cancelled s (UntilPassed o i Canc) h = other_stream s o h
 stream_not_cancelled s (UntilPassed o i Cont) h = refl
 stream_not_cancelled s (UntilPassed o i Suppr) h = refl
-stream_not_cancelled s (Obeyed a k (Cancel o)) h = or_none (obj_eq (Stream s) o) ∙ other_stream s o h
+stream_not_cancelled s (Obeyed a k (Cancel o)) h = or_false (obj_eq (Stream s) o) ∙ other_stream s o h
 stream_not_cancelled s (Obeyed a k c) h = refl
 stream_not_cancelled s (NewPlan run cut carried docs) h = refl
 stream_not_cancelled s (Added a k doc) h = refl

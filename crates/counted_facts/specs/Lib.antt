@@ -3,3 +3,6 @@ pub mod Subjects
 pub mod Places
 pub mod Facts
 pub mod Told
+pub mod Keys
+pub mod Marks
+pub mod Launches

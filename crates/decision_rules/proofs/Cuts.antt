@@ -1,28 +1,13 @@
 -- Counts of events, one workstation further.
 use Rattle.std.proofs.Common.{[], ℕ, ◌+◌, ◌++◌, ◌∙◌, ◌∷◌, ◌≡◌, Bool, List}
-use Rattle.std.proofs.Common.{ap, arith, cond, false, filter, length, map, nat_lt, refl, suc, true, zero}
+use Rattle.std.proofs.Common.{ap, cond, false, filter, length, map, nat_lt, refl, true}
 use Rattle.std.proofs.lemmas.List.{append-nil, map-append}
 use Rattle.std.proofs.lemmas.List.Elements.{filter-append}
+use Rattle.model_laws.proofs.Numbers.{below_more}
 use Rattle.model.specs.Types.{Events}
-use Rattle.model.specs.Words.{below, numbers_from}
+use Rattle.model.specs.Words.{below}
 use Rattle.model.specs.History.{View}
 use Rattle.model.specs.NewPlan.{seen_of}
-
-numbers_more : (from n : ℕ) → numbers_from from (suc n) ≡ numbers_from from n ++ (from + n) ∷ []
-numbers_more from zero =
-    let e : from ≡ from + 0 = omega arith in
-    ap (λ (k : ℕ). k ∷ []) e
-numbers_more from (suc n) =
-    let e : from + 1 + n ≡ from + suc n = omega arith in
-    ap (λ (l : List ℕ). from ∷ l)
-    (numbers_more (from + 1) n ∙ ap (λ (k : ℕ). numbers_from (from + 1) n ++ k ∷ []) e)
-
-below_more : (n : ℕ) → below (n + 1) ≡ below n ++ n ∷ []
-below_more n =
-    let next : n + 1 ≡ suc n = omega arith in
-    let here : 0 + n ≡ n = omega arith in
-    ap (λ (k : ℕ). numbers_from 0 k) next
-    ∙ (numbers_more 0 n ∙ ap (λ (k : ℕ). numbers_from 0 n ++ k ∷ []) here)
 
 -- the counts of one more workstation
 pub seen_more : (V : View) (w : ℕ)

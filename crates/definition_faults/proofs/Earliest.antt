@@ -4,6 +4,7 @@ use Rattle.std.proofs.Common.{refl, sym, ap, ◌∙◌, arith}
 use Rattle.std.proofs.lemmas.Bool.Decides.{nat_tests}
 use Rattle.std.specs.Prelude.{nat_lt, nat_le}
 use Rattle.std.specs.List.{list_all}
+use Rattle.lemmas.proofs.Booleans.{and_parts}
 use Rattle.model.specs.Words.{first_of_these}
 use Rattle.definition_faults.specs.Orders.{rank, fault, faults_at, comes_first, earlier_of, earliest, at_line}
 use Rattle.definition_faults.specs.declared.kinds.Kind.{Kind}
@@ -56,10 +57,6 @@ abbrev pub ascends : List (Bool × Kind) → Bool
 ascends [] = true
 ascends (row ∷ rows) = list_all (is_no_earlier row.1) rows && ascends rows
 
-both : (p q : Bool) → (p && q) ≡ true → (p ≡ true) × (q ≡ true)
-both true q h = (refl, h)
-both false q h = cc
-
 on_line : (l k n : ℕ) → nat_le k n ≡ true → first_by l k l n ≡ true
 on_line l k n h = grind (arith, nat_tests)
 
@@ -68,9 +65,9 @@ stays : (line : ℕ) (k : Kind) (rows : List (Bool × Kind)) → list_all (is_no
     → earlier_of (Some (fault line k)) (earliest (faults_at line rows)) ≡ Some (fault line k)
 stays line k [] h = refl
 stays line k ((false, j) ∷ rows) h =
-    stays line k rows (both (nat_le (rank k) (rank j)) (list_all (is_no_earlier k) rows) h).1
+    stays line k rows (and_parts (nat_le (rank k) (rank j)) (list_all (is_no_earlier k) rows) h).1
 stays line k ((true, j) ∷ rows) h =
-    let parts = both (nat_le (rank k) (rank j)) (list_all (is_no_earlier k) rows) h in
+    let parts = and_parts (nat_le (rank k) (rank j)) (list_all (is_no_earlier k) rows) h in
     let first : comes_first (fault line k) (fault line j) ≡ true = on_line line (rank k) (rank j) parts.0 in
     sym (earlier_assoc (Some (fault line k)) (Some (fault line j)) (earliest (faults_at line rows)))
     ∙ rw first (stays line k rows parts.1)
@@ -80,6 +77,6 @@ pub first_told : (line : ℕ) (rows : List (Bool × Kind)) → ascends rows ≡ 
     → earliest (faults_at line rows) ≡ at_line line (first_of_these rows)
 first_told line [] h = refl
 first_told line ((false, k) ∷ rows) h =
-    first_told line rows (both (list_all (is_no_earlier k) rows) (ascends rows) h).1
+    first_told line rows (and_parts (list_all (is_no_earlier k) rows) (ascends rows) h).1
 first_told line ((true, k) ∷ rows) h =
-    stays line k rows (both (list_all (is_no_earlier k) rows) (ascends rows) h).0
+    stays line k rows (and_parts (list_all (is_no_earlier k) rows) (ascends rows) h).0

@@ -1,25 +1,17 @@
 -- The first of all faults, put together from those of several kinds.
 use Rattle.std.proofs.Common.{◌≡◌, ◌⊎◌, ℕ, zero, suc, ◌<◌, ◌≤◌, ◌&&◌, ◌||◌, Bool, true, false, cond, eqb, List, [], ◌∷◌, Contains}
 use Rattle.std.proofs.Common.{Option, Some, None, option_map, refl, sym, ap, subst, ◌∙◌, arith, inl, inr}
-use Rattle.std.proofs.lemmas.Bool.Decides.{nat_tests, eqb_tells}
+use Rattle.std.proofs.lemmas.Bool.Decides.{nat_tests}
 use Rattle.std.specs.Prelude.{nat_lt, nat_le}
+use Rattle.lemmas.proofs.Booleans.{and_parts}
+use Rattle.lemmas.proofs.Numbers.{le_true, number_tells}
 use Rattle.definition_faults.specs.Orders.{rank, fault, comes_first, earlier_of, earliest, IsNoLater}
 use Rattle.definition_faults.specs.Conditions.{IsLeastOf}
 use Rattle.definition_faults.specs.declared.kinds.Kind.{Kind}
 use Rattle.definition_faults.specs.declared.kinds.Fault.{Fault}
 
-both : (p q : Bool) → (p && q) ≡ true → (p ≡ true) × (q ≡ true)
-both true q h = (refl, h)
-both false q h = cc
-
-same_line : (m n : ℕ) → eqb m n ≡ true → m ≡ n
-same_line m n h = elim (eqb_tells m n) [ inl e ↦ e.1 | inr e ↦ absurd (let f : eqb m n ≡ false = e.0 in cc) ]
-
 low : (m n : ℕ) → nat_lt m n ≡ true → m < n
 low m n h = grind (arith, nat_tests)
-
-low_or_same : (m n : ℕ) → nat_le m n ≡ true → m ≤ n
-low_or_same m n h = grind (arith, nat_tests)
 
 -- the test says which of two comes first
 pub no_later : (a b : Fault) → comes_first a b ≡ true → IsNoLater a b
@@ -29,8 +21,8 @@ no_later a b h = go (nat_lt a.line b.line) refl h
         → IsNoLater a b
     go true q k = inl (low a.line b.line q)
     go false q k =
-        let parts = both (eqb a.line b.line) (nat_le (rank a.kind) (rank b.kind)) k in
-        inr (same_line a.line b.line parts.0, low_or_same (rank a.kind) (rank b.kind) parts.1)
+        let parts = and_parts (eqb a.line b.line) (nat_le (rank a.kind) (rank b.kind)) k in
+        inr (number_tells a.line b.line parts.0, le_true (rank a.kind) (rank b.kind) parts.1)
 
 numbers_other : (l k m n : ℕ) → (nat_lt l m || (eqb l m && nat_le k n)) ≡ false
     → (nat_lt m l || (eqb m l && nat_le n k)) ≡ true

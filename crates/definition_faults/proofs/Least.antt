@@ -181,10 +181,3 @@ stream_more jobs schedules i s before found low at h more =
             | inr there ↦ more.1 l (inr there)
           ],
     )
-
--- all of a list
-pub take_whole : {X : Type 0} (xs : List X) (i : ℕ) → length xs ≤ i → take i xs ≡ xs
-take_whole [] zero past = refl
-take_whole [] (suc i) past = refl
-take_whole (x ∷ xs) zero past = absurd (omega (arith, past))
-take_whole (x ∷ xs) (suc i) past = ap (λ l. x ∷ l) (take_whole xs i (omega (arith, past)))

@@ -7,6 +7,7 @@ use Rattle.std.proofs.lemmas.List.Sums.{sum_by_more}
 use Rattle.std.proofs.lemmas.Option.{slice_get_within}
 use Rattle.std.specs.List.{position_from}
 use Rattle.std.specs.Option.{option_or, option_to_list}
+use Rattle.lemmas.proofs.Options.{map_some, some_same}
 use Rattle.composer_parser.specs.declared.Lined.{Lined}
 use Rattle.composer_parser.specs.declared.Clause.{Clause}
 use Rattle.composer_parser.specs.declared.Defs.{Defs}
@@ -45,17 +46,9 @@ placed_in_table d (Job n i) table is low =
     ap (λ (k : ℕ). k + i + 1)
     (ap (λ (l : List ℕ). get_or l n 0) is ∙ map_below_at (begin_of d) (length d.schedules) n 0 low)
 
--- what options say that are there
-some_is : {X : Type 0} (a b : X) → Some a ≡ Some b → a ≡ b
-some_is a b h = cc
-
 of_two : {X : Type 0} (a b : Option X) (t : X) → option_or a b ≡ Some t → (a ≡ Some t) ⊎ (b ≡ Some t)
 of_two None b t h = inr h
 of_two (Some x) b t h = inl h
-
-of_map : {X Y : Type 0} (f : X → Y) (o : Option X) (t : Y) → option_map f o ≡ Some t → (x : X) × (o ≡ Some x) × (f x ≡ t)
-of_map f None t h = cc
-of_map f (Some x) t h = (x, refl, some_is (f x) t h)
 
 of_then : {X Y : Type 0} (f : X → Option Y) (o : Option X) (t : Y) → option_and_then f o ≡ Some t
     → (x : X) × (o ≡ Some x) × (f x ≡ Some t)
@@ -77,17 +70,17 @@ position_within test from (x ∷ xs) k h = go (test x) h (λ e. position_within 
     go false e later = let low = later e in omega (arith, low)
 
 part_inside : (d : Defs) (p : PredPart) (k : ℕ) (t : Target) → k < length d.schedules → part_at d p k ≡ Some t → IsInside d t
-part_inside d part.Plain k t low h = subst (IsInside d) (some_is (Stream k) t h) low
-part_inside d part.All k t low h = subst (IsInside d) (some_is (Stream k) t h) low
+part_inside d part.Plain k t low h = subst (IsInside d) (some_same (Stream k) t h) low
+part_inside d part.All k t low h = subst (IsInside d) (some_same (Stream k) t h) low
 part_inside d (part.Job name) k t low h =
-    subst (IsInside d) (of_map (Job k) (entry_of d k name) t h).2 low
+    subst (IsInside d) (map_some (Job k) (entry_of d k name) t h).2 low
 
 -- what a FOLLOWS stands for is one of the streams, or in one
 pub target_inside : (d : Defs) (n : ℕ) (inside : Bool) (p : Pred) (t : Target) → target_of d n inside p ≡ Some t → IsInside d t
 target_inside d n inside p t h =
     elim (of_two (of_own d n inside p) (of_stream d n p) t h) [
       | inl own ↦
-          let found = of_map (Job n) (entry_of d n p.name) t (where_so (inside && is_bare p) (option_map (Job n) (entry_of d n p.name)) t own) in
+          let found = map_some (Job n) (entry_of d n p.name) t (where_so (inside && is_bare p) (option_map (Job n) (entry_of d n p.name)) t own) in
           let there = of_then (λ (s : Lined ScheduleDef). entry_at s.item p.name) (slice_get d.schedules n) found.0 found.1 in
           subst (IsInside d) found.2 (slice_get_within d.schedules n there.0 there.1)
       | inr other ↦

@@ -8,7 +8,7 @@ use Rattle.composer_parser.specs.declared.Clause.{Clause}
 use Rattle.composer_parser.specs.declared.Clause.TheVariants.{At, Until, Deadline, Priority, Limit, CarryForward}
 use Rattle.composer_parser.specs.declared.Clause.TheVariants.{Follows, Needs, Prompt, Opens}
 use Rattle.composer_parser.specs.declared.Need.{Need}
-use Rattle.time_zones.specs.Zones.{east_of}
+use Rattle.plan_times.specs.Zones.{east_of}
 use Rattle.definition_faults.specs.Orders.{fault}
 use Rattle.definition_faults.specs.declared.kinds.Kind.TheVariants.{OutOfRange}
 use Rattle.definition_faults.specs.declared.kinds.Fault.{Fault}

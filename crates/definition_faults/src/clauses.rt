@@ -106,9 +106,12 @@ fn has_unknown<'a>(
 fn has_unknown_pred<'a>(names: &Names<'a>, stream: usize, inside: bool, preds: &'a [Pred]) -> bool
     ensures { result ≡ list_any (unknown.is_unknown_pred names.now stream inside) preds.now }
 {
-    preds
-        .iter()
-        .any(|pred| is_unknown_pred(names, stream, inside, pred))
+    for pred in preds {
+        if is_unknown_pred(names, stream, inside, pred) {
+            return true;
+        }
+    }
+    false
 }
 
 fn is_unknown_pred<'a>(names: &Names<'a>, stream: usize, inside: bool, pred: &'a Pred) -> bool
@@ -120,7 +123,12 @@ fn is_unknown_pred<'a>(names: &Names<'a>, stream: usize, inside: bool, pred: &'a
 fn has_unknown_need<'a>(names: &Names<'a>, ws: Option<&'a Text>, needs: &'a [Need]) -> bool
     ensures { result ≡ list_any (unknown.is_unknown_need names.now (option_copied ws.entry)) needs.now }
 {
-    needs.iter().any(|need| is_unknown_need(names, ws, need))
+    for need in needs {
+        if is_unknown_need(names, ws, need) {
+            return true;
+        }
+    }
+    false
 }
 
 fn is_unknown_need<'a>(names: &Names<'a>, ws: Option<&'a Text>, need: &'a Need) -> bool
@@ -138,9 +146,12 @@ fn is_unknown_need<'a>(names: &Names<'a>, ws: Option<&'a Text>, need: &'a Need) 
 fn has_unknown_prompt<'a>(names: &Names<'a>, prompts: &'a [PromptItem]) -> bool
     ensures { result ≡ list_any (unknown.is_unknown_prompt names.now) prompts.now }
 {
-    prompts
-        .iter()
-        .any(|prompt| is_unknown_prompt(names, prompt))
+    for prompt in prompts {
+        if is_unknown_prompt(names, prompt) {
+            return true;
+        }
+    }
+    false
 }
 
 fn is_unknown_prompt<'a>(names: &Names<'a>, prompt: &'a PromptItem) -> bool
@@ -165,7 +176,12 @@ fn has_foreign<'a>(ws: Option<&'a Text>, clause: &'a Clause) -> bool
 fn has_foreign_need<'a>(ws: Option<&'a Text>, needs: &'a [Need]) -> bool
     ensures { result ≡ list_any (spec.is_foreign (option_copied ws.entry)) needs.now }
 {
-    needs.iter().any(|need| is_foreign(ws, need))
+    for need in needs {
+        if is_foreign(ws, need) {
+            return true;
+        }
+    }
+    false
 }
 
 fn is_foreign<'a>(ws: Option<&'a Text>, need: &'a Need) -> bool

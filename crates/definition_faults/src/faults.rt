@@ -7,7 +7,7 @@ use crate::kinds::{Fault, Kind};
 use base_types::NoMemory;
 
 /// Why definitions are refused, with the line.
-#[derive(Clone, Copy, Debug, PartialEq, Eq)]
+#[derive(Clone, Copy)]
 pub enum DefFault {
     /// A name is defined twice in its kind.
     Duplicate(u32),

@@ -87,12 +87,13 @@ fn ends_at(ends: &[bool], i: usize) -> bool
 fn has_top<'a>(names: &Names<'a>) -> bool
     ensures { result ≡ spec.has_top names.now }
 {
-    names
-        .defs()
-        .domains
-        .as_slice()
-        .iter()
-        .any(|domain| domain.item.parent.is_none())
+    let domains = names.defs().domains.as_slice();
+    for domain in domains {
+        if domain.item.parent.is_none() {
+            return true;
+        }
+    }
+    false
 }
 
 fn of_domain<'a>(names: &Names<'a>, i: usize, strays: bool, domain: &'a DomainDef) -> Option<Kind>

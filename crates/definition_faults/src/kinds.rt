@@ -4,7 +4,7 @@ ghost use Rattle.model.specs.Words.{some_is};
 ghost use Rattle.definition_faults.specs.Orders as spec;
 
 /// The kinds of fault, in the order in which they are told on one line.
-#[derive(Clone, Copy, Debug, PartialEq, Eq)]
+#[derive(Clone, Copy)]
 pub enum Kind {
     Duplicate,
     UnknownName,
@@ -15,7 +15,7 @@ pub enum Kind {
 }
 
 /// A fault and its line, counted from 1.
-#[derive(Clone, Copy, Debug, PartialEq, Eq)]
+#[derive(Clone, Copy)]
 pub struct Fault {
     pub line: u32,
     pub kind: Kind,

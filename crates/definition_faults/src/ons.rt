@@ -38,7 +38,12 @@ fn of_on<'a>(names: &Names<'a>, on: &'a OnDef) -> Option<Kind>
 fn has_unknown<'a>(names: &Names<'a>, items: &'a [OnItem]) -> bool
     ensures { result ≡ list_any (spec.is_unknown_item names.now) items.now }
 {
-    items.iter().any(|item| is_unknown_item(names, item))
+    for item in items {
+        if is_unknown_item(names, item) {
+            return true;
+        }
+    }
+    false
 }
 
 fn is_unknown_item<'a>(names: &Names<'a>, item: &'a OnItem) -> bool
@@ -63,7 +68,12 @@ fn has_first(on: &OnDef) -> bool
 fn has_bad(has_first: bool, items: &[OnItem]) -> bool
     ensures { result ≡ list_any (spec.is_bad_item has_first) items.now }
 {
-    items.iter().any(|item| is_bad_item(has_first, item))
+    for item in items {
+        if is_bad_item(has_first, item) {
+            return true;
+        }
+    }
+    false
 }
 
 fn is_bad_item(has_first: bool, item: &OnItem) -> bool

@@ -7,7 +7,7 @@ ghost use Rattle.definition_faults.specs.Ranges as spec;
 use crate::kinds::{Fault, Kind};
 use base_types::Text;
 use composer_parser::{Clause, Defs, Need};
-use time_zones::east_of;
+use plan_times::east_of;
 
 /// The fault of a TIMEZONE that is no offset.
 #[tactic(auto, unfolding(crate::specs::Ranges::zone_faults))]
@@ -54,7 +54,12 @@ fn is_bad_offset(days: Option<u32>) -> bool
 fn need_too_many(needs: &[Need]) -> bool
     ensures { result ≡ list_any spec.needs_too_many needs.now }
 {
-    needs.iter().any(|need| needs_too_many(need))
+    for need in needs {
+        if needs_too_many(need) {
+            return true;
+        }
+    }
+    false
 }
 
 fn needs_too_many(need: &Need) -> bool
@@ -69,7 +74,12 @@ fn needs_too_many(need: &Need) -> bool
 fn has_empty(paths: &[Text]) -> bool
     ensures { result ≡ list_any (λ path. length path == 0) paths.now }
 {
-    paths.iter().any(|path| path.len() == 0)
+    for path in paths {
+        if path.len() == 0 {
+            return true;
+        }
+    }
+    false
 }
 
 /// How many dependencies a clause gives.

@@ -1,7 +1,7 @@
 -- An index of names, one name further.
 use Rattle.std.proofs.Common.{ℕ, ◌&&◌, ◌∙◌, ◌≡◌, Bor, List, Some, ap, bytes_eq, cond, eqb}
 use Rattle.indexmap.specs.IndexMap.{insert_entry}
-use Rattle.name_keys.proofs.Inserted.{are_one_key, are_one_pair, key_inserted, key_of, name_inserted, pair_inserted, pair_of}
+use Rattle.lemmas.proofs.Inserted.{are_one_key, are_one_pair, key_inserted, key_of, name_inserted, pair_inserted, pair_of}
 use Rattle.definition_names.specs.Indexes.{name_in, pair_in, entry_in}
 
 -- names

@@ -1,6 +1,6 @@
 -- Walks from the last name to the first.
-use Rattle.std.proofs.Common.{ℕ, ◌+◌, ◌<◌, ◌∙◌, [], ◌∷◌, ◌++◌, ◌≡◌, ◌==◌, ◌&&◌, Bool, true, false, List, Option, Some, Result, Ok, Err, OnOk, ap, cond, drop, get_or, inl, inr, length, map, refl, sym, take}
-use Rattle.std.proofs.lemmas.Bool.Decides.{eqb_tells}
+use Rattle.std.proofs.Common.{ℕ, ◌+◌, ◌<◌, ◌∙◌, [], ◌∷◌, ◌++◌, ◌≡◌, ◌&&◌, Bool, true, false, List, Option, Some, Result}
+use Rattle.std.proofs.Common.{Ok, Err, OnOk, ap, cond, drop, get_or, length, map, refl, sym, take}
 use Rattle.std.proofs.lemmas.List.{drop_more, take_more}
 use Rattle.std.specs.List.{position_from}
 
@@ -38,9 +38,6 @@ other_entry b t place old new apart put = put ∙ ap (λ c. cond (c && t) place 
 pub own_entry : (b t : Bool) (place old new : Option ℕ) → b ≡ true → new ≡ cond (b && t) place old
     → new ≡ cond t place old
 own_entry b t place old new same put = put ∙ ap (λ c. cond (c && t) place old) same
-
-pub same_number : (n : ℕ) → (n == n) ≡ true
-same_number n = elim (eqb_tells n n) [ inl e ↦ e.0 | inr o ↦ absurd (o.1 refl) ]
 
 -- what holds where a call succeeded
 pub on_ok : {T E P Q : Type 0} (r : Result T E) → (P → Q) → OnOk r P → OnOk r Q

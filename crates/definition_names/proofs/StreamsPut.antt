@@ -3,6 +3,7 @@ use Rattle.std.proofs.Common.{◌≡◌, ◌≢◌, ℕ, ◌+◌, ◌<◌, ◌�
 use Rattle.std.proofs.Common.{length, nat_lt, option_and_then, refl, slice_get, subst, sym}
 use Rattle.std.proofs.lemmas.Bool.Decides.{eqb_tells, nat_tests}
 use Rattle.std.proofs.lemmas.Option.{slice_get_past, slice_get_read}
+use Rattle.lemmas.proofs.Numbers.{lt_itself, lt_told}
 use Rattle.composer_parser.specs.declared.Lined.{Lined}
 use Rattle.composer_parser.specs.declared.ScheduleDef.{ScheduleDef}
 use Rattle.definition_names.specs.Streams.{is_one_ws, entry_at, entry_among}
@@ -30,12 +31,6 @@ put_nameless old new name place put same (Some a) n =
 abbrev pub before_place : List (Lined ScheduleDef) → ℕ → ℕ → List ℕ → Option ℕ
 before_place schedules n m name = cond (nat_lt m n) (entry_among schedules m name) None
 
-not_below : (n : ℕ) → nat_lt n n ≡ false
-not_below n = grind (arith, nat_tests)
-
-is_below : (m n : ℕ) → m < n → nat_lt m n ≡ true
-is_below m n h = grind (arith, nat_tests)
-
 same_below : (m n : ℕ) → m ≢ n → nat_lt m (n + 1) ≡ nat_lt m n
 same_below m n apart = grind (arith, nat_tests)
 
@@ -53,10 +48,10 @@ entries_more schedules n s old new got before others it own same m name =
           let here : n < n + 1 = omega arith in
           subst (λ (k : ℕ). entry_in new k name ≡ before_place schedules (n + 1) k name) (sym e.1)
           (own name
-          (before n name ∙ ap (λ (b : Bool). cond b (entry_among schedules n name) None) (not_below n))
+          (before n name ∙ ap (λ (b : Bool). cond b (entry_among schedules n name) None) (lt_itself n))
           ∙ (ap (λ (x : ScheduleDef). entry_at x name) same
           ∙ (sym (ap (option_and_then (λ (x : Lined ScheduleDef). entry_at x.item name)) got)
-          ∙ sym (ap (λ (b : Bool). cond b (entry_among schedules n name) None) (is_below n (n + 1) here)))))
+          ∙ sym (ap (λ (b : Bool). cond b (entry_among schedules n name) None) (lt_told n (n + 1) here)))))
       | inr o ↦
           others m name o.0
           ∙ (before m name ∙ sym (ap (λ (b : Bool). cond b (entry_among schedules m name) None) (same_below m n o.1)))

@@ -2,7 +2,7 @@
 
 /// What is followed: a stream by its place among the streams of the definitions, or an entry by the place of its stream
 /// and its own place there. Places count from 0.
-#[derive(Clone, Copy, Debug, PartialEq, Eq)]
+#[derive(Clone, Copy)]
 pub enum Target {
     Stream(usize),
     Job(usize, usize),

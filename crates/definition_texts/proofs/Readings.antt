@@ -4,6 +4,7 @@ use Rattle.std.proofs.Common.{length, if◌then◌else◌}
 use Rattle.std.specs.Str.{IsValidUpTo}
 use Rattle.std.specs.Str.Lossy.{utf8_valid_len}
 use Rattle.std.proofs.lemmas.Str.{utf8_valid_len-IsValidUpTo}
+use Rattle.workload_defs.proofs.Told.{rank_tells}
 use Rattle.base_types.specs.declared.Token.{Token}
 use Rattle.composer_lexer.specs.Places.{line_of}
 use Rattle.composer_lexer.specs.Tokens.{tokens_of}
@@ -46,16 +47,13 @@ at_rank found.ForeignResource = refl
 at_rank found.FollowsCycle = refl
 at_rank found.Tree = refl
 
-one_kind : (a b : Kind) → rank a ≡ rank b → a ≡ b
-one_kind a b same = sym (at_rank a) ∙ ap kind_at same ∙ at_rank b
-
 -- two faults of which neither is later are one
 one_place : (f g : Fault) → IsNoLater f g → IsNoLater g f → (f.line ≡ g.line) × (f.kind ≡ g.kind)
 one_place f g (inl below) (inl above) = absurd (let never : ⊥ = omega arith in never)
 one_place f g (inl below) (inr (line, later)) = absurd (let never : ⊥ = omega arith in never)
 one_place f g (inr (line, later)) (inl above) = absurd (let never : ⊥ = omega arith in never)
 one_place f g (inr (line, later)) (inr (back, earlier)) =
-    (line, one_kind f.kind g.kind (let same : rank f.kind ≡ rank g.kind = omega arith in same))
+    (line, rank_tells f.kind g.kind (let same : rank f.kind ≡ rank g.kind = omega arith in same))
 
 module _ (bytes : List ℕ) where
   one_tokens : (ts us : List Token) → HasTokens bytes ts → HasTokens bytes us → ts ≡ us

@@ -1,5 +1,5 @@
 -- Items that pass two tests, counted by the one or by the other.
-use Rattle.std.proofs.Common.{◌≡◌, ◌∙◌, ◌∷◌, ◌+◌, [], ℕ, Bool, List, ap, arith, cond, false, length, nat_lt, refl, sym, true}
+use Rattle.std.proofs.Common.{◌≡◌, ◌∙◌, ◌∷◌, ◌+◌, ℕ, Bool, List, ap, arith, cond, false, length, nat_lt, sym, true}
 use Rattle.std.proofs.lemmas.Bool.Decides.{nat_tests}
 use Rattle.std.proofs.lemmas.List.Sums.{length-filter, sum_by-cons}
 use Rattle.std.specs.Prelude.{count_by, filter}
@@ -7,20 +7,6 @@ use Rattle.std.specs.Prelude.{count_by, filter}
 -- those that pass are as many as their list is long
 pub counted : {X : Type 0} (p : X → Bool) (xs : List X) → count_by p xs ≡ length (filter p xs)
 counted p xs = sym (length-filter p xs)
-
-either_first : {X : Type 0} (p q : X → Bool) (xs : List X) → filter p (filter q xs) ≡ filter q (filter p xs)
-either_first p q [] = refl
-either_first {X} p q (x ∷ xs) = go (p x) (q x) refl refl (either_first p q xs)
-  where
-    go : (a b : Bool) → p x ≡ a → q x ≡ b → filter p (filter q xs) ≡ filter q (filter p xs)
-        → filter p (filter q (x ∷ xs)) ≡ filter q (filter p (x ∷ xs))
-    go true true e f h = rw (e, f, e) (ap (λ (l : List X). x ∷ l) h)
-    go true false e f h = rw (e, f) h
-    go false true e f h = rw (e, f, e) h
-    go false false e f h = rw (e, f) h
-
-pub count_both : {X : Type 0} (p q : X → Bool) (xs : List X) → count_by p (filter q xs) ≡ count_by q (filter p xs)
-count_both p q xs = counted p (filter q xs) ∙ ap length (either_first p q xs) ∙ sym (counted q (filter p xs))
 
 -- whether fewer pass than there is room for, one item further
 fewer : (n before after : ℕ) → after + 1 ≡ before → nat_lt (1 + n) before ≡ nat_lt n after

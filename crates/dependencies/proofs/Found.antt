@@ -1,30 +1,18 @@
 -- Each job and each stream of the catalogue is found by its number.
-use Rattle.std.proofs.Common.{◌≡◌, ◌∷◌, [], ℕ, Bool, List, Some, cond, false, refl, subst, sym, true}
-use Rattle.std.proofs.lemmas.Bool.{eqb-true}
+use Rattle.std.proofs.Common.{◌≡◌, ◌∷◌, [], ℕ, List, Some, refl, subst, sym, true}
 use Rattle.std.specs.List.{AllByRecursion}
 use Rattle.std.specs.Prelude.{◌==◌, flat_map, map}
+use Rattle.model_laws.proofs.Inside.{firsts_all}
+use Rattle.lemmas.proofs.Lists.{all_such, flat_all}
 use Rattle.model.specs.Types.{Events, JobDoc, StreamDoc}
-use Rattle.model.specs.Words.{firsts, has}
+use Rattle.model.specs.Words.{firsts}
 use Rattle.model.specs.History.{View}
 use Rattle.model.specs.Catalogue.{StreamJob, catalogue, docs_in, job, jobs, jobs_in, jobs_of_stream, owner, stream}
 use Rattle.dependencies.specs.Planned.{ArePlannedJobs, ArePlannedStreams, IsPlannedJob, IsPlannedStream}
 use Rattle.model_laws.proofs.Firsts.{IsFound, first_found}
-use Rattle.model_laws.proofs.Lists.{all_both, all_filter, all_such}
+use Rattle.model_laws.proofs.Lists.{all_both, all_filter}
 use Rattle.model_laws.proofs.Options.{there_if}
-use Rattle.dependencies.proofs.Lists.{all_found, flat_all}
-
--- what holds of all holds of those that count
-pub firsts_all : {X : Type 0} (P : X → Type 0) (number : X → ℕ) (known : List ℕ) (xs : List X) → AllByRecursion P xs
-    → AllByRecursion P (firsts number known xs)
-firsts_all P number known [] h = tt
-firsts_all {X} P number known (x ∷ xs) h =
-    go (has known (number x)) (firsts_all P number known xs h.1) (firsts_all P number (number x ∷ known) xs h.1)
-  where
-    go : (b : Bool) → AllByRecursion P (firsts number known xs)
-        → AllByRecursion P (firsts number (number x ∷ known) xs)
-        → AllByRecursion P (cond b (firsts number known xs) (x ∷ firsts number (number x ∷ known) xs))
-    go true k l = k
-    go false k l = (h.0, l)
+use Rattle.dependencies.proofs.Lists.{all_found}
 
 -- a stream that is found by its number is planned
 planned_stream : (V : View) (d : StreamDoc) → stream V d.no ≡ Some d → IsPlannedStream V d
@@ -75,10 +63,6 @@ found_job V j p e =
     there_if (λ (p : StreamJob). IsPlannedJob V p × ((p.doc.no == j) ≡ true)) (job V j) p
     (all_found (IsPlannedJob V) (λ (p : StreamJob). p.doc.no == j) (jobs V) (jobs_planned V)) e
 
--- the job that is found has the number
-pub job_number : (V : View) (j : ℕ) (p : StreamJob) → job V j ≡ Some p → p.doc.no ≡ j
-job_number V j p e = eqb-true p.doc.no j (found_job V j p e).1
-
 -- and is planned
 pub job_planned : (V : View) (j : ℕ) (p : StreamJob) → job V j ≡ Some p → IsPlannedJob V p
 job_planned V j p e = (found_job V j p e).0
@@ -88,10 +72,6 @@ unfolding stream
 found_stream V s d e =
     there_if (λ (d : StreamDoc). IsPlannedStream V d × ((d.no == s) ≡ true)) (stream V s) d
     (all_found (IsPlannedStream V) (λ (d : StreamDoc). d.no == s) (catalogue V) (streams_planned V)) e
-
--- the stream that is found has the number
-pub stream_number : (V : View) (s : ℕ) (d : StreamDoc) → stream V s ≡ Some d → d.no ≡ s
-stream_number V s d e = eqb-true d.no s (found_stream V s d e).1
 
 -- and is planned
 pub stream_planned : (V : View) (s : ℕ) (d : StreamDoc) → stream V s ≡ Some d → IsPlannedStream V d

@@ -4,7 +4,7 @@ use Rattle.std.proofs.Common.{sym, true}
 use Rattle.std.proofs.lemmas.Bool.{eqb-true}
 use Rattle.std.proofs.lemmas.Bool.Decides.{nat_tests}
 use Rattle.std.specs.List.{AllByRecursion}
-use Rattle.std.specs.Prelude.{◌&&◌, ◌==◌, IfSome, filter, nat_lt}
+use Rattle.std.specs.Prelude.{◌&&◌, ◌==◌, filter, nat_lt}
 use Rattle.model.specs.Words.{least, lesser}
 
 -- the lower of two numbers that may be there
@@ -62,15 +62,6 @@ first_passes n m a b test h = eqb-true n m (go (n == m) (sym test ∙ h))
     go : (a : Bool) → (a && b) ≡ true → a ≡ true
     go true k = refl
     go false k = k
-
--- the lower of two has what both have
-pub lower_has : (P : ℕ → Type 0) (x : ℕ) (before : Option ℕ) → P x → IfSome before P → P (lesser x before)
-lower_has P x None here h = here
-lower_has P x (Some a) here h = go (nat_lt a x)
-  where
-    go : (b : Bool) → P (cond b a x)
-    go true = h
-    go false = here
 
 -- an item that passes
 pub lowest_with : {X : Type 0} (p q : X → Bool) (r : ℕ → Bool) (number : X → ℕ) (x : X) (xs : List X)
@@ -131,17 +122,3 @@ numbers_among {X} P p q r number s (x ∷ xs) h a =
     go false true e f ih =
         kept true f ∙ no_more p q r number x (filter s xs) e ∙ ih ∙ sym (no_more p q r number x xs e)
     go false false e f ih = kept false f ∙ ih ∙ sym (no_more p q r number x xs e)
-
--- two filters are one
-pub filter_filter : {X : Type 0} (p q : X → Bool) (xs : List X)
-    → filter p (filter q xs) ≡ filter (λ (x : X). q x && p x) xs
-filter_filter p q [] = refl
-filter_filter {X} p q (x ∷ xs) = go (p x) (q x) (filter_filter p q xs) refl
-  where
-    go : (a b : Bool) → filter p (filter q xs) ≡ filter (λ (y : X). q y && p y) xs → p x ≡ a
-        → filter p (cond b (x ∷ filter q xs) (filter q xs))
-        ≡ cond (b && a) (x ∷ filter (λ (y : X). q y && p y) xs) (filter (λ (y : X). q y && p y) xs)
-    go true true h e = rw (e, h) refl
-    go false true h e = rw (e, h) refl
-    go true false h e = h
-    go false false h e = h

@@ -5,6 +5,8 @@ use Rattle.std.proofs.lemmas.Bool.{eqb-true}
 use Rattle.std.specs.List.{list_any}
 use Rattle.std.specs.Option.{option_map_or}
 use Rattle.std.specs.Prelude.{◌&&◌, ◌==◌, ◌||◌}
+use Rattle.lemmas.proofs.Booleans.{or_made_right}
+use Rattle.lemmas.proofs.Lists.{any_append, filter_filter}
 use Rattle.model.specs.Types.{Body, Deadline, Dep, Events, Job, Obj, Stream, StreamDoc, Until as UntilDep}
 use Rattle.model.specs.Words.{least}
 use Rattle.model.specs.History.{View}
@@ -17,22 +19,18 @@ use Rattle.model.specs.OwnMembers.{due_untils, has_begun, is_until_due, own_job_
 use Rattle.model.specs.OwnMembers.{until_at}
 use Rattle.owner_fold.specs.Given.{has_time, is_timed}
 use Rattle.owner_fold.specs.Times.{timed_jobs, timed_streams}
-use Rattle.owner_fold.proofs.Additions.{added_such, either_list}
+use Rattle.owner_fold.proofs.Additions.{added_such}
 use Rattle.dependencies.specs.Dues.{due_at}
 use Rattle.dependencies.specs.Planned.{ArePlannedJobs, ArePlannedStreams, IsPlannedJob, IsPlannedStream}
 use Rattle.dependencies.specs.declared.dues.Due.{Due}
 use Rattle.dependencies.specs.declared.dues.Due.TheVariants.{Late, Until}
 use Rattle.dependencies.proofs.Found.{jobs_planned, streams_planned}
 use Rattle.model_laws.proofs.Lists.{all_filter}
-use Rattle.dependencies.proofs.Lowest.{filter_filter, lower_of, numbers_among, numbers_of}
+use Rattle.dependencies.proofs.Lowest.{lower_of, numbers_among, numbers_of}
 
 or_more : (t a b : Bool) → (a ≡ true → b ≡ true) → (t || a) ≡ true → (t || b) ≡ true
 or_more true a b f h = refl
 or_more false a b f h = f h
-
-or_right : (t b : Bool) → b ≡ true → (t || b) ≡ true
-or_right true b h = refl
-or_right false b h = h
 
 filtered_any : {X : Type 0} (f q : X → Bool) (xs : List X) → list_any f (filter q xs) ≡ true → list_any f xs ≡ true
 filtered_any f q [] h = cc
@@ -41,7 +39,7 @@ filtered_any {X} f q (x ∷ xs) h = go (q x) h (filtered_any f q xs)
     go : (b : Bool) → list_any f (cond b (x ∷ filter q xs) (filter q xs)) ≡ true
         → (list_any f (filter q xs) ≡ true → list_any f xs ≡ true) → (f x || list_any f xs) ≡ true
     go true k ih = or_more (f x) (list_any f (filter q xs)) (list_any f xs) ih k
-    go false k ih = or_right (f x) (list_any f xs) (ih k)
+    go false k ih = or_made_right (f x) (list_any f xs) (ih k)
 
 taken_any : {X : Type 0} (f : X → Bool) (n : ℕ) (xs : List X) → list_any f (take n xs) ≡ true → list_any f xs ≡ true
 taken_any f zero [] h = h
@@ -76,7 +74,7 @@ timed_if V w o written f docs events timed h =
     let b : list_any has_time all ≡ true =
     taken_any has_time 65535 all (numbered_any f timed 1 (take 65535 all) a) in
     sym
-    (either_list has_time (document_deps V o) (flat_map (deps_added_by o) (commands (owner_events V o)))
+    (any_append has_time (document_deps V o) (flat_map (deps_added_by o) (commands (owner_events V o)))
     ∙ (λ j. list_any has_time (docs j)
     || (ap (λ (l : List Body). list_any has_time (flat_map (deps_added_by o) (commands l))) events
     ∙ added_such has_time o (commands (V (Events w)))) j))

@@ -43,7 +43,7 @@ pub trait Readiness {
 
 /// The plain way: it keeps nothing, and looks at each job of the catalogue whenever it is asked. So a `Scan` stands
 /// for whatever was taken, and its `took` takes no memory.
-#[derive(Clone, Copy, Debug, PartialEq, Eq)]
+#[derive(Clone, Copy)]
 pub struct Scan;
 
 impl Readiness for Scan {

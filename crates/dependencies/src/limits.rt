@@ -35,7 +35,7 @@ fn has_room(o: &Owners, w: Ws, limit: u16) -> bool
 }
 
 /// Whether fewer jobs of the stream than the limit have an open launch at w.
-#[tactic(auto, using(crate::proofs::Both::count_both), unfolding(model::specs::Readiness::open_launch_count))]
+#[tactic(auto, using(lemmas::proofs::Lists::count_both), unfolding(model::specs::Readiness::open_launch_count))]
 fn stream_has_room(o: &Owners, w: Ws, s: StreamNo, limit: u16) -> bool
     ensures { let V = view_of o.now in
         let of_stream = filter (λ (p : StreamJob). p.parent.no == s) (jobs_of V w) in

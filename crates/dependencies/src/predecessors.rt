@@ -13,7 +13,7 @@ use decision_rules::is_good_or_cancelled;
 use owner_fold::Owners;
 
 /// Whether a job is good or cancelled, or its stream is cancelled. One outside the catalogue is none of these.
-#[tactic(auto, using(crate::proofs::Found::job_number), unfolding(model::specs::Dependencies::job_lets_followers_go, model::specs::OwnMembers::lets_stream_end))]
+#[tactic(auto, using(model_laws::proofs::Decisions::job_number), unfolding(model::specs::Dependencies::job_lets_followers_go, model::specs::OwnMembers::lets_stream_end))]
 pub(crate) fn job_lets_followers_go(o: &Owners, j: JobNo) -> bool
     ensures { result ≡ spec.job_lets_followers_go (view_of o.now) j }
 {

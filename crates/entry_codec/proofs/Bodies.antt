@@ -1,8 +1,9 @@
 -- Bodies that are read are those that stand there.
-use Rattle.std.proofs.Common.{◌≡◌, ℕ, Bool, true, false, not, List, [], ◌∷◌, Ok, refl, arith}
+use Rattle.std.proofs.Common.{◌≡◌, ℕ, Bool, true, false, List, [], ◌∷◌, Ok, refl, arith}
 use Rattle.std.proofs.Common.{true≢false}
 use Rattle.std.proofs.lemmas.List.Elements.{recursion_from_All, All-from_recursion}
 use Rattle.std.specs.List.{All, AllByRecursion}
+use Rattle.lemmas.proofs.Booleans.{not_holds, not_made}
 use Rattle.model.specs.Types.{Feed, Events, Orders, Body, NewPlan, Added, Clock, Released, StreamEnded, UntilPassed}
 use Rattle.model.specs.Types.{Launched, Started, Failed, Ended, Lost, Fulfilled, Obeyed, Declined, Order, StreamDoc}
 use Rattle.model.specs.Types.{Late}
@@ -174,21 +175,14 @@ order_reader second =
 abbrev pub FeedBodyFits : Bool → Feed → Body → Type 0
 FeedBodyFits second feed b = BodyFits second b × (has_its_feed feed b ≡ true)
 
-not_true : (b : Bool) → b ≡ false → not b ≡ true
-not_true b e = rw e refl
-
-was_false : (b : Bool) → not b ≡ true → b ≡ false
-was_false false e = refl
-was_false true e = absurd cc
-
 pub body_reader : (second : Bool) (feed : Feed) → IsReader (FeedBodyFits second feed) body_bytes (body_at second feed)
 unfolding body_at
 body_reader second (Events w) =
     record {
       found = λ bytes p b q is lt e.
           let f = (event_reader second).found bytes p b q is lt e in
-          ((f.0.0, not_true (is_order b) f.0.1), f.1);
-      again = λ bytes p b q fits s. (event_reader second).again bytes p b q (fits.0, was_false (is_order b) fits.1) s;
+          ((f.0.0, not_made (is_order b) f.0.1), f.1);
+      again = λ bytes p b q fits s. (event_reader second).again bytes p b q (fits.0, not_holds (is_order b) fits.1) s;
       steady = (event_reader second).steady;
     }
 body_reader second (Orders a w) =

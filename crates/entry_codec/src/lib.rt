@@ -19,7 +19,7 @@ pub use writing::entries::write_entry;
 pub use writing::lists::put_flag;
 
 /// Why bytes are no entry: their first fault from the left. Places count from 0.
-#[derive(Clone, Copy, Debug, PartialEq, Eq)]
+#[derive(Clone, Copy, Debug)]
 pub enum EntryFault {
     /// Bytes are missing of the field that begins at this place.
     Short(u32),

@@ -1,35 +1,28 @@
 -- Two lists that are compared item by item.
-use Rattle.std.proofs.Common.{[], ℕ, ◌+◌, ◌<◌, ◌≤◌, ◌∙◌, ◌∷◌, ◌≡◌, ◌⊎◌, List, Some, ap, arith, inl, inr, length, refl}
+use Rattle.std.proofs.Common.{[], ℕ, ◌+◌, ◌<◌, ◌≤◌, ◌∙◌, ◌∷◌, ◌≡◌, List, Some, ap, arith, inl, inr, length, refl}
 use Rattle.std.proofs.Common.{subst, suc, sym}
 use Rattle.std.specs.Prelude.{slice_get}
-use Rattle.event_audit.proofs.Behind.{inside}
+use Rattle.lemmas.proofs.Numbers.{below_or_last}
+use Rattle.lemmas.proofs.Options.{some_same}
 
 -- the items below a place are the same
 abbrev pub AreAlikeBelow : {X : Type 0} → List X → List X → ℕ → Type 0
 AreAlikeBelow a b i = (k : ℕ) → k < i → slice_get a k ≡ slice_get b k
 
-either_of : (k i : ℕ) → k < i + 1 → (k < i) ⊎ (k ≡ i)
-either_of k i h = grind arith
-
 pub alike_more : {X : Type 0} (a b : List X) (i : ℕ) (x y : X) → AreAlikeBelow a b i → slice_get a i ≡ Some x
     → slice_get b i ≡ Some y → x ≡ y → AreAlikeBelow a b (i + 1)
 alike_more a b i x y h there here same k less =
-    elim (either_of k i less) [
+    elim (below_or_last k i less) [
       | inl f ↦ h k f
       | inr e ↦ subst (λ (m : ℕ). slice_get a m ≡ slice_get b m) (sym e) (there ∙ ap Some same ∙ sym here)
     ]
-
-pub not_alike : {X : Type 0} (a b : List X) (i : ℕ) (x y : X) → slice_get a i ≡ Some x → slice_get b i ≡ Some y
-    → (x ≡ y → ⊥) → a ≡ b → ⊥
-not_alike {X} a b i x y there here apart e =
-    apart (inside x y (sym there ∙ ap (λ (l : List X). slice_get l i) e ∙ here))
 
 all_alike : {X : Type 0} (a b : List X) → length a ≡ length b → AreAlikeBelow a b (length a) → a ≡ b
 all_alike [] [] e h = refl
 all_alike [] (y ∷ b) e h = absurd (omega (arith, e))
 all_alike (x ∷ a) [] e h = absurd (omega (arith, e))
 all_alike (x ∷ a) (y ∷ b) e h =
-    let first : x ≡ y = inside x y (h 0 (omega arith)) in
+    let first : x ≡ y = some_same x y (h 0 (omega arith)) in
     let rest : a ≡ b = all_alike a b (omega (arith, e)) (λ k less. h (suc k) (omega (arith, less))) in
     cc
 

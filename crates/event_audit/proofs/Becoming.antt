@@ -2,7 +2,8 @@
 use Rattle.std.proofs.Common.{[], ℕ, ◌+◌, ◌∙◌, ◌∷◌, ◌≡◌, ◌≤◌, List, None, Option, Some, ap, arith, drop, filter_map}
 use Rattle.std.proofs.Common.{length, refl, suc, sym, zero}
 use Rattle.std.specs.Prelude.{slice_get}
-use Rattle.event_audit.proofs.Behind.{left_none, left_some}
+use Rattle.lemmas.proofs.Lists.{drop_at_end}
+use Rattle.event_audit.proofs.Behind.{left_some}
 use Rattle.event_audit.proofs.Passing.{given, none_given, skipped}
 
 -- the first of what is left
@@ -48,7 +49,7 @@ module _ {X Y : Type 0} (f : X → Option Y) where
 
   -- all are passed
   pub become_all : (xs : List X) (i : ℕ) (ys : List Y) (n : ℕ) → length xs ≤ i → n ≡ length ys → Becomes xs i ys n
-  become_all xs i ys n all e = none_given f xs i all ∙ sym (left_none ys n (omega (arith, e)))
+  become_all xs i ys n all e = none_given f xs i all ∙ sym (drop_at_end ys n (omega (arith, e)))
 
   pub all_became : (xs : List X) (i : ℕ) (ys : List Y) (n : ℕ) → length xs ≤ i → n ≤ length ys → Becomes xs i ys n
       → n ≡ length ys

@@ -1,10 +1,12 @@
 -- Whether all readings are less than one, told by the greatest of them.
 use Rattle.std.proofs.Common.{[], ℕ, ◌&&◌, ◌+◌, ◌<◌, ◌∙◌, ◌∷◌, ◌≡◌, ◌≤◌, ◌⊎◌, Bool, List, None, Option, Some, add-one, ap, arith}
 use Rattle.std.proofs.Common.{cond, drop, false, filter_map, inl, inr, nat_lt, not, refl, slice_get, subst, sym, true}
-use Rattle.std.proofs.lemmas.Bool.{le-ltb, lt-ltb, ltb-false, ltb-true}
+use Rattle.std.proofs.lemmas.Bool.{le-ltb, ltb-false, ltb-true}
 use Rattle.std.specs.Bool.{Decides}
 use Rattle.std.specs.List.{list_all, list_any}
 use Rattle.std.specs.Prelude.{◌||◌}
+use Rattle.lemmas.proofs.Booleans.{and_false}
+use Rattle.model_laws.proofs.Times.{above_greatest}
 use Rattle.model.specs.Types.{Body, Clock, Entry, Events}
 use Rattle.model.specs.Words.{greatest, nth}
 use Rattle.model.specs.History.{list_of}
@@ -13,14 +15,6 @@ use Rattle.model.specs.Sound.{IsInTime}
 use Rattle.event_audit.specs.Times.{is_reading}
 use Rattle.event_audit.proofs.Behind.{left_some}
 
-both : (a b : Bool) → a ≡ true → b ≡ true → (a && b) ≡ true
-both true b h k = k
-both false b h k = h
-
-and_false : (a : Bool) → (a && false) ≡ false
-and_false true = refl
-and_false false = refl
-
 -- one is less than the other, or not
 less_or_not : (a b : ℕ) → ((nat_lt a b ≡ true) × (a < b)) ⊎ ((nat_lt a b ≡ false) × (b ≤ a))
 less_or_not a b = go (nat_lt a b) refl
@@ -28,19 +22,6 @@ less_or_not a b = go (nat_lt a b) refl
     go : (t : Bool) → nat_lt a b ≡ t → ((nat_lt a b ≡ true) × (a < b)) ⊎ ((nat_lt a b ≡ false) × (b ≤ a))
     go true h = inl (h, ltb-true a b h)
     go false h = inr (h, ltb-false a b h)
-
-all_less : (t : ℕ) (xs : List ℕ) → greatest xs < t → list_all (λ u. nat_lt u t) xs ≡ true
-all_less t [] h = refl
-all_less t (x ∷ xs) h = elim (less_or_not x (greatest xs)) [
-  | inl l ↦ let same : cond (nat_lt x (greatest xs)) (greatest xs) x ≡ greatest xs = rw l.0 refl in
-      let less = l.1 in
-      both (nat_lt x t) (list_all (λ u. nat_lt u t) xs) (lt-ltb x t (omega (arith, h, same, less)))
-      (all_less t xs (omega (arith, h, same)))
-  | inr l ↦ let same : cond (nat_lt x (greatest xs)) (greatest xs) x ≡ x = rw l.0 refl in
-      let other = l.1 in
-      both (nat_lt x t) (list_all (λ u. nat_lt u t) xs) (lt-ltb x t (omega (arith, h, same)))
-      (all_less t xs (omega (arith, h, same, other)))
-]
 
 not_all_less : (t : ℕ) (xs : List ℕ) → 0 < t → t ≤ greatest xs → list_all (λ u. nat_lt u t) xs ≡ false
 not_all_less t [] some h = absurd (omega (arith, some, h))
@@ -55,7 +36,7 @@ not_all_less t (x ∷ xs) some h = elim (less_or_not x (greatest xs)) [
 pub after_now : (t : ℕ) (events : List Body) → now events < t
     → list_all (λ u. nat_lt u t) (filter_map reading events) ≡ true
 unfolding now
-after_now t events h = all_less t (filter_map reading events) h
+after_now t events h = above_greatest t (filter_map reading events) h
 
 pub not_after_now : (t : ℕ) (events : List Body) → 0 < t → t ≤ now events
     → list_all (λ u. nat_lt u t) (filter_map reading events) ≡ false

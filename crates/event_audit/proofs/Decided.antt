@@ -1,26 +1,23 @@
 -- What the tests of a launch, a release and an end tell.
-use Rattle.std.proofs.Common.{◌≡◌, ◌+◌, ◌-◌, arith, suc, zero, ◌∙◌, ℕ, Bool, List, None, Option, Some, ap, false, true, refl, sym}
-use Rattle.std.proofs.lemmas.Bool.{eqb-true}
+use Rattle.std.proofs.Common.{◌≡◌, ◌+◌, ◌-◌, arith, suc, zero, ◌∙◌, ℕ, Bool, List, None, Option, Some, false, true}
+use Rattle.std.proofs.Common.{refl, sym}
 use Rattle.std.specs.Bool.{Decides}
 use Rattle.std.specs.List.{list_any}
 use Rattle.std.specs.Option.{option_map_or}
-use Rattle.std.specs.Prelude.{Err, IfOk, Ok, Result, count_by, option_map}
+use Rattle.std.specs.Prelude.{Err, IfOk, Ok, Result, count_by}
+use Rattle.lemmas.proofs.Booleans.{contrary_of}
 use Rattle.model.specs.Types.{Entry, Events, Job, Net, Stream, StreamDoc}
-use Rattle.model.specs.History.{Seen, View}
-use Rattle.model.specs.Catalogue.{owner, stream}
+use Rattle.model.specs.History.{Seen}
+use Rattle.model.specs.Catalogue.{stream}
 use Rattle.model.specs.Facts.{is_launch_of}
 use Rattle.model.specs.Readiness.{is_ready}
-use Rattle.model.specs.OwnMembers.{may_end, may_end_in, may_release, may_release_in}
+use Rattle.model.specs.OwnMembers.{may_end, may_end_in, may_release}
 use Rattle.model.specs.Turn.{end_witnesses, witnesses}
 use Rattle.model.specs.Sound.{IsHeldPrefix, IsRightEnd, IsRightLaunch, IsRightRelease, seen_view}
-use Rattle.model_laws.proofs.Growth.{and_left}
 use Rattle.counted_facts.specs.Subjects.{brings}
 use Rattle.counted_decisions.proofs.Sighted.{brought_there}
 use Rattle.event_audit.specs.Prefixes.{name_only}
 use Rattle.event_audit.proofs.Prefix.{are_counts, has_counts, is_prefix}
-
-pub apart : (b : Bool) → b ≡ true → b ≡ false → ⊥
-apart b x y = cc
 
 -- what holds of an answer
 pub if_ok_then : {X E : Type 0} {P Q : X → Type 0} (r : Result X E) → IfOk r P → ((x : X) → P x → Q x) → IfOk r Q
@@ -30,7 +27,7 @@ if_ok_then (Err e) h f = h
 -- what does not count right is no prefix
 pub no_counts : (before : List Entry) (w : ℕ) (seen : Seen) (named : List ℕ) (r : Bool)
     → r ≡ are_counts before w seen → r ≡ false → IsHeldPrefix before w named seen → ⊥
-no_counts before w seen named r e wrong h = apart r (e ∙ has_counts before w named seen h) wrong
+no_counts before w seen named r e wrong h = contrary_of r (e ∙ has_counts before w named seen h) wrong
 
 -- a launch
 pub launch_told : (net : Net) (before : List Entry) (w j n : ℕ) (seen : Seen) (r : Bool)
@@ -69,16 +66,6 @@ end_told before w s seen r counts ready e = (
   },
   λ (h : IsRightEnd before w s seen). e ∙ h.prefix.only,
 )
-
--- who may release a stream owns it
-pub release_owner : (net : Net) (V : View) (w s : ℕ) → may_release net V w s ≡ true → owner V (Stream s) ≡ Some w
-unfolding may_release owner
-release_owner net V w s = go (stream V s)
-  where
-    go : (o : Option StreamDoc) → option_map_or (may_release_in net V w) o false ≡ true
-        → option_map (λ (d : StreamDoc). d.ws) o ≡ Some w
-    go None h = cc
-    go (Some d) h = ap Some (eqb-true d.ws w (and_left _ _ h))
 
 -- a stream that may end is brought
 pub end_brought : (before : List Entry) (w s : ℕ) (seen : Seen) → may_end (seen_view before seen) w s ≡ true

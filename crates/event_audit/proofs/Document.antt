@@ -1,13 +1,10 @@
 -- The document of a submitted draft, put together from its parts.
-use Rattle.std.proofs.Common.{[], ℕ, ◌+◌, ◌∷◌, ◌≡◌, Bool, List, Option, ap}
-use Rattle.std.proofs.Common.{filter_map, map, refl, subst}
+use Rattle.std.proofs.Common.{ℕ, ◌+◌, ◌≡◌, Bool, List, Option, ap}
+use Rattle.std.proofs.Common.{filter_map, map, refl}
 use Rattle.std.specs.List.{enumerate_from}
 use Rattle.model.specs.Types.{CondOp, Dep, JobDoc, JobDraft, Recovery, StreamDoc, StreamDraft, Work}
 use Rattle.model.specs.History.{View}
-use Rattle.model.specs.NewPlan.{documents, fresh_of, last_job, numbered}
-use Rattle.model.specs.Catalogue.{members}
-use Rattle.model.specs.Sound.{AreDocumentsOf, IsDocumentOf}
-use Rattle.model_laws.proofs.Documents.{documents_of}
+use Rattle.model.specs.NewPlan.{last_job, numbered}
 use Rattle.event_audit.specs.Drafts.{HasHead, HasWork, gives, job_given}
 
 abbrev the_stream : ℕ → ℕ → List ℕ → ℕ → Option ℕ → Bool → List Dep → List JobDoc → StreamDoc
@@ -93,14 +90,3 @@ job_work_so V draft n job_ doc e =
 pub job_deps_so : (V : View) (draft : StreamDraft) (n : ℕ) (job_ : JobDraft) (doc : JobDoc)
     → job_given V draft (n, job_) ≡ doc → filter_map (gives V draft) job_.deps ≡ doc.deps
 job_deps_so V draft n job_ doc e = ap (λ (d : JobDoc). d.deps) e
-
--- by the law of documents, a document that is made of a draft is right
-pub made_right : (V : View) (draft : StreamDraft) (doc : StreamDoc) → numbered V draft ≡ doc
-    → IsDocumentOf V draft doc
-unfolding numbered documents fresh_of
-made_right V draft doc e =
-    record {
-      is_it = e;
-      right = subst (λ (d : StreamDoc). AreDocumentsOf V (members V) (draft ∷ []) (d ∷ [])) e
-          (documents_of V (members V) (draft ∷ []));
-    }

@@ -1,9 +1,11 @@
 -- A history is sound exactly where each item is right, and which item is the first wrong one.
-use Rattle.std.proofs.Common.{◌≡◌, ℕ, ◌+◌, ◌-◌, ◌<◌, ◌≤◌, ◌⊎◌, List, arith, inl, inr, length, refl, subst, suc, sym, zero, Some}
+use Rattle.std.proofs.Common.{◌≡◌, ℕ, ◌+◌, ◌-◌, ◌<◌, ◌≤◌, List, arith, inl, inr, length, refl, subst, suc, sym, zero}
+use Rattle.std.proofs.Common.{Some}
 use Rattle.std.proofs.Common.{None, take, ◌∙◌}
 use Rattle.std.specs.Prelude.{IsNone, Option, slice_get}
 use Rattle.std.specs.Option.{IfSome}
 use Rattle.std.proofs.lemmas.Option.{slice_get_within}
+use Rattle.lemmas.proofs.Numbers.{below_or_last}
 use Rattle.model.specs.Types.{Entry, Net, Start}
 use Rattle.model.specs.Words.{nth}
 use Rattle.model.specs.Sound.{AnswersItsOrder, CarriesByTheOption, HasItsPlace, IsInTime, IsSound}
@@ -111,14 +113,10 @@ all_right net G starts h t =
     each_sound net G starts (λ k e s. h k (slice_get_within G k e s) e s)
     (λ k s e. t k (slice_get_within starts k s e) s e)
 
--- one further
-either_of : (k i : ℕ) → k < i + 1 → (k < i) ⊎ (k ≡ i)
-either_of k i h = grind arith
-
 pub below_more : (net : Net) (G : List Entry) (i : ℕ) (e : Entry) → AreRightBelow net G i → slice_get G i ≡ Some e
     → IsRightEntry net (take i G) e → AreRightBelow net G (i + 1)
 below_more net G i e h there right k less x s =
-    elim (either_of k i less) [
+    elim (below_or_last k i less) [
       | inl f ↦ h k f x s
       | inr same ↦ subst (λ (m : ℕ). slice_get G m ≡ Some x → IsRightEntry net (take m G) x) (sym same)
           (λ t. subst (IsRightEntry net (take i G)) (inside e x (sym there ∙ t)) right) s
@@ -130,7 +128,7 @@ below_more net G i e h there right k less x s =
 pub starts_more : (G : List Entry) (starts : List Start) (i : ℕ) (s : Start) → AreStartsRightBelow G starts i
     → slice_get starts i ≡ Some s → IsRightStart G (take i starts) s → AreStartsRightBelow G starts (i + 1)
 starts_more G starts i s h there right k less x e =
-    elim (either_of k i less) [
+    elim (below_or_last k i less) [
       | inl f ↦ h k f x e
       | inr same ↦ subst (λ (m : ℕ). slice_get starts m ≡ Some x → IsRightStart G (take m starts) x) (sym same)
           (λ t. subst (IsRightStart G (take i starts)) (inside s x (sym there ∙ t)) right) e

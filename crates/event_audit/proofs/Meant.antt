@@ -1,12 +1,12 @@
 -- Whether a stream is meant by its name, told by the first fresh and the last carried stream of that name.
 use Rattle.std.proofs.Common.{[], ℕ, ◌+◌, ◌∙◌, ◌∷◌, ◌≡◌, ◌||◌, Bool, List, None, Option, Some, ap, cond, drop}
-use Rattle.std.proofs.Common.{false, filter_map, find, inl, inr, refl, reverse, sym, true}
-use Rattle.std.proofs.lemmas.Bool.Decides.{eqb_tells}
+use Rattle.std.proofs.Common.{false, filter_map, find, refl, reverse, sym, true}
 use Rattle.std.specs.List.{list_any}
 use Rattle.std.specs.Option.{option_map_or}
 use Rattle.std.specs.Prelude.{◌==◌, slice_get}
+use Rattle.lemmas.proofs.Numbers.{eq_turned}
+use Rattle.model_laws.proofs.Documents.{text_turned}
 use Rattle.model.specs.Types.{StreamDoc}
-use Rattle.model.specs.Equalities.{text_eq}
 use Rattle.model.specs.History.{View}
 use Rattle.model.specs.Catalogue.{stream}
 use Rattle.model.specs.Sound.{have_one_name, is_meant}
@@ -17,24 +17,9 @@ use Rattle.event_audit.proofs.Passing.{any_given, any_skipped}
 abbrev pub known : View → List ℕ → List StreamDoc
 known V carried = filter_map (stream V) carried
 
-turned : (a b : ℕ) → (a == b) ≡ (b == a)
-turned a b = elim (eqb_tells a b) [ inl t ↦ same t.0 t.1 | inr t ↦ other t.0 t.1 ]
-  where
-    same : (a == b) ≡ true → a ≡ b → (a == b) ≡ (b == a)
-    same yes_ e = elim (eqb_tells b a) [ inl u ↦ yes_ ∙ sym u.0 | inr u ↦ absurd (u.1 (sym e)) ]
-
-    other : (a == b) ≡ false → (a ≡ b → ⊥) → (a == b) ≡ (b == a)
-    other not_ apart = elim (eqb_tells b a) [ inl u ↦ absurd (apart (sym u.1)) | inr u ↦ not_ ∙ sym u.0 ]
-
-text_turned : (a b : List ℕ) → text_eq a b ≡ text_eq b a
-text_turned [] [] = refl
-text_turned [] (y ∷ ys) = refl
-text_turned (x ∷ xs) [] = refl
-text_turned (x ∷ xs) (y ∷ ys) = rw (turned x y, text_turned xs ys) refl
-
 -- its own name is what others are called by
 called_so : (d e : StreamDoc) → have_one_name d e ≡ is_called d.ws d.name e
-called_so d e = rw (turned d.ws e.ws, text_turned d.name e.name) refl
+called_so d e = rw (eq_turned d.ws e.ws, text_turned d.name e.name) refl
 
 found_so : (d : StreamDoc) (docs : List StreamDoc) → find (have_one_name d) docs ≡ find (is_called d.ws d.name) docs
 found_so d [] = refl

@@ -5,8 +5,9 @@ use Rattle.std.proofs.lemmas.Bool.Decides.{eqb_tells}
 use Rattle.std.proofs.lemmas.Option.{slice_get_within}
 use Rattle.std.specs.Bool.{Decides}
 use Rattle.std.specs.Prelude.{◌==◌, slice_get}
+use Rattle.lemmas.proofs.Lists.{drop_at_end}
 use Rattle.model.specs.Words.{IsPartOf}
-use Rattle.event_audit.proofs.Behind.{left_none, left_some}
+use Rattle.event_audit.proofs.Behind.{left_some}
 
 -- a part of more is a part
 wider : (xs ys : List ℕ) (y : ℕ) → IsPartOf xs ys → IsPartOf xs (y ∷ ys)
@@ -71,12 +72,12 @@ passed_back part whole found i y there h =
 pub part_done : (part whole : List ℕ) (found i : ℕ) → length whole ≤ i → found ≡ length part
     → IsPartOf (drop found part) (drop i whole)
 part_done part whole found i all e =
-    subst (λ (l : List ℕ). IsPartOf l (drop i whole)) (sym (left_none part found (omega (arith, e)))) tt
+    subst (λ (l : List ℕ). IsPartOf l (drop i whole)) (sym (drop_at_end part found (omega (arith, e)))) tt
 
 pub part_left : (part whole : List ℕ) (found i : ℕ) → length whole ≤ i → found ≤ length part
     → IsPartOf (drop found part) (drop i whole) → found ≡ length part
 part_left part whole found i all within h =
-    go part found within (subst (λ (l : List ℕ). IsPartOf (drop found part) l) (left_none whole i all) h)
+    go part found within (subst (λ (l : List ℕ). IsPartOf (drop found part) l) (drop_at_end whole i all) h)
   where
     go : (xs : List ℕ) (n : ℕ) → n ≤ length xs → IsPartOf (drop n xs) [] → n ≡ length xs
     go [] zero w g = refl

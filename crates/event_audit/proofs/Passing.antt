@@ -6,7 +6,8 @@ use Rattle.std.proofs.lemmas.List.Elements.{filter_map-append}
 use Rattle.std.proofs.lemmas.List.Folds.{list_all-append}
 use Rattle.std.specs.List.{cons_option, list_all, list_any}
 use Rattle.std.specs.Prelude.{flat_map, slice_get}
-use Rattle.event_audit.proofs.Behind.{left_none, left_some, taken_some}
+use Rattle.lemmas.proofs.Lists.{drop_at_end, take_further}
+use Rattle.event_audit.proofs.Behind.{left_some}
 
 module _ {X Y : Type 0} (f : X → Option Y) where
   -- an item that gives nothing, and one that gives something
@@ -23,12 +24,12 @@ module _ {X Y : Type 0} (f : X → Option Y) where
       ∙ ap (λ (o : Option Y). cons_option o (filter_map f (drop (i + 1) xs))) e
 
   pub none_given : (xs : List X) (i : ℕ) → length xs ≤ i → filter_map f (drop i xs) ≡ []
-  none_given xs i h = ap (λ (l : List X). filter_map f l) (left_none xs i h)
+  none_given xs i h = ap (λ (l : List X). filter_map f l) (drop_at_end xs i h)
 
   taken_more : (xs : List X) (i : ℕ) (x : X) (o : Option Y) → slice_get xs i ≡ Some x → f x ≡ o
       → filter_map f (take (i + 1) xs) ≡ filter_map f (take i xs) ++ cons_option o []
   taken_more xs i x o there e =
-      ap (λ (l : List X). filter_map f l) (taken_some xs i x there)
+      ap (λ (l : List X). filter_map f l) (take_further xs i x there)
       ∙ filter_map-append f (take i xs) (x ∷ [])
       ∙ ap (λ (p : Option Y). filter_map f (take i xs) ++ cons_option p []) e
 

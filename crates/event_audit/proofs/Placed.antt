@@ -3,14 +3,15 @@ use Rattle.std.proofs.Common.{[], ℕ, ◌+◌, ◌∙◌, ◌∷◌, ◌≡◌,
 use Rattle.std.proofs.Common.{suc, zero}
 use Rattle.std.specs.List.{enumerate_from}
 use Rattle.std.specs.Prelude.{slice_get}
-use Rattle.event_audit.proofs.Behind.{inside, left_some}
+use Rattle.lemmas.proofs.Options.{some_same}
+use Rattle.event_audit.proofs.Behind.{left_some}
 
 pub placed_at : {X Y : Type 0} (f : ℕ × X → Y) (first : ℕ) (xs : List X) (i : ℕ) (x : X) → slice_get xs i ≡ Some x
     → slice_get (map f (enumerate_from first xs)) i ≡ Some (f (first + i, x))
 placed_at f first [] i x e = cc
 placed_at {X} {Y} f first (y ∷ xs) zero x e =
     let same : first ≡ first + 0 = omega arith in
-    ap (λ (z : X). Some (f (first, z))) (inside y x e) ∙ ap (λ (n : ℕ). Some (f (n, x))) same
+    ap (λ (z : X). Some (f (first, z))) (some_same y x e) ∙ ap (λ (n : ℕ). Some (f (n, x))) same
 placed_at {X} {Y} f first (y ∷ xs) (suc i) x e =
     let same : first + 1 + i ≡ first + suc i = omega arith in
     placed_at f (first + 1) xs i x e ∙ ap (λ (n : ℕ). Some (f (n, x))) same

@@ -1,34 +1,19 @@
 -- What the tests of a new plan tell.
-use Rattle.std.proofs.Common.{ℕ, ◌&&◌, ◌+◌, ◌≡◌, Bool, List, ap, false, inl, inr, refl, subst, sym, true}
+use Rattle.std.proofs.Common.{ℕ, ◌&&◌, ◌+◌, ◌≡◌, Bool, List, inl, inr, subst, sym, true}
 use Rattle.std.proofs.lemmas.Bool.Decides.{eqb_tells}
 use Rattle.std.specs.Bool.{Decides}
 use Rattle.std.specs.Prelude.{◌==◌}
-use Rattle.model.specs.Types.{Body, Carry, Entry, Events, StreamDoc}
+use Rattle.lemmas.proofs.Booleans.{and_left, and_made, and_right}
+use Rattle.lemmas.proofs.Numbers.{eq_tells}
+use Rattle.model_laws.proofs.Plans.{local_members}
+use Rattle.model.specs.Types.{Carry, Entry, Events, StreamDoc}
 use Rattle.model.specs.Words.{IsPartOf}
 use Rattle.model.specs.History.{Seen, View, list_of, view_of}
-use Rattle.model.specs.Catalogue.{catalogue, members, named_members, stream}
+use Rattle.model.specs.Catalogue.{members}
 use Rattle.model.specs.NewPlan.{last_run}
 use Rattle.model.specs.Sound.{IsCarried, seen_view}
 use Rattle.event_audit.specs.Plans.{AreRightDocuments, AreTheTaken, CarriesExactly}
 use Rattle.event_audit.proofs.Prefix.{are_counts, counts_others, counts_own, counts_told}
-
-and_left : (a b : Bool) → (a && b) ≡ true → a ≡ true
-and_left true b h = refl
-and_left false b h = h
-
-and_right : (a b : Bool) → (a && b) ≡ true → b ≡ true
-and_right true b h = h
-and_right false b h = cc
-
-both : (a b : Bool) → a ≡ true → b ≡ true → (a && b) ≡ true
-both true b h k = k
-both false b h k = h
-
-eq_so : (a b : ℕ) → (a == b) ≡ true → a ≡ b
-eq_so a b h = elim (eqb_tells a b) [ inl t ↦ t.1 | inr t ↦ absurd (apart h t.0) ]
-  where
-    apart : {b : Bool} → b ≡ true → b ≡ false → ⊥
-    apart x y = cc
 
 so_eq : (a b : ℕ) → a ≡ b → (a == b) ≡ true
 so_eq a b e = elim (eqb_tells a b) [ inl t ↦ t.0 | inr t ↦ absurd (t.1 e) ]
@@ -40,7 +25,7 @@ begins before run cut = (run == 1 + last_run (list_of before (Events 0))) && are
 pub carried_begins : (option : Carry) (before : List Entry) (run : ℕ) (cut : Seen) (carried : List ℕ)
     (docs : List StreamDoc) → IsCarried option before run cut carried docs → begins before run cut ≡ true
 carried_begins option before run cut carried docs h =
-    both (run == 1 + last_run (list_of before (Events 0))) (are_counts before 0 cut)
+    and_made (run == 1 + last_run (list_of before (Events 0))) (are_counts before 0 cut)
     (so_eq run (1 + last_run (list_of before (Events 0))) h.run_is) (counts_told before 0 cut h.own h.others)
 
 pub carried_documents : (option : Carry) (before : List Entry) (run : ℕ) (cut : Seen) (carried : List ℕ)
@@ -57,7 +42,7 @@ plan_of_parts option before run cut carried docs b d e =
     let counts : are_counts before 0 cut ≡ true =
     and_right (run == 1 + last_run (list_of before (Events 0))) (are_counts before 0 cut) b in
     record {
-      run_is = eq_so run (1 + last_run (list_of before (Events 0))) first;
+      run_is = eq_tells run (1 + last_run (list_of before (Events 0))) first;
       own = counts_own before 0 cut counts;
       others = counts_others before 0 cut counts;
       in_order = e.in_order;
@@ -82,28 +67,23 @@ pub begins_counts : (before : List Entry) (run : ℕ) (cut : Seen) → begins be
 begins_counts before run cut b =
     and_right (run == 1 + last_run (list_of before (Events 0))) (are_counts before 0 cut) b
 
--- who has all that the master made has the members
-pub same_members : (U V : View) → U (Events 0) ≡ V (Events 0) → members U ≡ members V
-unfolding members named_members stream catalogue
-same_members U V e = ap (λ (l : List Body). members (λ f. l)) e
-
 -- what is carried, told by the members of all that was taken
 pub carried_told : (option : Carry) (U V : View) (carried : List ℕ) (r : Bool) → U (Events 0) ≡ V (Events 0)
     → IsPartOf carried (members V) → Decides r (AreTheTaken option U carried (members V))
     → Decides r (CarriesExactly option U carried)
 carried_told option U V carried r e part h = (
   λ t. record {
-    in_order = subst (λ (l : List ℕ). IsPartOf carried l) (sym (same_members U V e)) part;
-    exactly = subst (λ (l : List ℕ). AreTheTaken option U carried l) (sym (same_members U V e)) (h.0 t);
+    in_order = subst (λ (l : List ℕ). IsPartOf carried l) (sym (local_members U V e)) part;
+    exactly = subst (λ (l : List ℕ). AreTheTaken option U carried l) (sym (local_members U V e)) (h.0 t);
   },
   λ (all : CarriesExactly option U carried). h.1
-      (subst (λ (l : List ℕ). AreTheTaken option U carried l) (same_members U V e) all.exactly),
+      (subst (λ (l : List ℕ). AreTheTaken option U carried l) (local_members U V e) all.exactly),
 )
 
 pub not_in_order : (option : Carry) (U V : View) (carried : List ℕ) → U (Events 0) ≡ V (Events 0)
     → CarriesExactly option U carried → IsPartOf carried (members V)
 not_in_order option U V carried e all =
-    subst (λ (l : List ℕ). IsPartOf carried l) (same_members U V e) all.in_order
+    subst (λ (l : List ℕ). IsPartOf carried l) (local_members U V e) all.in_order
 
 -- a plan of the master
 pub masters_plan : (option : Carry) (before : List Entry) (w run : ℕ) (cut : Seen) (S carried : List ℕ)

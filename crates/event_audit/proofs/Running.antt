@@ -3,11 +3,13 @@ use Rattle.std.proofs.Common.{[], ℕ, ◌+◌, ◌++◌, ◌∷◌, ◌∙◌, 
 use Rattle.std.proofs.Common.{subst, suc, sym, zero}
 use Rattle.std.proofs.lemmas.List.{length-append, map-append}
 use Rattle.std.specs.Prelude.{slice_get}
+use Rattle.model_laws.proofs.Numbers.{numbers-length}
+use Rattle.lemmas.proofs.Lists.{drop_at_end}
 use Rattle.model.specs.Types.{JobDoc, StreamDoc}
 use Rattle.model.specs.Words.{numbers_from}
 use Rattle.model.specs.Sound.{jobs_in_docs}
 use Rattle.event_audit.specs.Numbers.{GoOnFrom, GoOnTo}
-use Rattle.event_audit.proofs.Behind.{left_none, left_some}
+use Rattle.event_audit.proofs.Behind.{left_some}
 
 -- the items have the numbers after the last one, in order
 abbrev pub GoesOn : {X : Type 0} → (X → ℕ) → ℕ → List X → Type 0
@@ -52,7 +54,7 @@ module _ {X : Type 0} (number : X → ℕ) where
 
   -- nothing is left
   pub none_wrong : (last : ℕ) (xs : List X) (i : ℕ) → length xs ≤ i → GoesOn number last (drop i xs)
-  none_wrong last xs i h = subst (λ (l : List X). GoesOn number last l) (sym (left_none xs i h)) refl
+  none_wrong last xs i h = subst (λ (l : List X). GoesOn number last l) (sym (drop_at_end xs i h)) refl
 
 -- the number of a stream, of a job
 abbrev pub stream_no : StreamDoc → ℕ
@@ -91,10 +93,6 @@ numbers_append n (suc a) b =
     ap (λ (c : ℕ). numbers_from n c) count ∙ ap (λ (l : List ℕ). n ∷ l) (numbers_append (n + 1) a b)
     ∙ ap (λ (m : ℕ). n ∷ (numbers_from (n + 1) a ++ numbers_from m b)) from
 
-numbers_length : (n a : ℕ) → length (numbers_from n a) ≡ a
-numbers_length n zero = refl
-numbers_length n (suc a) = ap suc (numbers_length (n + 1) a)
-
 map_length : (js : List JobDoc) → length (map job_no js) ≡ length js
 map_length [] = refl
 map_length (j ∷ js) = ap suc (map_length js)
@@ -113,7 +111,7 @@ both_forth last js ks h =
     in
     joined (map job_no js) (map job_no ks) (numbers_from (1 + last) (length js))
     (numbers_from (1 + (last + length js)) (length ks)) all
-    (map_length js ∙ sym (numbers_length (1 + last) (length js)))
+    (map_length js ∙ sym (numbers-length (1 + last) (length js)))
 
 both_back : (last : ℕ) (js ks : List JobDoc) → GoOnFrom last js → GoOnFrom (last + length js) ks
     → GoOnFrom last (js ++ ks)
@@ -147,4 +145,4 @@ jobs_wrong last docs i d there apart h =
     (subst (λ (l : List StreamDoc). JobsGoOn last l) (left_some docs i d there) h)).0
 
 pub jobs_none : (last : ℕ) (docs : List StreamDoc) (i : ℕ) → length docs ≤ i → JobsGoOn last (drop i docs)
-jobs_none last docs i h = subst (λ (l : List StreamDoc). JobsGoOn last l) (sym (left_none docs i h)) refl
+jobs_none last docs i h = subst (λ (l : List StreamDoc). JobsGoOn last l) (sym (drop_at_end docs i h)) refl

@@ -1,33 +1,15 @@
 -- Launches that are started, one start further.
-use Rattle.std.proofs.Common.{[], ℕ, ◌&&◌, ◌++◌, ◌∙◌, ◌∷◌, ◌≡◌, Bool, List, ap, false, inl, inr, refl, sym, true}
-use Rattle.std.proofs.lemmas.Bool.Decides.{eqb_tells}
+use Rattle.std.proofs.Common.{[], ℕ, ◌&&◌, ◌++◌, ◌∙◌, ◌∷◌, ◌≡◌, Bool, List, ap, refl, sym}
 use Rattle.std.proofs.lemmas.List.Folds.{list_any-append}
 use Rattle.std.specs.List.{list_any}
-use Rattle.std.specs.Prelude.{◌==◌, ◌||◌, Err, Ok, OnOk, Result}
+use Rattle.std.specs.Prelude.{◌==◌, ◌||◌}
+use Rattle.lemmas.proofs.Booleans.{or_false, or_turned}
+use Rattle.lemmas.proofs.Numbers.{eq_turned}
 use Rattle.indexmap.specs.IndexSet.{contains}
 use Rattle.model.specs.Types.{Start}
 use Rattle.model.specs.Sound.{same_launch}
 use Rattle.event_audit.specs.Starts.{AreStarted, same_pair}
 use Rattle.event_audit.specs.declared.starts.StartedLaunches.{StartedLaunches}
-
-turned : (a b : ℕ) → (a == b) ≡ (b == a)
-turned a b = elim (eqb_tells a b) [ inl t ↦ same t.0 t.1 | inr t ↦ other t.0 t.1 ]
-  where
-    same : (a == b) ≡ true → a ≡ b → (a == b) ≡ (b == a)
-    same yes_ e = elim (eqb_tells b a) [ inl u ↦ yes_ ∙ sym u.0 | inr u ↦ absurd (u.1 (sym e)) ]
-
-    other : (a == b) ≡ false → (a ≡ b → ⊥) → (a == b) ≡ (b == a)
-    other not_ apart = elim (eqb_tells b a) [ inl u ↦ absurd (apart (sym u.1)) | inr u ↦ not_ ∙ sym u.0 ]
-
-or_none : (b : Bool) → (b || false) ≡ b
-or_none true = refl
-or_none false = refl
-
-or_turned : (a b : Bool) → (a || b) ≡ (b || a)
-or_turned true true = refl
-or_turned true false = refl
-or_turned false true = refl
-or_turned false false = refl
 
 pub nothing_started : (t : StartedLaunches) → t.launches.keys ≡ [] → AreStarted [] t
 nothing_started t none j n = ap (λ (l : List (ℕ × ℕ)). list_any (same_pair (j, n)) l) none
@@ -40,16 +22,12 @@ started_more earlier s k old new is_job is_number put h j n =
     put (j, n)
     ∙ ap (λ (b : Bool). b || contains same_pair old.launches (j, n))
     (ap (λ (m : ℕ). (m == j) && (k.1 == n)) is_job ∙ ap (λ (m : ℕ). (s.job == j) && (m == n)) is_number
-    ∙ (rw (turned s.job j, turned s.number n) refl))
+    ∙ (rw (eq_turned s.job j, eq_turned s.number n) refl))
     ∙ ap (λ (b : Bool). ((j == s.job) && (n == s.number)) || b) (h j n)
     ∙ or_turned ((j == s.job) && (n == s.number)) (list_any (λ (t : Start). (j == t.job) && (n == t.number)) earlier)
     ∙ ap (λ (b : Bool). list_any (λ (t : Start). (j == t.job) && (n == t.number)) earlier || b)
-    (sym (or_none ((j == s.job) && (n == s.number))))
+    (sym (or_false ((j == s.job) && (n == s.number))))
     ∙ sym (list_any-append (λ (t : Start). (j == t.job) && (n == t.number)) earlier (s ∷ []))
-
-pub after_ok : {X E P Q : Type 0} (r : Result X E) → OnOk r P → (P → Q) → OnOk r Q
-after_ok (Ok x) h f = f h
-after_ok (Err e) h f = h
 
 -- the launch of a start is among them where an earlier start is of it
 pub started_at : (t : StartedLaunches) (earlier : List Start) (s : Start) (k : ℕ × ℕ) (b : Bool) → k.0 ≡ s.job

@@ -1,70 +1,23 @@
 -- What a plan carries: exactly what the option takes, one member further.
-use Rattle.std.proofs.Common.{[], ℕ, ◌&&◌, ◌+◌, ◌∙◌, ◌∷◌, ◌≡◌, ◌||◌, ◌++◌, Bool, List, None, Option, Some, ap, false, refl, suc}
+use Rattle.std.proofs.Common.{[], ℕ, ◌+◌, ◌∙◌, ◌∷◌, ◌≡◌, ◌||◌, Bool, List, Some, ap, false, refl, suc}
 use Rattle.std.proofs.Common.{inl, inr, subst, sym, take, true, zero}
 use Rattle.std.proofs.Math.Bool.{beq}
 use Rattle.std.proofs.lemmas.Bool.Decides.{eqb_tells}
-use Rattle.std.specs.Option.{option_map_or}
 use Rattle.std.specs.Prelude.{◌==◌, ◌↔◌, IsTrue, not, slice_get}
-use Rattle.model.specs.Types.{Events, Net, Stream, StreamDoc}
+use Rattle.model_laws.proofs.Lists.{has_append}
+use Rattle.model_laws.proofs.Plans.{unfinished_from, unfinished_to}
+use Rattle.lemmas.proofs.Lists.{take_further}
+use Rattle.model.specs.Types.{Net}
 use Rattle.model.specs.Words.{has}
 use Rattle.model.specs.History.{View}
-use Rattle.model.specs.Catalogue.{stream}
-use Rattle.model.specs.Facts.{is_cancelled, is_ended}
-use Rattle.model.specs.NewPlan.{is_carried, takes}
+use Rattle.model.specs.NewPlan.{is_carried}
 use Rattle.model.specs.Sound.{IsTakenUnfinished}
 use Rattle.event_audit.specs.Plans.{AreTheTaken}
-use Rattle.event_audit.proofs.Behind.{taken_some}
-
-or_assoc : (a b c : Bool) → ((a || b) || c) ≡ (a || (b || c))
-or_assoc true b c = refl
-or_assoc false b c = refl
-
-has_append : (xs ys : List ℕ) (v : ℕ) → has (xs ++ ys) v ≡ (has xs v || has ys v)
-has_append [] ys v = refl
-has_append (x ∷ xs) ys v =
-    ap (λ (b : Bool). (x == v) || b) (has_append xs ys v) ∙ sym (or_assoc (x == v) (has xs v) (has ys v))
-
-and_left : (a b : Bool) → (a && b) ≡ true → a ≡ true
-and_left true b h = refl
-and_left false b h = h
-
-and_right : (a b : Bool) → (a && b) ≡ true → b ≡ true
-and_right true b h = h
-and_right false b h = cc
-
-is_not : (b : Bool) → not b ≡ true → b ≡ false
-is_not true h = cc
-is_not false h = refl
-
--- the test of the option is the fact of it
-taken_from : (net : Net) (V : View) (s : ℕ) → is_carried net V s ≡ true → IsTakenUnfinished net.carry V s
-unfolding is_carried
-taken_from net V s = go (stream V s) refl
-  where
-    go : (o : Option StreamDoc) → stream V s ≡ o
-        → option_map_or (λ (d : StreamDoc). takes net.carry d
-        && (not (is_cancelled (Stream s) (V (Events d.ws))) && not (is_ended s (V (Events d.ws))))) o false ≡ true
-        → IsTakenUnfinished net.carry V s
-    go None e h = cc
-    go (Some d) e h =
-        let rest : (not (is_cancelled (Stream s) (V (Events d.ws))) && not (is_ended s (V (Events d.ws)))) ≡ true
-        = and_right (takes net.carry d) _ h in
-        record {
-          doc = d;
-          there = e;
-          taken = and_left (takes net.carry d) _ h;
-          not_cancelled = is_not _ (and_left _ _ rest);
-          not_ended = is_not _ (and_right _ _ rest);
-        }
-
-taken_to : (net : Net) (V : View) (s : ℕ) → IsTakenUnfinished net.carry V s → is_carried net V s ≡ true
-unfolding is_carried
-taken_to net V s u = rw (u.there, u.taken, u.not_cancelled, u.not_ended) refl
 
 -- a member is carried where it is taken
 agrees : (net : Net) (V : View) (carried : List ℕ) (s : ℕ) → has carried s ≡ is_carried net V s
     → IsTrue (has carried s) ↔ IsTakenUnfinished net.carry V s
-agrees net V carried s e = (λ h. taken_from net V s (sym e ∙ h), λ u. e ∙ taken_to net V s u)
+agrees net V carried s e = (λ h. unfinished_from net V s (sym e ∙ h), λ u. e ∙ unfinished_to net V s u)
 
 same_tests : (a b : Bool) → (a ≡ true → b ≡ true) → (b ≡ true → a ≡ true) → a ≡ b
 same_tests true b h k = sym (h refl)
@@ -83,7 +36,7 @@ taken_further net V carried members i s there e h t t_in = go (has (take i membe
     split : (has (take i members) t || has (s ∷ []) t) ≡ true
     split =
         sym (has_append (take i members) (s ∷ []) t)
-        ∙ ap (λ (l : List ℕ). has l t) (sym (taken_some members i s there)) ∙ t_in
+        ∙ ap (λ (l : List ℕ). has l t) (sym (take_further members i s there)) ∙ t_in
 
     last : has (s ∷ []) t ≡ true → s ≡ t
     last f = elim (eqb_tells s t) [ inl y ↦ y.1 | inr n ↦ absurd (no_more n.0 f) ]
@@ -119,8 +72,8 @@ pub not_the_taken : (net : Net) (V : View) (carried members : List ℕ) (i : ℕ
     → (has carried s ≡ is_carried net V s → ⊥) → AreTheTaken net.carry V carried members → ⊥
 not_the_taken net V carried members i s there apart h =
     let both : IsTrue (has carried s) ↔ IsTakenUnfinished net.carry V s = h s (has_at members i there) in
-    apart (same_tests (has carried s) (is_carried net V s) (λ f. taken_to net V s (both.0 f))
-    (λ f. both.1 (taken_from net V s f)))
+    apart (same_tests (has carried s) (is_carried net V s) (λ f. unfinished_to net V s (both.0 f))
+    (λ f. both.1 (unfinished_from net V s f)))
   where
     has_at : (l : List ℕ) (i : ℕ) → slice_get l i ≡ Some s → has l s ≡ true
     has_at [] i e = cc

@@ -3,7 +3,7 @@ ghost use Rattle.std.specs.Prelude.{ℕ, ◌≡◌, ◌+◌, ◌<◌, ◌^◌, �
 ghost use Rattle.std.specs.Option.{IfSome};
 ghost use Rattle.model.specs.Types.{Entry as Kept};
 ghost use Rattle.model.specs.Sound.{IsSound};
-ghost use Rattle.told_launches.specs.Told.{AreTold};
+ghost use Rattle.counted_facts.specs.Launches.{AreTold};
 ghost use Rattle.event_audit.specs.Items.{AreRightBelow, AreStartsRightBelow, IsFirstWrong};
 ghost use Rattle.event_audit.specs.Audits.{IsWrongEntryAt, IsWrongStartAt};
 
@@ -11,11 +11,10 @@ use crate::entries::is_right_entry;
 use crate::findings::Audit;
 use crate::starts::{StartedLaunches, is_right_start};
 use base_types::{Entries, Entry, NoMemory, Start, Starts};
-use counted_facts::CountedFacts;
+use counted_facts::{CountedFacts, ToldLaunches};
 use network_tree::Network;
 use owner_fold::Owners;
 use std::alloc::Global;
-use told_launches::ToldLaunches;
 
 /// Whether a history and its starts are sound, or else the first item that fails: entries are counted from 1, and
 /// starts behind them. Any lists may be given, also with workstations outside the network. Where memory runs out

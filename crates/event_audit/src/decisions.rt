@@ -3,18 +3,17 @@ ghost use Rattle.std.specs.Prelude.{◌≡◌, IfOk};
 ghost use Rattle.std.specs.Bool.{Decides};
 ghost use Rattle.model.specs.Sound.{IsRightEnd, IsRightLaunch, IsRightRelease};
 ghost use Rattle.counted_facts.specs.Told.{AreCountedFacts};
-ghost use Rattle.told_launches.specs.Told.{AreTold};
+ghost use Rattle.counted_facts.specs.Launches.{AreTold};
 
 use crate::prefixes::has_the_counts;
 use base_types::{JobNo, NoMemory, Obj, Seen, StreamNo, Ws};
 use counted_decisions::{
     Sight, is_ready, may_end, may_release, names_end_witnesses, names_witnesses,
 };
-use counted_facts::CountedFacts;
+use counted_facts::{CountedFacts, ToldLaunches};
 use network_tree::Network;
 use owner_fold::Owners;
 use std::alloc::Global;
-use told_launches::ToldLaunches;
 
 /// Whether a launch at w is right after the entries that were taken.
 pub(crate) fn is_right_launch(

@@ -3,7 +3,7 @@ ghost use Rattle.std.specs.Prelude.{◌≡◌, IfOk};
 ghost use Rattle.std.specs.Bool.{Decides};
 ghost use Rattle.model.specs.Sound.{HasItsPlace};
 ghost use Rattle.counted_facts.specs.Told.{AreCountedFacts};
-ghost use Rattle.told_launches.specs.Told.{AreTold};
+ghost use Rattle.counted_facts.specs.Launches.{AreTold};
 ghost use Rattle.event_audit.specs.Items.{IsRightEntry, MeetsItsFeed, MeetsItsKind, is_new_plan};
 
 use crate::additions::is_right_addition;
@@ -14,11 +14,10 @@ use crate::launches::{is_open_launch, is_right_ending, is_right_started};
 use crate::plans::is_right_plan;
 use crate::times::{is_later, is_right_until};
 use base_types::{Body, Entry, Feed, NoMemory, Ws};
-use counted_facts::CountedFacts;
+use counted_facts::{CountedFacts, ToldLaunches};
 use network_tree::Network;
 use owner_fold::Owners;
 use std::alloc::Global;
-use told_launches::ToldLaunches;
 
 /// Whether an entry is right after those that were taken.
 pub(crate) fn is_right_entry(

@@ -5,12 +5,12 @@ ghost use Rattle.model.specs.Types.{Ended, Entry as Kept, Events, Started};
 ghost use Rattle.model.specs.History.{list_of, view_of};
 ghost use Rattle.model.specs.NewEntry as spec;
 ghost use Rattle.model.specs.Sound.{IsOpenLaunch, NamesItsLaunch};
-ghost use Rattle.told_launches.specs.Told.{AreTold};
+ghost use Rattle.counted_facts.specs.Launches.{AreTold};
 
 use base_types::{JobNo, Ws};
+use counted_facts::ToldLaunches;
 use owner_fold::Owners;
 use rc_conditions::holds;
-use told_launches::ToldLaunches;
 
 /// Whether w's list has this launch, and no end of it.
 pub(crate) fn is_open_launch(launches: &ToldLaunches, w: Ws, j: JobNo, n: u32) -> bool

@@ -3,7 +3,7 @@
 //! `audit` decides `model::specs::Sound` of any lists, and names the first item that fails. `specs/Items` says what an
 //! item is, and the law that a history is sound exactly where each item is right. It is one pass: the entries are taken
 //! one by one, and what they tell is kept beside them. What a decision saw is asked at its counts (`counted_facts`,
-//! `counted_decisions`), and what was told of launches by their numbers (`told_launches`). So nothing is copied for a
+//! `counted_decisions`), and what was told of launches by their numbers (`ToldLaunches`). So nothing is copied for a
 //! decision, and nothing is walked that is not the decision's own: its counts, its object's dependencies, the open launches
 //! and the streams under way at its workstation.
 #![tactic(auto)]

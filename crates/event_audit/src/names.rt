@@ -10,7 +10,7 @@ use base_types::{StreamDoc, StreamNo, Text, Ws};
 use owner_fold::Owners;
 
 /// Whether the two texts are one.
-#[tactic(auto, using(crate::proofs::Texts::text_bytes))]
+#[tactic(auto, using(model_laws::proofs::Texts::text_bytes))]
 pub(crate) fn is_text(a: &Text, b: &Text) -> bool
     ensures { result ≡ text_eq a.now b.now }
 {

@@ -4,7 +4,7 @@ use Rattle.std.proofs.Common.{true}
 use Rattle.std.proofs.lemmas.List.Elements.{All-contains, All-from_recursion, Contains-append_right}
 use Rattle.std.specs.List.{AllByRecursion}
 use Rattle.std.specs.Prelude.{All, Contains}
-use Rattle.model_laws.proofs.Lists.{all_such}
+use Rattle.lemmas.proofs.Lists.{all_such}
 use Rattle.file_watch.specs.Circle.{DepPlace, comes_sooner, sooner, soonest}
 use Rattle.file_watch.proofs.Order.{sooner_apart, sooner_back, sooner_once}
 

@@ -3,7 +3,9 @@ use Rattle.std.proofs.Common.{◌≡◌, ◌∙◌, ◌∷◌, [], ℕ, Bool, Li
 use Rattle.std.proofs.lemmas.Bool.{eq-eqb}
 use Rattle.std.specs.List.{AllByRecursion}
 use Rattle.std.specs.Option.{option_map_or}
-use Rattle.std.specs.Prelude.{◌&&◌, ◌||◌, IsSome, filter, not, option_and_then}
+use Rattle.std.specs.Prelude.{◌||◌, IsSome, filter, not, option_and_then}
+use Rattle.lemmas.proofs.Booleans.{and_left, and_right, not_holds, or_made_right}
+use Rattle.lemmas.proofs.Lists.{all_map, all_such, flat_all}
 use Rattle.model.specs.Types.{Dep, Events, Fulfil, Input, Job, Obj, Outside, Stream}
 use Rattle.model.specs.Words.{nth}
 use Rattle.model.specs.Equalities.{obj_among, obj_eq}
@@ -13,9 +15,8 @@ use Rattle.model.specs.Dependencies.{NumberedDep, dep, deps, unwaived_deps}
 use Rattle.model.specs.OwnMembers.{has_begun, own_objects}
 use Rattle.model.specs.StepFaults.{is_outside, lacks_dep}
 use Rattle.model_laws.proofs.Options.{filter_all}
-use Rattle.model_laws.proofs.Lists.{all_both, all_filter, all_map, all_such}
+use Rattle.model_laws.proofs.Lists.{all_both, all_filter}
 use Rattle.model_laws.proofs.Untils.{open_is_nth}
-use Rattle.dependencies.proofs.Lists.{flat_all}
 use Rattle.file_watch.specs.Circle.{DepPlace}
 use Rattle.file_watch.specs.Probes.{due_at, due_files, due_probes, is_file_due, next_probe, path_at, path_in}
 use Rattle.file_watch.proofs.Chosen.{holds_of_soonest}
@@ -26,22 +27,6 @@ pub record IsDue (V : View) (w : ℕ) (p : DepPlace) : Type 0 where
   pub file : option_map_or is_outside (dep V p.0 p.1) false ≡ true
   pub fresh : is_fulfilled p.0 p.1 (V (Events w)) ≡ false
 
-left : (a b : Bool) → (a && b) ≡ true → a ≡ true
-left true b h = refl
-left false b h = cc
-
-right : (a b : Bool) → (a && b) ≡ true → b ≡ true
-right true b h = h
-right false b h = cc
-
-wrong : (b : Bool) → not b ≡ true → b ≡ false
-wrong true h = cc
-wrong false h = refl
-
-either : (a b : Bool) → b ≡ true → (a || b) ≡ true
-either true b h = refl
-either false b h = h
-
 itself : (o : Obj) → obj_eq o o ≡ true
 itself (Job j) = eq-eqb j j refl
 itself (Stream s) = eq-eqb s s refl
@@ -51,7 +36,7 @@ all_among [] = tt
 all_among (x ∷ xs) = (
   rw (itself x) refl,
   all_such (λ (o : Obj). obj_among xs o ≡ true) (λ (o : Obj). obj_among (x ∷ xs) o ≡ true) xs
-      (λ o h. either (obj_eq x o) (obj_among xs o) h) (all_among xs),
+      (λ o h. or_made_right (obj_eq x o) (obj_among xs o) h) (all_among xs),
 )
 
 due_of : (V : View) (w : ℕ) (o : Obj) → obj_among (own_objects V w) o ≡ true → (p : NumberedDep)
@@ -60,10 +45,10 @@ due_of V w o mine p stands due = record {
   mine = mine;
   file =
       ap (λ (d : Option Dep). option_map_or is_outside d false) stands
-      ∙ left (is_outside p.dep) (not (is_fulfilled o p.number (V (Events w)))) due;
+      ∙ and_left (is_outside p.dep) (not (is_fulfilled o p.number (V (Events w)))) due;
   fresh =
-      wrong (is_fulfilled o p.number (V (Events w)))
-      (right (is_outside p.dep) (not (is_fulfilled o p.number (V (Events w)))) due);
+      not_holds (is_fulfilled o p.number (V (Events w)))
+      (and_right (is_outside p.dep) (not (is_fulfilled o p.number (V (Events w)))) due);
 }
 
 due_here : (V : View) (w : ℕ) (o : Obj) → obj_among (own_objects V w) o ≡ true

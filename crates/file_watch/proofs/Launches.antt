@@ -4,7 +4,9 @@ use Rattle.std.proofs.Common.{length, refl, subst, suc, sym, true, zero}
 use Rattle.std.proofs.lemmas.Bool.{eqb-true}
 use Rattle.std.specs.List.{list_all}
 use Rattle.std.specs.Option.{option_map_or}
-use Rattle.std.specs.Prelude.{◌<◌, ◌==◌, ◌&&◌, slice_get}
+use Rattle.std.specs.Prelude.{◌<◌, ◌==◌, slice_get}
+use Rattle.lemmas.proofs.Booleans.{and_left, and_right}
+use Rattle.model_laws.proofs.Decisions.{job_number}
 use Rattle.model.specs.Types.{Dep, Events, Job, Net, Obj, Outside}
 use Rattle.model.specs.Words.{all_of, numbers_from}
 use Rattle.model.specs.History.{View}
@@ -13,29 +15,21 @@ use Rattle.model.specs.Facts.{is_fulfilled}
 use Rattle.model.specs.Dependencies.{all_satisfied, dep, deps, is_met, is_satisfied, is_waived}
 use Rattle.model.specs.Readiness.{is_ready, is_ready_in, ready_conditions}
 use Rattle.model_laws.proofs.Satisfied.{each_satisfied}
-use Rattle.dependencies.proofs.Found.{job_number, job_planned}
-
-left : (a b : Bool) → (a && b) ≡ true → a ≡ true
-left true b h = refl
-left false b h = cc
-
-right : (a b : Bool) → (a && b) ≡ true → b ≡ true
-right true b h = h
-right false b h = cc
+use Rattle.dependencies.proofs.Found.{job_planned}
 
 later : (n : ℕ) (bs : List Bool) → all_of bs ≡ true → all_of (drop n bs) ≡ true
 later zero bs h = h
 later (suc n) [] h = refl
-later (suc n) (b ∷ bs) h = later n bs (right b (all_of bs) h)
+later (suc n) (b ∷ bs) h = later n bs (and_right b (all_of bs) h)
 
 numbers_all : (p : ℕ → Bool) (from n k : ℕ) → list_all p (numbers_from from n) ≡ true → k < n → p (from + k) ≡ true
 numbers_all p from zero k h less = absurd (omega (arith, less))
 numbers_all p from (suc n) zero h less =
-    rw add-zero (left (p from) (list_all p (numbers_from (from + 1) n)) h)
+    rw add-zero (and_left (p from) (list_all p (numbers_from (from + 1) n)) h)
 numbers_all p from (suc n) (suc k) h less =
     let e : (from + 1) + k ≡ from + suc k = omega arith in
     subst (λ (m : ℕ). p m ≡ true) e
-    (numbers_all p (from + 1) n k (right (p from) (list_all p (numbers_from (from + 1) n)) h) (omega (arith, less)))
+    (numbers_all p (from + 1) n k (and_right (p from) (list_all p (numbers_from (from + 1) n)) h) (omega (arith, less)))
 
 got_below : {X : Type 0} (xs : List X) (k : ℕ) (x : X) → slice_get xs k ≡ Some x → k < length xs
 got_below [] zero x e = cc
@@ -68,14 +62,14 @@ of_job net V w j i path (Some p) found h e waived =
     let planned = job_planned V j p found in
     let number : p.doc.no ≡ j = job_number V j p found in
     let here : p.doc.ws ≡ w =
-    eqb-true p.doc.ws w (left (p.doc.ws == w) (all_of (drop 1 (ready_conditions net V w p))) h)
+    eqb-true p.doc.ws w (and_left (p.doc.ws == w) (all_of (drop 1 (ready_conditions net V w p))) h)
     in
     let mine : owner V (Job j) ≡ Some w =
     subst (λ (n : ℕ). owner V (Job n) ≡ Some w) number (planned.owned ∙ ap Some here)
     in
     let satisfied : all_satisfied net V w (Job j) ≡ true =
     subst (λ (n : ℕ). all_satisfied net V w (Job n) ≡ true) number
-    (left (all_satisfied net V w (Job p.doc.no)) (all_of (drop 9 (ready_conditions net V w p)))
+    (and_left (all_satisfied net V w (Job p.doc.no)) (all_of (drop 9 (ready_conditions net V w p)))
     (later 8 (ready_conditions net V w p) h))
     in
     file_told net V w (Job j) i path mine e waived (satisfied_at net V w (Job j) i (Outside path) mine satisfied e)

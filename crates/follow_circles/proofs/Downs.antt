@@ -6,6 +6,7 @@ use Rattle.std.proofs.lemmas.Option.{slice_get_past}
 use Rattle.std.specs.Prelude.{◌==◌, nat_lt, slice_index, slice_index_or}
 use Rattle.std.specs.List.{list_any}
 use Rattle.std.specs.Option.{option_map_or}
+use Rattle.lemmas.proofs.Booleans.{or_true}
 use Rattle.follow_circles.specs.Circles.{follows_of, line_of, IsWay, IsOnCircle, IsLeastLine}
 use Rattle.follow_circles.specs.Groups.{AreGroups, stays, IsLeastWithin}
 use Rattle.follow_circles.specs.declared.circles.Follower.{Follower}
@@ -34,10 +35,6 @@ down objects groups g v (x ∷ more) w way =
     let first : slice_index groups x ≤ slice_index groups v = g v x (inside objects v x way.0) way.0 in
     let rest : slice_index groups w ≤ slice_index groups x = down objects groups g x more w way.1 in
     omega (arith, first, rest)
-
-or_true : (b : Bool) → (b || true) ≡ true
-or_true true = refl
-or_true false = refl
 
 any_at : (p : ℕ → Bool) (ys : List ℕ) (k d : ℕ) → k < length ys → p (slice_index_or ys k d) ≡ true → list_any p ys ≡ true
 any_at p [] k d low t = absurd (omega (arith, low))

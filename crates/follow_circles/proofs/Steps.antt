@@ -11,6 +11,7 @@ use Rattle.std.proofs.lemmas.List.Sums.{count_by-le-length}
 use Rattle.std.proofs.lemmas.Option.{slice_get_within, slice_get_past, slice_get-get_or, get_or_from_slice_get, slice_get_read}
 use Rattle.std.specs.Option.{option_map_or}
 use Rattle.std.specs.Slice.{IsItemAt}
+use Rattle.lemmas.proofs.Options.{some_same}
 use Rattle.follow_circles.specs.Circles.{follows_of, IsWay, IsOnCircle}
 use Rattle.follow_circles.specs.Reached.{IsMarked, IsWhole, MarksThese}
 use Rattle.follow_circles.specs.declared.asking.Reached.{Reached}
@@ -87,9 +88,6 @@ still_there xs more ys k place is low got =
     (sym (get_or_append_left xs more place k low)
     ∙ (ap (λ (l : List ℕ). get_or l k place) (sym is) ∙ get_or_from_slice_get ys k place place got))
 
-same_some : (a b : ℕ) → Some a ≡ Some b → a ≡ b
-same_some a b h = cc
-
 -- the next place, with what it follows
 module _ (objects : List Follower) (v at_ place : ℕ) (old new : Reached) (i : IsReaching objects v at_ old)
     (got : slice_get old.places.items at_ ≡ Some place) (m : MarksThese old new (follows_of objects place)) where
@@ -110,7 +108,7 @@ module _ (objects : List Follower) (v at_ place : ℕ) (old new : Reached) (i : 
         | inl e ↦
             let one : Some p ≡ Some place =
             sym was ∙ (ap (λ (n : ℕ). slice_get old.places.items n) e.1 ∙ got) in
-            let same : p ≡ place = same_some p place one in
+            let same : p ≡ place = some_same p place one in
             (m.marked w (inside w low)).1 (inr (subst (λ (n : ℕ). Contains (follows_of objects n) w) same c))
         | inr other ↦
             let before : k < at_ = omega (arith, below, other.1) in

@@ -1,5 +1,6 @@
 -- What a stop leaves of a file while one record is put at its end.
-use Rattle.std.proofs.Common.{◌≡◌, ℕ, ◌+◌, ◌<◌, min, List, [], ◌∷◌, ◌++◌, length, get_or, take, drop, refl, sym, ◌∙◌, ap, subst, arith, take-append-drop, length-append, append_assoc, Some, None, IfSome, OnOk, OnErr, Ok, Err, Result}
+use Rattle.std.proofs.Common.{◌≡◌, ℕ, ◌+◌, ◌<◌, min, List, [], ◌∷◌, ◌++◌, length, get_or, take, drop, refl, sym, ◌∙◌}
+use Rattle.std.proofs.Common.{ap, subst, arith, take-append-drop, length-append, append_assoc, Some, None, IfSome}
 use Rattle.std.specs.declared.option.Option.{Option}
 use Rattle.std.proofs.lemmas.List.{take_all, drop_all, drop_more, take_at, drop_at, length-take-le}
 use Rattle.outside.specs.Files.{Told, Holds, Torn, Only, Follows}
@@ -42,15 +43,6 @@ gate_left (Some old) may_leave place piece has file was left torn = torn_gate pl
 pub gate_start : (told : Option (List ℕ)) (may_leave : List ℕ → Type 0) (place : ℕ) (piece : List ℕ) → IfSome told (λ file. HasPiece place piece file may_leave) → (file : List ℕ) → may_leave file → GatedOf place piece told file
 gate_start None may_leave place piece has file left = tt
 gate_start (Some old) may_leave place piece has file left = (has.gate, has.durable file left ∙ has.stands)
-
--- what holds anyway, holds on an answer
-pub on_ok : {X Y P : Type 0} (r : Result X Y) → P → OnOk r P
-on_ok (Ok x) p = p
-on_ok (Err y) p = tt
-
-pub on_err : {X Y P : Type 0} (r : Result X Y) → P → OnErr r P
-on_err (Ok x) p = tt
-on_err (Err y) p = p
 
 pub gate_told : (old new : Option (List ℕ)) (may_leave : List ℕ → Type 0) (place : ℕ) (piece : List ℕ) → IfSome old (λ file. HasPiece place piece file may_leave) → Told (Torn place 1) old new → Told (IsGated place piece) old new
 gate_told None None may_leave place piece has torn = tt

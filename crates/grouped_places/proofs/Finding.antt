@@ -5,6 +5,7 @@ use Rattle.std.proofs.Common.{sym, true}
 use Rattle.std.proofs.lemmas.Bool.Decides.{eqb_tells}
 use borrow.Author.Tests.{leb-false, leb-true, ltb-false}
 use Rattle.std.specs.Prelude.{nat_le, nat_lt}
+use Rattle.lemmas.proofs.Booleans.{and_left}
 use Rattle.model.specs.Words.{has, insert_once}
 use Rattle.grouped_places.specs.Codes.{RisesFrom, code, is_in_group}
 
@@ -30,13 +31,9 @@ rises_filter p l (c ∷ cs) r = go (p c) (rises_filter p (c + 1) cs r.1)
     go true h = (r.0, h)
     go false h = rises_lower l (c + 1) (filter p cs) (omega (arith, r.0)) h
 
-first : (a b : Bool) → (a && b) ≡ true → a ≡ true
-first true b h = refl
-first false b h = cc
-
 least_in : (group c : ℕ) → is_in_group group c ≡ true → group * 2 ^ 32 ≤ c
 least_in group c h =
-    leb-true (group * 2 ^ 32) c (first (nat_le (group * 2 ^ 32) c) (nat_lt c (group * 2 ^ 32 + 2 ^ 32)) h)
+    leb-true (group * 2 ^ 32) c (and_left (nat_le (group * 2 ^ 32) c) (nat_lt c (group * 2 ^ 32 + 2 ^ 32)) h)
 
 rises_in : (group l : ℕ) (cs : List ℕ) → RisesFrom l cs → RisesFrom (group * 2 ^ 32) (filter (is_in_group group) cs)
 rises_in group l [] r = tt

@@ -6,6 +6,7 @@ use borrow.Author.Tests.{le-leb, le-ltb, leb-false, leb-true, lt-leb, lt-ltb, lt
 use Rattle.std.specs.List.{insert, remove}
 use Rattle.std.specs.List.Sorted.{IsNonDecreasingBy, IsPartitionPoint}
 use Rattle.std.specs.Prelude.{nat_le, nat_lt, slice_range}
+use Rattle.lemmas.proofs.Booleans.{and_false, or_true}
 use Rattle.model.specs.Words.{has, insert_once}
 use Rattle.grouped_places.specs.Codes.{RisesFrom, is_in_group}
 use Rattle.grouped_places.proofs.Finding.{below_none}
@@ -16,10 +17,6 @@ apart a b h = elim (eqb_tells a b) [ inl e ↦ absurd (h e.1) | inr e ↦ e.0 ]
 
 alike : (a b : ℕ) → a ≡ b → eqb a b ≡ true
 alike a b h = elim (eqb_tells a b) [ inl e ↦ e.0 | inr e ↦ absurd (e.1 h) ]
-
-and_false : (a : Bool) → (a && false) ≡ false
-and_false true = refl
-and_false false = refl
 
 under : (group c : ℕ) → c < group * 2 ^ 32 → is_in_group group c ≡ false
 under group c h =
@@ -79,11 +76,6 @@ inserted_again (c ∷ cs) (suc i) x d h low same =
     let b : nat_lt x c ≡ false = le-ltb x c (omega (arith, k)) in
     rw (a, b)
     (ap (λ (l : List ℕ). c ∷ l) (inserted_again cs i x d (omega (arith, h)) (λ k l. low (suc k) (omega (arith, l))) same))
-
--- whether one is there, by what stands before it and where it would stand
-or_true : (b : Bool) → (b || true) ≡ true
-or_true true = refl
-or_true false = refl
 
 pub there_at : (cs : List ℕ) (i x d : ℕ) → i < length cs → get_or cs i d ≡ x → has cs x ≡ true
 there_at [] i x d h same = absurd (omega (arith, h))

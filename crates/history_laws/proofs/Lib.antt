@@ -6,3 +6,17 @@ pub mod Texts
 pub mod Whole
 pub mod Sound
 pub mod Worlds
+pub mod Lines
+pub mod Kept
+pub mod Words
+pub mod Printed
+pub mod Accepted
+pub mod Named
+pub mod Sections
+pub mod Walking
+pub mod Faultless
+pub mod Meant
+pub mod NetworkTexts
+pub mod Read
+pub mod Histories
+pub mod Numbers

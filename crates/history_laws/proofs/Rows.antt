@@ -1,14 +1,12 @@
 -- The lines of entries and starts, and the rows that they are read to.
 use Rattle.std.proofs.Common.{◌≡◌, ◌<◌, ◌+◌, ◌/◌, ◌%◌, ◌^◌, ℕ, Bool, true, false, ◌||◌, eqb, ltb, List, [], ◌∷◌, ◌++◌, length}
-use Rattle.std.proofs.Common.{Option, Some, option_map, codes, refl, ap, ◌∙◌, arith, rules, append_assoc}
+use Rattle.std.proofs.Common.{Option, Some, option_map, codes, refl, ap, ◌∙◌, arith, append_assoc}
 use Rattle.std.proofs.Common.{if◌then◌else◌, decimal}
 use Rattle.std.specs.Prelude.{unwrap_or}
-use Rattle.std.specs.Char.{is_ascii_digit}
-use Rattle.std.specs.List.{list_all}
-use Rattle.std.specs.Str.Parse.{digits_value}
 use Rattle.std.proofs.lemmas.Bool.{ne_eqb, lt-ltb}
 use Rattle.std.proofs.lemmas.Fmt.{digits_value-decimal}
-use Rattle.std.proofs.lemmas.Str.Parse.{IsNumeralModel, numerals_by_value}
+use Rattle.lemmas.proofs.Texts.{decimal_digits}
+use Rattle.lemmas.proofs.Numbers.{suc_not_zero}
 use Rattle.composer_print.proofs.Spelling.{number_back}
 use Rattle.model.specs.Fit.{IsFit}
 use Rattle.model.specs.Ranges.{InRange}
@@ -24,9 +22,9 @@ use Rattle.history_script.specs.Rows.{form_of, row_of, start_row}
 use Rattle.history_script.specs.declared.rows.HistoryRow.{HistoryRow}
 use Rattle.history_script.specs.declared.rows.HistoryRow.TheVariants as row
 use Rattle.history_script.proofs.Returns.{digits_back}
-use Rattle.network_lines.specs.Printables.{IsKeptName}
-use Rattle.network_lines.proofs.Lines.{Lacks, lacks_append, some_left, split_here, split_whole}
-use Rattle.network_lines.proofs.Words.{name_lacks_feed, name_lacks_space, number_lacks_feed, number_lacks_space}
+use Rattle.history_laws.specs.Printables.{IsKeptName}
+use Rattle.history_laws.proofs.Lines.{Lacks, lacks_append, split_here, split_whole}
+use Rattle.history_laws.proofs.Words.{name_lacks_feed, name_lacks_space, number_lacks_feed, number_lacks_space}
 use Rattle.history_laws.proofs.Bytes.{entry_small, entry_some}
 
 -- a row by its first word and what follows it
@@ -38,7 +36,7 @@ row_by line o plain is =
     ∙ ap (λ x. unwrap_or x row.NoForm) is
 
 led : (c : ℕ) (rest : List ℕ) → eqb c 35 ≡ false → is_skipped (c ∷ rest) ≡ false
-led c rest is = ap (λ b. b || eqb c 35) (some_left (length rest)) ∙ is
+led c rest is = ap (λ b. b || eqb c 35) (suc_not_zero (length rest)) ∙ is
 
 -- Entries.
 
@@ -69,9 +67,6 @@ entry_row_is e fit in_range =
 
 -- Numbers as words.
 
-own : IsNumeralModel (λ ds. list_all is_ascii_digit ds ≡ true) (digits_value 10)
-own = numerals_by_value _ (search rules)
-
 wide : (n : ℕ) → n < 2 ^ 32 → n < 2 ^ 64
 wide n h = omega (arith, h)
 
@@ -79,7 +74,7 @@ sized_back : (n : ℕ) → n < 2 ^ 32 → sized 32 (decimal n) ≡ Some (Within 
 unfolding sized number_of
 sized_back n fits =
     let is = number_back n (wide n fits) in
-    let value = digits_value-decimal own n (wide n fits) in
+    let value = digits_value-decimal decimal_digits n (wide n fits) in
     let small : ltb n (2 ^ 32) ≡ true = lt-ltb n (2 ^ 32) fits in
     rw (is, value, small) refl
 

@@ -6,7 +6,7 @@ use Rattle.model.specs.History.{View}
 use Rattle.model.specs.OwnMembers.{may_release}
 use Rattle.model.specs.Readiness.{is_ready}
 use Rattle.model.specs.Sound.{EachFrom, IsSound, OfEvents, StandsOnItsPrefix, seen_view}
-use Rattle.network_lines.specs.Printables.{as_printed}
+use Rattle.history_laws.specs.Printables.{as_printed}
 
 ready_printed : (net : Net) (V : View) (w j : ℕ) → is_ready (as_printed net) V w j ≡ is_ready net V w j
 unfolding is_ready all_satisfied is_met has_units prompt_is_answered

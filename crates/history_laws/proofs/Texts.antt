@@ -1,16 +1,18 @@
 -- The text of a history is UTF-8.
-use Rattle.std.proofs.Common.{◌≡◌, ◌<◌, ◌≤◌, ◌+◌, ◌/◌, ◌%◌, ◌^◌, ℕ, zero, suc, Bool, true, false, cond, ◌&&◌, ltb, leb, List, []}
+use Rattle.std.proofs.Common.{◌≡◌, ◌<◌, ◌≤◌, ◌+◌, ◌/◌, ◌%◌, ◌^◌, ℕ, zero, suc, Bool, true, false, ◌&&◌, ltb, leb, List}
+use Rattle.std.proofs.Common.{[]}
 use Rattle.std.proofs.Common.{◌∷◌, ◌++◌, length, get_or, flat_map, codes, Option, Some, None, slice_get, is_none, IsUtf8}
-use Rattle.std.proofs.Common.{refl, arith, append_assoc, length-append, decimal, if◌then◌else◌}
+use Rattle.std.proofs.Common.{refl, arith, append_assoc, decimal, if◌then◌else◌}
 use Rattle.std.specs.List.{AllByRecursion, list_all}
 use Rattle.std.specs.Option.{option_map_or}
 use Rattle.std.specs.Str.{is_utf8}
-use Rattle.std.proofs.Math.Seq.{drop-append_seam, get_or-append_seam, take-append_seam}
 use Rattle.std.proofs.lemmas.Bool.{and_from, and_parts, lt-ltb, ltb-true}
 use Rattle.std.proofs.lemmas.Bool.Decides.{nat_tests}
 use Rattle.std.proofs.lemmas.Fmt.{IsAscii-decimal}
-use Rattle.std.proofs.lemmas.Str.{IsCharBoundary-before_ascii, IsUtf8-append, IsUtf8-drop, IsUtf8-from_ascii, IsUtf8-from_is_utf8}
-use Rattle.std.proofs.lemmas.Str.{IsUtf8-nil, IsUtf8-take}
+use Rattle.std.proofs.lemmas.Str.{IsUtf8-append, IsUtf8-from_ascii, IsUtf8-from_is_utf8}
+use Rattle.std.proofs.lemmas.Str.{IsUtf8-nil}
+use Rattle.syntax.proofs.Escapes.{one_escaped}
+use Rattle.lemmas.proofs.Lists.{all_get}
 use Rattle.base_types.specs.Name.{is_name_byte, starts_with_letter}
 use Rattle.base_types.specs.declared.Carry.TheVariants as carry
 use Rattle.model.specs.Fit.{IsFit}
@@ -23,11 +25,10 @@ use Rattle.report_text.specs.Quotes.{escaped, quoted_text}
 use Rattle.syntax.specs.Quotes.{is_escaped}
 use Rattle.history_script.specs.Digits.{digit, digits_of, is_byte}
 use Rattle.history_script.specs.Printed.{IsStartInRange, entry_line, head_text, history_text, start_line}
-use Rattle.network_lines.specs.Printables.{IsKeptName, IsNamedNode, IsNamedPrompt, IsNamedResource, IsPrintable}
-use Rattle.network_lines.proofs.Accepted.{IsGood}
-use Rattle.network_lines.proofs.Words.{kept_form}
+use Rattle.history_laws.specs.Printables.{IsKeptName, IsNamedNode, IsNamedPrompt, IsNamedResource, IsPrintable}
+use Rattle.history_laws.proofs.Accepted.{IsGood}
+use Rattle.history_laws.proofs.Words.{kept_form}
 use Rattle.history_laws.proofs.Bytes.{AreBytes, entry_small}
-use Rattle.history_laws.proofs.Places.{holds_there}
 
 -- Bytes that are characters.
 
@@ -88,24 +89,6 @@ digits_low (b ∷ bytes) all =
 
 -- Texts in quotes.
 
-utf8_before : (xs ys : List ℕ) (b : ℕ) → b < 128 → IsUtf8 (xs ++ b ∷ ys) → IsUtf8 xs × IsUtf8 (b ∷ ys)
-utf8_before xs ys b h u =
-    let long : length xs < length (xs ++ b ∷ ys) = omega (arith, length-append xs (b ∷ ys)) in
-    let small : get_or (xs ++ b ∷ ys) (length xs) 0 < 128 = rw (get_or-append_seam xs b ys 0) h in
-    let border = IsCharBoundary-before_ascii (xs ++ b ∷ ys) (length xs) long small in (
-      rw (take-append_seam xs (b ∷ ys)) at (IsUtf8-take (xs ++ b ∷ ys) (length xs) u border),
-      rw (drop-append_seam xs (b ∷ ys)) at (IsUtf8-drop (xs ++ b ∷ ys) (length xs) u border),
-    )
-
-one_escaped : (xs v : List ℕ) (b : ℕ) (t : Bool) → is_escaped b ≡ t → IsUtf8 (xs ++ b ∷ v)
-    → IsUtf8 ((xs ++ cond t (92 ∷ b ∷ []) (b ∷ [])) ++ v)
-one_escaped xs v b true e u =
-    let small : is_escaped b ≡ true → b < 128 = grind (arith, nat_tests) in
-    let parts = utf8_before xs v b (small e) u in
-    rw (append_assoc xs (92 ∷ b ∷ []) v)
-    (IsUtf8-append xs (92 ∷ b ∷ v) parts.0 (IsUtf8-append (92 ∷ []) (b ∷ v) (word_utf8 (92 ∷ []) refl) parts.1))
-one_escaped xs v b false e u = rw (append_assoc xs (b ∷ []) v) u
-
 escaped_utf8 : (xs v : List ℕ) → IsUtf8 (xs ++ v) → IsUtf8 (xs ++ flat_map escaped v)
 escaped_utf8 xs [] u = u
 escaped_utf8 xs (b ∷ v) u =
@@ -138,7 +121,7 @@ module _ (net : Net) (all : AllByRecursion IsNamedNode net.nodes) where
     where
       go : (o : Option Node) → slice_get net.nodes w ≡ o → IsUtf8 (option_map_or (λ (n : Node). n.name) o [])
       go None e = IsUtf8-nil
-      go (Some n) e = name_utf8 n.name (holds_there IsNamedNode net.nodes w n all e)
+      go (Some n) e = name_utf8 n.name (all_get IsNamedNode net.nodes w n all e)
 
   gap_utf8 : (o : Option ℕ) → IsUtf8 (option_map_or (λ h. codes " ") o (codes ""))
   gap_utf8 None = IsUtf8-nil

@@ -13,7 +13,7 @@ use Rattle.model.specs.Ranges.{InRange}
 use Rattle.model.specs.Spelling.{entry_bytes}
 use Rattle.model.specs.Types.{Entry, Net, Start}
 use Rattle.model.specs.Workstations.{ws_in_body, ws_in_feed}
-use Rattle.named_workstations.specs.Inside.{are_inside}
+use Rattle.entry_checks.specs.Inside.{are_inside}
 use Rattle.network_tree.specs.Faults.{net_fault}
 use Rattle.plan_listing.specs.Networks.{network_text}
 use Rattle.report_text.specs.Names.{name_of}
@@ -23,11 +23,11 @@ use Rattle.history_script.specs.Histories.{with_rows}
 use Rattle.history_script.specs.Printed.{IsStartInRange, entry_line, head_text, history_text, start_line}
 use Rattle.history_script.specs.Rows.{row_of}
 use Rattle.history_script.proofs.Whole.{read_with}
-use Rattle.network_lines.specs.Printables.{IsPrintable, IsToldWhole, as_printed, node_as_printed}
-use Rattle.network_lines.specs.Returns.{begun, network_lines}
-use Rattle.network_lines.proofs.Accepted.{accepted, good_each}
-use Rattle.network_lines.proofs.Histories.{begins, told_whole, lines_behind as lines_go_on}
-use Rattle.network_lines.proofs.Lines.{each_line, line_first}
+use Rattle.history_laws.specs.Printables.{IsPrintable, IsToldWhole, as_printed, node_as_printed}
+use Rattle.history_laws.specs.NetworkReturns.{begun, network_lines}
+use Rattle.history_laws.proofs.Accepted.{accepted, good_each}
+use Rattle.history_laws.proofs.Histories.{begins, told_whole, lines_behind as lines_go_on}
+use Rattle.history_laws.proofs.Lines.{each_line, line_first}
 use Rattle.history_laws.specs.Returns.{AreTold}
 use Rattle.history_laws.proofs.Places.{IsFound, found}
 use Rattle.history_laws.proofs.Rows.{entry_lacks, entry_row_is, entry_words, start_lacks, start_row_is}

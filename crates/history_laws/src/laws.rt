@@ -7,7 +7,7 @@ ghost use Rattle.model.specs.World.{empty_world, run};
 ghost use Rattle.network_tree.specs.Faults.{net_fault};
 ghost use Rattle.history_script.specs.Histories.{is_inside, is_start_inside, read_of};
 ghost use Rattle.history_script.specs.Printed.{history_text};
-ghost use Rattle.network_lines.specs.Printables.{IsPrintable, IsToldWhole, as_printed};
+ghost use Rattle.history_laws.specs.Printables.{IsPrintable, IsToldWhole, as_printed};
 ghost use Rattle.history_laws.specs.Returns.{AreTold};
 
 /// The text of a history is UTF-8, and is read as the history that it is of, but for FULLSTATUS of managers. Where no

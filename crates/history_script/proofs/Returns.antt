@@ -4,6 +4,7 @@ use Rattle.std.proofs.Common.{refl, ap, sym, ◌∙◌, arith, eqb, option_map, 
 use Rattle.std.specs.Prelude.{nat_le, nat_lt, option_and_then, flat_map}
 use Rattle.std.specs.List.{list_all}
 use Rattle.std.proofs.lemmas.Bool.Decides.{nat_tests}
+use Rattle.lemmas.proofs.Numbers.{suc_not_zero}
 use Rattle.history_script.specs.Digits.{byte_digits, byte_of, bytes_of, digit, digits_of, is_byte, some_bytes, value_of}
 
 value_digit : (n : ℕ) → n < 16 → value_of (digit n) ≡ Some n
@@ -47,14 +48,11 @@ bytes_back (b ∷ bytes) all = go (nat_lt b 256) refl (bytes_back bytes)
     go false is rest =
         absurd (let other : false ≡ true = sym (ap (λ t. t && list_all is_byte bytes) is) ∙ all in cc)
 
-some_digits : (n : ℕ) → eqb (suc n) 0 ≡ false
-some_digits n = grind (arith, nat_tests)
-
 pub digits_back : (bytes : List ℕ) → list_all is_byte bytes ≡ true → 0 < length bytes
     → some_bytes (digits_of bytes) ≡ Some bytes
 unfolding some_bytes digits_of
 digits_back [] all some = absurd (omega (arith, some))
 digits_back (b ∷ bytes) all some =
     let long : eqb (length (flat_map byte_digits (b ∷ bytes))) 0 ≡ false =
-    some_digits (suc (length (flat_map byte_digits bytes))) in
+    suc_not_zero (suc (length (flat_map byte_digits bytes))) in
     ap (λ t. if t then None else bytes_of (flat_map byte_digits (b ∷ bytes))) long ∙ bytes_back (b ∷ bytes) all

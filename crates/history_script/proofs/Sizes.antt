@@ -4,7 +4,7 @@ use Rattle.std.proofs.Common.{refl, ap, sym, subst, ◌∙◌, arith, cond, eqb,
 use Rattle.std.specs.Prelude.{flat_map, slice_index, codes}
 use Rattle.std.specs.List.{onto_first, slice_split}
 use Rattle.std.proofs.lemmas.List.{length-drop, length-map, length-take-le, take_all}
-use Rattle.std.proofs.lemmas.List.Splits.{length-slice_split}
+use Rattle.lemmas.proofs.Texts.{some_parts}
 use Rattle.syntax.specs.Splits.{lines_of, without_last_feed}
 use Rattle.record_script.proofs.Lengths.{few_lines}
 use Rattle.history_script.specs.Fronts.{as_in_record, is_foreign, record_line, record_text}
@@ -14,9 +14,6 @@ use Rattle.history_script.specs.Taken.{lines_size}
 onto_size : (x : ℕ) (ls : List (List ℕ)) → 0 < length ls → lines_size (onto_first x ls) ≡ 1 + lines_size ls
 onto_size x [] some = absurd (omega (arith, some))
 onto_size x (part ∷ parts) some = omega arith
-
-some_parts : (p : ℕ → Bool) (xs : List ℕ) → 0 < length (slice_split p xs)
-some_parts p xs = let e = length-slice_split p xs in omega (arith, e)
 
 -- the parts of a text
 pub split_size : (p : ℕ → Bool) (xs : List ℕ) → lines_size (slice_split p xs) ≡ length xs + 1

@@ -1,5 +1,6 @@
 -- The walk from line to line.
-use Rattle.std.proofs.Common.{◌≡◌, ◌<◌, ◌≤◌, ◌+◌, ◌^◌, ℕ, suc, zero, Bool, true, false, ◌||◌, List, [], ◌∷◌, ◌++◌, Option, Some, None, length}
+use Rattle.std.proofs.Common.{◌≡◌, ◌<◌, ◌≤◌, ◌+◌, ◌^◌, ℕ, suc, zero, false, ◌||◌, List, [], ◌∷◌, ◌++◌, Option, Some}
+use Rattle.std.proofs.Common.{None, length}
 use Rattle.std.proofs.Common.{refl, ap, sym, subst, ◌∙◌, arith, drop, get_or, map, take}
 use Rattle.std.specs.Prelude.{Ok, Err, filter_map}
 use Rattle.std.specs.List.{cons_option, list_any}
@@ -8,6 +9,8 @@ use Rattle.std.proofs.lemmas.List.{length-map, length-take-le, map-append, take_
 use Rattle.std.proofs.lemmas.List.Elements.{filter_map-append}
 use Rattle.std.proofs.lemmas.List.Folds.{list_any-append}
 use Rattle.std.proofs.Math.Seq.{drop-cons, drop-length, take-length}
+use Rattle.lemmas.proofs.Booleans.{or_false}
+use Rattle.lemmas.proofs.Lists.{one_filtered}
 use Rattle.model.specs.Types.{Net}
 use Rattle.history_script.specs.Histories.{entry_at, fault_from, fault_of, history_in, is_start, start_at, with_rows}
 use Rattle.history_script.specs.Rows.{row_of}
@@ -56,13 +59,6 @@ alone : {B : Type 0} (o : Option B) → cons_option o [] ≡ option_to_list o
 alone None = refl
 alone (Some b) = refl
 
-singles : {A B : Type 0} (f : A → Option B) (a : A) → filter_map f (a ∷ []) ≡ option_to_list (f a)
-singles f a = alone (f a)
-
-or_false : (b : Bool) → (b || false) ≡ b
-or_false true = refl
-or_false false = refl
-
 -- one line more, which has no fault
 pub one_more : (net : Net) (above below : List (List ℕ)) (line : List ℕ) (all : List (List ℕ)) (old new : Found)
     → IsReadTo net above (line ∷ below) all old → fault_of net old.started (row_of line) ≡ None
@@ -81,12 +77,12 @@ one_more net above below line all old new read none taken =
           ∙ sym (list_any-append is_start (map row_of above) (row_of line ∷ [])) ∙ ap (list_any is_start) (sym rows);
       entries_ =
           taken.entries_ ∙ ap (λ l. l ++ option_to_list (entry_at net (row_of line))) read.entries_
-          ∙ ap (λ l. filter_map (entry_at net) (map row_of above) ++ l) (sym (singles (entry_at net) (row_of line)))
+          ∙ ap (λ l. filter_map (entry_at net) (map row_of above) ++ l) (sym (one_filtered (entry_at net) (row_of line)))
           ∙ sym (filter_map-append (entry_at net) (map row_of above) (row_of line ∷ []))
           ∙ ap (filter_map (entry_at net)) (sym rows);
       starts_ =
           taken.starts_ ∙ ap (λ l. l ++ option_to_list (start_at net (row_of line))) read.starts_
-          ∙ ap (λ l. filter_map (start_at net) (map row_of above) ++ l) (sym (singles (start_at net) (row_of line)))
+          ∙ ap (λ l. filter_map (start_at net) (map row_of above) ++ l) (sym (one_filtered (start_at net) (row_of line)))
           ∙ sym (filter_map-append (start_at net) (map row_of above) (row_of line ∷ []))
           ∙ ap (filter_map (start_at net)) (sym rows);
     }

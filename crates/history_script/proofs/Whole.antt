@@ -1,7 +1,7 @@
 -- What is read, by the network and the lines behind it.
 use Rattle.std.proofs.Common.{◌≡◌, ◌<◌, ◌≤◌, ◌+◌, ◌^◌, ℕ, true, List, [], Option, Some, None, length}
 use Rattle.std.proofs.Common.{refl, ap, sym, subst, ◌∙◌, arith, map}
-use Rattle.std.specs.Prelude.{Result, Ok, Err, IfOk}
+use Rattle.std.specs.Prelude.{Result, Ok, Err}
 use Rattle.std.specs.List.{list_all}
 use Rattle.std.specs.Option.{option_map_or}
 use Rattle.std.proofs.lemmas.List.{length-map}
@@ -75,10 +75,6 @@ count_in line lines net h is few =
     omega (arith, most, long, few)
 
 -- As the calls have it.
-
-pub if_ok : {A E : Type 0} (P Q : A → Type 0) (r : Result A E) → ((a : A) → P a → Q a) → IfOk r P → IfOk r Q
-if_ok P Q (Ok a) f p = f a p
-if_ok P Q (Err e) f p = p
 
 pub text_of : (h : HistoryText) (net : Net) (es : List Entry) (ss : List Start) → h.net ≡ net → h.entries ≡ es
     → h.starts ≡ ss → ◌≡◌ {A = HistoryText} (record { net = net; entries = es; starts = ss }) h

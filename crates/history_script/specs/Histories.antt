@@ -10,7 +10,7 @@ use Rattle.model.specs.Network.{node_count}
 use Rattle.model.specs.Types.{Entry, Net, Node, Start}
 use Rattle.model.specs.Words.{first_of_these}
 use Rattle.model.specs.Workstations.{ws_in_body, ws_in_feed}
-use Rattle.named_workstations.specs.Inside.{are_inside}
+use Rattle.entry_checks.specs.Inside.{are_inside}
 use Rattle.record_faults.specs.declared.kinds.ScriptKind.TheVariants as kind
 use Rattle.record_rows.specs.Ranges.{is_within}
 use Rattle.record_rows.specs.Words.{◌>>=◌}

@@ -39,7 +39,7 @@ impl HistoryText {
 }
 
 /// What is wrong with a line of a history.
-#[derive(Clone, Copy, Debug, PartialEq, Eq)]
+#[derive(Clone, Copy, Debug)]
 pub enum HistoryKind {
     /// What is wrong with lines of records too: of the network any kind that its lines have there, and behind it
     /// `BadLine`, `UnknownName` or `OutOfRange`.
@@ -49,7 +49,7 @@ pub enum HistoryKind {
 }
 
 /// Why a text is no history.
-#[derive(Clone, Copy, Debug, PartialEq, Eq)]
+#[derive(Clone, Copy, Debug)]
 pub enum HistoryFault {
     /// The lowest faulty line, from 1, and the first kind of its faults.
     At(u32, HistoryKind),

@@ -19,7 +19,7 @@ use owner_fold::Owners;
 use std::marker::Model;
 
 /// An entry by its feed and place. A contract sees it as the pair of these.
-#[derive(Clone, Copy, Debug)]
+#[derive(Clone, Copy)]
 pub(crate) struct Place {
     pub(crate) feed: Feed,
     pub(crate) place: u32,

@@ -5,6 +5,7 @@ use Rattle.std.proofs.lemmas.Bool.Decides.{eqb_tells}
 use Rattle.std.specs.List.{list_any}
 use Rattle.std.specs.Option.{option_map_or}
 use Rattle.std.specs.Prelude.{◌&&◌, ◌||◌, ◌==◌, drop, option_and_then, slice_get}
+use Rattle.lemmas.proofs.Booleans.{or_false}
 use Rattle.model.specs.Types.{Net, Node}
 use Rattle.model.specs.Words.{below, has, numbers_from}
 use Rattle.model.specs.Network.{IsTree, chain, climb, hop, is_behind, is_manager, node_count}
@@ -51,10 +52,6 @@ nobody_behind net tree m h v = go (is_behind net v m) refl
     go : (b : Bool) → is_behind net v m ≡ b → b ≡ false
     go false e = refl
     go true e = absurd (let q : true ≡ false = sym (climbed net tree (node_count net) v m e) ∙ h in cc)
-
-or_false : (b : Bool) → (b || false) ≡ b
-or_false true = refl
-or_false false = refl
 
 none_from : (P : ℕ → Bool) (i k : ℕ) → ((v : ℕ) → i ≤ v → P v ≡ false) → list_any P (numbers_from i k) ≡ false
 none_from P i zero h = refl

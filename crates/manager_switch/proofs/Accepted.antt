@@ -1,15 +1,15 @@
 -- The net that a switch makes has no fault where the one before had none.
-use Rattle.std.proofs.Common.{◌≡◌, ◌<◌, ◌+◌, ◌∷◌, [], ℕ, Bool, List, None, Option, Some, ap, arith, eqb, false}
-use Rattle.std.proofs.Common.{inl, inr, length, map, option_map, refl, slice_get, sym, take, ◌∙◌}
+use Rattle.std.proofs.Common.{◌≡◌, ◌∷◌, [], ℕ, Bool, List, None, Option, Some, ap, eqb, false}
+use Rattle.std.proofs.Common.{length, map, option_map, refl, slice_get, sym, take, ◌∙◌}
 use Rattle.std.proofs.Common.{◌||◌, find, nat_lt}
 use Rattle.std.specs.Prelude.{nat_le}
-use Rattle.std.proofs.lemmas.Bool.Decides.{eqb_tells}
 use Rattle.std.proofs.lemmas.List.{take-map}
 use Rattle.std.proofs.lemmas.Option.{slice_get-map}
 use Rattle.std.specs.Bool.{then_some}
 use Rattle.std.specs.List.{list_any}
 use Rattle.std.specs.Option.{option_map_or}
 use Rattle.std.specs.Str.{bytes_eq}
+use Rattle.network_tree.proofs.Accepted.{no_bad_hop, no_miss}
 use Rattle.model.specs.Types.{Events, Net, Node, Obeyed, PromptDef, Resource, SwitchMgr}
 use Rattle.model.specs.History.{View}
 use Rattle.model.specs.Words.{below}
@@ -24,7 +24,6 @@ use Rattle.network_tree.specs.Faults.{repeats_a_name}
 use Rattle.network_tree.specs.declared.faults.NetFault.{NetFault}
 use Rattle.network_tree.specs.declared.faults.NetFault.TheVariants.{BadHop, Duplicate, Empty, OutOfRange, TooMany}
 use Rattle.network_tree.specs.declared.faults.NetFault.TheVariants.{Tree}
-use Rattle.network_tree.proofs.Belows.{find_nothing}
 use Rattle.network_tree.proofs.Trees.{tree}
 
 abbrev names : List Node → List (List ℕ)
@@ -60,21 +59,6 @@ repeats_same net u e w =
 find_same : (p q : ℕ → Bool) → ((w : ℕ) → p w ≡ q w) → (xs : List ℕ) → find p xs ≡ find q xs
 find_same p q same [] = refl
 find_same p q same (x ∷ xs) = rw (same x, find_same p q same xs) refl
-
-no_bad_hop : (u : Net) → IsTree u → first_ws u (has_bad_hop u) ≡ None
-no_bad_hop u t = find_nothing (has_bad_hop u) 0 (node_count u) (λ w _ low. good w low)
-  where
-    good : (w : ℕ) → w < 0 + node_count u → has_bad_hop u w ≡ false
-    good w low =
-        elim (eqb_tells w 0) [
-          | inl e ↦ rw (e.1, t.top, t.managed) refl
-          | inr e ↦ rw (e.0, t.hops w (omega (arith, e.1)) (omega (arith, low))) refl
-        ]
-
-no_miss : (u : Net) → IsTree u → first_ws u (misses_the_master u) ≡ None
-no_miss u t =
-    find_nothing (misses_the_master u) 0 (node_count u)
-    (λ w _ low. rw (t.ends w (omega (arith, low))) refl)
 
 -- the faults by their parts
 abbrev fault_of : ℕ → Option ℕ → Option ℕ → Option ℕ → Bool → Option NetFault

@@ -12,7 +12,7 @@ use network_tree::{NetFault, Network};
 use std::alloc::Global;
 
 /// Why a workstation does not take over from its manager.
-#[derive(Clone, Copy, Debug, PartialEq, Eq)]
+#[derive(Clone, Copy, Debug)]
 pub enum SwitchFault {
     /// It manages a domain already.
     IsManager,

@@ -1,11 +1,13 @@
 -- A file of its owner is not refused, and any other for one cause at one place.
-use Rattle.std.proofs.Common.{◌≡◌, ◌≢◌, ◌⊎◌, inl, inr, ℕ, zero, suc, ◌+◌, ◌<◌, ◌≤◌, List, [], ◌∷◌, ◌++◌, length, take, drop, refl, sym, ◌∙◌, ap, subst, arith, append_assoc, length-append, Some, None}
+use Rattle.std.proofs.Common.{◌≡◌, ◌≢◌, ◌⊎◌, inl, inr, ℕ, ◌+◌, ◌<◌, ◌≤◌, List, [], ◌∷◌, ◌++◌, length, take, drop, refl}
+use Rattle.std.proofs.Common.{sym, ◌∙◌, ap, subst, arith, append_assoc, length-append, Some, None}
 use Rattle.std.specs.declared.option.Option.{Option}
 use Rattle.std.specs.List.{AllByRecursion}
 use Rattle.std.specs.Int.{w32, from_be_bytes}
 use Rattle.std.proofs.lemmas.Nat.{from_be_bytes-to_be_bytes_4}
 use Rattle.std.proofs.lemmas.Bool.{cases_lt}
 use Rattle.std.proofs.lemmas.List.{take_at, drop_at, take-append-le}
+use Rattle.lemmas.proofs.Lists.{take_less}
 use Rattle.model.specs.Fields.{u32_bytes}
 use Rattle.outside.specs.Records.{longest_body, longest_file}
 use Rattle.outside.specs.Kept.{Bodies}
@@ -137,12 +139,6 @@ one_break owner file p q first second =
 breaks_differs : (owner : ℕ) (file : List ℕ) (p q : ℕ) → BreaksAt owner file p → DiffersAt owner file q → ⊥
 breaks_differs owner file p q breaks differs =
     has_head owner file (records breaks.bodies ++ drop p file) q (breaks.stands ∙ append_assoc (head_of owner) (records breaks.bodies) (drop p file)) differs
-
-take_less : {X : Type 0} (m n : ℕ) (xs : List X) → m ≤ n → take m (take n xs) ≡ take m xs
-take_less zero n xs le = refl
-take_less (suc m) zero xs le = absurd (omega (arith, le))
-take_less (suc m) (suc n) [] le = refl
-take_less (suc m) (suc n) (x ∷ xs) le = ap (λ l. x ∷ l) (take_less m n xs (omega (arith, le)))
 
 not_before : (owner : ℕ) (file : List ℕ) (p q : ℕ) → DiffersAt owner file p → DiffersAt owner file q → p < q → ⊥
 not_before owner file p q first second lt =

@@ -5,6 +5,7 @@ use Rattle.std.specs.List.{sum_by}
 use Rattle.std.proofs.lemmas.List.Concat.{length-flat_map}
 use Rattle.std.proofs.lemmas.List.Sums.{sum-map, sum_by-cons}
 use Rattle.std.proofs.lemmas.List.{take_all, take_at, length-take-le}
+use Rattle.lemmas.proofs.Lists.{take_less}
 use Rattle.model.specs.Fields.{u32_bytes}
 use Rattle.outside.specs.Records.{longest_body, longest_file, piece_of}
 use Rattle.outside.specs.Kept.{Bodies, with_body, KeptOrWith, IsKept, size_of}
@@ -46,13 +47,6 @@ size_behind bodies = omega (arith, each bodies)
   where
     each : (bodies : Bodies) → length (records bodies) ≡ sum (map (λ (body : List ℕ). 5 + length body) bodies)
     each bodies = length-flat_map record_of bodies ∙ by_each bodies ∙ sym (sum-map (λ (body : List ℕ). 5 + length body) bodies)
-
--- the front of a front
-take_less : {X : Type 0} (m n : ℕ) (xs : List X) → m ≤ n → take m (take n xs) ≡ take m xs
-take_less zero n xs le = refl
-take_less (suc m) zero xs le = absurd (omega (arith, le))
-take_less (suc m) (suc n) [] le = refl
-take_less (suc m) (suc n) (x ∷ xs) le = ap (λ l. x ∷ l) (take_less m n xs (omega (arith, le)))
 
 module _ (owner count gate : ℕ) where
   abbrev Rests : Option (List ℕ) → (List ℕ → Type 0) → Type 0

@@ -1,14 +1,11 @@
 -- What a file keeps while it is cut behind its records.
-use Rattle.std.proofs.Common.{◌≡◌, ℕ, ◌+◌, ◌≤◌, List, [], ◌∷◌, ◌++◌, length, take, drop, refl, sym, ◌∙◌, ap, arith, append_assoc, length-append, take-append-drop, Some, None, IfSome, OnOk, Ok, Err, Result}
+use Rattle.std.proofs.Common.{◌≡◌, ℕ, ◌+◌, ◌≤◌, List, [], ◌∷◌, ◌++◌, length, take, drop, refl, sym, ◌∙◌, ap, arith}
+use Rattle.std.proofs.Common.{append_assoc, length-append, take-append-drop, Some, None, IfSome}
 use Rattle.std.specs.declared.option.Option.{Option}
 use Rattle.std.proofs.lemmas.List.{take_at, take_all}
 use Rattle.outside.specs.Files.{Told, Only, Keeps, Cut}
 use Rattle.message_file.specs.Files.{head_of, records, IsFileOf, IsAtRest}
 use Rattle.message_file.specs.Attaching.{EndAt, KeepSame, KeepSameOf}
-
-pub on_ok_map : {X Y P Q : Type 0} (r : Result X Y) → OnOk r P → (P → Q) → OnOk r Q
-on_ok_map (Ok x) p f = f p
-on_ok_map (Err y) p f = tt
 
 module _ (owner count gate : ℕ) (file : List ℕ) (end : EndAt owner count gate file) where
   abbrev K : List (List ℕ)

@@ -29,7 +29,7 @@ pub struct Record {
 }
 
 /// Why a body was not read. `NoMemory` comes besides where somebody else wrote the file meanwhile.
-#[derive(Clone, Copy, PartialEq, Eq)]
+#[derive(Clone, Copy)]
 pub enum ReadFault {
     Disk,
     NoMemory,

@@ -1,8 +1,7 @@
 -- A history has no more entries than steps were taken, and no more starts than entries.
-use Rattle.std.proofs.Common.{ℕ, ◌+◌, ◌≤◌, List, [], ◌∷◌, inl, inr, length, length-append, arith, suc}
+use Rattle.std.proofs.Common.{ℕ, ◌+◌, ◌≤◌, List, [], ◌∷◌, inl, inr, length, length-append, arith}
 use Rattle.std.proofs.Common.{Option, Some, None}
-use Rattle.std.specs.List.{cons_option}
-use Rattle.std.specs.Prelude.{filter_map}
+use Rattle.lemmas.proofs.Lists.{filter_map_short}
 use Rattle.model.specs.Types.{Entry, Net, WorldStep}
 use Rattle.model.specs.Words.{IsPartOf}
 use Rattle.model.specs.Step.{Effect}
@@ -50,19 +49,10 @@ part_within (x ∷ xs) [] h = absurd h
 part_within (x ∷ xs) (y ∷ ys) (inl h) = let rest = part_within xs ys h.1 in omega arith
 part_within (x ∷ xs) (y ∷ ys) (inr h) = let rest = part_within (x ∷ xs) ys h in omega arith
 
-mapped_within : {X Y : Type 0} (f : X → Option Y) (xs : List X) → length (filter_map f xs) ≤ length xs
-mapped_within f [] = omega arith
-mapped_within {X} {Y} f (x ∷ xs) = go (f x) (mapped_within f xs)
-  where
-    go : (o : Option Y) → length (filter_map f xs) ≤ length xs
-        → length (cons_option o (filter_map f xs)) ≤ suc (length xs)
-    go None h = omega arith
-    go (Some y) h = omega arith
-
 pub few_starts : (net : Net) (steps : List WorldStep) → length (run net steps empty_world).starts ≤ 200000
 few_starts net steps =
     let x : World = run net steps empty_world in
     let few = always_short net steps in
     let part = part_within x.starts (launches_in_order x.history) (always_invariant net steps).starts in
-    let launches = mapped_within (λ (e : Entry). launch_in e.feed e.body) x.history in
+    let launches = filter_map_short (λ (e : Entry). launch_in e.feed e.body) x.history in
     omega arith

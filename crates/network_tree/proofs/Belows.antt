@@ -1,14 +1,9 @@
 -- Lists and tests over the numbers below a bound.
-use Rattle.std.proofs.Common.{◌≡◌, ◌+◌, ◌<◌, ◌≤◌, ℕ, ◌∷◌, Bool, None, Some, ap, arith}
+use Rattle.std.proofs.Common.{◌≡◌, ◌+◌, ◌<◌, ◌≤◌, ℕ, Bool, None, Some, ap, arith}
 use Rattle.std.proofs.Common.{◌||◌, cond, false, find, inl, inr, refl, subst, suc, sym, true, zero, ◌∙◌}
 use Rattle.std.proofs.lemmas.Bool.Decides.{eqb_tells}
-use Rattle.std.specs.List.{list_any, range_with_len}
+use Rattle.std.specs.List.{list_any}
 use Rattle.model.specs.Words.{numbers_from}
-
--- the numbers of the definitions are those of std
-pub numbers-range : (from n : ℕ) → numbers_from from n ≡ range_with_len from n
-numbers-range from zero = refl
-numbers-range from (suc n) = ap (λ l. from ∷ l) (numbers-range (from + 1) n)
 
 module _ (test : ℕ → Bool) where
   -- where none passes, none is found

@@ -1,25 +1,19 @@
 -- How a row of the table is filled: up the chain of hops, each hop is given the one before it.
-use Rattle.std.proofs.Common.{◌≡◌, ◌⊎◌, ◌+◌, ◌<◌, ℕ, [], ◌∷◌, ◌++◌, List, None, Option, Some, ap}
+use Rattle.std.proofs.Common.{◌≡◌, ◌⊎◌, ◌<◌, ℕ, ◌∷◌, List, None, Option, Some, ap}
 use Rattle.std.proofs.Common.{arith}
 use Rattle.std.proofs.Common.{eqb, get_or, get_or-set_other, get_or-set_same, false, if◌then◌else◌, inl, inr, is_some}
 use Rattle.std.proofs.Common.{drop, length, length-set, map, refl, set, subst, suc, sym, true, unwrap_or, zero, ◌∙◌}
 use Rattle.std.proofs.lemmas.Bool.Decides.{eqb_tells, nat_tests}
 use Rattle.std.proofs.lemmas.List.FromFn.{fill_by_all, get_or-map-range_with_len, length-map-range_with_len}
-use Rattle.std.proofs.lemmas.List.FromFn.{map-range_with_len_more}
 use Rattle.std.specs.List.{range_with_len}
 use Rattle.std.specs.Option.{option_or}
+use Rattle.model_laws.proofs.Numbers.{numbers-range}
 use Rattle.model.specs.Network.{IsTree, chain, climb, hop, node_count, one_before}
 use Rattle.model.specs.Types.{Net}
 use Rattle.model.specs.Words.{below, has}
 use Rattle.network_tree.specs.Ways.{row, way}
-use Rattle.network_tree.proofs.Belows.{numbers-range}
 use Rattle.network_tree.proofs.Climbs.{above, before_has}
 use Rattle.network_tree.proofs.Trees.{hop_inside, not_behind_itself, way_is}
-
--- one more of a list over the numbers below
-pub map_below_more : {X : Type 0} (f : ℕ → X) (n : ℕ) → map f (below (n + 1)) ≡ map f (below n) ++ f n ∷ []
-map_below_more f n =
-    rw (numbers-range 0 (n + 1), numbers-range 0 n) (map-range_with_len_more f 0 n n (omega arith))
 
 -- the hop of each, and its own number where it has none
 abbrev pub own_hops : Net → List ℕ

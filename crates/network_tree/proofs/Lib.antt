@@ -5,3 +5,5 @@ pub mod Trees
 pub mod Fills
 pub mod Lookups
 pub mod Keys
+pub mod Accepted
+pub mod Sizes

@@ -8,11 +8,11 @@ use Rattle.std.proofs.lemmas.List.FromFn.{get_or-map-range_with_len, length-map-
 use Rattle.std.proofs.lemmas.Option.{slice_get-get_or}
 use Rattle.std.specs.List.{range_with_len}
 use Rattle.std.specs.Option.{option_eq}
+use Rattle.model_laws.proofs.Numbers.{numbers-range}
 use Rattle.model.specs.Network.{IsTree, are_neighbours, hop, is_behind, is_manager, node_count, towards}
 use Rattle.model.specs.Types.{Net}
 use Rattle.model.specs.Words.{below}
 use Rattle.network_tree.specs.Ways.{row, table, way}
-use Rattle.network_tree.proofs.Belows.{numbers-range}
 use Rattle.network_tree.proofs.Trees.{are_so, hop_inside, hop_manager, hop_there, way_inside, way_there}
 use Rattle.network_tree.proofs.Trees.{behind_tells, way_to_neighbour}
 

@@ -1,13 +1,13 @@
 -- What a net without faults is: a tree, in which there is a way from each workstation to each other.
 use Rattle.std.proofs.Common.{◌≡◌, ◌≢◌, ◌⊎◌, ◌<◌, ◌≤◌, ℕ, [], ◌∷◌, ◌||◌, Bool, List, None, Option, Some, ap}
 use Rattle.std.proofs.Common.{arith, drop, eqb, false, if◌then◌else◌, inl, inr, is_some, not, option_and_then}
-use Rattle.std.proofs.Common.{option_map}
 use Rattle.std.proofs.Common.{refl, slice_get, subst, suc, sym, true, zero, ◌∙◌}
 use Rattle.std.proofs.lemmas.Bool.Decides.{eqb_tells, nat_tests}
 use Rattle.std.proofs.lemmas.Option.{slice_get_within}
-use Rattle.std.specs.Bool.{then_some}
 use Rattle.std.specs.List.{AllByRecursion}
 use Rattle.std.specs.Option.{option_map_or, option_or}
+use Rattle.lemmas.proofs.Booleans.{neither_left, neither_right, not_fails}
+use Rattle.lemmas.proofs.Options.{map_none, then_none}
 use Rattle.model.specs.Network.{IsTree, are_neighbours, chain, climb, hop, is_behind, is_manager, node_count, one_before}
 use Rattle.model.specs.Network.{towards}
 use Rattle.model.specs.Types.{Net, Node}
@@ -16,55 +16,37 @@ use Rattle.network_tree.specs.Faults.{first_there, has_bad_hop, misses_the_maste
 use Rattle.network_tree.specs.declared.faults.NetFault.{NetFault}
 use Rattle.network_tree.proofs.Belows.{nothing_found}
 use Rattle.network_tree.proofs.Climbs.{above, above_up, before_has, before_hop, has_up, last_has, no_return, up}
+use Rattle.network_tree.specs.Faults.{is_out_of_range, repeats_a_name}
+use Rattle.network_tree.specs.declared.faults.NetFault.TheVariants.{OutOfRange}
 
-none_there : {X : Type 0} (os : List (Option X)) → first_there os ≡ None
+pub none_there : {X : Type 0} (os : List (Option X)) → first_there os ≡ None
     → AllByRecursion (λ (o : Option X). o ≡ None) os
 none_there [] h = tt
 none_there (None ∷ os) h = (refl, none_there os h)
 none_there (Some x ∷ os) h = cc
 
-not_then : {X : Type 0} (b : Bool) (x : X) → then_some b x ≡ None → b ≡ false
-not_then true x h = cc
-not_then false x h = refl
-
-not_mapped : {X Y : Type 0} (f : X → Y) (o : Option X) → option_map f o ≡ None → o ≡ None
-not_mapped f None h = refl
-not_mapped f (Some x) h = cc
-
-not_missed : (b : Bool) → not b ≡ false → b ≡ true
-not_missed true h = refl
-not_missed false h = cc
-
 pub few : (net : Net) → net_fault net ≡ None → (0 < node_count net) × (node_count net ≤ 256)
 unfolding net_fault
 few net none =
     let all : AllByRecursion (λ (o : Option NetFault). o ≡ None) (net_faults net) = none_there (net_faults net) none in
-    let some : eqb (node_count net) 0 ≡ false = not_then (eqb (node_count net) 0) _ all.0 in
-    (grind (arith, nat_tests), grind (arith, nat_tests, not_then _ _ all.1.0))
+    let some : eqb (node_count net) 0 ≡ false = then_none (eqb (node_count net) 0) _ all.0 in
+    (grind (arith, nat_tests), grind (arith, nat_tests, then_none _ _ all.1.0))
 
 no_bad_hop : (net : Net) → net_fault net ≡ None → (w : ℕ) → w < node_count net → has_bad_hop net w ≡ false
 unfolding net_fault
 no_bad_hop net none w low =
     let all : AllByRecursion (λ (o : Option NetFault). o ≡ None) (net_faults net) = none_there (net_faults net) none in
-    nothing_found (has_bad_hop net) 0 (node_count net) w (not_mapped _ _ all.1.1.1.0) (omega arith) (omega arith)
+    nothing_found (has_bad_hop net) 0 (node_count net) w (map_none _ _ all.1.1.1.0) (omega arith) (omega arith)
 
 none_missed : (net : Net) → net_fault net ≡ None → (w : ℕ) → w < node_count net → last_or w (chain net w) ≡ 0
 unfolding net_fault
 none_missed net none w low =
     let all : AllByRecursion (λ (o : Option NetFault). o ≡ None) (net_faults net) = none_there (net_faults net) none in
     let missed : misses_the_master net w ≡ false =
-    nothing_found (misses_the_master net) 0 (node_count net) w (not_mapped _ _ all.1.1.1.1.0) (omega arith)
+    nothing_found (misses_the_master net) 0 (node_count net) w (map_none _ _ all.1.1.1.1.0) (omega arith)
     (omega arith) in
-    let at : eqb (last_or w (chain net w)) 0 ≡ true = not_missed _ missed in
+    let at : eqb (last_or w (chain net w)) 0 ≡ true = not_fails _ missed in
     grind (arith, nat_tests)
-
-left_false : (a b : Bool) → (a || b) ≡ false → a ≡ false
-left_false true b h = cc
-left_false false b h = refl
-
-right_false : (a b : Bool) → (a || b) ≡ false → b ≡ false
-right_false true b h = cc
-right_false false b h = h
 
 not_there : {X : Type 0} (o : Option X) → is_some o ≡ false → o ≡ None
 not_there None h = refl
@@ -74,15 +56,15 @@ not_there (Some x) h = cc
 pub tree : (net : Net) → net_fault net ≡ None → IsTree net
 tree net none =
     record {
-      top = not_there (hop net 0) (left_false (is_some (hop net 0)) _ (no_bad_hop net none 0 (few net none).0));
+      top = not_there (hop net 0) (neither_left (is_some (hop net 0)) _ (no_bad_hop net none 0 (few net none).0));
       managed =
-          not_missed _ (right_false (is_some (hop net 0)) _ (no_bad_hop net none 0 (few net none).0));
+          not_fails _ (neither_right (is_some (hop net 0)) _ (no_bad_hop net none 0 (few net none).0));
       hops =
           λ w above low.
           elim (eqb_tells w 0) [
             | inl e ↦ absurd (omega (arith, e.1, above))
             | inr e ↦
-                not_missed _ (sym (ap (λ b. if b then is_some (hop net w) || not (is_manager net w)
+                not_fails _ (sym (ap (λ b. if b then is_some (hop net w) || not (is_manager net w)
                 else not (option_map_or (is_manager net) (hop net w) false)) e.0) ∙ no_bad_hop net none w low)
           ];
       ends = none_missed net none;
@@ -242,3 +224,17 @@ module _ (net : Net) (t : IsTree net) where
                 let back : hop net c ≡ Some m = before_hop net (node_count net) n m c e in
                 not_back 1 m low_m (ap (option_and_then (up net 1)) to ∙ ap (option_and_then (up net 0)) back),
           )
+
+-- no node of an accepted network repeats a name
+pub none_repeats : (net : Net) → net_fault net ≡ None → (w : ℕ) → w < node_count net → repeats_a_name net w ≡ false
+unfolding net_fault
+none_repeats net none w low =
+    let all : AllByRecursion (λ (o : Option NetFault). o ≡ None) (net_faults net) = none_there (net_faults net) none in
+    nothing_found (repeats_a_name net) 0 (node_count net) w (map_none _ _ all.1.1.0) (omega arith) (omega arith)
+
+-- an accepted network is in range
+pub in_range : (net : Net) → net_fault net ≡ None → is_out_of_range net ≡ false
+unfolding net_fault
+in_range net none =
+    let all : AllByRecursion (λ (o : Option NetFault). o ≡ None) (net_faults net) = none_there (net_faults net) none in
+    then_none (is_out_of_range net) OutOfRange all.1.1.1.1.1.0

@@ -12,7 +12,7 @@ use base_types::{Net, NoMemory, Node, Text, Ws};
 use std::alloc::Global;
 
 /// Why a net is refused, in the order in which the causes are tested.
-#[derive(Clone, Copy, Debug, PartialEq, Eq)]
+#[derive(Clone, Copy, Debug)]
 pub enum NetFault {
     /// There is no workstation.
     Empty,

@@ -5,6 +5,7 @@ use Rattle.std.proofs.lemmas.Bool.{lt-ltb}
 use Rattle.std.proofs.lemmas.List.{length-map}
 use Rattle.std.proofs.lemmas.Option.{slice_get-map, slice_get_within}
 use Rattle.std.specs.Prelude.{◌⊎◌, IfOk, Result, slice_get}
+use Rattle.lemmas.proofs.Options.{map_some}
 use Rattle.model.specs.Types.{Entry, Net}
 use Rattle.model.specs.Network.{node_count}
 use Rattle.model.specs.History.{list_of}
@@ -18,7 +19,6 @@ use Rattle.network_world.specs.Standing.{IsReached, IsWorld, StandsFor, StationS
 use Rattle.network_world.specs.Lanes as spec
 use Rattle.network_world.specs.Moves.{AreNew, IsAgain, IsNew, IsRestorable}
 use Rattle.network_world.specs.declared.lanes.Lane as raw
-use Rattle.network_world.proofs.Lists.{some_map}
 
 -- an item of a list that got one more
 pub push_cases : {X : Type 0} (xs : List X) (a : X) (i : ℕ) (t : X) → slice_get (xs ++ a ∷ []) i ≡ Some t
@@ -87,7 +87,7 @@ pub lanes_seen : (net : Net) (made : List raw.Lane) → spec.AreNew (node_count 
 lanes_seen net made h = (
   length-map made spec.seen ∙ h.0,
   λ b l e.
-      let g = some_map spec.seen (slice_get made b) l (sym (slice_get-map spec.seen made b) ∙ e) in
+      let g = map_some spec.seen (slice_get made b) l (sym (slice_get-map spec.seen made b) ∙ e) in
       sym g.2 ∙ h.1 b g.0 g.1,
 )
 

@@ -1,11 +1,12 @@
 -- A packet that is delivered.
-use Rattle.std.proofs.Common.{Err, List, None, Ok, Option, Result, Some, [], ap, arith, length, refl, ℕ, ◌<◌, ◌∙◌, ◌∷◌, ◌≡◌, ◌≤◌}
+use Rattle.std.proofs.Common.{Err, List, None, Ok, Option, Result, Some, ap, arith, length, refl, ℕ, ◌<◌, ◌∙◌, ◌≡◌, ◌≤◌}
 use Rattle.std.proofs.Common.{option_map, subst, suc, sym, take, zero}
 use Rattle.std.proofs.lemmas.Bool.Decides.{eqb_tells}
 use Rattle.std.proofs.Common.{inl, inr}
 use Rattle.std.specs.List.{AllByRecursion}
 use Rattle.std.specs.Option.{option_map_or}
 use Rattle.std.specs.Prelude.{◌==◌, IfErr, IfOk, option_and_then, slice_get, slice_set}
+use Rattle.lemmas.proofs.Lists.{get_take, got_below}
 use Rattle.model.specs.Types.{Ack, Body, Deliver, Feed, Input, Mail, Net, Packet}
 use Rattle.model.specs.Words.{nth}
 use Rattle.model.specs.Network.{node_count}
@@ -28,7 +29,7 @@ use Rattle.network_world.specs.Deliveries.{IsBrought, IsNotBrought, IsOpened, in
 use Rattle.network_world.specs.declared.journals.Journal as raw
 use Rattle.network_world.specs.declared.refusals.StepRefused.{StepRefused}
 use Rattle.network_world.specs.declared.refusals.StepRefused.TheVariants as refused
-use Rattle.network_world.proofs.Lists.{set_elsewhere, set_there, there_is}
+use Rattle.network_world.proofs.Lists.{set_elsewhere, set_there}
 use Rattle.network_world.proofs.After.{EachGoesOn, count_stays, each_goes_on, each_marked, journal_after, journal_marked}
 use Rattle.network_world.proofs.After.{reached_next, stands_after}
 use Rattle.network_world.proofs.Effects.{deliver_err, deliver_ok, effect_limit, effect_none, effect_ok, node_refuses}
@@ -51,9 +52,9 @@ WithinLaw =
 pub lane_there : (s : WorldState) (x : model.World) (a b : ℕ) → StandsFor s x → a < node_count s.net
     → b < node_count s.net → (l : Lane) × (lane_of s a b ≡ Some l) × LaneStandsFor x a b l
 lane_there s x a b old in_a in_b =
-    let t = there_is s.stations a (omega (arith, in_a, old.station_count)) in
+    let t = got_below s.stations a (omega (arith, in_a, old.station_count)) in
     let from = old.stations_ a t.0 t.1 in
-    let l = there_is t.0.lanes b (omega (arith, in_b, from.lane_count)) in (
+    let l = got_below t.0.lanes b (omega (arith, in_b, from.lane_count)) in (
       l.0,
       ap (λ (o : Option Station). option_and_then (λ (u : Station). slice_get u.lanes b) o) t.1 ∙ l.1,
       from.lanes_ b l.0 l.1,
@@ -67,17 +68,9 @@ packet_there s x a b k p old in_a in_b is =
     sym
     (is ∙ ap (option_and_then (λ (m : Lane). nth m.packets k)) l.1 ∙ ap (λ (ps : List Packet). nth ps k) l.2.packets_)
 
--- what a mail names stands in the history and is held by its sender
-taken_there : {X : Type 0} (xs : List X) (h k : ℕ) → k < h → slice_get (take h xs) k ≡ slice_get xs k
-taken_there [] zero k lt = absurd (omega (arith, lt))
-taken_there [] (suc h) k lt = refl
-taken_there (x ∷ xs) zero k lt = absurd (omega (arith, lt))
-taken_there (x ∷ xs) (suc h) zero lt = refl
-taken_there (x ∷ xs) (suc h) (suc k) lt = taken_there xs h k (omega (arith, lt))
-
 nth_taken : {X : Type 0} (xs : List X) (h k : ℕ) → 0 < k → k ≤ h → nth (take h xs) k ≡ nth xs k
 nth_taken xs h zero above low = absurd (omega (arith, above))
-nth_taken xs h (suc k) above low = taken_there xs h k (omega (arith, low))
+nth_taken xs h (suc k) above low = get_take xs h k (omega (arith, low))
 
 packet_is : (x : model.World) (a : ℕ) (p : Packet) → IsBacked (x.holdings a) p
     → packet_input x a p ≡ input_by a p (named_at x a p)
@@ -122,7 +115,7 @@ there_input net x a (Mail f k) law reached backed =
   where
     nth_there : (xs : List Body) (n : ℕ) → 0 < n → n ≤ length xs → (b : Body) × (nth xs n ≡ Some b)
     nth_there xs zero above low = absurd (omega (arith, above))
-    nth_there xs (suc n) above low = there_is xs n (omega (arith, low))
+    nth_there xs (suc n) above low = got_below xs n (omega (arith, low))
 
 pub limit_brought : (s : WorldState) (a b k : ℕ) (p : Packet) (r : StepRefused) → BackedLaw → WithinLaw
     → a < node_count s.net → b < node_count s.net
@@ -199,7 +192,7 @@ pub deliver_steps : (s : WorldState) (a b k : ℕ) (input : Input) (sent : Step)
 deliver_steps s a b k input sent mid stations j law in_a in_b count came taken marked wrote = record {
   net_ = refl;
   leads = λ x old.
-      let at_b = there_is s.stations b (omega (arith, in_b, count)) in
+      let at_b = got_below s.stations b (omega (arith, in_b, count)) in
       let got = taken at_b.0 at_b.1 in
       let d : Effect = effect_in sent got.0.node in
       let brought = came x old in
@@ -211,9 +204,9 @@ deliver_steps s a b k input sent mid stations j law in_a in_b count came taken m
       each_goes_on s.net x (Deliver a b k) b Origin.Mailed d s.stations mid at_b.0 got.0
       (kept_of_deliver s.net x a b k d done) at_b.1 got.1 got.2.goes in
       let kept_count = count_stays s.stations mid b got.0 got.1 in
-      let q = there_is mid a (omega (arith, in_a, count, kept_count)) in
+      let q = got_below mid a (omega (arith, in_a, count, kept_count)) in
       let mark = marked q.0 q.1 in
-      let l = there_is q.0.lanes b
+      let l = got_below q.0.lanes b
       (lane_after s x a b d at_b.0 got.0 q.0 mid old in_b at_b.1 got.1 got.2.goes q.1) in (
         mark_delivered y a b k,
         stepped,
@@ -233,7 +226,7 @@ pub deliver_can_be_noted : (s : WorldState) (a b k : ℕ) (input : Input) (sent 
 deliver_can_be_noted s a b k input sent mid j law is few inside came taken same room =
     let x = is.world in
     let old = is.stands in
-    let at_b = there_is s.stations b (omega (arith, inside, old.station_count)) in
+    let at_b = got_below s.stations b (omega (arith, inside, old.station_count)) in
     let got = taken at_b.0 at_b.1 in
     let d : Effect = effect_in sent got.0.node in
     let brought = came x old in
@@ -262,7 +255,7 @@ pub deliver_refused : (s : WorldState) (a b k : ℕ) (input : Input) (r : StepRe
     → length s.stations ≡ node_count s.net → IsBrought s a b k input
     → ((t : Station) → station_of s b ≡ Some t → IsInputDue t input r) → IsRefusalDue s (Deliver a b k) r
 deliver_refused s a b k input r inside count came due =
-    let at_b = there_is s.stations b (omega (arith, inside, count)) in
+    let at_b = got_below s.stations b (omega (arith, inside, count)) in
     node_refuses s (Deliver a b k) b at_b.0 input (λ x. delivery x a b k) r
     (λ x g old e. deliver_err s.net x a b k g e) came at_b.1 (due at_b.0 at_b.1)
 
@@ -273,7 +266,7 @@ pub mark_inside : (s : WorldState) (a b : ℕ) (input : Input) (sent : Step) (mi
     → (a < length mid) × ((t : Station) → slice_get mid a ≡ Some t → b < length t.lanes)
 mark_inside s a b input sent mid is in_a in_b taken =
     let old = is.stands in
-    let at_b = there_is s.stations b (omega (arith, in_b, old.station_count)) in
+    let at_b = got_below s.stations b (omega (arith, in_b, old.station_count)) in
     let got = taken at_b.0 at_b.1 in (
       omega (arith, in_a, old.station_count, count_stays s.stations mid b got.0 got.1),
       λ t e. lane_after s is.world a b (effect_in sent got.0.node) at_b.0 got.0 t mid old in_b at_b.1 got.1

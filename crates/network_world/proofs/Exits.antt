@@ -1,12 +1,8 @@
 -- What is owed where a call's error is handed on.
-use Rattle.std.proofs.Common.{◌≡◌, Err, Ok, Result, subst, sym}
+use Rattle.std.proofs.Common.{◌≡◌, Result, subst, sym}
 use Rattle.std.proofs.lemmas.Result.{err_from_is_err_and}
-use Rattle.std.specs.Prelude.{IfErr, OnErr}
+use Rattle.std.specs.Prelude.{IfErr}
 use Rattle.std.specs.Result.{IsErrAnd}
-
-pub on_err : {T E P : Type 0} (r : Result T E) → P → OnErr r P
-on_err (Ok x) p = tt
-on_err (Err x) p = p
 
 -- the error is the one that was handed on
 pub if_err : {T E : Type 0} (P : E → Type 0) (r : Result T E) (e : E) → IsErrAnd r (λ y. y ≡ e) → P e → IfErr r P

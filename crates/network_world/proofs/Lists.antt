@@ -1,6 +1,6 @@
 -- Lists of which one item is changed, and items by their numbers.
-use Rattle.std.proofs.Common.{◌≡◌, ◌≢◌, ◌∷◌, ◌+◌, ◌-◌, ◌<◌, ◌++◌, ◌∙◌, [], ℕ, List, None, Option, Some, ap, arith, drop}
-use Rattle.std.proofs.Common.{drop-cons, get_or, length, map, option_map, refl, suc, sym, take, zero}
+use Rattle.std.proofs.Common.{◌≡◌, ◌≢◌, ◌∷◌, ◌+◌, ◌-◌, ◌<◌, ◌++◌, ◌∙◌, [], ℕ, List, Some, ap, arith}
+use Rattle.std.proofs.Common.{get_or, length, map, refl, suc, sym, take, zero}
 use Rattle.std.proofs.lemmas.Grind.{take_at_read}
 use Rattle.std.specs.Prelude.{slice_get, slice_set}
 use Rattle.model.specs.Words.{nth}
@@ -47,22 +47,6 @@ map_set_same f (y ∷ xs) zero x a e same =
     ap (λ (z : _). z ∷ map f xs) (same ∙ ap f here)
 map_set_same f (y ∷ xs) (suc i) x a e same = ap (λ (l : List _). f y ∷ l) (map_set_same f xs i x a e same)
 
-pub there_is : {X : Type 0} (xs : List X) (i : ℕ) → i < length xs → (x : X) × (slice_get xs i ≡ Some x)
-there_is [] i h = absurd (omega (arith, h))
-there_is (x ∷ xs) zero h = (x, refl)
-there_is (x ∷ xs) (suc i) h = there_is xs i (omega (arith, h))
-
--- what is seen of an item is that of one
-pub some_map : {A B : Type 0} (f : A → B) (o : Option A) (b : B) → option_map f o ≡ Some b
-    → (a : A) × (o ≡ Some a) × (f a ≡ b)
-some_map f None b e = cc
-some_map f (Some a) b e =
-    let same : f a ≡ b = cc in
-    (a, refl, same)
-
-pub same_some : {A : Type 0} (a b : A) → Some a ≡ Some b → a ≡ b
-same_some a b e = cc
-
 -- counted from 1 and from 0
 pub nth_at : {X : Type 0} (xs : List X) (k : ℕ) → 0 < k → nth xs k ≡ slice_get xs (k - 1)
 nth_at xs zero h = absurd (omega (arith, h))
@@ -74,12 +58,3 @@ nth_at xs (suc k) h =
 pub take_more : {X : Type 0} (xs : List X) (i : ℕ) (x : X) → i < length xs → x ≡ get_or xs i x
     → take (i + 1) xs ≡ take i xs ++ x ∷ []
 take_more xs i x h is = (take_at_read xs i x h).1 ∙ ap (λ (y : _). take i xs ++ y ∷ []) (sym is)
-
-pub drop_here : {X : Type 0} (xs : List X) (i : ℕ) (x : X) → i < length xs → x ≡ get_or xs i x
-    → drop i xs ≡ x ∷ drop (i + 1) xs
-drop_here xs i x h is =
-    drop-cons xs i x h ∙ ap (λ (y : _). y ∷ drop (suc i) xs) (sym is)
-    ∙ ap (λ (k : ℕ). x ∷ drop k xs) (more i)
-  where
-    more : (k : ℕ) → suc k ≡ k + 1
-    more k = omega arith

@@ -1,11 +1,13 @@
 -- What is written of a step, and that there is room for it.
-use Rattle.std.proofs.Common.{◌≡◌, ◌∷◌, ◌+◌, ◌*◌, ◌<◌, ◌≤◌, ◌++◌, ◌∙◌, [], ℕ, Bool, List, None, Ok, Option, Some, ap}
+use Rattle.std.proofs.Common.{◌≡◌, ◌∷◌, ◌+◌, ◌*◌, ◌<◌, ◌≤◌, ◌++◌, ◌∙◌, [], ℕ, Bool, List, None, Ok, Option, ap}
 use Rattle.std.proofs.Common.{append_assoc, arith, drop, false, get_or, length, length-append, refl, sym, take}
 use Rattle.std.proofs.Common.{take_all, true}
 use Rattle.std.proofs.lemmas.Bool.{leb-false}
 use Rattle.std.proofs.lemmas.List.Elements.{filter_map-append}
 use Rattle.std.specs.Option.{option_map_or, option_to_list}
 use Rattle.std.specs.Prelude.{count_by, filter_map, nat_le}
+use Rattle.model_laws.proofs.Answered.{mailed_history}
+use Rattle.lemmas.proofs.Lists.{drop_here}
 use Rattle.base_types.specs.Grown.{Grown}
 use Rattle.model.specs.Types.{Entry, Input, Launch, LimitName, Net, Out, Send, Start}
 use Rattle.model.specs.Words.{first_of_these}
@@ -19,7 +21,7 @@ use Rattle.network_world.specs.Refusals.{limit_at}
 use Rattle.network_world.specs.Standing.{IsReached, StandsFor}
 use Rattle.network_world.specs.Journals.{CanNote, HasNoted, HasRoom, HasStarts, seen}
 use Rattle.network_world.specs.declared.journals.Journal as raw
-use Rattle.network_world.proofs.Lists.{drop_here, take_more}
+use Rattle.network_world.proofs.Lists.{take_more}
 use Rattle.network_world.proofs.Starting.{step_starts_one, step_weighs}
 
 -- one start more
@@ -161,10 +163,6 @@ own_noted w outs made old mid history kept h wrote weighed =
       sent_ = h.sent_;
       kept_ = weighed;
     }
-
-mailed_history : (G : List Entry) (made : Option Entry) → history_with Origin.Mailed G made ≡ G
-mailed_history G None = refl
-mailed_history G (Some e) = refl
 
 pub mailed_noted : (w : ℕ) (outs : List Out) (made : Option Entry) (old mid : raw.Journal) (kept : ℕ)
     → HasStarts w outs old mid → kept ≡ old.kept + option_map_or entry_size made 0

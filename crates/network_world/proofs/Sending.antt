@@ -7,13 +7,15 @@ use Rattle.std.proofs.lemmas.Bool.Decides.{eqb_tells}
 use Rattle.std.proofs.lemmas.List.{length-map}
 use Rattle.std.proofs.lemmas.Option.{slice_get-map}
 use Rattle.std.specs.Prelude.{slice_get, slice_set}
+use Rattle.lemmas.proofs.Lists.{drop_here}
+use Rattle.lemmas.proofs.Options.{map_some}
 use Rattle.model.specs.Types.{Launch, Out, Packet, Send}
 use Rattle.model.specs.World.{packets_to}
 use Rattle.network_world.specs.Stations.{Lane}
 use Rattle.network_world.specs.Lanes.{GetsPacket, HasMore, HasRoomAt, HaveMore, HaveRoom, HaveRoomFor, seen}
 use Rattle.network_world.specs.Moves.{LanesGrow}
 use Rattle.network_world.specs.declared.lanes.Lane as raw
-use Rattle.network_world.proofs.Lists.{drop_here, map_set_same, set_elsewhere, set_length, set_there, some_map}
+use Rattle.network_world.proofs.Lists.{map_set_same, set_elsewhere, set_length, set_there}
 use Rattle.network_world.proofs.Lists.{take_more}
 
 pub packets_append : (b : ℕ) (xs ys : List Out) → packets_to b (xs ++ ys) ≡ packets_to b xs ++ packets_to b ys
@@ -179,7 +181,7 @@ lanes_grow outs old new h =
     record {
       count = length-map new seen ∙ h.count ∙ sym (length-map old seen);
       each = λ b m e.
-          let g = some_map seen (slice_get new b) m (sym (slice_get-map seen new b) ∙ e) in
+          let g = map_some seen (slice_get new b) m (sym (slice_get-map seen new b) ∙ e) in
           let k = h.each b g.0 g.1 in (
             seen k.0,
             slice_get-map seen old b ∙ ap (option_map seen) k.1,

@@ -1,18 +1,19 @@
 -- What a world shows.
 use Rattle.std.proofs.Common.{◌≡◌, ◌≢◌, ◌∷◌, ◌<◌, ◌≤◌, ◌+◌, ◌^◌, ◌++◌, ◌∙◌, [], ℕ, List, None, Some, ap, append-nil}
-use Rattle.std.proofs.Common.{append_assoc, arith, flat_map, get_or, length, map, refl, subst, suc, sym, zero}
+use Rattle.std.proofs.Common.{append_assoc, arith, flat_map, length, map, refl, subst, sym}
 use Rattle.std.proofs.lemmas.Bool.{lt-ltb}
 use Rattle.std.proofs.lemmas.Grind.{flat_map-append}
 use Rattle.std.proofs.lemmas.List.{length-take-le, map-append}
 use Rattle.std.proofs.lemmas.List.Elements.{filter-append}
-use Rattle.std.proofs.lemmas.Option.{slice_get_read}
-use Rattle.std.specs.Prelude.{filter, nat_lt, slice_get}
+use Rattle.std.specs.Prelude.{filter, nat_lt}
+use Rattle.model_laws.proofs.Numbers.{below_more}
+use Rattle.lemmas.proofs.Options.{some_same}
 use Rattle.base_types.specs.declared.FeedCount.{FeedCount}
 use Rattle.base_types.specs.declared.NodePart.{NodePart}
 use Rattle.base_types.specs.declared.PairCount.{PairCount}
 use Rattle.base_types.specs.declared.ReportParts.{ReportParts}
 use Rattle.model.specs.Types.{Entry, Events, Feed, Net, Orders, Start, WorldStep}
-use Rattle.model.specs.Words.{below, numbers_from}
+use Rattle.model.specs.Words.{below}
 use Rattle.model.specs.Network.{node_count}
 use Rattle.model.specs.History.{list_of}
 use Rattle.model.specs.Forwarding.{feeds}
@@ -26,26 +27,8 @@ use Rattle.network_world.specs.Standing.{IsReached, IsWorld, NodeStandsFor, Stan
 use Rattle.network_world.specs.Lanes as spec
 use Rattle.network_world.specs.Parts.{held_at, held_by, node_part, pair, pairs_among, pairs_from, parts_of}
 use Rattle.network_world.specs.declared.lanes.Lane as raw
-use Rattle.network_world.proofs.Lists.{same_some}
 use Rattle.network_world.proofs.Delivering.{lane_there}
 use Rattle.network_world.proofs.Taking.{SentLaw}
-
--- one number more below a bound
-numbers_more : (from n : ℕ) → numbers_from from (suc n) ≡ numbers_from from n ++ (from + n) ∷ []
-numbers_more from zero =
-    let e : from ≡ from + 0 = omega arith in
-    ap (λ (k : ℕ). k ∷ []) e
-numbers_more from (suc n) =
-    let e : from + 1 + n ≡ from + suc n = omega arith in
-    ap (λ (l : List ℕ). from ∷ l)
-    (numbers_more (from + 1) n ∙ ap (λ (k : ℕ). numbers_from (from + 1) n ++ k ∷ []) e)
-
-pub below_more : (n : ℕ) → below (n + 1) ≡ below n ++ n ∷ []
-below_more n =
-    let next : n + 1 ≡ suc n = omega arith in
-    let here : 0 + n ≡ n = omega arith in
-    ap (λ (k : ℕ). numbers_from 0 k) next
-    ∙ (numbers_more 0 n ∙ ap (λ (k : ℕ). numbers_from 0 n ++ k ∷ []) here)
 
 -- a lane that is shown is the one that was sent
 pub lane_shown : (s : WorldState) (x : model.World) (a b : ℕ) (r : raw.Lane) → StandsFor s x → a < node_count s.net
@@ -53,7 +36,7 @@ pub lane_shown : (s : WorldState) (x : model.World) (a b : ℕ) (r : raw.Lane) �
     → (r.packets.items ≡ x.packets a b) × (r.reached ≡ x.reached a b)
 lane_shown s x a b r old in_a in_b is =
     let l = lane_there s x a b old in_a in_b in
-    let same : spec.seen r ≡ l.0 = same_some (spec.seen r) l.0 (is ∙ l.1) in (
+    let same : spec.seen r ≡ l.0 = some_same (spec.seen r) l.0 (is ∙ l.1) in (
       ap (λ (m : Lane). m.packets) same ∙ l.2.packets_,
       ap (λ (m : Lane). m.reached) same ∙ l.2.reached_,
     )
@@ -247,10 +230,6 @@ parts_next net x w mid new part before here now =
     ∙ ap (λ (p : NodePart). map (node_part net x) (below w) ++ p ∷ []) here
     ∙ sym (map-append (node_part net x) (below w) (w ∷ []))
     ∙ ap (map (node_part net x)) (sym (below_more w))
-
--- an item that was read at its place is there
-pub item_there : {X : Type 0} (xs : List X) (i : ℕ) (x : X) → i < length xs → x ≡ get_or xs i x → slice_get xs i ≡ Some x
-item_there xs i x h is = slice_get_read xs (length xs) i x refl h is
 
 -- the history of a world is sound
 pub sound_here : (s : WorldState) → IsWorld s

@@ -4,6 +4,7 @@ use Rattle.std.proofs.Common.{map, max, refl, subst, sym, true}
 use Rattle.std.proofs.lemmas.Option.{slice_get-map}
 use Rattle.std.specs.Option.{option_to_list}
 use Rattle.std.specs.Prelude.{slice_get, slice_set}
+use Rattle.lemmas.proofs.Options.{map_some}
 use Rattle.model.specs.Types.{Input, Net}
 use Rattle.model.specs.Network.{node_count}
 use Rattle.model.specs.Sessions.{restarted}
@@ -23,7 +24,7 @@ use Rattle.network_world.specs.declared.lanes.Lane as raw
 use Rattle.network_world.specs.declared.refusals.StepRefused.{StepRefused}
 use Rattle.network_world.proofs.After.{marked_lane}
 use Rattle.network_world.proofs.Beginning.{lanes_seen}
-use Rattle.network_world.proofs.Lists.{map_set, some_map}
+use Rattle.network_world.proofs.Lists.{map_set}
 use Rattle.network_world.proofs.Sending.{lanes_grow}
 
 abbrev pub station : NodeState → List Lane → Station
@@ -143,7 +144,7 @@ station_marked n old new to k mark =
     record {
       node_ = refl;
       lanes_ = λ l e.
-          let g = some_map seen (slice_get old to) l (sym (slice_get-map seen old to) ∙ e) in
+          let g = map_some seen (slice_get old to) l (sym (slice_get-map seen old to) ∙ e) in
           let m = mark g.0 g.1 in
           ap (map seen) m.1
           ∙ map_set seen old to m.0

@@ -2,6 +2,7 @@
 use Rattle.std.proofs.Common.{◌≡◌, ◌<◌, ◌≤◌, ◌∙◌, [], ℕ, Bool, List, None, Ok, Option, Some, ap, arith, false, length, refl}
 use Rattle.std.proofs.Common.{subst, sym, true}
 use Rattle.std.specs.Prelude.{◌==◌, slice_get}
+use Rattle.lemmas.proofs.Lists.{got_below}
 use Rattle.model.specs.Types.{Crash, CrashDeliver, CrashTake, Entry, Input, Local, Net, Out}
 use Rattle.model.specs.Network.{node_count}
 use Rattle.model.specs.Step.{Effect}
@@ -18,7 +19,6 @@ use Rattle.network_world.specs.Deliveries.{IsBrought, IsNotBrought}
 use Rattle.network_world.specs.declared.journals.Journal as raw
 use Rattle.network_world.specs.declared.refusals.StepRefused.{StepRefused}
 use Rattle.network_world.specs.declared.refusals.StepRefused.TheVariants as refused
-use Rattle.network_world.proofs.Lists.{there_is}
 use Rattle.network_world.proofs.After.{EachGoesOn, count_stays, each_goes_on, each_marked, journal_after, journal_marked}
 use Rattle.network_world.proofs.After.{only_none, stands_after}
 use Rattle.network_world.proofs.Delivering.{lane_after}
@@ -72,7 +72,7 @@ pub crash_steps : (s : WorldState) (w : ℕ) (stations : List Station) (j : Jour
 crash_steps s w stations j law inside count free restarted wrote = record {
   net_ = refl;
   leads = λ x old.
-      let at_w = there_is s.stations w (omega (arith, inside, count)) in
+      let at_w = got_below s.stations w (omega (arith, inside, count)) in
       let got = restarted at_w.0 at_w.1 in
       let stepped = crash_ok s.net x w (same_limit s x old ∙ free) in (
         apply_effect x w Origin.Own stop,
@@ -105,7 +105,7 @@ pub crash_take_steps : (s : WorldState) (w : ℕ) (l : Local) (kept : Bool) (mad
 crash_take_steps s w l kept made stations j law inside count free stopped wrote = record {
   net_ = refl;
   leads = λ x old.
-      let at_w = there_is s.stations w (omega (arith, inside, count)) in
+      let at_w = got_below s.stations w (omega (arith, inside, count)) in
       let got = stopped at_w.0 at_w.1 in
       let d : Effect = got.2.whole in
       let done = effect_ok s.net x w (Input.Local l) d (same_limit s x old ∙ free)
@@ -140,7 +140,7 @@ pub stop_at_can_be_noted : (s : WorldState) (w : ℕ) (input : Input) (kept : Bo
 stop_at_can_be_noted s w input kept made stations j is inside free stopped same room =
     let x = is.world in
     let old = is.stands in
-    let at_w = there_is s.stations w (omega (arith, inside, old.station_count)) in
+    let at_w = got_below s.stations w (omega (arith, inside, old.station_count)) in
     let got = stopped at_w.0 at_w.1 in
     stop_can_be_noted s w made j free
     (stopped_weighs s x w at_w.0 got.0 input kept got.2.whole made old at_w.1 got.2.due got.2.made_) same room
@@ -157,7 +157,7 @@ pub crash_take_refused : (s : WorldState) (w : ℕ) (l : Local) (kept : Bool) (r
     → ((t : Station) → station_of s w ≡ Some t → IsInputDue t (Input.Local l) r)
     → IsRefusalDue s (CrashTake w l kept) r
 crash_take_refused s w l kept r inside count free due =
-    let at_w = there_is s.stations w (omega (arith, inside, count)) in
+    let at_w = got_below s.stations w (omega (arith, inside, count)) in
     node_refuses s (CrashTake w l kept) w at_w.0 (Input.Local l) (λ x. Some (Input.Local l)) r
     (λ x g old e. crash_take_err s.net x w l kept g e) (λ x old. (refl, same_limit s x old ∙ free)) at_w.1
     (due at_w.0 at_w.1)
@@ -173,7 +173,7 @@ pub crash_deliver_steps : (s : WorldState) (a b k : ℕ) (input : Input) (kept :
 crash_deliver_steps s a b k input kept made mid stations j law in_a in_b count came stopped marked wrote = record {
   net_ = refl;
   leads = λ x old.
-      let at_b = there_is s.stations b (omega (arith, in_b, count)) in
+      let at_b = got_below s.stations b (omega (arith, in_b, count)) in
       let got = stopped at_b.0 at_b.1 in
       let d : Effect = got.2.whole in
       let brought = came x old in
@@ -185,9 +185,9 @@ crash_deliver_steps s a b k input kept made mid stations j law in_a in_b count c
       each_goes_on s.net x (CrashDeliver a b k kept) b Origin.Mailed (cut_short kept d) s.stations mid at_b.0 got.0
       (kept_of_crash_deliver s.net x a b k kept d done) at_b.1 got.1 got.2.goes in
       let kept_count = count_stays s.stations mid b got.0 got.1 in
-      let q = there_is mid a (omega (arith, in_a, count, kept_count)) in
+      let q = got_below mid a (omega (arith, in_a, count, kept_count)) in
       let mark = marked q.0 q.1 in
-      let l = there_is q.0.lanes b
+      let l = got_below q.0.lanes b
       (lane_after s x a b (cut_short kept d) at_b.0 got.0 q.0 mid old in_b at_b.1 got.1 got.2.goes q.1) in (
         mark_delivered y a b k,
         stepped,
@@ -218,7 +218,7 @@ pub crash_deliver_refused : (s : WorldState) (a b k : ℕ) (input : Input) (kept
     → b < node_count s.net → length s.stations ≡ node_count s.net → IsBrought s a b k input
     → ((t : Station) → station_of s b ≡ Some t → IsInputDue t input r) → IsRefusalDue s (CrashDeliver a b k kept) r
 crash_deliver_refused s a b k input kept r inside count came due =
-    let at_b = there_is s.stations b (omega (arith, inside, count)) in
+    let at_b = got_below s.stations b (omega (arith, inside, count)) in
     node_refuses s (CrashDeliver a b k kept) b at_b.0 input (λ x. delivery x a b k) r
     (λ x g old e. crash_deliver_err s.net x a b k kept g e) came at_b.1 (due at_b.0 at_b.1)
 
@@ -234,7 +234,7 @@ pub stop_mark_inside : (s : WorldState) (a b : ℕ) (input : Input) (kept : Bool
     → (a < length mid) × ((t : Station) → slice_get mid a ≡ Some t → b < length t.lanes)
 stop_mark_inside s a b input kept made mid is in_a in_b stopped =
     let old = is.stands in
-    let at_b = there_is s.stations b (omega (arith, in_b, old.station_count)) in
+    let at_b = got_below s.stations b (omega (arith, in_b, old.station_count)) in
     let got = stopped at_b.0 at_b.1 in (
       omega (arith, in_a, old.station_count, count_stays s.stations mid b got.0 got.1),
       λ t e. lane_after s is.world a b (cut_short kept got.2.whole) at_b.0 got.0 t mid old in_b at_b.1 got.1

@@ -1,6 +1,7 @@
 -- A step of what happens at a node.
 use Rattle.std.proofs.Common.{◌≡◌, ◌<◌, ◌≤◌, ◌+◌, ◌*◌, ◌∙◌, ℕ, Bool, List, None, Ok, Option, Some, ap, arith, length, refl, subst, sym}
 use Rattle.std.specs.Prelude.{◌==◌, Err, IfErr, OnErr, OnOk, Result}
+use Rattle.lemmas.proofs.Lists.{got_below}
 use Rattle.model.specs.Types.{Entry, Input, Local, Net, Out, Take, WorldStep}
 use Rattle.model.specs.Network.{node_count}
 use Rattle.model.specs.Step.{Effect, node_step}
@@ -16,7 +17,6 @@ use Rattle.network_world.specs.Journals.{CanNote, HasNoted, HasRoom, IsLimitDue,
 use Rattle.network_world.specs.Moves.{HasStoppedAt, HasTakenAt, IsInputDue}
 use Rattle.network_world.specs.declared.journals.Journal as raw
 use Rattle.network_world.specs.declared.refusals.StepRefused.{StepRefused}
-use Rattle.network_world.proofs.Lists.{there_is}
 use Rattle.network_world.proofs.After.{count_stays, each_goes_on, journal_after, reached_next, stands_after}
 use Rattle.network_world.proofs.Effects.{at_node, effect_limit, effect_ok, limit_refuses, node_refuses, same_limit}
 use Rattle.network_world.proofs.Effects.{take_err, take_ok}
@@ -52,7 +52,7 @@ pub take_steps : (s : WorldState) (w : ℕ) (l : Local) (sent : Step) (stations 
 take_steps s w l sent stations j law inside count free taken wrote = record {
   net_ = refl;
   leads = λ x old.
-      let at_w = there_is s.stations w (omega (arith, inside, count)) in
+      let at_w = got_below s.stations w (omega (arith, inside, count)) in
       let got = taken at_w.0 at_w.1 in
       let d : Effect = effect_in sent got.0.node in
       let done = effect_ok s.net x w (Input.Local l) d (same_limit s x old ∙ free)
@@ -78,7 +78,7 @@ pub take_can_be_noted : (s : WorldState) (w : ℕ) (l : Local) (sent : Step) (st
 take_can_be_noted s w l sent stations j law is few inside free taken same room =
     let x = is.world in
     let old = is.stands in
-    let at_w = there_is s.stations w (omega (arith, inside, old.station_count)) in
+    let at_w = got_below s.stations w (omega (arith, inside, old.station_count)) in
     let got = taken at_w.0 at_w.1 in
     let d : Effect = effect_in sent got.0.node in
     let due = taken_effect s x w at_w.0 (Input.Local l) d old at_w.1 got.2.due in
@@ -99,7 +99,7 @@ pub take_refused : (s : WorldState) (w : ℕ) (l : Local) (r : StepRefused) → 
     → length s.stations ≡ node_count s.net → limit_at s.journal.taken s.journal.sent s.journal.kept ≡ None
     → ((t : Station) → station_of s w ≡ Some t → IsInputDue t (Input.Local l) r) → IsRefusalDue s (Take w l) r
 take_refused s w l r inside count free due =
-    let at_w = there_is s.stations w (omega (arith, inside, count)) in
+    let at_w = got_below s.stations w (omega (arith, inside, count)) in
     node_refuses s (Take w l) w at_w.0 (Input.Local l) (λ x. Some (Input.Local l)) r
     (λ x g old e. take_err s.net x w l g e) (λ x old. (refl, same_limit s x old ∙ free)) at_w.1 (due at_w.0 at_w.1)
 

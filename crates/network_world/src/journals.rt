@@ -9,7 +9,7 @@ ghost use Rattle.network_world.specs.Refusals as spec;
 use crate::limits::limit_at;
 use crate::refusals::StepRefused;
 use base_types::{Entry, Growing, NoMemory, Out, Start, Ws};
-use entry_sizes::entry_size;
+use entry_checks::entry_size;
 use std::alloc::Global;
 
 /// The history, the launches that were started, and how many steps were taken, packets sent and bytes of entries kept.

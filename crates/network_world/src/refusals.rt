@@ -7,7 +7,7 @@ use agent_core::StepFault;
 use base_types::{LimitName, NoMemory};
 
 /// Why a step of the world is refused, in the order in which the causes are tested. The world is then as it was.
-#[derive(Clone, Copy, Debug, PartialEq, Eq)]
+#[derive(Clone, Copy, Debug)]
 pub enum StepRefused {
     /// No packet of this number was sent on this way.
     NoPacket,

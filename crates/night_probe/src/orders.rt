@@ -8,9 +8,8 @@ use base_types::{Cmd, Entry, Feed, Net, Packet, StreamDraft, Ws};
 use carry_forward::numbered;
 use conman_orders::{judge, resolve};
 use conman_syntax::{Line, parse_command};
-use entry_sizes::entry_size;
+use entry_checks::{are_drafts_inside, entry_size, is_entry_inside};
 use mailman_core::{accepts, acknowledgement};
-use named_workstations::{are_drafts_inside, is_entry_inside};
 use recovery_watch::advice;
 use report_text::name;
 

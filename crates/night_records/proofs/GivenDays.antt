@@ -1,7 +1,6 @@
 -- What the drafts of a day are, and why there are none.
-use Rattle.std.proofs.Common.{◌≡◌, ◌⊎◌, ◌≤◌, ℕ, List, Option, Some, None, Result, Ok, Err, inl, inr, refl, true, arith}
+use Rattle.std.proofs.Common.{◌≡◌, ◌⊎◌, ℕ, List, Option, Some, None, Result, Ok, Err, inl, inr, refl, true}
 use Rattle.std.specs.Prelude.{nat_le}
-use Rattle.std.proofs.lemmas.Bool.Decides.{nat_tests}
 use Rattle.calendars.specs.Dates.{last_day}
 use Rattle.composer_parser.specs.declared.Defs.{Defs}
 use Rattle.model.specs.Types.{StreamDraft}
@@ -10,9 +9,6 @@ use Rattle.plan_builder.specs.Limits.{plan_fault}
 use Rattle.plan_builder.specs.declared.PlanFault.{PlanFault}
 use Rattle.plan_builder.specs.declared.PlanFault.TheVariants.{NoMemory}
 use Rattle.night_records.specs.Days.{GivesDay, drafts}
-
-pub day_within : (day most : ℕ) → nat_le day most ≡ true → day ≤ most
-day_within day most is = grind (arith, nat_tests)
 
 no_fault : (o : Option PlanFault) (l : List StreamDraft)
     → ((f : PlanFault) → o ≡ Some f

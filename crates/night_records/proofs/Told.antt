@@ -1,6 +1,6 @@
 -- What is told of a text is what it is read to.
 use Rattle.std.proofs.Common.{◌≡◌, ◌∙◌, ◌-◌, arith, take, ℕ, List, [], Option, Some, None, Result, Ok, Err, refl, ap, sym, subst}
-use Rattle.std.specs.Prelude.{IfErr, IfOk, drop, length, map, true}
+use Rattle.std.specs.Prelude.{IfOk, drop, length, map, true}
 use Rattle.std.specs.List.{list_all}
 use Rattle.std.proofs.lemmas.List.{drop-map, length-drop, length-map, take_all}
 use Rattle.composer_parser.specs.declared.Defs.{Defs}
@@ -32,20 +32,12 @@ pub both_ok : {T E : Type 0} (P Q : T → Type 0) (R : T → Type 0) (r : Result
 both_ok P Q R (Ok t) f h k = f t h k
 both_ok P Q R (Err e) f h k = tt
 
-pub if_ok : {T E : Type 0} (P Q : T → Type 0) (r : Result T E) → ((t : T) → P t → Q t) → IfOk r P → IfOk r Q
-if_ok P Q (Ok t) f h = f t h
-if_ok P Q (Err e) f h = tt
-
 -- what stands behind a place, seen in another way
 pub behind_is : {X : Type 0} (f : X → List ℕ) (xs : List X) (n : ℕ) (lines : List (List ℕ)) → map f xs ≡ lines
     → map f (take (length xs - n) (drop n xs)) ≡ drop n lines
 behind_is f xs n lines is =
     let long = length-drop n xs in
     ap (map f) (take_all (length xs - n) (drop n xs) (omega (arith, long))) ∙ (sym (drop-map f n xs) ∙ ap (drop n) is)
-
-pub if_err : {T E : Type 0} (P Q : E → Type 0) (r : Result T E) → ((e : E) → P e → Q e) → IfErr r P → IfErr r Q
-if_err P Q (Ok t) f h = tt
-if_err P Q (Err e) f h = f e h
 
 -- a record without definitions
 pub plain_read : (text : List ℕ) (s : Script) → definitions_place text ≡ None → read_of text ≡ Ok s

@@ -4,8 +4,8 @@ use Rattle.std.specs.Prelude.{◌&&◌, not}
 use Rattle.model.specs.Network.{are_neighbours, node_count}
 use Rattle.agent_core.specs.Nodes.{NodeState, present_in}
 use Rattle.outside.specs.Kept.{Bodies}
-use Rattle.node_keeping.specs.Traces.{Trace}
-use Rattle.node_keeping.specs.declared.ends.NodeEnd.{NodeEnd}
+use Rattle.node_inputs.specs.Traces.{Trace}
+use Rattle.node_inputs.specs.declared.ends.NodeEnd.{NodeEnd}
 use Rattle.node_inputs.specs.Actions.{Action, If, IfThere}
 use Rattle.node_inputs.specs.Doings.{Does, DoesOutside}
 use Rattle.node_inputs.specs.Inputs.{is_new_neighbour}

@@ -3,11 +3,11 @@ use Rattle.std.proofs.Common.{[], ◌++◌, ◌≡◌, ◌∙◌, ◌∷◌, ℕ
 use Rattle.model.specs.Types.{Entry}
 use Rattle.agent_core.specs.Nodes.{NodeState}
 use Rattle.outside.specs.Kept.{Bodies}
-use Rattle.node_keeping.specs.Keeping.{IsReady, KeptBy, Lasts}
-use Rattle.node_keeping.specs.Traces.{Event, Trace, refusals, tried}
-use Rattle.node_keeping.specs.declared.ends.NodeEnd.{NodeEnd}
-use Rattle.node_keeping.specs.declared.ends.NodeEnd.TheVariants.{NoMemory}
-use Rattle.node_keeping.proofs.Lasting.{both_last, none_kept, nothing_lasts, refusals-append, tried-append}
+use Rattle.node_inputs.specs.Keeping.{IsReady, KeptBy, Lasts}
+use Rattle.node_inputs.specs.Traces.{Event, Trace, refusals, tried}
+use Rattle.node_inputs.specs.declared.ends.NodeEnd.{NodeEnd}
+use Rattle.node_inputs.specs.declared.ends.NodeEnd.TheVariants.{NoMemory}
+use Rattle.node_inputs.proofs.Lasting.{both_last, none_kept, nothing_lasts, refusals-append, tried-append}
 use Rattle.node_inputs.specs.Actions.{Action, Call, Nothing, Stop, Then, Wants}
 use Rattle.node_inputs.specs.Doings.{Does, DoesOutside, end_of}
 use Rattle.node_inputs.specs.Inputs.{Keep}

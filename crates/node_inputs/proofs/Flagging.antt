@@ -1,9 +1,11 @@
 -- Flags of workstations.
-use Rattle.std.proofs.Common.{[], ◌+◌, ◌<◌, ◌≡◌, ◌≢◌, ◌∙◌, ◌∷◌, ℕ, Bool, List, None, Option, Some, ap, arith, false, get_or, inl, inr, length, refl, set, subst, sym, true}
+use Rattle.std.proofs.Common.{[], ◌+◌, ◌<◌, ◌≡◌, ◌≢◌, ◌∙◌, ◌∷◌, ℕ, Bool, List, ap, arith, false, get_or, inl, inr}
+use Rattle.std.proofs.Common.{length, refl, set, subst, sym, true}
 use Rattle.std.proofs.lemmas.Bool.{cases_lt}
 use Rattle.std.proofs.lemmas.Bool.Decides.{eqb_tells}
 use Rattle.std.proofs.lemmas.List.{get_or-replicate, get_or-set_other, get_or-set_same, length-set}
-use Rattle.std.specs.Prelude.{◌==◌, ◌||◌, option_map, replicate}
+use Rattle.std.specs.Prelude.{◌==◌, ◌||◌, replicate}
+use Rattle.lemmas.proofs.Numbers.{eq_itself}
 use Rattle.node_inputs.specs.Inputs.{is_lost}
 use Rattle.node_inputs.specs.Stepping.{TellLost}
 
@@ -25,9 +27,6 @@ flag_set flags x v f long inside same before = (
 or_true : (b : Bool) → (true || b) ≡ true
 or_true b = refl
 
-same_number : (x : ℕ) → (x == x) ≡ true
-same_number x = elim (eqb_tells x x) [ inl e ↦ e.0 | inr e ↦ absurd (e.1 refl) ]
-
 -- one more is lost
 pub lost_more : (flags : List Bool) (all : List ℕ) (x : ℕ) → length flags ≡ 256 → x < 256 → TellLost flags all
     → TellLost (set flags x true) (x ∷ all)
@@ -38,7 +37,7 @@ lost_more flags all x long inside told y below = elim (cases_lt y x) [
     | inr le ↦
         let e : y ≡ x = omega (arith, ge, le) in
         subst (λ z. get_or (set flags x true) z false ≡ is_lost (x ∷ all) z) (sym e)
-        (get_or-set_same flags x true false (omega (arith, long, inside)) ∙ sym (ap (λ b. b || is_lost all x) (same_number x)))
+        (get_or-set_same flags x true false (omega (arith, long, inside)) ∙ sym (ap (λ b. b || is_lost all x) (eq_itself x)))
   ]
 ]
   where
@@ -51,11 +50,3 @@ lost_more flags all x long inside told y below = elim (cases_lt y x) [
 
 pub nothing_lost : (n : ℕ) → n ≡ 256 → TellLost (replicate n false) []
 nothing_lost n e y below = get_or-replicate n y false false (omega (arith, e, below))
-
-pub map_none : {X Y : Type 0} (f : X → Y) (o : Option X) → option_map f o ≡ None → o ≡ None
-map_none f None h = refl
-map_none f (Some x) h = cc
-
-pub map_some : {X Y : Type 0} (f : X → Y) (o : Option X) (y : Y) → option_map f o ≡ Some y → (x : X) × (o ≡ Some x) × (f x ≡ y)
-map_some f None y h = cc
-map_some f (Some x) y h = (x, refl, cc)

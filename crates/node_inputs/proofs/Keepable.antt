@@ -6,6 +6,7 @@ use Rattle.std.proofs.lemmas.List.Elements.{All-push, All-weaker, recursion_from
 use Rattle.std.specs.List.{AllByRecursion}
 use Rattle.std.specs.Option.{option_to_list}
 use Rattle.std.specs.Prelude.{IfSome, Ok, nat_le, slice_get}
+use Rattle.lemmas.proofs.Booleans.{and_right}
 use Rattle.model.specs.Types.{Body, Entry, Feed, Input, Net}
 use Rattle.model.specs.Fit.{IsFit, IsFitBody, IsFitInput}
 use Rattle.model.specs.History.{list_of}
@@ -20,7 +21,6 @@ use Rattle.model.specs.StepFaults.{StepFault, step_fault}
 use Rattle.model.specs.Words.{nth}
 use Rattle.model_laws.proofs.Feeds.{feed_cases}
 use Rattle.model_laws.proofs.FitSteps.{step_fit}
-use Rattle.model_laws.proofs.Growth.{and_right}
 use Rattle.model_laws.proofs.Lengths.{entry_length}
 use Rattle.model_laws.proofs.Limits.{made_sized}
 use Rattle.model_laws.proofs.Options.{slice_get_all, there_if}

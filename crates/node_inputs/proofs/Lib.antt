@@ -2,6 +2,7 @@ pub mod Choosing
 pub mod Doing
 pub mod Flagging
 pub mod Keepable
+pub mod Lasting
 pub mod Looping
 pub mod Taking
 pub mod Telling

@@ -1,11 +1,11 @@
 -- What is left of a loop completes the whole.
 use Rattle.std.proofs.Common.{[], ◌+◌, ◌-◌, ◌<◌, ◌≡◌, ◌≤◌, ◌∙◌, ◌∷◌, ℕ, List, None, Option, Some, ap, arith, drop, get_or, length, subst, suc}
-use Rattle.std.proofs.lemmas.List.{drop_all, drop_more}
+use Rattle.std.proofs.lemmas.List.{drop_more}
 use Rattle.std.specs.Prelude.{Bool}
 use Rattle.model.specs.Words.{below, numbers_from}
 use Rattle.outside.specs.Kept.{Bodies}
-use Rattle.node_keeping.specs.Keeping.{IsReady}
-use Rattle.node_keeping.specs.declared.ends.NodeEnd.{NodeEnd}
+use Rattle.node_inputs.specs.Keeping.{IsReady}
+use Rattle.node_inputs.specs.declared.ends.NodeEnd.{NodeEnd}
 use Rattle.node_inputs.specs.Actions.{Action, Each, Nothing, Then}
 use Rattle.node_inputs.specs.Doings.{Does, DoesOutside}
 use Rattle.node_inputs.specs.Tellings.{Told}
@@ -24,9 +24,6 @@ numbers_done x n h = let e : n - x ≡ 0 = omega arith in ap (numbers_from x) e
 -- the items from a place on
 pub next_item : {X : Type 0} (xs : List X) (i : ℕ) (x : X) → i < length xs → get_or xs i x ≡ x → drop i xs ≡ x ∷ drop (i + 1) xs
 next_item {X} xs i x inside is = drop_more xs i x inside ∙ ap (λ (y : X). y ∷ drop (i + 1) xs) is
-
-pub no_item : {X : Type 0} (xs : List X) (i : ℕ) → length xs ≤ i → drop i xs ≡ []
-no_item xs i h = drop_all i xs h
 
 pub numbers_all : (n : ℕ) → below n ≡ numbers_from 0 (n - 0)
 numbers_all n = let e : n ≡ n - 0 = omega arith in ap (numbers_from 0) e

@@ -9,11 +9,11 @@ use Rattle.agent_core.specs.declared.faults.Step.{Step}
 use Rattle.agent_core.specs.declared.faults.StepFault.{StepFault}
 use Rattle.agent_core.specs.declared.faults.StepFault.TheVariants as fault
 use Rattle.outside.specs.Kept.{Bodies}
-use Rattle.node_keeping.specs.Keeping.{IsReady}
-use Rattle.node_keeping.specs.Traces.{Trace, refusals}
-use Rattle.node_keeping.proofs.Lasting.{both_last, none_kept, nothing_lasts, refusals-append}
-use Rattle.node_keeping.specs.declared.ends.NodeEnd.{NodeEnd}
-use Rattle.node_keeping.specs.declared.ends.NodeEnd.TheVariants.{NoMemory}
+use Rattle.node_inputs.specs.Keeping.{IsReady}
+use Rattle.node_inputs.specs.Traces.{Trace, refusals}
+use Rattle.node_inputs.proofs.Lasting.{both_last, none_kept, nothing_lasts, refusals-append}
+use Rattle.node_inputs.specs.declared.ends.NodeEnd.{NodeEnd}
+use Rattle.node_inputs.specs.declared.ends.NodeEnd.TheVariants.{NoMemory}
 use Rattle.node_inputs.specs.Actions.{Action, Nothing, Then}
 use Rattle.node_inputs.specs.Doings.{Does, DoesOutside, end_of}
 use Rattle.node_inputs.specs.Inputs.{Carried, Carry, Give, Keep, LoseAll, PassOver, Take, TakeQuietly, TakeWith, Takes, Tell, nothing_carried}

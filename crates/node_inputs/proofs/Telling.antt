@@ -10,9 +10,9 @@ use Rattle.outside.specs.Calls.{AddsAllOrEnds, AddsOrEnds, Asked, Asks, Kills, L
 use Rattle.outside.specs.declared.Failed.{Failed}
 use Rattle.outside.specs.declared.links.Arrival.{Arrival}
 use Rattle.outside.specs.declared.spawners.End.{End}
-use Rattle.node_keeping.specs.Traces.{Event, Trace, arrival_of, arrivals, asked_of, asks, kill_of, kills, look_of, looks, reading_of}
-use Rattle.node_keeping.specs.Traces.{replies, reply_of, report_of, reports, send_of, sends, start_of, starts}
-use Rattle.node_keeping.specs.declared.ends.NodeEnd.{NodeEnd}
+use Rattle.node_inputs.specs.Traces.{Event, Trace, arrival_of, arrivals, asked_of, asks, kill_of, kills, look_of, looks, reading_of}
+use Rattle.node_inputs.specs.Traces.{replies, reply_of, report_of, reports, send_of, sends, start_of, starts}
+use Rattle.node_inputs.specs.declared.ends.NodeEnd.{NodeEnd}
 use Rattle.node_inputs.specs.Tellings.{LinkTells, SpawnerTells, Tells, Told, probe_of, probes, told_by}
 
 -- the same of what stands in the events of a trace

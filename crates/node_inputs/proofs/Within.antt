@@ -1,5 +1,6 @@
 -- What a step gives out goes to workstations of the network.
-use Rattle.std.proofs.Common.{[], ◌+◌, ◌++◌, ◌<◌, ◌≡◌, ◌≤◌, ◌∙◌, ◌∷◌, ℕ, Bool, List, None, Option, Some, arith, false, length, map, refl, subst, suc, sym, true, zero}
+use Rattle.std.proofs.Common.{[], ◌+◌, ◌<◌, ◌≡◌, ◌≤◌, ◌∙◌, ◌∷◌, ℕ, Bool, List, None, Option, Some, arith, false, length}
+use Rattle.std.proofs.Common.{map, refl, subst, suc, sym, true, zero}
 use Rattle.std.proofs.lemmas.Bool.{ltb-true}
 use Rattle.std.specs.List.{AllByRecursion, list_all}
 use Rattle.std.specs.Option.{option_map_or, option_or}
@@ -18,6 +19,9 @@ use Rattle.model.specs.Sessions.{Session, next_session}
 use Rattle.model.specs.Step.{Effect, effect, node_step, outs_of, outs_of_body, sends, unless_fault}
 use Rattle.model.specs.StepFaults.{StepFault, first_faults, is_too_long, plan_fault, step_fault}
 use Rattle.std.specs.Bool.{then_some}
+use Rattle.lemmas.proofs.Booleans.{and_parts, not_fails}
+use Rattle.lemmas.proofs.Options.{or_none_left}
+use Rattle.lemmas.proofs.Lists.{all_append}
 use Rattle.model.specs.Words.{below, first_of_these, numbers_from}
 use Rattle.model.specs.Workstations.{ws_in}
 use Rattle.model_laws.proofs.Sends.{same_done}
@@ -26,11 +30,6 @@ use Rattle.agent_core.specs.Nodes.{NodeState, session_in, view_in}
 use Rattle.agent_core.specs.Steps.{IsTaken, effect_in}
 use Rattle.agent_core.specs.declared.faults.Step.{Step}
 use Rattle.node_inputs.specs.Stepping.{AreWithin, IsWithin}
-
-all_append : {X : Type 0} (P : X → Type 0) (xs ys : List X) → AllByRecursion P xs → AllByRecursion P ys
-    → AllByRecursion P (xs ++ ys)
-all_append P [] ys h k = k
-all_append P (x ∷ xs) ys h k = (h.0, all_append P xs ys h.1 k)
 
 -- the numbers below n that pass
 some_below : (p : ℕ → Bool) (n from count : ℕ) → from + count ≤ n → AllByRecursion (λ m. m < n) (filter p (numbers_from from count))
@@ -120,28 +119,15 @@ first_holds : (b : Bool) (f : StepFault) (rest : List (Bool × StepFault)) → f
 first_holds true f rest h = cc
 first_holds false f rest h = refl
 
-or_none : {X : Type 0} (a b : Option X) → option_or a b ≡ None → a ≡ None
-or_none None b h = refl
-or_none (Some x) b h = cc
-
-not_false : (b : Bool) → not b ≡ false → b ≡ true
-not_false true h = refl
-not_false false h = cc
-
 named_inside : (net : Net) (me : ℕ) (V : View) (s : Session) (input : Input) → step_fault net me V s input ≡ None
     → list_all (λ w. nat_lt w (node_count net)) (me ∷ ws_in input) ≡ true
 unfolding step_fault
 named_inside net me V s input h =
-    not_false (list_all (λ w. nat_lt w (node_count net)) (me ∷ ws_in input))
+    not_fails (list_all (λ w. nat_lt w (node_count net)) (me ∷ ws_in input))
     (first_holds (not (list_all (λ w. nat_lt w (node_count net)) (me ∷ ws_in input))) StepFault.NotInNetwork
     (drop 1 (first_faults net me V s input))
-    (or_none (first_of_these (first_faults net me V s input))
+    (or_none_left (first_of_these (first_faults net me V s input))
     (option_or (option_map StepFault.Carry (plan_fault net V input)) (then_some (is_too_long (makes net me V s input)) StepFault.TooLong)) h))
-
-both_true : (a b : Bool) → (a && b) ≡ true → (a ≡ true) × (b ≡ true)
-both_true true true h = (refl, refl)
-both_true true false h = cc
-both_true false b h = cc
 
 outs_within : (net : Net) (me : ℕ) (V : View) (s : Session) (input : Input) (made : Option Entry)
     → list_all (λ w. nat_lt w (node_count net)) (me ∷ ws_in input) ≡ true → (after : Net) → node_count after ≡ node_count net
@@ -152,7 +138,7 @@ outs_within net me V s (Input.Local (Turn t)) made h after same =
     (made_within (node_count net) me V made) (subst (λ n. AreWithin n (sends after me V s)) same (sends_within after me V s))
 outs_within net me V s (Input.Mail from e) made h after same =
     ack_within (node_count net) from (Packet.Ack e.feed (length (V e.feed))) (s.links from)
-    (ltb-true from (node_count net) (both_true _ _ (both_true _ _ h).1).0)
+    (ltb-true from (node_count net) (and_parts _ _ (and_parts _ _ h).1).0)
 outs_within net me V s (Input.Ack from f k) made h after same = tt
 outs_within net me V s (Input.Local (Linked x)) made h after same = tt
 outs_within net me V s (Input.Local (Unlinked x)) made h after same = tt

@@ -1,9 +1,9 @@
 -- What a stretch of a run does: one trace of it, by which the node acts, the keeper keeps, and each other object tells.
 use Rattle.std.specs.Prelude.{[], ℕ, ◌≡◌, Err, None, Ok, Option, Result, Some}
 use Rattle.outside.specs.Kept.{Bodies}
-use Rattle.node_keeping.specs.Keeping.{Lasts}
-use Rattle.node_keeping.specs.Traces.{Trace, refusals, tried}
-use Rattle.node_keeping.specs.declared.ends.NodeEnd.{NodeEnd}
+use Rattle.node_inputs.specs.Keeping.{Lasts}
+use Rattle.node_inputs.specs.Traces.{Trace, refusals, tried}
+use Rattle.node_inputs.specs.declared.ends.NodeEnd.{NodeEnd}
 use Rattle.node_inputs.specs.Actions.{Action}
 use Rattle.node_inputs.specs.Tellings.{Tells, Told}
 

@@ -18,10 +18,10 @@ use Rattle.mail_frames.specs.declared.frames.Frame.TheVariants as frame
 use Rattle.mail_frames.specs.Spelling.{frame_bytes}
 use Rattle.outside.specs.Calls.{Asked}
 use Rattle.node_inputs.specs.Actions.{Action, Call, Each, From, If, IfThere, Nothing, Stop, Then, Wants}
-use Rattle.node_keeping.specs.Keeping.{IsRefusal}
-use Rattle.node_keeping.specs.Traces.{Event, Trace}
-use Rattle.node_keeping.specs.declared.ends.NodeEnd.{NodeEnd}
-use Rattle.node_keeping.specs.declared.ends.NodeEnd.TheVariants.{Limit, NoMemory}
+use Rattle.node_inputs.specs.Keeping.{IsRefusal}
+use Rattle.node_inputs.specs.Traces.{Event, Trace}
+use Rattle.node_inputs.specs.declared.ends.NodeEnd.{NodeEnd}
+use Rattle.node_inputs.specs.declared.ends.NodeEnd.TheVariants.{Limit, NoMemory}
 
 -- the entry of a step is kept; or it is refused, or there is no memory for it, and the run ends
 abbrev pub IsKeeping : Option Entry → Trace → Option NodeEnd → Type 0

@@ -12,8 +12,8 @@ use Rattle.agent_core.specs.Steps.{IsDue, IsTaken}
 use Rattle.agent_core.specs.declared.faults.Step.{Step}
 use Rattle.agent_core.specs.declared.faults.StepFault.{StepFault}
 use Rattle.agent_core.specs.declared.faults.StepFault.TheVariants.{NoMemory as NoRoom, PlaceSpent}
-use Rattle.node_keeping.specs.declared.ends.NodeEnd.{NodeEnd}
-use Rattle.node_keeping.specs.declared.ends.NodeEnd.TheVariants.{Limit, NoMemory}
+use Rattle.node_inputs.specs.declared.ends.NodeEnd.{NodeEnd}
+use Rattle.node_inputs.specs.declared.ends.NodeEnd.TheVariants.{Limit, NoMemory}
 use Rattle.node_inputs.specs.Actions.{Action, Nothing}
 use Rattle.node_inputs.specs.Inputs.{Follow, Take, Takes, is_lost}
 

@@ -3,7 +3,7 @@ use Rattle.std.specs.Prelude.{ℕ, ◌≡◌, Bool, List, Option, Result, map}
 use Rattle.file_watch.specs.Asked.{Probe}
 use Rattle.outside.specs.Calls.{AddsAllOrEnds, LinkCalls, SpawnerCalls}
 use Rattle.outside.specs.declared.Failed.{Failed}
-use Rattle.node_keeping.specs.Traces.{Trace, arrivals, asks, kills, looks, readings, replies, reports, sends, starts}
+use Rattle.node_inputs.specs.Traces.{Trace, arrivals, asks, kills, looks, readings, replies, reports, sends, starts}
 
 -- what the objects beside the keeper tell
 pub record Told : Type 0 where

@@ -4,19 +4,19 @@ ghost use Rattle.model.specs.Fit.{IsFitInput};
 ghost use Rattle.model.specs.Network.{node_count};
 ghost use Rattle.agent_core.specs.Nodes.{NodeState};
 ghost use Rattle.file_watch.specs.Asked.{Probe};
-ghost use Rattle.node_keeping.specs.Keeping.{IsReady};
+ghost use Rattle.node_inputs.specs.Keeping.{IsReady};
 ghost use Rattle.node_inputs.specs.Doings.{Does, end_of};
 ghost use Rattle.node_inputs.specs.Inputs as spec;
 ghost use Rattle.node_inputs.specs.Inputs.{Follow, Give, Take, Tell};
 ghost use Rattle.node_inputs.specs.Stepping.{AreKeepable, AreWithin, TakesTelling, TellNeighbours};
 ghost use Rattle.node_inputs.specs.Tellings.{Told, told_by};
 
+use crate::ends::NodeEnd;
 use crate::links::{Flags, lose_all, neighbours, raise_new};
 use crate::outputs::carry_all;
 use crate::steps::{keep_entry, step, take_quietly};
 use agent_core::{Agent, Step, StepFault};
 use base_types::{Input, JobNo, Local, Out};
-use node_keeping::NodeEnd;
 use outside::{Keeper, Link, Spawner};
 use std::alloc::Global;
 

@@ -5,12 +5,20 @@
 //! the node, and each link to which a send failed is closed. What may happen is an action over one trace, `specs/Actions`
 //! and `specs/Inputs`; that a stretch of a run has one trace, by which the node acts, the keeper keeps and the other
 //! objects tell, is `specs/Doings`.
+//!
+//! `keep` writes an entry as its bytes and hands them to a keeper. What is told of a run is one trace, `specs/Traces`, of
+//! what was kept and of all calls of the outside. What a stretch of a run keeps, and what a stop at any moment of it
+//! leaves, is `specs/Keeping`; stretches are put together by the lemmas of `proofs/Lasting`.
 #![tactic(auto)]
 
+mod ends;
 mod inputs;
+mod keeping;
 mod links;
 mod outputs;
 mod steps;
 
+pub use ends::NodeEnd;
 pub use inputs::{take, take_or_tell};
+pub use keeping::keep;
 pub use links::lose;

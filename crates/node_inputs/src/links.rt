@@ -4,16 +4,16 @@ ghost use Rattle.model.specs.Network.{node_count};
 ghost use Rattle.agent_core.specs.Nodes.{NodeState};
 ghost use Rattle.file_watch.specs.Asked.{Probe};
 ghost use Rattle.outside.specs.Calls.{SpawnerCalls};
-ghost use Rattle.node_keeping.specs.Keeping.{IsReady};
+ghost use Rattle.node_inputs.specs.Keeping.{IsReady};
 ghost use Rattle.node_inputs.specs.Doings.{Does, DoesOutside, end_of};
 ghost use Rattle.node_inputs.specs.Inputs.{Lose, LoseAll, LoseIf, Raise, RaiseNew};
 ghost use Rattle.node_inputs.specs.Stepping.{AreKeepable, TellLost, TellNeighbours};
 ghost use Rattle.node_inputs.specs.Tellings.{told_by};
 
+use crate::ends::NodeEnd;
 use crate::steps::take_quietly;
 use agent_core::Agent;
 use base_types::{Input, Local, MOST_WORKSTATIONS, Ws};
-use node_keeping::NodeEnd;
 use outside::{Keeper, Link};
 use std::alloc::Global;
 

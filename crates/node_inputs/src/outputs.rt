@@ -4,13 +4,14 @@ ghost use Rattle.model.specs.Types.{Mail};
 ghost use Rattle.file_watch.specs.Asked.{Probe};
 ghost use Rattle.mail_frames.specs.Spelling.{frame_bytes};
 ghost use Rattle.outside.specs.Calls.{LinkCalls, SpawnerCalls};
-ghost use Rattle.node_keeping.specs.declared.ends.NodeEnd.TheVariants.{NoMemory as NoRoom};
+ghost use Rattle.node_inputs.specs.declared.ends.NodeEnd.TheVariants.{NoMemory as NoRoom};
 ghost use Rattle.node_inputs.specs.Doings.{DoesOutside, end_of};
 ghost use Rattle.node_inputs.specs.Inputs as spec;
 ghost use Rattle.node_inputs.specs.Inputs.{Carry, CarryOut, SendIt, StartIt, carried_with, frame_of, nothing_carried};
 ghost use Rattle.node_inputs.specs.Stepping.{AreKeepable, AreWithin, IsWithin, TellLost};
 ghost use Rattle.node_inputs.specs.Tellings.{told_by};
 
+use crate::ends::NodeEnd;
 use crate::links::{Flags, is_flagged};
 use agent_core::Agent;
 use base_types::{
@@ -18,7 +19,6 @@ use base_types::{
 };
 use entry_codec::write_entry;
 use mail_frames::{Frame, write_frame};
-use node_keeping::NodeEnd;
 use outside::{Link, Spawner};
 use std::alloc::Global;
 

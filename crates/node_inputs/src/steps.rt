@@ -2,15 +2,16 @@
 ghost use Rattle.std.specs.Prelude.{IfSome, OnOk};
 ghost use Rattle.model.specs.Fit.{IsFitInput};
 ghost use Rattle.agent_core.specs.Nodes.{NodeState};
-ghost use Rattle.node_keeping.specs.Keeping.{IsReady};
+ghost use Rattle.node_inputs.specs.Keeping.{IsReady};
 ghost use Rattle.node_inputs.specs.Doings.{Does, end_of};
 ghost use Rattle.node_inputs.specs.Inputs.{Keep, TakeQuietly};
 ghost use Rattle.node_inputs.specs.Stepping.{AreKeepable, IsKeepable, IsStepped};
 ghost use Rattle.node_inputs.specs.Tellings.{Told};
 
+use crate::ends::NodeEnd;
+use crate::keeping::keep;
 use agent_core::{Agent, Step, StepFault};
 use base_types::{Entry, Input, LimitName};
-use node_keeping::{NodeEnd, keep};
 use outside::Keeper;
 use std::alloc::Global;
 

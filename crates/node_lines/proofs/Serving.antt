@@ -8,8 +8,8 @@ use Rattle.conman_orders.specs.Orders.{due_order}
 use Rattle.conman_orders.specs.declared.orders.ResolveFault.{ResolveFault}
 use Rattle.conman_syntax.specs.declared.lines.Line.{Line}
 use Rattle.outside.specs.Kept.{Bodies}
-use Rattle.node_keeping.specs.Traces.{Event, Trace}
-use Rattle.node_keeping.specs.declared.ends.NodeEnd.{NodeEnd}
+use Rattle.node_inputs.specs.Traces.{Event, Trace}
+use Rattle.node_inputs.specs.declared.ends.NodeEnd.{NodeEnd}
 use Rattle.node_inputs.specs.Actions.{Action, Call, From, If, Nothing, Then, Wants}
 use Rattle.node_inputs.specs.Doings.{Does}
 use Rattle.node_inputs.specs.Inputs.{Follow, PassOver, Take, Takes}

@@ -38,8 +38,8 @@ use Rattle.plan_builder.specs.declared.faults.PlanFault.TheVariants as no_plan
 use Rattle.symphony_view.specs.Listings.{listing_of}
 use Rattle.node_inputs.specs.Actions.{Action, Call, Each, From, If, IfThere, Nothing, Stop, Then, Wants}
 use Rattle.node_inputs.specs.Inputs.{Follow, Refused, Takes}
-use Rattle.node_keeping.specs.Traces.{Event}
-use Rattle.node_keeping.specs.declared.ends.NodeEnd.TheVariants.{Limit, Shutdown}
+use Rattle.node_inputs.specs.Traces.{Event}
+use Rattle.node_inputs.specs.declared.ends.NodeEnd.TheVariants.{Limit, Shutdown}
 
 -- a reply to a client; one of more than 1,048,576 bytes says so
 abbrev pub reply_text : List ℕ → List ℕ

@@ -13,7 +13,7 @@ use agent_core::StepFault;
 use base_types::{NoMemory, Text};
 use carry_forward::CarryFault;
 use mail_frames::{Frame, write_frame};
-use node_keeping::NodeEnd;
+use node_inputs::NodeEnd;
 use node_replies::{Refusal, refused};
 use outside::Link;
 use std::alloc::Global;

@@ -1,4 +1,6 @@
-pub mod Turning
-pub mod Parts
-pub mod Inputs
 pub mod Advising
+mod Finding
+mod Hearing
+pub mod Inputs
+pub mod Parts
+pub mod Turning

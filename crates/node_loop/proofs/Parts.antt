@@ -15,9 +15,9 @@ use Rattle.outside.specs.declared.links.Arrival.{Arrival}
 use Rattle.outside.specs.declared.links.Arrival.TheVariants as arrival
 use Rattle.outside.specs.declared.spawners.End.{End}
 use Rattle.recovery_watch.specs.Advice.{advice}
-use Rattle.node_keeping.specs.Keeping.{IsReady}
-use Rattle.node_keeping.specs.Traces.{Event}
-use Rattle.node_keeping.specs.declared.ends.NodeEnd.{NodeEnd}
+use Rattle.node_inputs.specs.Keeping.{IsReady}
+use Rattle.node_inputs.specs.Traces.{Event}
+use Rattle.node_inputs.specs.declared.ends.NodeEnd.{NodeEnd}
 use Rattle.node_inputs.specs.Actions.{Action, IfThere, Nothing, Then}
 use Rattle.node_inputs.specs.Doings.{Does}
 use Rattle.node_inputs.specs.Inputs.{Take}
@@ -25,7 +25,7 @@ use Rattle.node_inputs.specs.Tellings.{Told, told_by}
 use Rattle.node_inputs.proofs.Choosing.{did_if_false, did_if_true}
 use Rattle.node_inputs.proofs.Doing.{did_as, did_outside, did_then, out_call, out_nothing}
 use Rattle.node_inputs.proofs.Telling.{look_told, poll_told, read_told, report_told}
-use Rattle.link_streams.specs.Heard.{Completes, Heard, heard_more}
+use Rattle.node_loop.specs.Heard.{Completes, Heard, heard_more}
 use Rattle.mail_frames.specs.declared.frames.Frame.{Frame}
 use Rattle.model.specs.Words.{with_at}
 use Rattle.node_loop.specs.Frames.{Frames}

@@ -1,7 +1,8 @@
 -- What the parts of a turn say of a stretch of a run.
 use Rattle.std.proofs.Common.{[], ◌+◌, ◌++◌, ◌-◌, ◌<◌, ◌≡◌, ◌≤◌, ◌∷◌, ℕ, Bool, List, None, Option, Some, arith, inl, inr, refl, subst, suc}
-use Rattle.std.specs.List.{All, AllByRecursion}
+use Rattle.std.specs.List.{All}
 use Rattle.std.proofs.lemmas.List.Elements.{All-from_recursion}
+use Rattle.lemmas.proofs.Lists.{all_right}
 use Rattle.composer_parser.specs.declared.Defs.{Defs}
 use Rattle.model.specs.Types.{Input}
 use Rattle.model.specs.Words.{with_at}
@@ -10,17 +11,17 @@ use Rattle.file_watch.specs.Circle.{DepPlace}
 use Rattle.mail_frames.specs.declared.frames.Frame.{Frame}
 use Rattle.mail_frames.specs.Spelling.{IsFrame}
 use Rattle.outside.specs.Kept.{Bodies}
-use Rattle.node_keeping.specs.Keeping.{IsReady}
-use Rattle.node_keeping.specs.Traces.{Event, Trace}
-use Rattle.node_keeping.specs.declared.ends.NodeEnd.{NodeEnd}
-use Rattle.node_keeping.specs.declared.ends.NodeEnd.TheVariants.{NoMemory}
+use Rattle.node_inputs.specs.Keeping.{IsReady}
+use Rattle.node_inputs.specs.Traces.{Event, Trace}
+use Rattle.node_inputs.specs.declared.ends.NodeEnd.{NodeEnd}
+use Rattle.node_inputs.specs.declared.ends.NodeEnd.TheVariants.{NoMemory}
 use Rattle.node_inputs.specs.Actions.{Action, Call, IfThere, Then}
 use Rattle.node_inputs.specs.Doings.{Does, DoesOutside}
 use Rattle.node_inputs.specs.Inputs.{Lose, Take}
 use Rattle.node_inputs.specs.Tellings.{Told}
 use Rattle.node_inputs.proofs.Doing.{Completing, did_as, did_end, did_outside, did_then, out_as, out_stop}
 use Rattle.node_inputs.proofs.Telling.{nothing_told}
-use Rattle.link_streams.specs.Heard.{Completes, Heard}
+use Rattle.node_loop.specs.Heard.{Completes, Heard}
 use Rattle.node_loop.specs.Frames.{Frames, input_of}
 use Rattle.node_loop.specs.Runs.{Hears, On, Run, Running, TurnOf, running_with}
 
@@ -29,10 +30,6 @@ pub heard_now : (node : NodeState) (heard : ℕ → Heard) (asked : Option DepPl
     → DoesOutside (Hears x now) (running_with node heard asked) (running_with node (with_at x now heard) asked) told told None
 heard_now node heard asked x now told =
     record { trace = []; acts = (refl, refl, refl); tells = nothing_told told; none_tried = refl }
-
-all_right : {X : Type 0} (P : X → Type 0) (xs ys : List X) → AllByRecursion P (xs ++ ys) → AllByRecursion P ys
-all_right P [] ys h = h
-all_right P (x ∷ xs) ys h = all_right P xs ys h.1
 
 -- the frames that bytes complete can be sent
 pub frames_complete : (heard : Heard) (bytes : List ℕ) (frames : List Frame) (bad : Option ℕ) → Completes heard bytes frames bad

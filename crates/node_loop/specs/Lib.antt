@@ -1,2 +1,4 @@
 pub mod Frames
+pub mod Heard
+pub mod Placed
 pub mod Runs

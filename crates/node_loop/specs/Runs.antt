@@ -19,10 +19,10 @@ use Rattle.node_inputs.specs.Actions.{Action, Becomes, From, If, IfThere, Nothin
 use Rattle.node_inputs.specs.Inputs.{Take}
 use Rattle.node_lines.specs.Lines.{Listen}
 use Rattle.node_loop.specs.Frames.{Frames}
-use Rattle.link_streams.specs.Heard.{Completes, Heard, heard_more, nothing_heard}
-use Rattle.node_keeping.specs.Traces.{Event, Trace}
-use Rattle.node_keeping.specs.declared.ends.NodeEnd.{NodeEnd}
-use Rattle.node_keeping.specs.declared.ends.NodeEnd.TheVariants.{NoMemory, TurnsSpent}
+use Rattle.node_loop.specs.Heard.{Completes, Heard, heard_more, nothing_heard}
+use Rattle.node_inputs.specs.Traces.{Event, Trace}
+use Rattle.node_inputs.specs.declared.ends.NodeEnd.{NodeEnd}
+use Rattle.node_inputs.specs.declared.ends.NodeEnd.TheVariants.{NoMemory, TurnsSpent}
 
 -- the node, what it heard of each workstation, and the dependency for whose file it looked last
 pub record Running : Type 0 where

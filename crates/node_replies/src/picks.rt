@@ -10,7 +10,7 @@ use std::alloc::Global;
 use syntax::{lines, words};
 
 /// Which lines of a listing are asked for.
-#[derive(Clone, Copy, Debug, PartialEq, Eq)]
+#[derive(Clone, Copy)]
 pub enum Shows {
     Jobs,
     Schedules,

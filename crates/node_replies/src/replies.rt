@@ -8,7 +8,7 @@ use report_text::name;
 use std::alloc::{AllocError, Global};
 
 /// Why a line is refused: by its form, its names, the day of a plan, or the step of the node.
-#[derive(Clone, Copy, Debug, PartialEq, Eq)]
+#[derive(Clone, Copy)]
 pub enum Refusal {
     /// The line begins with no command.
     UnknownCommand,

@@ -4,6 +4,7 @@ use Rattle.std.proofs.Common.{refl, sym, ap, subst, arith, length-append, Ok, So
 use Rattle.std.proofs.lemmas.Bool.{cases_lt, false≢true}
 use Rattle.std.proofs.lemmas.List.{take_all, take-map}
 use Rattle.std.proofs.lemmas.Option.{slice_get_within}
+use Rattle.lemmas.proofs.Lists.{take_less}
 use Rattle.model.specs.Types.{Entry, Net}
 use Rattle.model.specs.Restore.{first_wrong, follows_on}
 use Rattle.outside.specs.Kept.{Bodies}
@@ -17,7 +18,6 @@ use Rattle.message_file.specs.declared.attaches.AttachFault.TheVariants.{NotAMes
 use Rattle.message_file.proofs.Again.{not_refused, one_refusal}
 use Rattle.message_file.proofs.Reading.{kept_is}
 use Rattle.node_restart.specs.Restarting.{AreHeld, IsFirstWrong, IsNoFile, IsRefused, IsWrongAt, Restarts}
-use Rattle.node_restart.proofs.Fronts.{take_less}
 use Rattle.node_restart.proofs.Wrong.{each_of, get_front}
 
 abbrev oks : List Entry → List (Result Entry EntryFault)

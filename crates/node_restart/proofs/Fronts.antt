@@ -1,13 +1,15 @@
 -- Bodies at the front of a list, their entries, and the places of their gates.
-use Rattle.std.proofs.Common.{◌≡◌, ◌∙◌, ◌+◌, ◌-◌, ◌^◌, ◌<◌, ◌≤◌, ◌++◌, ◌∷◌, [], ℕ, zero, suc, List, length, map, take, drop, min, refl, sym, ap}
+use Rattle.std.proofs.Common.{◌≡◌, ◌∙◌, ◌+◌, ◌-◌, ◌^◌, ◌<◌, ◌≤◌, ◌++◌, ◌∷◌, [], ℕ, zero, suc, List, length, map, take}
+use Rattle.std.proofs.Common.{drop, min, sym, ap}
 use Rattle.std.proofs.Common.{subst, arith, length-append, take-append-drop, Ok, Result, Some, None, IfSome, slice_get}
 use Rattle.std.specs.declared.option.Option.{Option}
 use Rattle.std.specs.List.{AllByRecursion}
 use Rattle.std.proofs.Math.Nat.{min-eq_left}
 use Rattle.std.proofs.lemmas.Grind.{flat_map-append}
-use Rattle.std.proofs.lemmas.List.{length_push, map-append, take_more, take-map}
+use Rattle.std.proofs.lemmas.List.{length_push, map-append, take-map}
 use Rattle.std.proofs.lemmas.List.Elements.{All-push}
-use Rattle.std.proofs.lemmas.Option.{get_or_from_slice_get, slice_get_within}
+use Rattle.std.proofs.lemmas.Option.{slice_get_within}
+use Rattle.lemmas.proofs.Lists.{take_further}
 use Rattle.model.specs.Types.{Entry}
 use Rattle.model.specs.Fit.{AreFitEntries, IsFit}
 use Rattle.model.specs.Spelling.{entry_bytes}
@@ -22,25 +24,12 @@ use Rattle.message_file.proofs.Reading.{kept_is}
 use Rattle.node_restart.specs.Restarting.{AreEntries}
 use Rattle.node_restart.specs.Reading.{AreFront, AreShortEntries, IsEntryAt, IsEntryOf, IsFitOf, IsShort, IsShortOf}
 
--- one item more of a list
-pub take_next : {X : Type 0} (xs : List X) (i : ℕ) (x : X) → slice_get xs i ≡ Some x → take (i + 1) xs ≡ take i xs ++ x ∷ []
-take_next xs i x is =
-    take_more xs i x (slice_get_within xs i x is)
-    ∙ ap (λ y. take i xs ++ y ∷ []) (get_or_from_slice_get xs i x x is)
-
--- the front of a front
-pub take_less : {X : Type 0} (m n : ℕ) (xs : List X) → m ≤ n → take m (take n xs) ≡ take m xs
-take_less zero n xs le = refl
-take_less (suc m) zero xs le = absurd (omega (arith, le))
-take_less (suc m) (suc n) [] le = refl
-take_less (suc m) (suc n) (x ∷ xs) le = ap (λ l. x ∷ l) (take_less m n xs (omega (arith, le)))
-
 -- one entry more
 pub one_more : (entries : List Entry) (bodies : Bodies) (i : ℕ) (e : Entry) → AreEntries entries (take i bodies)
     → IsEntryAt i (Some e) bodies → AreEntries (entries ++ e ∷ []) (take (i + 1) bodies)
 one_more entries bodies i e are found =
     let front = take i bodies in
-    let more : take (i + 1) bodies ≡ front ++ found.0 ∷ [] = take_next bodies i found.0 found.1 in
+    let more : take (i + 1) bodies ≡ front ++ found.0 ∷ [] = take_further bodies i found.0 found.1 in
     record {
       read =
           ap (map entry_in) more ∙ map-append entry_in front (found.0 ∷ [])
@@ -75,7 +64,7 @@ front_behind bodies i =
 -- the next gate
 pub next_gate : (bodies : Bodies) (i : ℕ) (body : List ℕ) → slice_get bodies i ≡ Some body
     → place_behind (take (i + 1) bodies) ≡ place_behind (take i bodies) + 5 + length body
-next_gate bodies i body is = ap place_behind (take_next bodies i body is) ∙ place_with (take i bodies) body
+next_gate bodies i body is = ap place_behind (take_further bodies i body is) ∙ place_with (take i bodies) body
 
 abbrev AreShort : Bodies → Type 0
 AreShort bodies = AllByRecursion (λ (body : List ℕ). length body ≤ longest_body) bodies

@@ -97,7 +97,7 @@ told_left me count count_now file None now left keeps same own = absurd keeps
 told_left me count count_now file (Some t) None left keeps same own = absurd (cc same)
 told_left me count count_now file (Some t) (Some n) left keeps same own = own.1
 
-own_files : (me : ℕ) (told : Option (List ℕ)) (now left : List ℕ → Type 0) → OwnFiles me told now → AreOwn me left → OwnFiles me told left
+pub own_files : (me : ℕ) (told : Option (List ℕ)) (now left : List ℕ → Type 0) → OwnFiles me told now → AreOwn me left → OwnFiles me told left
 own_files me None now left own all = tt
 own_files me (Some file) now left own all = (own.0, all)
 

@@ -6,6 +6,7 @@ use Rattle.std.proofs.lemmas.Bool.{lt-ltb}
 use Rattle.std.specs.declared.option.Option.{Option}
 use Rattle.std.proofs.lemmas.List.{append-nil, take_all, take_at}
 use Rattle.std.proofs.lemmas.Option.{slice_get-get_or}
+use Rattle.lemmas.proofs.Lists.{take_less}
 use Rattle.model.specs.Types.{Entry, Net}
 use Rattle.model.specs.Restore as model
 use Rattle.model.specs.Restore.{first_wrong, first_wrong_from, follows_on, restore_fault}
@@ -17,7 +18,7 @@ use Rattle.message_file.specs.Files.{place_behind}
 use Rattle.agent_core.proofs.Restored.{restore_inside}
 use Rattle.node_restart.specs.Restarting.{AreEntries, AreHeld, IsFirstWrong, IsWrongAt}
 use Rattle.node_restart.specs.Reading.{AreFront}
-use Rattle.node_restart.proofs.Fronts.{entries_front, take_less}
+use Rattle.node_restart.proofs.Fronts.{entries_front}
 
 -- a test that comes out one way
 passed : {X : Type 0} (b : Bool) (x y : X) → b ≡ true → cond b x y ≡ x

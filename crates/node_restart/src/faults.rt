@@ -5,7 +5,7 @@ ghost use Rattle.node_restart.specs.declared.faults.ReadFault.TheVariants.{NoMem
 use base_types::NoMemory;
 
 /// Why no node is made of a disk.
-#[derive(Clone, Copy, Debug, PartialEq, Eq)]
+#[derive(Clone, Copy)]
 pub enum RestartFault {
     /// The file is none that this node is made of. The number is the place of the first byte that is not as in a header
     /// of this workstation, or of the gate at which the file breaks off, or of the gate of the first body that is no
@@ -17,7 +17,7 @@ pub enum RestartFault {
 }
 
 /// Why a body was not read.
-#[derive(Clone, Copy, Debug, PartialEq, Eq)]
+#[derive(Clone, Copy)]
 pub(crate) enum ReadFault {
     Disk,
     NoMemory,

@@ -1,10 +1,12 @@
 -- A restart and a run, put together to a service.
-use Rattle.std.proofs.Common.{[], ℕ, ◌+◌, ◌++◌, ◌-◌, ◌^◌, ◌≡◌, ◌≤◌, ◌∙◌, ◌∷◌, ◌⊎◌, List, None, Option, Some, ap, arith, inl, inr, subst, sym, ⊎_elim}
+use Rattle.std.proofs.Common.{[], ℕ, ◌++◌, ◌≡◌, ◌≤◌, ◌∙◌, ◌∷◌, ◌⊎◌, List, None, Option, Some, ap, arith, inl, inr}
+use Rattle.std.proofs.Common.{subst, sym, ⊎_elim}
 use Rattle.std.proofs.Common.{IfSome, option_map}
-use Rattle.std.proofs.Math.Nat.{le-min, le_trans, min-le_left, min-le_right}
 use Rattle.std.specs.List.{AllByRecursion}
 use Rattle.std.proofs.lemmas.List.{map-append}
 use Rattle.std.proofs.lemmas.List.Elements.{All-from_recursion, recursion_from_All}
+use Rattle.node_inputs.proofs.Lasting.{rose_since}
+use Rattle.node_restart.proofs.Stopping.{own_files}
 use Rattle.model.specs.Fit.{AreFitEntries, IsFit}
 use Rattle.model.specs.Spelling.{entry_bytes}
 use Rattle.model.specs.Types.{Entry}
@@ -13,10 +15,10 @@ use Rattle.outside.specs.Kept.{Bodies}
 use Rattle.outside.specs.Stops.{LeavesOnly}
 use Rattle.message_file.specs.Attaching.{LeftAttaching}
 use Rattle.message_file.specs.State.{FileState, KeepsOf, KeptLeft, OwnFiles, kept_in}
-use Rattle.node_keeping.specs.Keeping.{IsCause, IsLeft, IsLeftAtEnd, IsRefusal, KeeperTells, bodies}
-use Rattle.node_keeping.specs.Traces.{Trace, kept, refusals}
-use Rattle.node_keeping.specs.declared.ends.NodeEnd.{NodeEnd}
-use Rattle.node_keeping.specs.declared.ends.NodeEnd.TheVariants.{DiskFault}
+use Rattle.node_inputs.specs.Keeping.{IsCause, IsLeft, IsLeftAtEnd, IsRefusal, KeeperTells, bodies}
+use Rattle.node_inputs.specs.Traces.{Trace, kept, refusals}
+use Rattle.node_inputs.specs.declared.ends.NodeEnd.{NodeEnd}
+use Rattle.node_inputs.specs.declared.ends.NodeEnd.TheVariants.{DiskFault}
 use Rattle.node_inputs.specs.Stepping.{AreKeepable, IsKeepable}
 use Rattle.node_restart.specs.Reading.{AreShortEntries, IsShort}
 use Rattle.node_restart.specs.Stopping.{AreOwn, KeptSince, StayOwn, StaysOwn}
@@ -78,12 +80,6 @@ keeps_front trace entries (Some file) new count held is tells = go new all
     go None same = absurd (none_is same)
     go (Some n) same = (count, some_is same)
 
--- a fault that rose in the run rose in the service
-rose_since : (before middle now : ℕ) → before ≤ middle → Rose middle now → Rose before now
-rose_since before middle now le h =
-    le_trans
-    (le-min (le_trans (min-le_left (before + 1) (2 ^ 64 - 1)) (omega (arith, le))) (min-le_right (before + 1) (2 ^ 64 - 1))) h
-
 pub disk_cause : (trace : Trace) (why : NodeEnd) (size before middle now : ℕ)
     → (IsRefusal why → (e : Entry) × (refusals trace ≡ (e, why) ∷ []))
     → ((e : Entry) (w : NodeEnd) → refusals trace ≡ (e, w) ∷ [] → IsCause size middle now e w) → before ≤ middle
@@ -91,11 +87,6 @@ pub disk_cause : (trace : Trace) (why : NodeEnd) (size before middle now : ℕ)
 disk_cause trace why size before middle now forced causes le is =
     let f = forced (inl is) in
     rose_since before middle now le (causes f.0 DiskFault (f.1 ∙ ap (λ (w : NodeEnd). (f.0, w) ∷ []) is)).1
-
-own_files : (me : ℕ) (told : Option (List ℕ)) (now left : List ℕ → Type 0) → OwnFiles me told now → AreOwn me left
-    → OwnFiles me told left
-own_files me None now left own all = tt
-own_files me (Some file) now left own all = (own.0, all)
 
 own_left : (me : ℕ) (front : Bodies) (file : List ℕ) (now : Option (List ℕ)) (left : List ℕ → Type 0)
     → KeepsFront front (Some file) now → OwnFiles me now left → AreOwn me left

@@ -13,10 +13,10 @@ use Rattle.message_file.specs.Files.{kept_of}
 use Rattle.message_file.specs.State.{KeepsOf, KeptLeft, kept_in}
 use Rattle.agent_core.specs.Nodes.{NodeState, present_in, session_in}
 use Rattle.workload_defs.specs.Nets.{net_of, peers_of}
-use Rattle.node_keeping.specs.Keeping.{IsLeft, IsLeftAtEnd, IsRefusal, bodies}
-use Rattle.node_keeping.specs.Traces.{Trace, kept, refusals}
-use Rattle.node_keeping.specs.declared.ends.NodeEnd.{NodeEnd}
-use Rattle.node_keeping.specs.declared.ends.NodeEnd.TheVariants.{DiskFault}
+use Rattle.node_inputs.specs.Keeping.{IsLeft, IsLeftAtEnd, IsRefusal, bodies}
+use Rattle.node_inputs.specs.Traces.{Trace, kept, refusals}
+use Rattle.node_inputs.specs.declared.ends.NodeEnd.{NodeEnd}
+use Rattle.node_inputs.specs.declared.ends.NodeEnd.TheVariants.{DiskFault}
 use Rattle.node_inputs.specs.Tellings.{Tells, Told}
 use Rattle.node_loop.specs.Runs.{Run, Running, running}
 use Rattle.node_restart.specs.Restarting.{IsNoFile, IsRefused, Restarts}

@@ -7,6 +7,6 @@
 
 mod services;
 
-pub use node_keeping::NodeEnd;
+pub use node_inputs::NodeEnd;
 pub use node_restart::RestartFault;
 pub use services::{Served, ServiceEnd, serve_node};

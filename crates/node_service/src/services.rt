@@ -12,7 +12,7 @@ use agent_core::Agent;
 use base_types::{Copied, NoMemory, Ws};
 use file_watch::Prober;
 use network_tree::{NetFault, Network};
-use node_keeping::NodeEnd;
+use node_inputs::NodeEnd;
 use node_loop::run_node;
 use node_restart::{RestartFault, Restarted, restart_node};
 use outside::{Clock, Disk, Link, Spawner};

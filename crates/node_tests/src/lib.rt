@@ -4,6 +4,6 @@
 #![tactic(auto)]
 
 #[cfg(test)]
-mod node_keeping_tests;
+mod node_inputs_tests;
 #[cfg(test)]
 mod probe_mem_tests;

@@ -11,7 +11,7 @@ use crate::Framed;
 use base_types::Bytes;
 
 /// Why a body was not kept or read.
-#[derive(Clone, Copy, PartialEq, Eq)]
+#[derive(Clone, Copy, PartialEq)]
 pub enum KeepFault {
     /// The disk failed, in this call or before.
     Disk,

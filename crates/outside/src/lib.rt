@@ -28,7 +28,7 @@ pub use links::{Arrival, Link};
 pub use spawners::{End, Spawner};
 
 /// A call to the outside failed, and the object's count of faults rose.
-#[derive(Clone, Copy, PartialEq, Eq)]
+#[derive(Clone, Copy, PartialEq)]
 pub struct Failed;
 
 /// A source of bytes.

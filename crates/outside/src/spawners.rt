@@ -7,7 +7,7 @@ use crate::Failed;
 use base_types::{JobNo, Work};
 
 /// A process ended: the job and launch that it was started for, and its return code.
-#[derive(Clone, Copy, PartialEq, Eq)]
+#[derive(Clone, Copy, PartialEq)]
 pub struct End {
     pub job: JobNo,
     pub number: u32,

@@ -8,7 +8,7 @@ use std::alloc::Global;
 use std::marker::Model;
 
 /// A link was to begin; the addresses stand beside it.
-#[derive(Clone, Copy, PartialEq, Eq)]
+#[derive(Clone, Copy, PartialEq)]
 pub struct BegunBy {
     pub me: Option<Ws>,
     pub hop: Option<Ws>,
@@ -17,7 +17,7 @@ pub struct BegunBy {
 }
 
 /// An address; its host stands beside it.
-#[derive(Clone, Copy, PartialEq, Eq)]
+#[derive(Clone, Copy, PartialEq)]
 pub struct PeerAt {
     pub ws: Ws,
     pub port: u16,

@@ -16,7 +16,7 @@ use std::alloc::Global;
 use std::marker::Model;
 
 /// A start that was asked for; the text of its work stands beside it.
-#[derive(Clone, Copy, PartialEq, Eq)]
+#[derive(Clone, Copy, PartialEq)]
 pub struct Started {
     pub job: JobNo,
     pub number: u32,
@@ -27,7 +27,7 @@ pub struct Started {
 }
 
 /// A launch that was to be killed.
-#[derive(Clone, Copy, PartialEq, Eq)]
+#[derive(Clone, Copy, PartialEq)]
 pub struct Killed {
     pub job: JobNo,
     pub number: u32,

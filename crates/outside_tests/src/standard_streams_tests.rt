@@ -1,10 +1,10 @@
 //! Sources over readers and sinks over writers.
 use outside::{Failed, Sink, Source};
-use standard_streams::{StdSink, StdSource};
 use std::io;
 use std::io::{ErrorKind, Read, Write};
 use std::test::Fail;
 use test_builders::first_wrong;
+use whole_io::{StdSink, StdSource};
 
 /// A reader and writer whose calls are interrupted so often, and then work on one byte; after the last byte they
 /// fail.

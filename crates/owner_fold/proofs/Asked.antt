@@ -1,8 +1,9 @@
 -- The units that an object asks for, one dependency further.
-use Rattle.std.proofs.Common.{[], ℕ, ◌+◌, ◌<◌, ◌∷◌, ◌≡◌, Bool, List, Some, arith, cond, drop, false}
-use Rattle.std.proofs.Common.{filter, length, not, refl, slice_get, suc, sum_by, true, zero}
+use Rattle.std.proofs.Common.{ℕ, ◌+◌, ◌<◌, ◌∷◌, ◌≡◌, Bool, List, Some, arith, cond, drop, false}
+use Rattle.std.proofs.Common.{filter, length, not, refl, slice_get, suc, sum_by, true}
 use Rattle.std.specs.Prelude.{if◌then◌else◌}
 use Rattle.std.proofs.lemmas.List.Sums.{sum_by-cons}
+use Rattle.lemmas.proofs.Lists.{first_left}
 use Rattle.model.specs.Types.{Dep, Obj}
 use Rattle.model.specs.Words.{nth}
 use Rattle.model.specs.History.{View}
@@ -18,12 +19,6 @@ units_from V r o n ds =
 pub units_all : (V : View) (r : ℕ) (o : Obj) → units V r o ≡ units_from V r o 1 (deps V o)
 unfolding units unwaived_deps
 units_all V r o = refl
-
-first_left : {X : Type 0} (xs : List X) (i : ℕ) → i < length xs
-    → (x : X) × ((drop i xs ≡ x ∷ drop (suc i) xs) × (slice_get xs i ≡ Some x))
-first_left [] i h = absurd (omega arith)
-first_left (x ∷ xs) zero h = (x, (refl, refl))
-first_left (x ∷ xs) (suc i) h = first_left xs i (omega arith)
 
 one_more : (V : View) (r : ℕ) (o : Obj) (n : ℕ) (d : Dep) (ds : List Dep) → nth (deps V o) n ≡ Some d
     → units_from V r o n (d ∷ ds) ≡ units_at V r o n + units_from V r o (n + 1) ds

@@ -7,6 +7,8 @@ use Rattle.std.specs.Bool.{then_some}
 use Rattle.std.specs.List.{list_any}
 use Rattle.std.specs.Option.{option_or}
 use Rattle.std.specs.Prelude.{◌||◌, option_map}
+use Rattle.lemmas.proofs.Booleans.{and_false, and_parts, or_cases, or_made_left}
+use Rattle.lemmas.proofs.Lists.{any_with}
 use Rattle.grouped_places.specs.Codes.{code}
 use Rattle.model.specs.Types.{Added, Body, Entry, Events}
 use Rattle.model.specs.Types.{Launched, NewPlan, Obj, Released, Stream, StreamDoc}
@@ -18,7 +20,7 @@ use Rattle.model.specs.Facts.{LastLaunch, commands, end_of, first_end, is_cancel
 use Rattle.model.specs.Facts.{is_ended, is_launch_of, is_open, is_release_of, is_released, last_launch, launch_here}
 use Rattle.model.specs.Facts.{open_launch}
 use Rattle.model.specs.StepFaults.{is_outside}
-use Rattle.owner_rows.proofs.Further.{any_command_with, any_with}
+use Rattle.owner_rows.proofs.Further.{any_command_with}
 use Rattle.owner_rows.proofs.JobTelling.{last_launch_with, later_with}
 use Rattle.owner_fold.specs.Given.{has_time}
 use Rattle.owner_fold.specs.Numbers.{ArePlaces}
@@ -33,22 +35,6 @@ use Rattle.owner_fold.proofs.Covering.{covers_more, covers_still, first_place}
 use Rattle.owner_fold.proofs.Holders.{launch_is_told}
 use Rattle.owner_fold.proofs.Giving.{HasGivenPlaces, at_feed, file_change, given_kept, given_none, given_put, given_still}
 use Rattle.owner_fold.proofs.Giving.{time_change}
-
-either : (a b : Bool) → (a || b) ≡ true → (a ≡ true) ⊎ (b ≡ true)
-either true b h = inl refl
-either false b h = inr h
-
-still : (a b : Bool) → a ≡ true → (a || b) ≡ true
-still true b h = refl
-still false b h = cc
-
-both : (a b : Bool) → (a && b) ≡ true → (a ≡ true) × (b ≡ true)
-both true b h = (refl, h)
-both false b h = cc
-
-and_false : (a : Bool) → (a && false) ≡ false
-and_false true = refl
-and_false false = refl
 
 -- neither of two that only come to hold
 neither : (a c x y : Bool) → (a ≡ true → x ≡ true) → (c ≡ true → y ≡ true) → (not x && not y) ≡ true
@@ -66,12 +52,12 @@ released_stays : (s : ℕ) (events : List Body) (b : Body) → is_released s eve
     → is_released s (events ++ b ∷ []) ≡ true
 unfolding is_released
 released_stays s events b h =
-    any_with (is_release_of s) events b ∙ still (list_any (is_release_of s) events) (is_release_of s b) h
+    any_with (is_release_of s) events b ∙ or_made_left (list_any (is_release_of s) events) (is_release_of s b) h
 
 ended_stays : (s : ℕ) (events : List Body) (b : Body) → is_ended s events ≡ true → is_ended s (events ++ b ∷ []) ≡ true
 unfolding is_ended
 ended_stays s events b h =
-    any_with (is_end_of s) events b ∙ still (list_any (is_end_of s) events) (is_end_of s b) h
+    any_with (is_end_of s) events b ∙ or_made_left (list_any (is_end_of s) events) (is_end_of s b) h
 
 cancelled_stays : (o : Obj) (events : List Body) (b : Body) → is_cancelled o events ≡ true
     → is_cancelled o (events ++ b ∷ []) ≡ true
@@ -98,12 +84,12 @@ unfolding is_released
 begun_before s events b h =
     let k : (is_released s (events ++ b ∷ []) ≡ true)
     × ((not (is_ended s (events ++ b ∷ [])) && not (is_cancelled (Stream s) (events ++ b ∷ []))) ≡ true) =
-    both (is_released s (events ++ b ∷ []))
+    and_parts (is_released s (events ++ b ∷ []))
     (not (is_ended s (events ++ b ∷ [])) && not (is_cancelled (Stream s) (events ++ b ∷ []))) h in
     let l : (not (is_ended s events) && not (is_cancelled (Stream s) events)) ≡ true =
     neither (is_ended s events) (is_cancelled (Stream s) events) (is_ended s (events ++ b ∷ []))
     (is_cancelled (Stream s) (events ++ b ∷ [])) (ended_stays s events b) (cancelled_stays (Stream s) events b) k.1 in
-    elim (either (list_any (is_release_of s) events) (is_release_of s b) (sym (any_with (is_release_of s) events b) ∙ k.0)) [
+    elim (or_cases (list_any (is_release_of s) events) (is_release_of s b) (sym (any_with (is_release_of s) events b) ∙ k.0)) [
       | inl e ↦ inl (λ j. e j && l j)
       | inr e ↦ inr e
     ]
@@ -236,7 +222,7 @@ pub sets_planned : (kept : List Entry) (e : Entry) (ms : List ℕ) (streams : Li
     (sets : Sets) → is_planning e ≡ true → AreSetsAmong kept ms streams placed sets
     → AreSetsAmong (kept ++ e ∷ []) ms streams placed sets
 sets_planned kept e ms streams placed sets h =
-    let k : is_planning_body e.body ≡ true = (both (feed_eq (Events 0) e.feed) (is_planning_body e.body) h).1 in
+    let k : is_planning_body e.body ≡ true = (and_parts (feed_eq (Events 0) e.feed) (is_planning_body e.body) h).1 in
     sets_still kept e ms streams placed sets
     (λ i d s f r. absurd (let q : true ≡ false = sym r ∙ no_release d.no e.body k in cc))
     (λ i p s f r. absurd (let q : true ≡ false = sym r ∙ no_launch p.doc.no e.body k in cc))

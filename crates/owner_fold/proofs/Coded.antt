@@ -2,6 +2,7 @@
 use Rattle.std.proofs.Common.{ℕ, ◌&&◌, ◌*◌, ◌-◌, ◌<◌, ◌^◌, ◌∙◌, ◌≡◌, Bool, List, Option, Some, ap, eqb, false, filter}
 use Rattle.std.proofs.Common.{filter_map, flat_map, inl, inr, option_and_then, refl, slice_get, subst, sym, true}
 use Rattle.std.proofs.lemmas.Bool.Decides.{eqb_tells}
+use Rattle.lemmas.proofs.Lists.{filter_filter}
 use Rattle.grouped_places.specs.Codes.{RisesFrom, code, is_in_group}
 use Rattle.grouped_places.proofs.Finding.{group_finds}
 use Rattle.model.specs.Types.{Body, Dep, Entry, Events, Job, Stream, StreamDoc}
@@ -25,7 +26,7 @@ use Rattle.owner_fold.specs.declared.sets.Sets.{Sets}
 use Rattle.owner_fold.specs.declared.doc_places.JobPlace.{JobPlace}
 use Rattle.owner_fold.specs.declared.doc_places.StreamPlace.{StreamPlace}
 use Rattle.owner_fold.proofs.Covering.{item_placed}
-use Rattle.owner_fold.proofs.Holders.{filter_filter, open_among}
+use Rattle.owner_fold.proofs.Holders.{open_among}
 
 -- the stream and the job at the place of a code
 pub stream_of_code : (kept now : List Entry) (plan : Plan) (doc_places : List StreamPlace) (n group c : ℕ)

@@ -1,7 +1,8 @@
 -- How many dependencies count, and where each of them stands.
 use Rattle.std.proofs.Common.{[], ℕ, ◌+◌, ◌++◌, ◌-◌, ◌<◌, ◌∙◌, ◌∷◌, ◌≡◌, ◌≤◌, List, None, Some, arith, flat_map}
 use Rattle.std.proofs.Common.{length, length-append}
-use Rattle.std.proofs.Common.{length-take, refl, slice_get, subst, suc, take, zero}
+use Rattle.std.proofs.Common.{length-take, refl, slice_get, subst, suc, zero}
+use Rattle.lemmas.proofs.Lists.{get_take}
 use Rattle.model.specs.Types.{Dep, Events, Obj}
 use Rattle.model.specs.Catalogue.{owner}
 use Rattle.model.specs.History.{View}
@@ -33,13 +34,6 @@ most_count V o h =
       length-take 65535 (document_deps V o ++ added_deps V o),
       length-append (document_deps V o) (added_deps V o),
     )
-
-get_take : {X : Type 0} (xs : List X) (n i : ℕ) → i < n → slice_get (take n xs) i ≡ slice_get xs i
-get_take [] zero i h = absurd (omega arith)
-get_take [] (suc n) i h = refl
-get_take (x ∷ xs) zero i h = absurd (omega arith)
-get_take (x ∷ xs) (suc n) zero h = refl
-get_take (x ∷ xs) (suc n) (suc i) h = get_take xs n i (omega arith)
 
 get_front : {X : Type 0} (xs ys : List X) (i : ℕ) → i < length xs → slice_get (xs ++ ys) i ≡ slice_get xs i
 get_front [] ys i h = absurd (omega arith)

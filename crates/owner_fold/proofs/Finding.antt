@@ -1,9 +1,9 @@
 -- An index finds the first with a number, and grows by one more number.
 use Rattle.std.proofs.Common.{[], ℕ, ◌+◌, ◌++◌, ◌∙◌, ◌∷◌, ◌≡◌, Bool, List, None, Option, Some, ap, arith, cond}
-use Rattle.std.proofs.Common.{eqb, false, find, flat_map, inl, inr, is_some, length, map, option_and_then, option_map, refl}
+use Rattle.std.proofs.Common.{eqb, false, find, flat_map, is_some, length, map, option_and_then, option_map, refl}
 use Rattle.std.proofs.Common.{slice_get, subst, suc, sym, true}
-use Rattle.std.proofs.lemmas.Bool.Decides.{eqb_tells}
 use Rattle.std.specs.Prelude.{◌||◌, nat_eq}
+use Rattle.lemmas.proofs.Numbers.{number_tells}
 use Rattle.indexmap.specs.IndexMap.{get}
 use Rattle.model.specs.Words.{has}
 use Rattle.model.specs.Types.{Entry, Events, StreamDoc}
@@ -16,9 +16,6 @@ use Rattle.owner_fold.specs.declared.plans.Plan.{Plan}
 use Rattle.owner_fold.specs.declared.doc_places.JobPlace.{JobPlace}
 use Rattle.owner_fold.specs.declared.doc_places.StreamPlace.{StreamPlace}
 use Rattle.owner_fold.specs.declared.numbers.Numbers.{Numbers}
-
-number_tells : (a b : ℕ) → eqb a b ≡ true → a ≡ b
-number_tells a b h = elim (eqb_tells a b) [ inl e ↦ e.1 | inr e ↦ absurd (cc) ]
 
 -- what stands at the place of a number is the first with that number
 pub found_at : {S X : Type 0} (item : S → Option X) (number : X → ℕ) (doc_places : List S) (items : List X)

@@ -4,11 +4,12 @@ use Rattle.std.proofs.Common.{flat_map}
 use Rattle.std.proofs.Common.{ap₂, fold, is_some, map, refl}
 use Rattle.std.proofs.Common.{subst, sym, true}
 use Rattle.std.specs.Prelude.{◌==◌, unwrap_or}
-use Rattle.std.proofs.lemmas.List.{append-nil, map-append}
-use Rattle.std.proofs.lemmas.List.Elements.{filter-append}
+use Rattle.std.proofs.lemmas.List.{append-nil}
 use Rattle.std.proofs.lemmas.List.Sums.{fold-append}
 use Rattle.std.proofs.lemmas.Grind.{flat_map-append}
-use Rattle.model.specs.Types.{Body, Entry, Events, Feed}
+use Rattle.lemmas.proofs.Booleans.{and_parts}
+use Rattle.owner_rows.proofs.Feeds.{list_with, list_without}
+use Rattle.model.specs.Types.{Body, Entry, Events}
 use Rattle.model.specs.Types.{StreamDoc}
 use Rattle.model.specs.Equalities.{feed_eq}
 use Rattle.model.specs.Words.{greatest, has}
@@ -28,42 +29,13 @@ use Rattle.owner_fold.proofs.Firsts.{has_found}
 use Rattle.owner_fold.proofs.Planless.{no_docs, no_names}
 use Rattle.owner_fold.proofs.Standing.{places_later}
 
-list_of-append : (G H : List Entry) (f : Feed) → list_of (G ++ H) f ≡ list_of G f ++ list_of H f
-unfolding list_of
-list_of-append G H f = rw (filter-append, map-append)
-
-list_of_here : (e : Entry) (f : Feed) → feed_eq f e.feed ≡ true → list_of (e ∷ []) f ≡ e.body ∷ []
-unfolding list_of
-list_of_here e f same = rw same
-
-list_of_elsewhere : (e : Entry) (f : Feed) → feed_eq f e.feed ≡ false → list_of (e ∷ []) f ≡ []
-unfolding list_of
-list_of_elsewhere e f other = rw other
-
--- an entry of a feed is at the end of its list
-pub list_with : (kept : List Entry) (e : Entry) (f : Feed) → feed_eq f e.feed ≡ true
-    → list_of (kept ++ e ∷ []) f ≡ list_of kept f ++ e.body ∷ []
-list_with kept e f same =
-    list_of-append kept (e ∷ []) f ∙ ap (λ (l : List Body). list_of kept f ++ l) (list_of_here e f same)
-
--- and in no other
-pub list_without : (kept : List Entry) (e : Entry) (f : Feed) → feed_eq f e.feed ≡ false
-    → list_of (kept ++ e ∷ []) f ≡ list_of kept f
-list_without kept e f other =
-    list_of-append kept (e ∷ []) f
-    ∙ ap (λ (l : List Body). list_of kept f ++ l) (list_of_elsewhere e f other) ∙ append-nil (list_of kept f)
-
-both_true : (a b : Bool) → (a && b) ≡ true → (a ≡ true) × (b ≡ true)
-both_true true b h = (refl, h)
-both_true false b h = cc
-
 -- the documents after a plan or a stream that is added
 pub docs_with : (kept : List Entry) (e : Entry) → is_planning e ≡ true
     → flat_map docs_in (list_of (kept ++ e ∷ []) (Events 0))
     ≡ flat_map docs_in (list_of kept (Events 0)) ++ docs_in e.body
 docs_with kept e h =
     let same : feed_eq (Events 0) e.feed ≡ true =
-    (both_true (feed_eq (Events 0) e.feed) (is_planning_body e.body) h).0
+    (and_parts (feed_eq (Events 0) e.feed) (is_planning_body e.body) h).0
     in
     ap (λ (l : List Body). flat_map docs_in l) (list_with kept e (Events 0) same)
     ∙ flat_map-append docs_in (list_of kept (Events 0)) (e.body ∷ [])
@@ -75,7 +47,7 @@ pub named_with : (kept : List Entry) (e : Entry) → is_planning e ≡ true
 unfolding named_members
 named_with kept e h =
     let same : feed_eq (Events 0) e.feed ≡ true =
-    (both_true (feed_eq (Events 0) e.feed) (is_planning_body e.body) h).0
+    (and_parts (feed_eq (Events 0) e.feed) (is_planning_body e.body) h).0
     in
     ap (λ (l : List Body). fold members_with None l) (list_with kept e (Events 0) same)
     ∙ fold-append members_with None (list_of kept (Events 0)) (e.body ∷ [])

@@ -1,10 +1,11 @@
 -- Who was given a dependency of a kind, one entry further, and the entry that gives one.
 use Rattle.std.proofs.Common.{[], ℕ, ◌+◌, ◌++◌, ◌<◌, ◌^◌, ◌≤◌, ◌∙◌, ◌∷◌, ◌≡◌, ◌⊎◌, Bool, List, Some, ap, arith}
-use Rattle.std.proofs.Common.{cond, drop, eqb, false, inl, inr, length, map, refl, slice_get, subst, suc, sym, true, zero}
-use Rattle.std.proofs.lemmas.Bool.Decides.{eqb_tells}
+use Rattle.std.proofs.Common.{cond, drop, false, inl, inr, length, map, refl, slice_get, subst, suc, sym, true, zero}
 use Rattle.std.specs.List.{list_any}
 use Rattle.std.specs.Option.{option_map_or}
 use Rattle.std.specs.Prelude.{◌&&◌, ◌||◌}
+use Rattle.lemmas.proofs.Booleans.{and_parts}
+use Rattle.lemmas.proofs.Numbers.{number_tells}
 use Rattle.grouped_places.specs.Codes.{code}
 use Rattle.model.specs.Types.{AddDep, Added, Body, Dep, Entry, Events, Job, NewPlan, Obeyed, Obj, Outside, Stream, StreamDoc}
 use Rattle.model.specs.Words.{firsts, has}
@@ -45,20 +46,9 @@ plan_gives_none test o (NewPlan run cut carried docs) h = refl
 plan_gives_none test o (Added a k doc) h = refl
 plan_gives_none test o b h = cc
 
-both : (a b : Bool) → (a && b) ≡ true → (a ≡ true) × (b ≡ true)
-both true b h = (refl, h)
-both false b h = cc
-
-same : (s t : ℕ) → eqb s t ≡ true → s ≡ t
-same s t h =
-    elim (eqb_tells s t) [
-      | inl c ↦ c.1
-      | inr c ↦ absurd (let q : true ≡ false = sym h ∙ c.0 in cc)
-    ]
-
 same_object : (o p : Obj) → obj_eq o p ≡ true → o ≡ p
-same_object (Stream s) (Stream t) h = ap Stream (same s t h)
-same_object (Job j) (Job k) h = ap Job (same j k h)
+same_object (Stream s) (Stream t) h = ap Stream (number_tells s t h)
+same_object (Job j) (Job k) h = ap Job (number_tells j k h)
 same_object (Stream s) (Job k) h = cc
 same_object (Job j) (Stream t) h = cc
 
@@ -70,14 +60,14 @@ no_time d h = cc
 -- such an entry is a change
 pub time_change : (w : ℕ) (o : Obj) (b : Body) → gives has_time o b ≡ true → change_by w b ≡ TimeGiven w o
 time_change w o (Obeyed a k (AddDep p d)) h =
-    let t : (obj_eq o p ≡ true) × (has_time d ≡ true) = both (obj_eq o p) (has_time d) h in
+    let t : (obj_eq o p ≡ true) × (has_time d ≡ true) = and_parts (obj_eq o p) (has_time d) h in
     ap (λ (b : Bool). cond b (TimeGiven w p) (cond (is_outside d) (FileGiven w p) NoChange)) t.1
     ∙ ap (λ (q : Obj). TimeGiven w q) (sym (same_object o p t.0))
 time_change w o b h = cc
 
 pub file_change : (w : ℕ) (o : Obj) (b : Body) → gives is_outside o b ≡ true → change_by w b ≡ FileGiven w o
 file_change w o (Obeyed a k (AddDep p d)) h =
-    let t : (obj_eq o p ≡ true) × (is_outside d ≡ true) = both (obj_eq o p) (is_outside d) h in
+    let t : (obj_eq o p ≡ true) × (is_outside d ≡ true) = and_parts (obj_eq o p) (is_outside d) h in
     ap (λ (b : Bool). cond b (TimeGiven w p) (cond (is_outside d) (FileGiven w p) NoChange)) (no_time d t.1)
     ∙ ap (λ (b : Bool). cond b (FileGiven w p) NoChange) t.1
     ∙ ap (λ (q : Obj). FileGiven w q) (sym (same_object o p t.0))
@@ -87,12 +77,12 @@ file_change w o b h = cc
 pub at_feed : (kept : List Entry) (e : Entry) (w : ℕ) (P : List Body → Type 0)
     → (list_of (kept ++ e ∷ []) (Events w) ≡ list_of kept (Events w) → P (list_of kept (Events w)))
     → (Events w ≡ e.feed → P (list_of kept (Events w) ++ e.body ∷ [])) → P (list_of (kept ++ e ∷ []) (Events w))
-at_feed kept e w P same more =
+at_feed kept e w P number_tells more =
     elim (feed_cases (Events w) e.feed) [
       | inl c ↦ subst P (sym (list_with kept e (Events w) c.0)) (more c.1)
       | inr c ↦ (
           let k : list_of (kept ++ e ∷ []) (Events w) ≡ list_of kept (Events w) = list_without kept e (Events w) c in
-          subst P (sym k) (same k))
+          subst P (sym k) (number_tells k))
     ]
 
 -- who is given one by the entry has its place
@@ -117,7 +107,7 @@ given_still test kept e ms streams placed given put h = record {
       (λ k u.
       let v : (has ms d.no ≡ true)
       × (is_given test (Stream d.no) d.deps (list_of kept (Events d.ws) ++ e.body ∷ []) ≡ true) =
-      both (has ms d.no) (is_given test (Stream d.no) d.deps (list_of kept (Events d.ws) ++ e.body ∷ [])) u in
+      and_parts (has ms d.no) (is_given test (Stream d.no) d.deps (list_of kept (Events d.ws) ++ e.body ∷ [])) u in
       elim (given_before test (Stream d.no) d.deps (list_of kept (Events d.ws)) e.body v.1) [
         | inl x ↦ inl (λ j. v.0 j && x j)
         | inr x ↦ inr (put.streams i d s k x)
@@ -134,7 +124,7 @@ given_still test kept e ms streams placed given put h = record {
       (λ k u.
       let v : (has ms p.parent.no ≡ true)
       × (is_given test (Job p.doc.no) p.doc.deps (list_of kept (Events p.doc.ws) ++ e.body ∷ []) ≡ true) =
-      both (has ms p.parent.no) (is_given test (Job p.doc.no) p.doc.deps (list_of kept (Events p.doc.ws) ++ e.body ∷ [])) u in
+      and_parts (has ms p.parent.no) (is_given test (Job p.doc.no) p.doc.deps (list_of kept (Events p.doc.ws) ++ e.body ∷ [])) u in
       elim (given_before test (Job p.doc.no) p.doc.deps (list_of kept (Events p.doc.ws)) e.body v.1) [
         | inl x ↦ inl (λ j. v.0 j && x j)
         | inr x ↦ inr (put.jobs i p s k x)

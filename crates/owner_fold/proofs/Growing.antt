@@ -1,34 +1,20 @@
 -- Lists of codes that grow: what a walk over items puts in.
 use Rattle.std.proofs.Common.{[], ℕ, ◌+◌, ◌++◌, ◌||◌, ◌∙◌, ◌∷◌, ◌≡◌, ◌≤◌, ◌⊎◌, Bool, List, None, Option, Some, add-one, ap}
-use Rattle.std.proofs.Common.{arith, eqb, false, flat_map, inl, inr, length, map, refl, slice_get, subst, suc, sym, take, true}
+use Rattle.std.proofs.Common.{arith, false, flat_map, inl, inr, length, map, refl, slice_get, subst, suc, sym, take}
+use Rattle.std.proofs.Common.{true}
 use Rattle.std.proofs.Common.{zero}
 use Rattle.std.proofs.lemmas.Bool.Decides.{eqb_tells}
 use Rattle.std.proofs.lemmas.Grind.{flat_map-append}
 use Rattle.std.specs.Option.{option_map_or}
+use Rattle.lemmas.proofs.Booleans.{or_cases, or_true}
+use Rattle.lemmas.proofs.Lists.{take_none, take_whole}
+use Rattle.model_laws.proofs.Lists.{has_append}
 use Rattle.grouped_places.proofs.Finding.{inserted_keeps, inserted_there}
 use Rattle.model.specs.Words.{has, insert_once}
 use Rattle.owner_fold.specs.Pairs.{Grows, HasAll}
 
-or_assoc : (a b c : Bool) → (a || (b || c)) ≡ ((a || b) || c)
-or_assoc true b c = refl
-or_assoc false b c = refl
-
-or_true : (b : Bool) → (b || true) ≡ true
-or_true true = refl
-or_true false = refl
-
-either : (a b : Bool) → (a || b) ≡ true → (a ≡ true) ⊎ (b ≡ true)
-either true b h = inl refl
-either false b h = inr h
-
--- two lists
-pub has_append : (xs ys : List ℕ) (n : ℕ) → has (xs ++ ys) n ≡ (has xs n || has ys n)
-has_append [] ys n = refl
-has_append (x ∷ xs) ys n =
-    ap (λ (b : Bool). eqb x n || b) (has_append xs ys n) ∙ or_assoc (eqb x n) (has xs n) (has ys n)
-
 pub in_either : (xs ys : List ℕ) (n : ℕ) → has (xs ++ ys) n ≡ true → (has xs n ≡ true) ⊎ (has ys n ≡ true)
-in_either xs ys n h = either (has xs n) (has ys n) (sym (has_append xs ys n) ∙ h)
+in_either xs ys n h = or_cases (has xs n) (has ys n) (sym (has_append xs ys n) ∙ h)
 
 pub in_first : (xs ys : List ℕ) (n : ℕ) → has xs n ≡ true → has (xs ++ ys) n ≡ true
 in_first xs ys n h = has_append xs ys n ∙ ap (λ (b : Bool). b || has ys n) h
@@ -57,11 +43,6 @@ put_keeps x old new p c h = ap (λ (l : List ℕ). has l c) p ∙ inserted_keeps
 
 pub put_there : (x y : ℕ) (old new : List ℕ) → x ≡ y → new ≡ insert_once x old → has new y ≡ true
 put_there x y old new e p = (λ j. has (p j) (sym e j)) ∙ inserted_there x old
-
--- a walk, one item further
-take_none : {X : Type 0} (xs : List X) → take 0 xs ≡ []
-take_none [] = refl
-take_none (x ∷ xs) = refl
 
 taken_more : {X : Type 0} (f : X → List ℕ) (xs : List X) (i c : ℕ) → has (flat_map f (take (suc i) xs)) c ≡ true
     → (has (flat_map f (take i xs)) c ≡ true) ⊎ (has (option_map_or f (slice_get xs i) []) c ≡ true)
@@ -106,13 +87,6 @@ grows_further {X} f xs i o old mid new e h keeps there = record {
         | inr g ↦ of_item f o new c there (ap (λ (p : Option X). has (option_map_or f p []) c) (sym e) ∙ g)
       ];
 }
-
--- all items
-pub take_whole : {X : Type 0} (xs : List X) (i : ℕ) → length xs ≤ i → take i xs ≡ xs
-take_whole [] zero h = refl
-take_whole [] (suc i) h = refl
-take_whole (x ∷ xs) zero h = absurd (omega (arith, h))
-take_whole {X} (x ∷ xs) (suc i) h = ap (λ (l : List X). x ∷ l) (take_whole xs i (omega (arith, h)))
 
 pub grows_all : {X : Type 0} (f : X → List ℕ) (xs : List X) (i : ℕ) (old new : List ℕ) → length xs ≤ i
     → Grows (flat_map f (take i xs)) old new → Grows (flat_map f xs) old new

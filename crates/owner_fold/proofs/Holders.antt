@@ -9,6 +9,8 @@ use Rattle.std.specs.Option.{option_or}
 use Rattle.std.specs.Prelude.{◌==◌}
 use Rattle.std.proofs.lemmas.Bool.Decides.{eqb_tells}
 use Rattle.std.proofs.lemmas.List.Sums.{sum_by-append, sum_by-cons}
+use Rattle.lemmas.proofs.Booleans.{and_left, and_right, or_true}
+use Rattle.lemmas.proofs.Lists.{filter_filter}
 use Rattle.model.specs.Types.{Late}
 use Rattle.model.specs.Types.{Added, Body, Clock, Declined, Ended, Events, Failed, Fulfilled, Job, Launched, Lost}
 use Rattle.model.specs.Types.{NewPlan, Obeyed, Order, Released, Started, Stream, StreamDoc, StreamEnded}
@@ -88,23 +90,6 @@ firsts_at_most {X} number known (x ∷ xs) n =
 firsts_apart : {X : Type 0} (number : X → ℕ) (xs : List X) → AreApart number (firsts number [] xs)
 firsts_apart number xs n = firsts_at_most number [] xs n
 
-pub filter_filter : {X : Type 0} (p q : X → Bool) (xs : List X)
-    → filter p (filter q xs) ≡ filter (λ (x : X). q x && p x) xs
-filter_filter p q [] = refl
-filter_filter {X} p q (x ∷ xs) = go (p x) (q x) (filter_filter p q xs) refl
-  where
-    go : (a b : Bool) → filter p (filter q xs) ≡ filter (λ (y : X). q y && p y) xs → p x ≡ a
-        → filter p (cond b (x ∷ filter q xs) (filter q xs))
-        ≡ cond (b && a) (x ∷ filter (λ (y : X). q y && p y) xs) (filter (λ (y : X). q y && p y) xs)
-    go true true h e = rw (e, h) refl
-    go false true h e = rw (e, h) refl
-    go true false h e = h
-    go false false h e = h
-
-second : (a b : Bool) → (a && b) ≡ true → b ≡ true
-second true b h = h
-second false b h = cc
-
 -- a filter keeps numbers apart
 filter_apart : {X : Type 0} (number : X → ℕ) (q : X → Bool) (xs : List X) → AreApart number xs
     → AreApart number (filter q xs)
@@ -114,7 +99,7 @@ filter_apart {X} number q xs h n =
     in
     let w : length (filter (λ (x : X). q x && (number x == n)) xs) ≤ length (filter (λ (x : X). number x == n) xs) =
     weaker (λ (x : X). q x && (number x == n)) (λ (x : X). number x == n) xs
-    (λ x. second (q x) (number x == n))
+    (λ x. and_right (q x) (number x == n))
     in
     rw e (omega (arith, w, h n))
 
@@ -194,10 +179,6 @@ launch_is_told j (Declined a k why) bs l h = cc
 launch_is_told j (Order c) bs l h = cc
 launch_is_told j (Late p i) bs l h = cc
 
-or_true : (a : Bool) → (a || true) ≡ true
-or_true true = refl
-or_true false = refl
-
 last_or_here : (j : ℕ) (b : Body) (bs : List Body) (l : LastLaunch) (o : Option LastLaunch) → last_launch j bs ≡ o
     → ((m : LastLaunch) → last_launch j bs ≡ Some m → list_any (is_launch_of j) bs ≡ true)
     → option_or o (launch_here j b bs) ≡ Some l → (is_launch_of j b || list_any (is_launch_of j) bs) ≡ true
@@ -232,16 +213,12 @@ streams_apart : (V : View) → AreApart (λ (d : StreamDoc). d.no) (catalogue V)
 unfolding catalogue
 streams_apart V = firsts_apart (λ (d : StreamDoc). d.no) (flat_map docs_in (V (Events 0)))
 
-first : (a b : Bool) → (a && b) ≡ true → a ≡ true
-first true b h = refl
-first false b h = cc
-
 under_way_was_released : (w : ℕ) (own : List Body) (d : StreamDoc) → is_under_way w own d ≡ true
     → list_any (is_release_of d.no) own ≡ true
 unfolding is_released
 under_way_was_released w own d h =
-    first (list_any (is_release_of d.no) own) (not (is_ended d.no own) && not (is_cancelled (Stream d.no) own))
-    (second (d.ws == w)
+    and_left (list_any (is_release_of d.no) own) (not (is_ended d.no own) && not (is_cancelled (Stream d.no) own))
+    (and_right (d.ws == w)
     (list_any (is_release_of d.no) own && (not (is_ended d.no own) && not (is_cancelled (Stream d.no) own))) h)
 
 pub few_holders : (V : View) (w : ℕ) → length (open_jobs V w) + length (streams_under_way V w) ≤ length (V (Events w))

@@ -1,6 +1,7 @@
 -- Whether any order was taken, one entry further.
 use Rattle.std.proofs.Common.{[], ℕ, ◌&&◌, ◌++◌, ◌∙◌, ◌∷◌, ◌≡◌, ◌||◌, Bool, List, ap, cond, false, filter, map, refl, sym, true}
 use Rattle.std.proofs.lemmas.List.Folds.{list_any-append}
+use Rattle.lemmas.proofs.Booleans.{neither}
 use Rattle.model.specs.Types.{Body, Entry, Events, Feed, Orders}
 use Rattle.model.specs.Equalities.{feed_eq}
 use Rattle.model.specs.History.{list_of}
@@ -33,10 +34,6 @@ pub orders_of_none : false ≡ has_orders []
 unfolding has_orders
 orders_of_none = refl
 
-apart : (a b : Bool) → (a || b) ≡ false → (a ≡ false) × (b ≡ false)
-apart true b h = cc
-apart false b h = (refl, h)
-
 not_there : (a w : ℕ) (f : Feed) → is_of_orders f ≡ false → feed_eq (Orders a w) f ≡ false
 not_there a w (Events v) h = refl
 not_there a w (Orders b v) h = cc
@@ -47,7 +44,7 @@ unfolding has_orders list_of
 no_orders [] h a w = refl
 no_orders (e ∷ kept) h a w =
     let t : (is_of_orders e.feed ≡ false) × (has_orders kept ≡ false) =
-    apart (is_of_orders e.feed) (has_orders kept) h in
+    neither (is_of_orders e.feed) (has_orders kept) h in
     ap
     (λ (b : Bool).
     map (λ (x : Entry). x.body)

@@ -7,6 +7,9 @@ use Rattle.std.proofs.lemmas.Grind.{flat_map-append}
 use Rattle.std.proofs.lemmas.List.Folds.{list_any-append}
 use Rattle.std.specs.List.{list_any}
 use Rattle.std.specs.Option.{option_map_or}
+use Rattle.lemmas.proofs.Booleans.{and_parts, neither}
+use Rattle.lemmas.proofs.Numbers.{number_tells}
+use Rattle.model_laws.proofs.Lists.{has_append}
 use Rattle.grouped_places.specs.Codes.{code}
 use Rattle.model.specs.Types.{AddDep, Added, At, Body, Deadline, Dep, Entry, Events, Feed, FollowsJob, FollowsStream, Global}
 use Rattle.model.specs.Types.{Job, Needs, NewPlan, Obeyed, Obj, Orders, Outside, Own, Prompt, Stream, StreamDoc, Until}
@@ -26,18 +29,7 @@ use Rattle.owner_fold.proofs.Covering.{first_place}
 use Rattle.owner_fold.proofs.Finding.{found_at}
 use Rattle.owner_fold.proofs.Further.{docs_without}
 use Rattle.owner_fold.proofs.Giving.{at_feed}
-use Rattle.owner_fold.proofs.Growing.{has_append, in_either, in_first, in_second, itself}
-
-both : (a b : Bool) → (a && b) ≡ true → (a ≡ true) × (b ≡ true)
-both true b h = (refl, h)
-both false b h = cc
-
-same : (s t : ℕ) → eqb s t ≡ true → s ≡ t
-same s t h =
-    elim (eqb_tells s t) [
-      | inl c ↦ c.1
-      | inr c ↦ absurd (let q : true ≡ false = sym h ∙ c.0 in cc)
-    ]
+use Rattle.owner_fold.proofs.Growing.{in_either, in_first, in_second, itself}
 
 -- what the items have now they had before, or it is brought
 flat_either : {X : Type 0} (f g : X → List ℕ) (xs : List X) (more : List ℕ) (c : ℕ)
@@ -160,7 +152,7 @@ pub pairs_planned : (kept : List Entry) (e : Entry) (pairs : List ℕ) → is_pl
 pairs_planned kept e pairs h are =
     let V = view_of (kept ++ e ∷ []) in
     pairs_still (dep_cites V) kept e (catalogue V) (jobs V) pairs
-    (none_brought (dep_cites V) e.body e.feed pairs (both _ (is_planning_body e.body) h).1) are
+    (none_brought (dep_cites V) e.body e.feed pairs (and_parts _ (is_planning_body e.body) h).1) are
 
 -- another entry leaves whom dependencies cite
 cited_same : (kept : List Entry) (e : Entry) → is_planning e ≡ false → (d : Dep)
@@ -222,17 +214,13 @@ missing pairs those c h k = go (has those c) refl
     go false e = refl
     go true e = absurd (let q : true ≡ false = sym (h c e) ∙ k in cc)
 
-apart : (a b : Bool) → (a || b) ≡ false → (a ≡ false) × (b ≡ false)
-apart true b h = cc
-apart false b h = (refl, h)
-
 none_any : {X : Type 0} (test : X → Bool) (f : X → List ℕ) (xs : List X) (c : ℕ)
     → ((i : ℕ) (x : X) → slice_get xs i ≡ Some x → test x ≡ true → has (f x) c ≡ true)
     → has (flat_map f xs) c ≡ false → list_any test xs ≡ false
 none_any test f [] c h k = refl
 none_any {X} test f (x ∷ xs) c h k =
     let t : (has (f x) c ≡ false) × (has (flat_map f xs) c ≡ false) =
-    apart (has (f x) c) (has (flat_map f xs) c) (sym (has_append (f x) (flat_map f xs) c) ∙ k) in
+    neither (has (f x) c) (has (flat_map f xs) c) (sym (has_append (f x) (flat_map f xs) c) ∙ k) in
     ap (λ (b : Bool). b || list_any test xs) (go (test x) refl t.0)
     ∙ none_any test f xs c (λ i. h (suc i)) t.1
   where
@@ -247,10 +235,10 @@ works_not kept view pairs v x one h k =
     subst (λ (l : List Entry). works_on (view_of l) v x ≡ false) one
     (none_any (λ (p : StreamJob). eqb p.parent.ws v && eqb p.doc.ws x) (job_pairs (dep_cites V) kept) (jobs V) (code v x)
     (λ i p s t.
-    let b : (eqb p.parent.ws v ≡ true) × (eqb p.doc.ws x ≡ true) = both (eqb p.parent.ws v) (eqb p.doc.ws x) t in
+    let b : (eqb p.parent.ws v ≡ true) × (eqb p.doc.ws x ≡ true) = and_parts (eqb p.parent.ws v) (eqb p.doc.ws x) t in
     in_first (code p.parent.ws p.doc.ws ∷ [])
     (object_pairs (dep_cites V) p.doc.ws (Job p.doc.no) p.doc.deps (list_of kept (Events p.doc.ws))) (code v x)
-    ((λ j. has (code (same p.parent.ws v b.0 j) (same p.doc.ws x b.1 j) ∷ []) (code v x)) ∙ itself (code v x)))
+    ((λ j. has (code (number_tells p.parent.ws v b.0 j) (number_tells p.doc.ws x b.1 j) ∷ []) (code v x)) ∙ itself (code v x)))
     (missing pairs (flat_map (job_pairs (dep_cites V) kept) (jobs V)) (code v x) h.jobs k))
 
 -- whom an object cites is in its pairs
@@ -367,16 +355,16 @@ cites_not kept view pairs v x one h k =
     ∙ none_any (λ (d : StreamDoc). eqb d.ws v && test (Stream d.no)) (stream_pairs (dep_cites V) kept) (catalogue V)
     (code v x)
     (λ i d s t.
-    let b : (eqb d.ws v ≡ true) × (test (Stream d.no) ≡ true) = both (eqb d.ws v) (test (Stream d.no)) t in
-    ap (λ (n : ℕ). has (stream_pairs (dep_cites V) kept d) (code n x)) (sym (same d.ws v b.0))
+    let b : (eqb d.ws v ≡ true) × (test (Stream d.no) ≡ true) = and_parts (eqb d.ws v) (test (Stream d.no)) t in
+    ap (λ (n : ℕ). has (stream_pairs (dep_cites V) kept d) (code n x)) (sym (number_tells d.ws v b.0))
     ∙ stream_cites kept i d x s b.1)
     (missing pairs (flat_map (stream_pairs (dep_cites V) kept) (catalogue V)) (code v x) h.streams k) in
     let placed : list_any test (map (λ (p : StreamJob). Job p.doc.no) (filter (λ (p : StreamJob). eqb p.doc.ws v) (jobs V))) ≡ false =
     filtered test (λ (p : StreamJob). Job p.doc.no) (λ (p : StreamJob). eqb p.doc.ws v) (jobs V)
     ∙ none_any (λ (p : StreamJob). eqb p.doc.ws v && test (Job p.doc.no)) (job_pairs (dep_cites V) kept) (jobs V) (code v x)
     (λ i p s t.
-    let b : (eqb p.doc.ws v ≡ true) × (test (Job p.doc.no) ≡ true) = both (eqb p.doc.ws v) (test (Job p.doc.no)) t in
-    ap (λ (n : ℕ). has (job_pairs (dep_cites V) kept p) (code n x)) (sym (same p.doc.ws v b.0))
+    let b : (eqb p.doc.ws v ≡ true) × (test (Job p.doc.no) ≡ true) = and_parts (eqb p.doc.ws v) (test (Job p.doc.no)) t in
+    ap (λ (n : ℕ). has (job_pairs (dep_cites V) kept p) (code n x)) (sym (number_tells p.doc.ws v b.0))
     ∙ job_cites kept i p x s b.1)
     (missing pairs (flat_map (job_pairs (dep_cites V) kept) (jobs V)) (code v x) h.jobs k) in
     subst (λ (l : List Entry). list_any (λ o. has (cites (view_of l) o) x) (objects_of (view_of l) v) ≡ false) one

@@ -1,10 +1,10 @@
 -- Places stand for the items that they find: one further, in a longer list of entries, and all that they find.
-use Rattle.std.proofs.Common.{[], ℕ, ◌+◌, ◌++◌, ◌<◌, ◌∙◌, ◌∷◌, ◌≡◌, List, None, Option, Some, add-one, ap, append_assoc}
-use Rattle.std.proofs.Common.{arith, cond, false, filter_map, flat_map, get_or}
-use Rattle.std.proofs.Common.{length, map, option_and_then, option_map, refl, slice_get, subst, suc, sym, take, true}
-use Rattle.std.proofs.Common.{zero}
+use Rattle.std.proofs.Common.{[], ℕ, ◌+◌, ◌++◌, ◌∙◌, ◌∷◌, ◌≡◌, List, None, Option, Some, ap, append_assoc}
+use Rattle.std.proofs.Common.{cond, false, filter_map, flat_map}
+use Rattle.std.proofs.Common.{length, map, option_and_then, option_map, refl, slice_get, subst, sym, take, true}
 use Rattle.std.proofs.lemmas.Grind.{flat_map-append}
 use Rattle.std.proofs.lemmas.List.{append-nil, map-append}
+use Rattle.lemmas.proofs.Lists.{get_in_front, get_last, take_further}
 use Rattle.model.specs.Types.{Entry, JobDoc, StreamDoc}
 use Rattle.model.specs.Words.{firsts, has}
 use Rattle.model.specs.Catalogue.{StreamJob, docs_in, jobs_in}
@@ -83,15 +83,6 @@ found_in_order {S} {X} f (p ∷ ps) (x ∷ xs) h =
     let there : map f ps ≡ map Some xs = cc in
     rw (here, found_in_order f ps xs there) refl
 
-get_later : {X : Type 0} (xs ys : List X) (i : ℕ) (x : X) → slice_get xs i ≡ Some x → slice_get (xs ++ ys) i ≡ Some x
-get_later [] ys i x h = cc
-get_later (z ∷ zs) ys zero x h = h
-get_later (z ∷ zs) ys (suc i) x h = get_later zs ys i x h
-
-pub get_last : {X : Type 0} (xs : List X) (x : X) → slice_get (xs ++ x ∷ []) (length xs) ≡ Some x
-get_last [] x = refl
-get_last (z ∷ zs) x = get_last zs x
-
 pub doc_later : (kept more : List Entry) (p : StreamPlace) (d : StreamDoc) → doc_at kept p ≡ Some d
     → doc_at (kept ++ more) p ≡ Some d
 doc_later kept more p d h = go (slice_get kept p.entry) refl h
@@ -100,7 +91,7 @@ doc_later kept more p d h = go (slice_get kept p.entry) refl h
         → option_and_then (λ (e : Entry). slice_get (docs_in e.body) p.doc) o ≡ Some d
         → doc_at (kept ++ more) p ≡ Some d
     go None e k = cc
-    go (Some x) e k = rw (get_later kept more p.entry x e) k
+    go (Some x) e k = rw (get_in_front kept more p.entry x e) k
 
 pub job_later : (kept more : List Entry) (p : JobPlace) (x : StreamJob) → job_at kept p ≡ Some x
     → job_at (kept ++ more) p ≡ Some x
@@ -185,17 +176,6 @@ pub job_of_doc : (kept : List Entry) (p : StreamPlace) (d : StreamDoc) (i n : �
     → slice_get d.jobs i ≡ Some j → job_at kept (record { number = n; stream = p; job = i }) ≡ Some (stream_job d j)
 job_of_doc kept p d i n j h k = rw (h, k) refl
 
-take_suc : {X : Type 0} (xs : List X) (i : ℕ) (x : X) → slice_get xs i ≡ Some x
-    → take (suc i) xs ≡ take i xs ++ x ∷ []
-take_suc [] i x h = cc
-take_suc (z ∷ zs) zero x h = cc
-take_suc (z ∷ zs) (suc i) x h = ap (λ l. z ∷ l) (take_suc zs i x h)
-
--- one item further
-pub take_further : {X : Type 0} (xs : List X) (i : ℕ) (x : X) → slice_get xs i ≡ Some x
-    → take (i + 1) xs ≡ take i xs ++ x ∷ []
-take_further xs i x h = rw add-one (take_suc xs i x h)
-
 -- what is known, one item further
 pub known_further : {X Y : Type 0} (f : X → Y) (known : List Y) (xs : List X) (i : ℕ) (x : X)
     → slice_get xs i ≡ Some x → known ++ map f (take (i + 1) xs) ≡ (known ++ map f (take i xs)) ++ f x ∷ []
@@ -203,12 +183,6 @@ known_further {X} {Y} f known xs i x h =
     ap (λ (l : List X). known ++ map f l) (take_further xs i x h)
     ∙ ap (λ (l : List Y). known ++ l) (map-append f (take i xs) (x ∷ []))
     ∙ sym (append_assoc known (map f (take i xs)) (f x ∷ []))
-
--- an item by its place
-pub item_at : {X : Type 0} (xs : List X) (i : ℕ) (x : X) → i < length xs → x ≡ get_or xs i x → slice_get xs i ≡ Some x
-item_at [] i x h e = absurd (omega arith)
-item_at (z ∷ zs) zero x h e = ap Some (sym e)
-item_at (z ∷ zs) (suc i) x h e = item_at zs i x (omega arith) e
 
 -- copies of the places, where another entry comes
 pub places_copied : (kept more : List Entry) (docs : List StreamDoc) (doc_places : DocPlaces) (streams : List StreamPlace)

@@ -5,6 +5,8 @@ use Rattle.std.proofs.lemmas.Bool.Decides.{eqb_tells}
 use Rattle.std.specs.List.{list_any}
 use Rattle.std.specs.Option.{option_map_or}
 use Rattle.std.specs.Prelude.{nat_lt}
+use Rattle.lemmas.proofs.Booleans.{or_assoc, or_false, or_regroup, or_turned}
+use Rattle.lemmas.proofs.Lists.{take_whole}
 use Rattle.grouped_places.specs.Codes.{code}
 use Rattle.model.specs.Types.{Entry, Events, StreamDoc}
 use Rattle.model.specs.Words.{has, insert_once}
@@ -14,29 +16,14 @@ use Rattle.owner_fold.specs.DocPlaces.{first_docs_among, first_jobs_among}
 use Rattle.owner_fold.specs.Pairs.{AreWorksAmong, AreWorksOf, is_work}
 use Rattle.owner_fold.specs.Plans.{is_planning}
 use Rattle.owner_fold.proofs.Further.{docs_without}
-use Rattle.owner_fold.proofs.Growing.{take_whole}
-
-or_false : (b : Bool) → b ≡ (b || false)
-or_false true = refl
-or_false false = refl
-
-or_swap : (a b : Bool) → (a || b) ≡ (b || a)
-or_swap true true = refl
-or_swap true false = refl
-or_swap false true = refl
-or_swap false false = refl
 
 or_again : (a b : Bool) → (a || b) ≡ ((a || b) || a)
 or_again true b = refl
-or_again false b = or_false b
-
-or_assoc : (a b c : Bool) → (a || (b || c)) ≡ ((a || b) || c)
-or_assoc true b c = refl
-or_assoc false b c = refl
+or_again false b = sym (or_false b)
 
 -- what is there once a code was put in
 put_in : (x : ℕ) (cs : List ℕ) (n : ℕ) → has (insert_once x cs) n ≡ (has cs n || eqb x n)
-put_in x [] n = or_swap (eqb x n) false
+put_in x [] n = or_turned (eqb x n) false
 put_in x (c ∷ cs) n =
     elim (eqb_tells x c) [
       | inl e ↦ (rw e.0 (subst (λ (y : ℕ). (eqb c n || has cs n) ≡ ((eqb c n || has cs n) || eqb y n)) (sym e.1)
@@ -46,8 +33,8 @@ put_in x (c ∷ cs) n =
   where
     go : (b : Bool) → has (insert_once x cs) n ≡ (has cs n || eqb x n)
         → has (cond b (x ∷ c ∷ cs) (c ∷ insert_once x cs)) n ≡ ((eqb c n || has cs n) || eqb x n)
-    go true h = or_swap (eqb x n) (eqb c n || has cs n)
-    go false h = ap (λ (t : Bool). eqb c n || t) h ∙ or_assoc (eqb c n) (has cs n) (eqb x n)
+    go true h = or_turned (eqb x n) (eqb c n || has cs n)
+    go false h = ap (λ (t : Bool). eqb c n || t) h ∙ or_regroup (eqb c n) (has cs n) (eqb x n)
 
 -- of two places of groups the codes are one where both are one
 same_code : (w x v y : ℕ) → x < 2 ^ 32 → y < 2 ^ 32 → eqb (code w x) (code v y) ≡ (eqb w v && eqb x y)
@@ -79,7 +66,7 @@ put_exact g n w x old new one same small put v y h =
 -- where there is no job, none is put in
 pub put_none : (test : StreamJob → Bool) (o : Option StreamJob) (b : Bool) → o ≡ None
     → b ≡ (b || option_map_or test o false)
-put_none test o b e = or_false b ∙ ap (λ (p : Option StreamJob). b || option_map_or test p false) (sym e)
+put_none test o b e = sym (or_false b) ∙ ap (λ (p : Option StreamJob). b || option_map_or test p false) (sym e)
 
 -- a walk, one job further
 taken_any : {X : Type 0} (test : X → Bool) (xs : List X) (i : ℕ)
@@ -89,10 +76,10 @@ taken_any test [] (suc i) = refl
 taken_any {X} test (x ∷ xs) zero = go xs
   where
     go : (ys : List X) → test x ≡ (test x || list_any test (take 0 ys))
-    go [] = or_false (test x)
-    go (y ∷ ys) = or_false (test x)
+    go [] = sym (or_false (test x))
+    go (y ∷ ys) = sym (or_false (test x))
 taken_any test (x ∷ xs) (suc i) =
-    sym (or_assoc (test x) (list_any test (take i xs)) (option_map_or test (slice_get xs i) false))
+    or_assoc (test x) (list_any test (take i xs)) (option_map_or test (slice_get xs i) false)
     ∙ ap (λ (b : Bool). test x || b) (taken_any test xs i)
 
 pub works_further : (placed : List StreamJob) (i : ℕ) (o : Option StreamJob) (mid new : List ℕ) → slice_get placed i ≡ o

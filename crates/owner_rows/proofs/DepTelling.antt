@@ -6,6 +6,7 @@ use Rattle.std.proofs.lemmas.Bool.Decides.{eqb_tells}
 use Rattle.std.specs.Bool.{then_some}
 use Rattle.std.specs.Option.{option_or}
 use Rattle.std.specs.Prelude.{◌&&◌, ◌||◌, unwrap_or}
+use Rattle.lemmas.proofs.Lists.{any_with}
 use Rattle.model.specs.Types.{AddDep, Added, AltPri, Body, Cancel, Clock, Cmd, Confirm, Declined, DelDep, Ended, Failed}
 use Rattle.model.specs.Types.{Fence, Fulfilled, Job, Kill, Launched, Limit, Lost, NewPlan, Obeyed, Obj, Order, Release}
 use Rattle.model.specs.Types.{Released, ReplyGlobal, ReplyOwn, Rerun, Started, Stop, Stream, StreamEnded, StreamLimit}
@@ -18,7 +19,7 @@ use Rattle.owner_rows.specs.Deps.{IsDepRow, IsRowOfDep, deleted_by, reply_said}
 use Rattle.owner_rows.specs.Subjects.{dep_in, dep_number, dep_number_in, object_number}
 use Rattle.owner_rows.specs.declared.deps.DepRow.{DepRow}
 use Rattle.owner_rows.proofs.Keys.{one_object}
-use Rattle.owner_rows.proofs.Further.{any_command_with, any_with, last_set_with}
+use Rattle.owner_rows.proofs.Further.{any_command_with, last_set_with}
 
 replied : (o : Obj) (i : ℕ) (b : Body) (said old new : Option Bool) (events : List Body)
     → option_map Some said ≡ reply_said o i b → new ≡ option_or said old → old ≡ own_reply o i events

@@ -3,23 +3,11 @@ use Rattle.std.proofs.Common.{[], ◌+◌, ◌++◌, ◌<◌, ◌∙◌, ◌∷�
 use Rattle.std.proofs.Common.{length-append, refl, true}
 use Rattle.owner_rows.specs.Told.{AreShort}
 use Rattle.std.proofs.lemmas.Bool.Decides.{eqb_tells}
-use Rattle.std.proofs.lemmas.List.{append-nil, map-append}
-use Rattle.std.proofs.lemmas.List.Elements.{filter-append}
+use Rattle.std.proofs.lemmas.List.{append-nil}
+use Rattle.model_laws.proofs.Feeds.{list_of-append, list_of_elsewhere, list_of_here}
 use Rattle.model.specs.Types.{Body, Entry, Events, Feed, Orders}
 use Rattle.model.specs.Equalities.{feed_eq}
 use Rattle.model.specs.History.{list_of}
-
-list_of-append : (G H : List Entry) (f : Feed) → list_of (G ++ H) f ≡ list_of G f ++ list_of H f
-unfolding list_of
-list_of-append G H f = rw (filter-append, map-append)
-
-list_of_here : (e : Entry) (f : Feed) → feed_eq f e.feed ≡ true → list_of (e ∷ []) f ≡ e.body ∷ []
-unfolding list_of
-list_of_here e f same = rw same
-
-list_of_elsewhere : (e : Entry) (f : Feed) → feed_eq f e.feed ≡ false → list_of (e ∷ []) f ≡ []
-unfolding list_of
-list_of_elsewhere e f other = rw other
 
 -- an entry of a feed is at the end of its list
 pub list_with : (kept : List Entry) (e : Entry) (f : Feed) → feed_eq f e.feed ≡ true

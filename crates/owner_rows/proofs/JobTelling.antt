@@ -11,12 +11,12 @@ use Rattle.std.specs.Bool.{then_some}
 use Rattle.std.specs.List.{list_any}
 use Rattle.std.specs.Option.{option_map_or, option_or}
 use Rattle.std.specs.Prelude.{if◌then◌else◌, ◌||◌}
+use Rattle.lemmas.proofs.Lists.{any_with, filter_map_short}
 use Rattle.model.specs.Types.{Added, Body, Clock, Cmd, Confirm, Declined, Ended, Failed, Fulfilled, Launched, Lost}
 use Rattle.model.specs.Types.{Late, NewPlan}
 use Rattle.model.specs.Types.{Obeyed, Order, Released, Rerun, Started, StreamEnded, UntilPassed}
 use Rattle.model.specs.Facts.{LastLaunch, code_of, commands, end_of, is_confirm_of, is_launch_of, is_rerun_of}
 use Rattle.model.specs.Facts.{is_start_of, last_launch, launch_here, launches, obeyed_command, reruns}
-use Rattle.owner_rows.proofs.Further.{filter_map_short}
 use Rattle.owner_rows.specs.Jobs.{IsJobRow, LastTold, fresh_in, is_confirm_in, is_rerun_in, kept_last, last_told}
 use Rattle.owner_rows.specs.Jobs.{last_with, told_of, told_with}
 use Rattle.owner_rows.specs.Subjects.{job_in}
@@ -144,13 +144,6 @@ first_with {X} {Y} f xs x =
     go : (l : List Y) → slice_get (l ++ filter_map f (x ∷ [])) 0 ≡ option_or (slice_get l 0) (f x)
     go [] = one
     go (y ∷ ys) = refl
-
-any_with : {X : Type 0} (p : X → Bool) (xs : List X) (x : X) → list_any p (xs ++ x ∷ []) ≡ (list_any p xs || p x)
-any_with {X} p xs x = list_any-append p xs (x ∷ []) ∙ ap (λ (t : Bool). list_any p xs || t) (alone (p x))
-  where
-    alone : (t : Bool) → (t || false) ≡ t
-    alone true = refl
-    alone false = refl
 
 pub confirms_with : (j : ℕ) (events : List Body) (b : Body)
     → list_any (is_confirm_of j) (commands (events ++ b ∷ [])) ≡ (list_any (is_confirm_of j) (commands events) || is_confirm_in j b)

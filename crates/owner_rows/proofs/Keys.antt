@@ -1,37 +1,24 @@
 -- Keys, and the rows of a table after one of them is put.
 use Rattle.std.proofs.Common.{ℕ, ◌&&◌, ◌∙◌, ◌≡◌, Bool, None, Option, Some, ap, arith, cond, eqb, false}
-use Rattle.std.proofs.Common.{inl, inr, is_some, refl, sym, true}
-use Rattle.std.proofs.lemmas.Bool.Decides.{eqb_tells}
+use Rattle.std.proofs.Common.{is_some, refl, sym, true}
 use Rattle.std.specs.Prelude.{unwrap_or}
+use Rattle.lemmas.proofs.Booleans.{and_left, and_right}
+use Rattle.lemmas.proofs.Numbers.{number_itself, number_tells}
 use Rattle.model.specs.Types.{Job, Obj, Stream}
 use Rattle.owner_rows.specs.Subjects.{object_number}
 use Rattle.owner_rows.specs.Tables.{keys_meet, same_key}
-
-first : (p q : Bool) → (p && q) ≡ true → p ≡ true
-first true q h = refl
-first false q h = cc
-
-second : (p q : Bool) → (p && q) ≡ true → q ≡ true
-second true q h = h
-second false q h = cc
-
-pub number_tells : (a b : ℕ) → eqb a b ≡ true → a ≡ b
-number_tells a b h = elim (eqb_tells a b) [ inl e ↦ e.1 | inr e ↦ absurd (cc) ]
-
-pub itself : (a : ℕ) → eqb a a ≡ true
-itself a = elim (eqb_tells a a) [ inl e ↦ e.0 | inr e ↦ absurd (e.1 refl) ]
 
 module _ {N : Type 0} (one : N → N → Bool) where
   -- keys that are the same are one
   pub keys_tell : ((a b : N) → one a b ≡ true → a ≡ b) → (p q : ℕ × N) → keys_meet one p q ≡ true → p ≡ q
   keys_tell tells p q h = λ j. (
-    number_tells p.0 q.0 (first (eqb p.0 q.0) (one p.1 q.1) h) j,
-    tells p.1 q.1 (second (eqb p.0 q.0) (one p.1 q.1) h) j,
+    number_tells p.0 q.0 (and_left (eqb p.0 q.0) (one p.1 q.1) h) j,
+    tells p.1 q.1 (and_right (eqb p.0 q.0) (one p.1 q.1) h) j,
   )
 
   -- a key is the same as itself
   pub keys_alike : ((a : N) → one a a ≡ true) → (p : ℕ × N) → keys_meet one p p ≡ true
-  keys_alike alike p = λ j. itself p.0 j && alike p.1 j
+  keys_alike alike p = λ j. number_itself p.0 j && alike p.1 j
 
   -- a blank row that is put where there is none changes none
   pub blank_put_at : ((a b : N) → one a b ≡ true → a ≡ b) → {R : Type 0} → (f g : ℕ × N → Option R) (k : ℕ × N)
@@ -49,7 +36,7 @@ pub key_tells : (p q : ℕ × ℕ) → same_key p q ≡ true → p ≡ q
 key_tells = keys_tell eqb number_tells
 
 pub key_is_itself : (p : ℕ × ℕ) → same_key p p ≡ true
-key_is_itself = keys_alike eqb itself
+key_is_itself = keys_alike eqb number_itself
 
 pub blank_put : {R : Type 0} (f g : ℕ × ℕ → Option R) (k : ℕ × ℕ) (blank : R) → f k ≡ None
     → ((q : ℕ × ℕ) → g q ≡ cond (same_key k q) (Some blank) (f q)) → (q : ℕ × ℕ)

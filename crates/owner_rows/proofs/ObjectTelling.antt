@@ -16,6 +16,8 @@ use Rattle.owner_rows.specs.Subjects.{object_in, object_number, object_number_in
 use Rattle.std.specs.Bool.{then_some}
 use Rattle.std.proofs.Common.{◌≢◌, inl, inr}
 use Rattle.std.proofs.lemmas.Bool.Decides.{eqb_tells}
+use Rattle.lemmas.proofs.Booleans.{or_assoc, or_false, or_middles}
+use Rattle.lemmas.proofs.Lists.{any_with, filter_map_short}
 use Rattle.model.specs.Equalities.{obj_eq}
 use Rattle.model.specs.Facts.{commands, is_cancel_of, is_cancelled, is_cancelling, is_ever_late, is_lateness, obeyed_command, priority}
 use Rattle.model.specs.Facts.{priority_in}
@@ -24,15 +26,7 @@ use Rattle.owner_rows.specs.Objects.{IsObjectRow, IsRowOfObject, added, adds, ca
 use Rattle.owner_rows.specs.Objects.{priority_said}
 use Rattle.owner_rows.specs.declared.objects.ObjectRow.{ObjectRow}
 use Rattle.owner_rows.proofs.Keys.{one_object}
-use Rattle.owner_rows.proofs.Further.{any_command_with, any_with, commands_with, filter_map_short, last_set_with}
-
-or_false : (t : Bool) → (t || false) ≡ t
-or_false true = refl
-or_false false = refl
-
-or_assoc : (a b c : Bool) → ((a || b) || c) ≡ (a || (b || c))
-or_assoc true b c = refl
-or_assoc false b c = refl
+use Rattle.owner_rows.proofs.Further.{any_command_with, commands_with, last_set_with}
 
 -- one command further
 waived_with : (o : Obj) (i n : ℕ) (cs : List Cmd) (c : Cmd)
@@ -167,12 +161,6 @@ priority_by o b set written = go (priority_said o b)
     go None = refl
     go (Some n) = refl
 
-mixed : (a b c d : Bool) → ((a || b) || (c || d)) ≡ ((a || c) || (b || d))
-mixed true b c d = refl
-mixed false true true d = refl
-mixed false true false d = refl
-mixed false false c d = refl
-
 -- the row after one more body
 object_further : (o : Obj) (events : List Body) (b : Body) (old new : ObjectRow) (more comes : Bool)
     → IsObjectRow events o old → (if more then 1 else 0) ≡ adds o b → comes ≡ frees_by o b
@@ -185,7 +173,7 @@ object_further o events b old new more comes h adding freeing cancelled lateness
     record {
       cancelled =
           cancelled ∙ ap (λ (t : Bool). t || cancels o b) h.cancelled
-          ∙ mixed (list_any (is_cancel_of o) (commands events)) (list_any (is_cancelling o) events)
+          ∙ or_middles (list_any (is_cancel_of o) (commands events)) (list_any (is_cancelling o) events)
           (option_map_or (is_cancel_of o) (obeyed_command b) false) (is_cancelling o b)
           ∙ sym (λ i. any_command_with (is_cancel_of o) events b i || any_with (is_cancelling o) events b i);
       late = lateness ∙ ap (λ (t : Bool). t || is_lateness o b) h.late ∙ sym (any_with (is_lateness o) events b);

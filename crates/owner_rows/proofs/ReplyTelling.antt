@@ -6,12 +6,12 @@ use Rattle.std.proofs.lemmas.List.Sums.{count_by-le-length}
 use Rattle.std.specs.Bool.{then_some}
 use Rattle.std.specs.Option.{IfSome}
 use Rattle.std.specs.Prelude.{if◌then◌else◌, unwrap_or}
+use Rattle.lemmas.proofs.Numbers.{number_itself}
 use Rattle.model.specs.Types.{Body, NewPlan, Obeyed, ReplyGlobal}
 use Rattle.model.specs.Facts.{global_reply, global_reply_in}
 use Rattle.owner_rows.specs.Replies.{IsPlanRow, IsReplyRow, plans, reply_while, reply_with}
 use Rattle.owner_rows.specs.Subjects.{is_plan, plan_in, prompt_in}
 use Rattle.owner_rows.proofs.Further.{apart, count_with, counted_with, last_with_body}
-use Rattle.owner_rows.proofs.Keys.{itself}
 
 -- plans
 pub plan_told : (events : List Body) (b : Body) (n old new : ℕ) → length events + 1 < 2 ^ 32 → IsPlanRow events n old
@@ -99,7 +99,7 @@ said : (b : Body) (p : ℕ) → prompt_in b ≡ Some p
     → (yes_ : Bool) × ((is_plan b ≡ false) × ((global_reply_in p b ≡ Some (Some yes_))
     × ((n : ℕ) → reply_with n b ≡ Some (n, yes_))))
 said (Obeyed a k (ReplyGlobal q yes_)) p h =
-    (yes_, (refl, ((let e : q ≡ p = cc in let f : eqb p q ≡ true = ap (eqb p) e ∙ itself p in rw f refl), λ n. refl)))
+    (yes_, (refl, ((let e : q ≡ p = cc in let f : eqb p q ≡ true = ap (eqb p) e ∙ number_itself p in rw f refl), λ n. refl)))
 said (Obeyed a k c) p h = absurd (cc)
 said b p h = absurd (cc)
 
@@ -115,7 +115,7 @@ reply_told events b p count row h e is =
           reply_further p events b
           ∙ ap (λ (o : Option (Option Bool)). unwrap_or o (global_reply p events)) s.1.1.0
           ∙ sym (ap (λ (t : Bool). then_some t s.0) (ap (λ (m : ℕ). eqb m (plans (events ++ b ∷ []))) n
-          ∙ itself (plans (events ++ b ∷ []))));
+          ∙ number_itself (plans (events ++ b ∷ []))));
       before = omega (arith, n);
     })
 

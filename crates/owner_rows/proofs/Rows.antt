@@ -2,13 +2,14 @@
 use Rattle.std.proofs.Common.{[], ℕ, ◌+◌, ◌++◌, ◌<◌, ◌^◌, ◌∙◌, ◌∷◌, ◌≡◌, ◌≢◌, Bool, List, None, Option, Some, ap}
 use Rattle.std.proofs.Common.{cond, false}
 use Rattle.std.proofs.Common.{inl, inr, length, option_map, refl, subst, sym, true}
+use Rattle.lemmas.proofs.Numbers.{number_itself}
 use Rattle.model.specs.Types.{Body, Entry, Events, Feed, Orders}
 use Rattle.model.specs.Equalities.{feed_eq}
 use Rattle.model.specs.History.{list_of}
 use Rattle.owner_rows.specs.Subjects.{key_at, key_in}
 use Rattle.owner_rows.specs.Tables.{keys_meet}
 use Rattle.owner_rows.proofs.Feeds.{feed_cases, list_with, list_without}
-use Rattle.owner_rows.proofs.Keys.{itself, keys_alike, keys_tell}
+use Rattle.owner_rows.proofs.Keys.{keys_alike, keys_tell}
 
 -- whom a body does not speak of keeps its row
 abbrev pub Quiet : {N R : Type 0} → (List Body → N → R → Type 0) → (Body → Option N) → Type 0
@@ -66,7 +67,7 @@ module _ {N R : Type 0} (one : N → N → Bool) (tells : (a b : N) → one a b 
           (subject_at (subject e.body) e.feed k h)
 
       same : feed_eq (Events k.0) e.feed ≡ true
-      same = subst (λ (f : Feed). feed_eq (Events k.0) f ≡ true) (sym feed) (itself k.0)
+      same = subst (λ (f : Feed). feed_eq (Events k.0) f ≡ true) (sym feed) (number_itself k.0)
 
       is_one : key_in subject e ≡ Some (w, n) → k ≡ (w, n)
       is_one s = let t : Some k ≡ Some (w, n) = sym h ∙ s in cc

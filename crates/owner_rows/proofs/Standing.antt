@@ -6,6 +6,8 @@ use Rattle.std.proofs.lemmas.Bool.Decides.{eqb_tells}
 use Rattle.std.proofs.lemmas.List.{append-nil}
 use Rattle.std.proofs.lemmas.Grind.{flat_map-append}
 use Rattle.std.specs.Option.{IfSome}
+use Rattle.lemmas.proofs.Lists.{any_with, get_last}
+use Rattle.lemmas.proofs.Numbers.{number_itself, number_tells}
 use Rattle.model.specs.Types.{AddDep, Body, Cmd, Dep, Entry, Events, Feed, Job, Obj, Orders, Stream}
 use Rattle.model.specs.Equalities.{feed_eq, obj_eq}
 use Rattle.model.specs.History.{list_of}
@@ -24,8 +26,8 @@ use Rattle.owner_rows.specs.declared.tables.Table.{Table}
 use Rattle.owner_rows.specs.declared.told.Told.{Told}
 use Rattle.owner_rows.proofs.Counting.{itself, one_feed}
 use Rattle.owner_rows.proofs.Feeds.{feed_cases, list_with, list_without}
-use Rattle.owner_rows.proofs.Further.{any_with, commands_with}
-use Rattle.owner_rows.proofs.Keys.{itself as itself_number, key_is_itself, key_tells, keys_alike, keys_tell, number_tells, one_object}
+use Rattle.owner_rows.proofs.Further.{commands_with}
+use Rattle.owner_rows.proofs.Keys.{key_is_itself, key_tells, keys_alike, keys_tell, one_object}
 
 -- lists, one item further
 stays_there : {X : Type 0} (xs : List X) (x : X) (i : ℕ) → i ≢ length xs
@@ -34,10 +36,6 @@ stays_there [] x zero h = absurd (h refl)
 stays_there [] x (suc i) h = refl
 stays_there (z ∷ zs) x zero h = refl
 stays_there (z ∷ zs) x (suc i) h = stays_there zs x i (λ e. h (ap suc e))
-
-last_there : {X : Type 0} (xs : List X) (x : X) → slice_get (xs ++ x ∷ []) (length xs) ≡ Some x
-last_there [] x = refl
-last_there (z ∷ zs) x = last_there zs x
 
 -- what stands among the entries is found there still
 found_later : {X : Type 0} (found : Entry → Option X) (kept : List Entry) (e : Entry) (row : Option ℕ)
@@ -74,8 +72,8 @@ module _ {X : Type 0} (found : Entry → Option X) (kept : List Entry) (e : Entr
   pub stands_last : (x : X) (i end : ℕ) → new ≡ items ++ x ∷ [] → found e ≡ Some x → length kept ≡ end
       → i ≡ length items → StandsAt found (kept ++ e ∷ []) new i (Some end)
   stands_last x i end grown here e_ l = (
-    (λ j. slice_get (grown j) (l j)) ∙ last_there items x ∙ sym here
-        ∙ ap (option_and_then found) (sym (last_there kept e) ∙ ap (slice_get (kept ++ e ∷ [])) e_),
+    (λ j. slice_get (grown j) (l j)) ∙ get_last items x ∙ sym here
+        ∙ ap (option_and_then found) (sym (get_last kept e) ∙ ap (slice_get (kept ++ e ∷ [])) e_),
     omega (arith, e_, length-append kept (e ∷ [])),
   )
 
@@ -144,8 +142,8 @@ given_to b p h = go (obeyed_command b) h
         ]
       where
         object_itself : (x : Obj) → obj_eq x x ≡ true
-        object_itself (Job j) = itself_number j
-        object_itself (Stream s) = itself_number s
+        object_itself (Job j) = number_itself j
+        object_itself (Stream s) = number_itself s
 
     go : (c : Option Cmd) → option_and_then object_given c ≡ Some p
         → (d : Dep) × ((option_and_then dep_given c ≡ Some d)
@@ -256,8 +254,8 @@ module _ (kept : List Entry) (e : Entry) where
                 ]
               where
                 never : (x : Obj) → obj_eq x x ≡ false → ⊥
-                never (Job j) u = let r : true ≡ false = sym (itself_number j) ∙ u in cc
-                never (Stream s) u = let r : true ≡ false = sym (itself_number s) ∙ u in cc
+                never (Job j) u = let r : true ≡ false = sym (number_itself j) ∙ u in cc
+                never (Stream s) u = let r : true ≡ false = sym (number_itself s) ∙ u in cc
 
     who : (o : Option Obj) (f : Feed) (k : ℕ × (ℕ × ℕ)) → addition_at kept o f ≡ Some k
         → (w : ℕ) × ((p : Obj) × ((f ≡ Events w) × ((o ≡ Some p) × (k ≡ (w, (object_number p, length (additions kept w p)))))))
@@ -324,7 +322,7 @@ issuers_with kept e old new k g h put a =
     one a b w false true s = refl
     one a b w false false s =
         elim (eqb_tells a b) [
-          | inl c ↦ absurd (let x : eqb b b ≡ false = ap (eqb b) (sym c.1) ∙ s in let y : eqb b b ≡ true = itself_number b in cc)
+          | inl c ↦ absurd (let x : eqb b b ≡ false = ap (eqb b) (sym c.1) ∙ s in let y : eqb b b ≡ true = number_itself b in cc)
           | inr c ↦ sym c.0
         ]
 

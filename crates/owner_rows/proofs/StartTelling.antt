@@ -4,17 +4,18 @@ use Rattle.std.proofs.Common.{refl, sym, true}
 use Rattle.std.proofs.lemmas.Bool.Decides.{eqb_tells}
 use Rattle.std.specs.List.{list_any}
 use Rattle.std.specs.Prelude.{◌&&◌, ◌||◌}
+use Rattle.lemmas.proofs.Booleans.{true_or}
+use Rattle.lemmas.proofs.Lists.{any_with}
+use Rattle.lemmas.proofs.Numbers.{number_itself}
 use Rattle.model.specs.Types.{Added, Body, Clock, Declined, Ended, Failed, Fulfilled, Late, Launched, Lost, NewPlan}
 use Rattle.model.specs.Types.{Obeyed, Order, Released, Started, StreamEnded, UntilPassed}
 use Rattle.model.specs.Facts.{is_start_of, is_started}
 use Rattle.owner_rows.specs.Subjects.{start_in}
-use Rattle.owner_rows.proofs.Further.{any_with}
-use Rattle.owner_rows.proofs.Keys.{itself}
 
 started_by : (b : Body) (q : ℕ × ℕ) → start_in b ≡ Some q → is_start_of q.0 q.1 b ≡ true
 started_by (Started j n) q h =
     let e : (j, n) ≡ q = cc in
-    ap (λ (p : ℕ × ℕ). eqb p.0 j && eqb p.1 n) (sym e) ∙ (λ i. itself j i && itself n i)
+    ap (λ (p : ℕ × ℕ). eqb p.0 j && eqb p.1 n) (sym e) ∙ (λ i. number_itself j i && number_itself n i)
 started_by (NewPlan run cut carried docs) q h = cc
 started_by (Added a k doc) q h = cc
 started_by (Clock t) q h = cc
@@ -31,10 +32,6 @@ started_by (Declined a k why) q h = cc
 started_by (Order c) q h = cc
 started_by (Late p i) q h = cc
 
-or_true : (a : Bool) → true ≡ (a || true)
-or_true true = refl
-or_true false = refl
-
 or_false : (a : Bool) → a ≡ (a || false)
 or_false true = refl
 or_false false = refl
@@ -43,7 +40,7 @@ pub start_told : (events : List Body) (b : Body) (q : ℕ × ℕ) → start_in b
     → true ≡ is_started q.0 q.1 (events ++ b ∷ [])
 unfolding is_started
 start_told events b q h =
-    or_true (list_any (is_start_of q.0 q.1) events)
+    true_or (list_any (is_start_of q.0 q.1) events)
     ∙ ap (λ (t : Bool). list_any (is_start_of q.0 q.1) events || t) (sym (started_by b q h))
     ∙ sym (any_with (is_start_of q.0 q.1) events b)
 

@@ -5,6 +5,7 @@ use Rattle.std.proofs.Common.{option_and_then, true}
 use Rattle.std.specs.Bool.{then_some}
 use Rattle.std.specs.Option.{option_or}
 use Rattle.std.specs.Prelude.{unwrap_or, ◌||◌}
+use Rattle.lemmas.proofs.Lists.{any_with}
 use Rattle.model.specs.Types.{Added, Body, Clock, Declined, Ended, Failed, Fulfilled, Launched, Lost, NewPlan, Obeyed}
 use Rattle.model.specs.Types.{Late, Order, Released, Started, StreamEnded, StreamLimit, UntilPassed}
 use Rattle.model.specs.Facts.{commands, is_end_of, is_ended, is_release_of, is_released, obeyed_command, stream_limit}
@@ -12,7 +13,7 @@ use Rattle.model.specs.Facts.{stream_limit_in}
 use Rattle.owner_rows.specs.Streams.{IsStreamRow, limit_said, stream_with}
 use Rattle.owner_rows.specs.Subjects.{stream_in}
 use Rattle.owner_rows.specs.declared.streams.StreamRow.{StreamRow}
-use Rattle.owner_rows.proofs.Further.{any_with, apart, last_set_with}
+use Rattle.owner_rows.proofs.Further.{apart, last_set_with}
 
 set_by : (s : ℕ) (b : Body) (l w : Option ℕ) → option_or (option_or (limit_said s b) l) w
     ≡ unwrap_or (option_and_then (stream_limit_in s) (obeyed_command b)) (option_or l w)

@@ -6,7 +6,7 @@ ghost use Rattle.owner_rows.specs.Outcomes.{told_outcome};
 use base_types::{Body, JobNo};
 
 /// How a launch ended.
-#[derive(Clone, Copy, Debug, PartialEq, Eq)]
+#[derive(Clone, Copy, Debug)]
 pub enum Outcome {
     /// The return code met the job's condition.
     EndedGood,

@@ -3,7 +3,7 @@ use Rattle.std.specs.Prelude.{ℕ, List, Bool, false, ◌&&◌, nat_le, is_none,
 use Rattle.std.specs.Option.{option_map_or}
 use Rattle.calendars.specs.Dates.{last_day}
 use Rattle.plan_times.specs.Moments.{date_of, seconds_of}
-use Rattle.time_zones.specs.Zones.{east_of}
+use Rattle.plan_times.specs.Zones.{east_of}
 use Rattle.composer_parser.specs.declared.Lined.{Lined}
 use Rattle.composer_parser.specs.declared.Defs.{Defs}
 use Rattle.composer_parser.specs.declared.Clause.{Clause}

@@ -5,7 +5,7 @@ ghost use Rattle.plan_builder.specs.declared.faults.PlanFault.TheVariants.{NoMem
 use base_types::NoMemory;
 
 /// Why a day has no drafts, in the order in which the causes are tested.
-#[derive(Clone, Copy, Debug, PartialEq, Eq)]
+#[derive(Clone, Copy)]
 pub enum PlanFault {
     /// More streams run on the day than this, 4,096, or they have more jobs than this, 16,384.
     Limit(u32),

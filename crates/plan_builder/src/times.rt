@@ -5,8 +5,7 @@ ghost use Rattle.plan_builder.specs.Times as spec;
 use base_types::Moment;
 use calendars::LAST_DAY;
 use composer_parser::{Clause, Defs};
-use plan_times::moment;
-use time_zones::east_of;
+use plan_times::{east_of, moment};
 
 /// The start of day where the definitions have none, 0600.
 const DEFAULT_START: u16 = 360;

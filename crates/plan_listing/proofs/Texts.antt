@@ -3,6 +3,7 @@ use Rattle.std.proofs.Common.{◌≡◌, ℕ, List, [], ◌∷◌, ◌++◌, map
 use Rattle.std.proofs.Common.{append_assoc, append-nil, arith, Bool, true, false, cond, codes, length, ◌<◌, ◌≤◌, ◌≢◌, Result, IfOk}
 use Rattle.std.proofs.lemmas.Bool.Decides.{nat_tests}
 use Rattle.std.specs.Prelude.{nat_le}
+use Rattle.lemmas.proofs.Options.{some_same}
 use Rattle.model.specs.Types.{CondOp, Cmp, And, Or, Not}
 use Rattle.rc_conditions.specs.Expressions.{Expression, compared, negated, both, either, postfix, IsPostfix}
 use Rattle.rc_conditions.specs.Printing.{printed}
@@ -78,29 +79,26 @@ abbrev pub spelled : List Expression → List CondOp
 spelled [] = []
 spelled (e ∷ es) = spelled es ++ postfix e
 
-same_some : {X : Type 0} (x y : X) → Some x ≡ Some y → x ≡ y
-same_some x y h = cc
-
 kept : (op : CondOp) (es fs : List Expression) → with_expression op es ≡ Some fs → spelled es ++ op ∷ [] ≡ spelled fs
-kept (Cmp r n) es fs h = ap spelled (same_some (compared r n ∷ es) fs h)
+kept (Cmp r n) es fs h = ap spelled (some_same (compared r n ∷ es) fs h)
 kept Not [] fs h = cc
 kept Not (a ∷ es) fs h =
-    append_assoc (spelled es) (postfix a) (Not ∷ []) ∙ ap spelled (same_some (negated a ∷ es) fs h)
+    append_assoc (spelled es) (postfix a) (Not ∷ []) ∙ ap spelled (some_same (negated a ∷ es) fs h)
 kept And [] fs h = cc
 kept And (b ∷ []) fs h = cc
 kept And (b ∷ a ∷ es) fs h =
     ap (λ l. l ++ And ∷ []) (append_assoc (spelled es) (postfix a) (postfix b))
-    ∙ (append_assoc (spelled es) (postfix a ++ postfix b) (And ∷ []) ∙ ap spelled (same_some (both a b ∷ es) fs h))
+    ∙ (append_assoc (spelled es) (postfix a ++ postfix b) (And ∷ []) ∙ ap spelled (some_same (both a b ∷ es) fs h))
 kept Or [] fs h = cc
 kept Or (b ∷ []) fs h = cc
 kept Or (b ∷ a ∷ es) fs h =
     ap (λ l. l ++ Or ∷ []) (append_assoc (spelled es) (postfix a) (postfix b))
-    ∙ (append_assoc (spelled es) (postfix a ++ postfix b) (Or ∷ []) ∙ ap spelled (same_some (either a b ∷ es) fs h))
+    ∙ (append_assoc (spelled es) (postfix a ++ postfix b) (Or ∷ []) ∙ ap spelled (some_same (either a b ∷ es) fs h))
 
 -- what is left are the operations that were there
 pub all_kept : (ops : List CondOp) (es fs : List Expression) → expressions_of ops es ≡ Some fs
     → spelled es ++ ops ≡ spelled fs
-all_kept [] es fs h = append-nil (spelled es) ∙ ap spelled (same_some es fs h)
+all_kept [] es fs h = append-nil (spelled es) ∙ ap spelled (some_same es fs h)
 all_kept (op ∷ ops) es fs h = go (with_expression op es) refl (all_kept ops)
   where
     go : (o : Option (List Expression)) → with_expression op es ≡ o

@@ -7,7 +7,7 @@ use base_types::Moment;
 use calendars::LAST_DAY;
 
 /// Why a time has no moment.
-#[derive(Clone, Copy, Debug, PartialEq, Eq)]
+#[derive(Clone, Copy, Debug)]
 pub enum TimeFault {
     /// Its date is after 12/31/9999, or the moment is before 1970.
     OutOfRange,

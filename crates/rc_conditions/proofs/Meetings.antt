@@ -3,6 +3,7 @@ use Rattle.std.proofs.Common.{◌≡◌, ◌≢◌, ◌≤◌, ◌<◌, ◌+◌,
 use Rattle.std.proofs.Common.{append_assoc, append-nil, length, drop, get_or, refl, ap, sym, ◌∙◌, arith, Some}
 use Rattle.std.proofs.lemmas.List.{at_drop_more, at_drop_all}
 use Rattle.std.proofs.lemmas.Bool.Decides.{nat_tests}
+use Rattle.lemmas.proofs.Booleans.{and_false}
 use Rattle.model.specs.Types.{CondOp, Cmp, And, Or, Not}
 use Rattle.model.specs.Conditions.{compares, meets, result_of}
 use Rattle.rc_conditions.specs.Expressions.{Expression, IsPostfix, compared, negated, both, either, postfix, is_met}
@@ -81,16 +82,12 @@ no_result rc [] (Or ∷ ops) h = refl
 no_result rc (b ∷ []) (Or ∷ ops) h = refl
 no_result rc (b ∷ a ∷ so_far) (Or ∷ ops) h = no_result rc ((a || b) ∷ so_far) ops h
 
-never_both : (b : Bool) → (b && false) ≡ false
-never_both true = refl
-never_both false = refl
-
 pub no_expression_met : (ops : List CondOp) (rc : ℤ) → ops ≢ [] → ¬ (IsPostfix ops) → meets ops rc ≡ false
 no_expression_met [] rc some none = absurd (some refl)
 no_expression_met (op ∷ ops) rc some none =
     ap (λ (r : Bool). leb (length (op ∷ ops)) 64 && r)
     (no_result rc [] (op ∷ ops) (λ one. none (postfix_from_depth (op ∷ ops) one)))
-    ∙ never_both (leb (length (op ∷ ops)) 64)
+    ∙ and_false (leb (length (op ∷ ops)) 64)
 
 pub too_long_met : (ops : List CondOp) (rc : ℤ) → 64 < length ops → meets ops rc ≡ false
 too_long_met [] rc long = absurd (omega arith)

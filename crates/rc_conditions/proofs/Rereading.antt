@@ -1,19 +1,19 @@
 -- The canonical text of an expression has the tokens of the expression.
-use Rattle.std.proofs.Common.{◌≡◌, ◌≢◌, ◌≤◌, ◌<◌, ◌+◌, ◌-◌, ◌^◌, ◌&&◌, ℕ, zero, suc, ℤ, pos, negsuc, Bool, true}
+use Rattle.std.proofs.Common.{◌≡◌, ◌≢◌, ◌≤◌, ◌<◌, ◌+◌, ◌-◌, ◌^◌, ℕ, zero, suc, ℤ, pos, negsuc, Bool, true}
 use Rattle.std.proofs.Common.{false, cond, eqb, leb, ltb, List, [], ◌∷◌, ◌++◌, map, length, take, get_or, Some}
-use Rattle.std.proofs.Common.{codes, append_assoc, append-nil, FitsSigned, refl, ap, sym, ◌∙◌, rules, arith}
+use Rattle.std.proofs.Common.{codes, append_assoc, append-nil, FitsSigned, refl, ap, sym, ◌∙◌, arith}
 use Rattle.std.specs.Char.{is_ascii_alphabetic, is_ascii_digit, to_ascii_lowercase}
 use Rattle.std.specs.Fmt.{decimal, signed_decimal}
 use Rattle.std.specs.Int.{w32}
 use Rattle.std.specs.List.{list_all, prefix_len}
 use Rattle.std.specs.Option.{option_map_or}
 use Rattle.std.specs.Str.{bytes_eq, str_eq_ignore_ascii_case}
-use Rattle.std.specs.Str.Parse.{digits_value}
 use Rattle.std.proofs.Math.Seq.{take-append_seam}
 use Rattle.std.proofs.lemmas.Bool.Decides.{nat_tests}
 use Rattle.std.proofs.lemmas.Fmt.{digits_decimal, digits_value-decimal, decimal_nonempty, decimal_digit}
 use Rattle.std.proofs.lemmas.Fmt.{first_decimal}
-use Rattle.std.proofs.lemmas.Str.Parse.{IsNumeralModel, numerals_by_value}
+use Rattle.lemmas.proofs.Booleans.{and_left, and_right}
+use Rattle.lemmas.proofs.Texts.{decimal_digits}
 use Rattle.model.specs.Types.{Rel, CondOp, Cmp, Eq, Ne, Lt, Le, Gt, Ge}
 use Rattle.syntax.specs.Numbers.{signed_of, number_of, is_number, has_leading_zero}
 use Rattle.rc_conditions.specs.declared.tokens.Token.{Token}
@@ -86,10 +86,6 @@ mark_read Le bs = refl
 mark_read Gt bs = refl
 mark_read Ge bs = refl
 
--- digits
-own : IsNumeralModel (λ ds. list_all is_ascii_digit ds ≡ true) (digits_value 10)
-own = numerals_by_value _ (search rules)
-
 no_zero_first : (n : ℕ) → n < 2 ^ 32 → has_leading_zero (decimal n) ≡ false
 no_zero_first zero fits = rw (decimal_digit 0 (omega arith)) refl
 no_zero_first (suc n) fits =
@@ -100,13 +96,13 @@ is_decimal : (n : ℕ) → n < 2 ^ 32 → is_number (decimal n) ≡ true
 is_decimal n fits =
     let some = decimal_nonempty n (omega arith) in
     let plain = no_zero_first n fits in
-    let digits = digits_decimal own n (omega arith) in grind (arith, nat_tests)
+    let digits = digits_decimal decimal_digits n (omega arith) in grind (arith, nat_tests)
 
 number_read : (n : ℕ) → n < 2 ^ 32 → number_of 32 (decimal n) ≡ Some n
 unfolding number_of
 number_read n fits =
     let is = is_decimal n fits in
-    let value = digits_value-decimal own n (omega arith) in
+    let value = digits_value-decimal decimal_digits n (omega arith) in
     let small : ltb n (2 ^ 32) ≡ true = grind (arith, nat_tests) in rw (is, value, small) refl
 
 -- a digit first, or a minus and a digit
@@ -119,7 +115,7 @@ signed_read : (n : ℤ) → FitsSigned w32 n → signed_of (signed_decimal n) �
 unfolding signed_of
 signed_read (pos n) fits =
     let small : n < 2 ^ 31 = fits.sfits in
-    let all = digits_decimal own n (omega arith) in
+    let all = digits_decimal decimal_digits n (omega arith) in
     let first = first_digit (decimal n) all (decimal_nonempty n (omega arith)) in
     let plain : eqb (get_or (decimal n) 0 0) 45 ≡ false = grind (arith, nat_tests) in
     let found = number_read n (omega arith) in
@@ -169,14 +165,6 @@ NoDigit rest = is_ascii_digit (get_or rest 0 0) ≡ false
 no_run : (rest : List ℕ) → NoDigit rest → prefix_len is_ascii_digit rest ≡ 0
 no_run [] h = refl
 no_run (b ∷ bs) h = rw h refl
-
-and_left : (a b : Bool) → (a && b) ≡ true → a ≡ true
-and_left true b h = refl
-and_left false b h = h
-
-and_right : (a b : Bool) → (a && b) ≡ true → b ≡ true
-and_right true b h = h
-and_right false b h = cc
 
 digits_run : (ds rest : List ℕ) → list_all is_ascii_digit ds ≡ true → NoDigit rest
     → prefix_len is_ascii_digit (ds ++ rest) ≡ length ds
@@ -231,12 +219,12 @@ decimal_read : (n : ℤ) (rest : List ℕ) → FitsSigned w32 n → NoDigit rest
     → kinds 0 (signed_decimal n ++ rest) ≡ token.Number n ∷ kinds 0 rest
 decimal_read (pos n) rest fits end =
     let small : n < 2 ^ 31 = fits.sfits in
-    by_bytes (decimal n) rest (pos n) (digits_decimal own n (omega arith)) (decimal_nonempty n (omega arith))
+    by_bytes (decimal n) rest (pos n) (digits_decimal decimal_digits n (omega arith)) (decimal_nonempty n (omega arith))
     (signed_read (pos n) fits) end
 decimal_read (negsuc n) rest fits end =
     let small : n < 2 ^ 31 = fits.sfits in
     word_read 45 (decimal (suc n)) rest (negsuc n) (omega arith) (omega arith) (signed_read (negsuc n) fits)
-    (minus_width (decimal (suc n)) rest (digits_decimal own (suc n) (omega arith))
+    (minus_width (decimal (suc n)) rest (digits_decimal decimal_digits (suc n) (omega arith))
     (decimal_nonempty (suc n) (omega arith)) end)
 
 -- the parts that the canonical text spells

@@ -1,11 +1,13 @@
 -- The first ready candidate is the best job.
-use Rattle.std.proofs.Common.{[], ℕ, ◌&&◌, ◌*◌, ◌+◌, ◌<◌, ◌∙◌, ◌∷◌, ◌≡◌, ◌≢◌, ◌⊎◌, Bool, List, None, Option, Some, ap}
+use Rattle.std.proofs.Common.{[], ℕ, ◌*◌, ◌+◌, ◌<◌, ◌∙◌, ◌∷◌, ◌≡◌, ◌≢◌, ◌⊎◌, Bool, List, None, Option, Some, ap}
 use Rattle.std.proofs.Common.{arith, cond, false, filter, find, fold, inl, inr, nat_lt, option_map, refl}
 use Rattle.std.proofs.Common.{slice_get, subst, suc, sym, true, zero}
 use Rattle.std.proofs.lemmas.Bool.Decides.{eqb_tells, nat_tests}
 use Rattle.std.specs.List.{list_all}
 use Rattle.std.specs.Option.{option_map_or}
 use Rattle.std.specs.Prelude.{◌%◌, not}
+use Rattle.lemmas.proofs.Booleans.{and_left, and_right}
+use Rattle.lemmas.proofs.Numbers.{lt_told}
 use Rattle.model.specs.Types.{At, Dep, Events, Job, Net, Stream}
 use Rattle.model.specs.Types.{Deadline, FollowsJob, FollowsStream, Needs, Outside, Prompt, Until}
 use Rattle.model.specs.History.{View}
@@ -50,14 +52,6 @@ not_itself r = go (comes_before r r) refl
 better_by_rank : (V : View) (p q : StreamJob) → is_better V p q ≡ comes_before (rank_of V p) (rank_of V q)
 unfolding is_better
 better_by_rank V p q = refl
-
-first : (p q : Bool) → (p && q) ≡ true → p ≡ true
-first true q h = refl
-first false q h = cc
-
-second : (p q : Bool) → (p && q) ≡ true → q ≡ true
-second true q h = h
-second false q h = cc
 
 module _ (V : View) (p : StreamJob) where
   -- p, or one that p comes before
@@ -149,9 +143,6 @@ higher_by a b tied h = grind (arith, nat_tests)
 higher_tied : (a b : ℕ) (tied : Bool) → a ≡ b → tied ≡ true → higher a b tied ≡ true
 higher_tied a b tied e h = grind (arith, nat_tests)
 
-below_true : (a b : ℕ) → a < b → nat_lt a b ≡ true
-below_true a b h = grind (arith, nat_tests)
-
 -- which of two numbers is lower
 abbrev Compared : ℕ → ℕ → Type 0
 Compared x y = (x < y) ⊎ ((x ≡ y) ⊎ (y < x))
@@ -185,7 +176,7 @@ lower_place V p q low high less h k = by_stream (compared h.below_stream k.below
     by_job s (inr (inl c)) =
         let same : job_priority V p ≡ job_priority V q = omega (arith, h.job, k.job, c) in
         higher_tied (job_priority V p) (job_priority V q) (nat_lt p.doc.no q.doc.no) same
-        (below_true p.doc.no q.doc.no (by_number s c))
+        (lt_told p.doc.no q.doc.no (by_number s c))
     by_job s (inr (inr c)) = absurd (omega (arith, less, h.place_is, k.place_is, h.number, k.number, s, c))
 
     by_stream : Compared h.below_stream k.below_stream → comes_before (rank_of V p) (rank_of V q) ≡ true
@@ -203,8 +194,8 @@ lower_place V p q low high less h k = by_stream (compared h.below_stream k.below
 -- each of the conditions that hold
 pub held : (bs : List Bool) (i : ℕ) (b : Bool) → all_of bs ≡ true → slice_get bs i ≡ Some b → b ≡ true
 held [] i b h e = cc
-held (c ∷ cs) zero b h e = let s : c ≡ b = cc in sym s ∙ first c (all_of cs) h
-held (c ∷ cs) (suc i) b h e = held cs i b (second c (all_of cs) h) e
+held (c ∷ cs) zero b h e = let s : c ≡ b = cc in sym s ∙ and_left c (all_of cs) h
+held (c ∷ cs) (suc i) b h e = held cs i b (and_right c (all_of cs) h) e
 
 -- a ready job is in play, its stream is released, and its dependencies are satisfied
 pub record IsOpenTo (net : Net) (V : View) (w : ℕ) (p : StreamJob) : Type 0 where
@@ -241,8 +232,8 @@ open_to net V w p found h =
 
 all_has : {X : Type 0} (f : X → Bool) (xs : List X) (x : X) → list_all f xs ≡ true → Among x xs → f x ≡ true
 all_has f [] x h k = absurd k
-all_has {X} f (y ∷ ys) x h (inl e) = ap f e ∙ first (f y) (list_all f ys) h
-all_has {X} f (y ∷ ys) x h (inr k) = all_has f ys x (second (f y) (list_all f ys) h) k
+all_has {X} f (y ∷ ys) x h (inl e) = ap f e ∙ and_left (f y) (list_all f ys) h
+all_has {X} f (y ∷ ys) x h (inr k) = all_has f ys x (and_right (f y) (list_all f ys) h) k
 
 -- a dependency that is met holds nobody back
 pub met_lets_go : (net : Net) (V : View) (w j i : ℕ) (d : Dep) → is_met net V w (Job j) i d ≡ true → held_back V d ≡ None

@@ -2,11 +2,11 @@
 use Rattle.std.proofs.Common.{[], ℕ, ◌++◌, ◌∙◌, ◌∷◌, ◌≡◌, ◌≢◌, ◌⊎◌, Bool, List, None, Option, Some, ap, ap₂, cond}
 use Rattle.std.proofs.Common.{false, filter, find, flat_map, fold, inl, inr, is_some, option_map}
 use Rattle.std.proofs.Common.{refl, subst, sym, true}
-use Rattle.std.proofs.lemmas.List.{append-nil, map-append}
-use Rattle.std.proofs.lemmas.List.Elements.{filter-append}
+use Rattle.std.proofs.lemmas.List.{append-nil}
 use Rattle.std.specs.Option.{option_map_or}
 use Rattle.std.specs.Prelude.{◌==◌, ◌||◌, filter_map, not, unwrap_or}
-use Rattle.model.specs.Types.{At, Body, Deadline, Dep, Entry, Events, Feed, FollowsJob, FollowsStream, Job, Needs}
+use Rattle.model_laws.proofs.Feeds.{list_of-append, list_of_elsewhere, list_of_here}
+use Rattle.model.specs.Types.{At, Body, Deadline, Dep, Entry, Events, FollowsJob, FollowsStream, Job, Needs}
 use Rattle.model.specs.Types.{Obj, Outside, Prompt, Stream, StreamDoc, Until}
 use Rattle.model.specs.Equalities.{feed_eq}
 use Rattle.model.specs.History.{View, list_of, view_of}
@@ -33,18 +33,6 @@ use Rattle.ready_index.proofs.Elements.{chosen_too, filter_same}
 use Rattle.ready_index.proofs.Quiet.{IsSmall, cancelled_same, commands_same, docs_same, due_before, ended_same}
 use Rattle.ready_index.proofs.Quiet.{good_before, names_same, released_same}
 
-list_of-append : (G H : List Entry) (f : Feed) → list_of (G ++ H) f ≡ list_of G f ++ list_of H f
-unfolding list_of
-list_of-append G H f = rw (filter-append, map-append)
-
-list_here : (e : Entry) (f : Feed) → feed_eq f e.feed ≡ true → list_of (e ∷ []) f ≡ e.body ∷ []
-unfolding list_of
-list_here e f same = rw same
-
-list_elsewhere : (e : Entry) (f : Feed) → feed_eq f e.feed ≡ false → list_of (e ∷ []) f ≡ []
-unfolding list_of
-list_elsewhere e f other = rw other
-
 -- the list of a workstation has the entry at its end, or stays
 one_further : (kept : List Entry) (e : Entry) (v : ℕ)
     → (list_of (kept ++ e ∷ []) (Events v) ≡ list_of kept (Events v) ++ e.body ∷ [])
@@ -56,10 +44,10 @@ one_further kept e v = go (feed_eq (Events v) e.feed) refl
         ⊎ (list_of (kept ++ e ∷ []) (Events v) ≡ list_of kept (Events v))
     go true same =
         inl (list_of-append kept (e ∷ []) (Events v)
-        ∙ ap (λ (l : List Body). list_of kept (Events v) ++ l) (list_here e (Events v) same))
+        ∙ ap (λ (l : List Body). list_of kept (Events v) ++ l) (list_of_here e (Events v) same))
     go false other =
         inr (list_of-append kept (e ∷ []) (Events v)
-        ∙ ap (λ (l : List Body). list_of kept (Events v) ++ l) (list_elsewhere e (Events v) other)
+        ∙ ap (λ (l : List Body). list_of kept (Events v) ++ l) (list_of_elsewhere e (Events v) other)
         ∙ append-nil (list_of kept (Events v)))
 
 module _ (kept : List Entry) (e : Entry) where

@@ -1,26 +1,14 @@
 -- The keys of a set of numbers.
-use Rattle.std.proofs.Common.{[], ℕ, ◌∙◌, ◌∷◌, ◌≡◌, ◌<◌, Less, List, ap, arith, cond, refl}
+use Rattle.std.proofs.Common.{[], ℕ, ◌∷◌, ◌≡◌, ◌<◌, Less, List, arith, refl}
 use Rattle.std.proofs.lemmas.Bool.Decides.{nat_tests}
 use Rattle.std.proofs.lemmas.Map.Keys.{sorted_head, sorted_tail}
-use Rattle.std.specs.BTreeSet.{insert_key}
 use Rattle.std.specs.List.Sorted.{IsStrictlySortedBy}
-use Rattle.std.specs.Ordering.{match_ordering, nat_cmp}
-use Rattle.std.specs.Prelude.{◌==◌, nat_lt}
+use Rattle.std.specs.Ordering.{nat_cmp}
+use Rattle.std.specs.Prelude.{◌==◌}
 use Rattle.std.specs.Set.{remove_key}
 use Rattle.std.specs.BTreeMap.{is_at}
-use Rattle.model.specs.Words.{insert_once}
 use Rattle.ready_index.specs.Lists.{InOrder, without}
 use Rattle.ready_index.proofs.Elements.{all_among}
-
-one_key : (k x : ℕ) (a b c : List ℕ) → match_ordering (nat_cmp k x) a b c ≡ cond (k == x) b (cond (nat_lt k x) a c)
-one_key k x a b c = grind (arith, nat_tests)
-
--- a set puts in a key as the definitions do
-pub key_put : (ks : List ℕ) (k : ℕ) → insert_key nat_cmp ks k ≡ insert_once k ks
-key_put [] k = refl
-key_put (x ∷ xs) k =
-    one_key k x (k ∷ x ∷ xs) (x ∷ xs) (x ∷ insert_key nat_cmp xs k)
-    ∙ ap (λ (l : List ℕ). cond (k == x) (x ∷ xs) (cond (nat_lt k x) (k ∷ x ∷ xs) (x ∷ l))) (key_put xs k)
 
 same_key : (k x : ℕ) → is_at (nat_cmp k) x ≡ (k == x)
 same_key k x = grind (arith, nat_tests)

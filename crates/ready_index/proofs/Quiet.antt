@@ -13,6 +13,7 @@ use Rattle.std.specs.Bool.{then_some}
 use Rattle.std.specs.List.{list_any}
 use Rattle.std.specs.Option.{option_map_or, option_or}
 use Rattle.std.specs.Prelude.{◌||◌, count_by, filter_map, is_none, not, option_and_then, slice_get}
+use Rattle.model_laws.proofs.Tidy.{launched_none}
 use Rattle.model.specs.Types.{Added, Body, Canc, Clock, Cont, Declined, Ended, Failed}
 use Rattle.model.specs.Types.{Fulfilled, Late, Launched, Lost, NewPlan, Obeyed, Obj, Order, Released, Started}
 use Rattle.model.specs.Types.{StreamDoc, StreamEnded, Suppr, UntilPassed}
@@ -168,14 +169,10 @@ here_more j (Launched k n seen) b later = go (eqb j k)
     go false = refl
 here_more j _ b later = refl
 
-no_launch_here : (j : ℕ) (b : Body) (rest : List Body) → is_launch_of j b ≡ false → launch_here j b rest ≡ None
-no_launch_here j (Launched k n seen) rest h = rw h refl
-no_launch_here j _ rest h = refl
-
 last_more : (j : ℕ) (l : List Body) (b : Body) → is_launch_of j b ≡ false
     → last_launch j (l ++ b ∷ []) ≡ option_map (more b) (last_launch j l)
 unfolding last_launch
-last_more j [] b e = no_launch_here j b [] e
+last_more j [] b e = launched_none j b [] e
 last_more j (x ∷ l) b e = rw (last_more j l b e) (go (last_launch j l))
   where
     go : (o : Option LastLaunch)

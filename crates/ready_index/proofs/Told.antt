@@ -3,6 +3,7 @@ use Rattle.std.proofs.Common.{[], ℕ, ◌+◌, ◌∙◌, ◌∷◌, ◌≡◌,
 use Rattle.std.proofs.Common.{filter, refl, subst, suc, sym, true, zero}
 use Rattle.std.specs.List.{AllByRecursion, cons_option}
 use Rattle.std.specs.Prelude.{filter_map, not, slice_get}
+use Rattle.lemmas.proofs.Lists.{all_such}
 use Rattle.model.specs.Types.{At, Deadline, Dep, FollowsJob, FollowsStream, Job, Needs, Net, Outside, Prompt, Until}
 use Rattle.model.specs.History.{View}
 use Rattle.model.specs.Words.{nth}
@@ -45,11 +46,6 @@ all_passing {X} P f (x ∷ xs) h = go (f x) refl (all_passing P f xs h.1)
         → AllByRecursion (λ (y : X). P y × (f y ≡ true)) (cond b (x ∷ filter f xs) (filter f xs))
     go true e k = ((h.0, e), k)
     go false e k = k
-
-all_such : {X : Type 0} (P Q : X → Type 0) (xs : List X) → ((x : X) → P x → Q x) → AllByRecursion P xs
-    → AllByRecursion Q xs
-all_such P Q [] f h = tt
-all_such P Q (x ∷ xs) f h = (f x h.0, all_such P Q xs f h.1)
 
 -- a dependency of job j of w is satisfied where it is met
 abbrev pub IsTold : Net → View → ℕ → ℕ → NumberedDep → Type 0

@@ -1,10 +1,12 @@
 -- Names that are kept as references to them, each once.
-use Rattle.std.proofs.Common.{◌≡◌, ℕ, Bor, Bool, true, false, ◌&&◌, ◌||◌, List, [], ◌∷◌, ◌++◌, map, bytes_eq, refl, ap, sym, subst, ◌∙◌, if◌then◌else◌}
+use Rattle.std.proofs.Common.{◌≡◌, ℕ, Bor, Bool, true, false, ◌||◌, List, [], ◌∷◌, ◌++◌, map, bytes_eq, refl, ap, sym}
+use Rattle.std.proofs.Common.{subst, ◌∙◌, if◌then◌else◌}
 use Rattle.std.proofs.lemmas.List.{map-append}
-use Rattle.std.proofs.lemmas.Slice.Eq.{bytes_eq-Decides}
 use Rattle.std.specs.List.{list_any}
+use Rattle.lemmas.proofs.Booleans.{and_parts, or_false}
+use Rattle.lemmas.proofs.Texts.{text_tells}
+use Rattle.lemmas.proofs.Lists.{any_with}
 use Rattle.record_faults.specs.Known.{Key, key_eq, has_key, has_name}
-use Rattle.record_faults.proofs.Sets.{or_false, any_more}
 
 -- a test of a view
 pub any_viewed : {A B : Type 0} (p : A → Bool) (view : B → A) (ks : List B)
@@ -32,7 +34,7 @@ put_by eq view m ks new n sound true there is =
 put_by eq view m ks new n sound false there is =
     ap (λ l. list_any (eq n) (map view l)) is
     ∙ ap (list_any (eq n)) (map-append view ks (m ∷ []))
-    ∙ any_more (eq n) (map view ks) (view m)
+    ∙ any_with (eq n) (map view ks) (view m)
 
 -- one element is put
 pub put_any : {A B : Type 0} (eq : A → A → Bool) (view : B → A) (m : B) (ks new : List B)
@@ -48,24 +50,17 @@ text k = k.now
 abbrev pub pair : Bor (List ℕ) × Bor (List ℕ) → Key
 pair k = (k.0.now, k.1.now)
 
-pub same_name : (a b : List ℕ) → bytes_eq a b ≡ true → a ≡ b
-same_name a b is = (bytes_eq-Decides a b).0 is
-
-both : (a b : Bool) → (a && b) ≡ true → (a ≡ true) × (b ≡ true)
-both true b is = (refl, is)
-both false b is = absurd (cc)
-
 pub same_key : (a b : Key) → key_eq a b ≡ true → a ≡ b
 same_key a b is =
-    let parts = both (bytes_eq a.0 b.0) (bytes_eq a.1 b.1) is in
-    let first : a.0 ≡ b.0 = same_name a.0 b.0 parts.0 in
-    let second : a.1 ≡ b.1 = same_name a.1 b.1 parts.1 in
+    let parts = and_parts (bytes_eq a.0 b.0) (bytes_eq a.1 b.1) is in
+    let first : a.0 ≡ b.0 = text_tells a.0 b.0 parts.0 in
+    let second : a.1 ≡ b.1 = text_tells a.1 b.1 parts.1 in
     ap (λ x. (x, a.1)) first ∙ ap (λ y. (b.0, y)) second
 
 pub put_name : (m : Bor (List ℕ)) (ks new : List (Bor (List ℕ)))
     → new ≡ (if list_any (λ (k : Bor (List ℕ)). bytes_eq m.now k.now) ks then ks else ks ++ m ∷ [])
     → (n : List ℕ) → has_name (map text new) n ≡ (has_name (map text ks) n || bytes_eq n m.now)
-put_name m ks new is n = put_any bytes_eq text m ks new (λ a. same_name a m.now) is n
+put_name m ks new is n = put_any bytes_eq text m ks new (λ a. text_tells a m.now) is n
 
 pub put_key : (m : Bor (List ℕ) × Bor (List ℕ)) (ks new : List (Bor (List ℕ) × Bor (List ℕ)))
     → new ≡ (if list_any (λ (l : Bor (List ℕ) × Bor (List ℕ)). key_eq (pair m) (pair l)) ks then ks else ks ++ m ∷ [])

@@ -5,12 +5,13 @@ use Rattle.std.specs.List.{cons_option}
 use Rattle.std.proofs.lemmas.List.Sums.{sum_by-append}
 use Rattle.std.proofs.lemmas.List.{length-take-le}
 use Rattle.std.proofs.lemmas.List.Elements.{filter_map-append}
+use Rattle.lemmas.proofs.Lists.{any_with}
 use Rattle.record_rows.specs.declared.rows.Row.{Row}
 use Rattle.record_faults.specs.Known.{Key, key_eq, has_key, has_name, Above, above_of, is_ws, is_resource, is_prompt, is_carry}
 use Rattle.record_faults.specs.Known.{is_plan, begins_stream, is_object, is_dep, is_next, since, since_from, last_of}
 use Rattle.record_faults.specs.Known.{station_name, resource_of, prompt_of, stream_of, job_of, object_ws}
 use Rattle.record_faults.specs.Noted.{is_name, is_key, one_if, deps_behind, ws_behind, IsNoted, IsSame}
-use Rattle.record_faults.proofs.Sets.{passes, any_more, picked_more}
+use Rattle.record_faults.proofs.Sets.{passes, picked_more}
 
 named_passes : (o : Option (List ℕ)) (n : List ℕ) → passes (bytes_eq n) o ≡ is_name o n
 named_passes None n = refl
@@ -95,7 +96,7 @@ noted rows r a b s m =
       ws_lines = m.ws_lines ∙ ap (λ n. n + one_if (is_ws r)) s.ws_lines ∙ sym (count_more is_ws rows r);
       resource_lines = m.resource_lines ∙ ap (λ n. n + one_if (is_resource r)) s.resource_lines ∙ sym (count_more is_resource rows r);
       prompt_lines = m.prompt_lines ∙ ap (λ n. n + one_if (is_prompt r)) s.prompt_lines ∙ sym (count_more is_prompt rows r);
-      carry = m.carry ∙ ap (λ x. x || is_carry r) s.carry ∙ sym (any_more is_carry rows r);
+      carry = m.carry ∙ ap (λ x. x || is_carry r) s.carry ∙ sym (any_with is_carry rows r);
       streams = λ k.
           m.streams k ∙ ap (λ x. not (is_plan r) && (x || is_key (stream_of r) k)) (s.streams k)
           ∙ sym (ap (λ l. has_key (filter_map stream_of l) k) (since_more is_plan rows r)

@@ -1,17 +1,10 @@
 -- Names and keys in lists, one element more.
-use Rattle.std.proofs.Common.{◌≡◌, Bool, true, false, ◌||◌, List, [], ◌∷◌, ◌++◌, Option, Some, None, refl, ap, ◌∙◌}
+use Rattle.std.proofs.Common.{◌≡◌, Bool, false, ◌||◌, List, [], ◌∷◌, ◌++◌, Option, Some, None, refl, ap, ◌∙◌}
 use Rattle.std.specs.Prelude.{filter_map}
 use Rattle.std.specs.List.{list_any, cons_option}
 use Rattle.std.proofs.lemmas.List.Folds.{list_any-append}
 use Rattle.std.proofs.lemmas.List.Elements.{filter_map-append}
-
-pub or_false : (b : Bool) → (b || false) ≡ b
-or_false true = refl
-or_false false = refl
-
-pub or_assoc : (a b c : Bool) → ((a || b) || c) ≡ (a || (b || c))
-or_assoc true b c = refl
-or_assoc false b c = refl
+use Rattle.lemmas.proofs.Booleans.{or_false}
 
 -- whether what is there passes
 abbrev pub passes : {A : Type 0} → (A → Bool) → Option A → Bool
@@ -26,10 +19,6 @@ any_of_cons p (Some a) xs = refl
 pub any_of_one : {A : Type 0} (p : A → Bool) (o : Option A) → list_any p (cons_option o []) ≡ passes p o
 any_of_one p None = refl
 any_of_one p (Some a) = or_false (p a)
-
--- one element behind the others
-pub any_more : {A : Type 0} (p : A → Bool) (xs : List A) (a : A) → list_any p (xs ++ a ∷ []) ≡ (list_any p xs || p a)
-any_more p xs a = list_any-append p xs (a ∷ []) ∙ ap (λ b. list_any p xs || b) (or_false (p a))
 
 pub picked_more : {A B : Type 0} (f : A → Option B) (p : B → Bool) (xs : List A) (a : A)
     → list_any p (filter_map f (xs ++ a ∷ [])) ≡ (list_any p (filter_map f xs) || passes p (f a))

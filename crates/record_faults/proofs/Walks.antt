@@ -5,6 +5,8 @@ use Rattle.std.proofs.lemmas.Bool.Decides.{nat_tests}
 use Rattle.record_rows.specs.declared.rows.Row.{Row}
 use Rattle.record_faults.specs.Known.{Named, Above, above_of, has_name, jobs, jobs_around, since, until, begins_stream, is_steps}
 use Rattle.std.proofs.lemmas.List.{length-take-le, length-drop, take-append-drop, take_all}
+use Rattle.lemmas.proofs.Booleans.{and_false, and_true}
+use Rattle.lemmas.proofs.Numbers.{suc_not_zero}
 use Rattle.record_faults.specs.Noted.{IsSame}
 use Rattle.record_faults.specs.Faults.{Placed, Items, items_around, lacks_item, lacks_condition, fault_by, fault_of, fault_from}
 use Rattle.record_faults.specs.Faults.{ends_too_soon, first_fault}
@@ -30,23 +32,12 @@ last_row above r = rw (length-append above (r ∷ [])) (grind (arith, nat_tests)
 other_row : (above below : List Row) (r b : Row) → eqb (length above + 1) (length (above ++ r ∷ b ∷ below)) ≡ false
 other_row above below r b = rw (length-append above (r ∷ b ∷ below)) (grind (arith, nat_tests))
 
-and_true : (b : Bool) → (b && true) ≡ b
-and_true true = refl
-and_true false = refl
-
-and_false : (b : Bool) → (b && false) ≡ false
-and_false true = refl
-and_false false = refl
-
-not_empty : (n : ℕ) → eqb (suc n) 0 ≡ false
-not_empty n = grind (arith, nat_tests)
-
 pub ends_here : (above below : List Row) (r : Row)
     → (not (list_any is_steps (above ++ r ∷ below)) && eqb (length above + 1) (length (above ++ r ∷ below)))
     ≡ ends_too_soon (record { above = above; here = r; below = below })
 ends_here above [] r = rw (last_row above r) (and_true (not (list_any is_steps (above ++ r ∷ []))))
 ends_here above (b ∷ below) r =
-    rw (other_row above below r b, not_empty (length below))
+    rw (other_row above below r b, suc_not_zero (length below))
     (and_false (not (list_any is_steps (above ++ r ∷ b ∷ below))))
 
 -- the jobs of the stream, on both sides of a row

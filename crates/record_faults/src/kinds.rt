@@ -2,7 +2,7 @@
 
 /// What is wrong with a line, in the order in which the causes are tested. Definitions that stand in a record have their
 /// own kinds, of which three have the names of those of lines.
-#[derive(Clone, Copy, Debug, PartialEq, Eq)]
+#[derive(Clone, Copy, Debug)]
 pub enum ScriptKind {
     /// The line has no form where it stands, or a section is missing.
     BadLine,

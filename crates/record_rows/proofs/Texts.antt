@@ -1,8 +1,9 @@
 -- Quoted texts, read with their limit and without it.
 use Rattle.std.proofs.Common.{◌≡◌, ◌≢◌, ◌≤◌, ◌-◌, ℕ, Bool, true, false, cond, ◌&&◌, eqb, List, [], ◌∷◌, length, take, drop, get_or, Option, Some, None, option_map, ap, ◌∙◌, refl, arith}
 use Rattle.std.specs.Prelude.{is_some, option_and_then, nat_le}
-use Rattle.std.proofs.Math.Seq.{take-length}
 use Rattle.std.proofs.lemmas.Bool.Decides.{nat_tests}
+use Rattle.lemmas.proofs.Lists.{behind_first}
+use Rattle.lemmas.proofs.Texts.{no_quote}
 use Rattle.syntax.specs.Quotes.{byte_of, after_byte, unquoted, quoted_of, within_limit}
 use Rattle.syntax.proofs.Escapes.{unquoted_more}
 use Rattle.record_rows.specs.declared.rows.Ranged.{Ranged}
@@ -51,12 +52,6 @@ some_map : {A B : Type 0} (f : A → B) (o : Option A) → is_some (option_map f
 some_map f None = refl
 some_map f (Some a) = refl
 
-all_behind : (c : ℕ) (cs : List ℕ) → take (length (c ∷ cs) - 1) (drop 1 (c ∷ cs)) ≡ cs
-all_behind c cs = let e : length (c ∷ cs) - 1 ≡ length cs = omega arith in rw e (take-length cs)
-
-other_byte : (c : ℕ) → c ≢ 34 → eqb c 34 ≡ false
-other_byte c h = grind (arith, nat_tests)
-
 -- one byte or escape more, in the words of the loop
 pub closed_more : (inside rest after : List ℕ) → 1 ≤ length rest → get_or rest 0 0 ≢ 34
     → after ≡ after_byte (get_or rest 0 0) (take (length rest - 1) (drop 1 rest))
@@ -64,9 +59,9 @@ pub closed_more : (inside rest after : List ℕ) → 1 ≤ length rest → get_o
     → is_some (unquoted inside) ≡ is_some (unquoted after)
 closed_more inside [] after l n ae inv = absurd (omega (arith, l))
 closed_more inside (c ∷ cs) after l n ae inv =
-    let t = all_behind c cs in
+    let t = behind_first c cs in
     rw (ae, t)
-    (inv ∙ ap is_some (unquoted_more c cs (other_byte c n))
+    (inv ∙ ap is_some (unquoted_more c cs (no_quote c n))
     ∙ some_map (λ v. byte_of c cs ∷ v) (unquoted (after_byte c cs)))
 
 some_left : (d : ℕ) (cs : List ℕ) → eqb (length (d ∷ cs)) 0 ≡ false
@@ -79,4 +74,4 @@ pub closed_here : (inside rest : List ℕ) → 1 ≤ length rest → get_or rest
 unfolding unquoted
 closed_here inside [] l q inv = absurd (omega (arith, l))
 closed_here inside (c ∷ []) l q inv = rw (inv, q) refl
-closed_here inside (c ∷ d ∷ cs) l q inv = let t = all_behind c (d ∷ cs) in rw (t, inv, q) (some_left d cs)
+closed_here inside (c ∷ d ∷ cs) l q inv = let t = behind_first c (d ∷ cs) in rw (t, inv, q) (some_left d cs)

@@ -1,9 +1,11 @@
 -- A line as the steps that it is.
-use Rattle.std.proofs.Common.{◌≡◌, ◌∙◌, ◌∷◌, ◌+◌, ◌-◌, ◌<◌, ◌≤◌, [], ℕ, ℤ, Bool, List, ap, arith, drop, drop-cons, get_or, length, map, refl, sym, subst, true, suc}
+use Rattle.std.proofs.Common.{◌≡◌, ◌∙◌, ◌∷◌, ◌+◌, ◌-◌, ◌<◌, ◌≤◌, [], ℕ, ℤ, Bool, List, ap, arith, drop, get_or, length}
+use Rattle.std.proofs.Common.{map, refl, sym, subst, true, suc}
 use Rattle.std.proofs.lemmas.Bool.{lt-ltb}
 use Rattle.std.proofs.lemmas.List.{drop_all}
 use Rattle.std.specs.Result.{IsErrAnd}
 use Rattle.std.specs.Prelude.{Err, IfErr, IsTrue, None, Ok, OnOk, Option, Result, Some}
+use Rattle.lemmas.proofs.Lists.{drop_here}
 use Rattle.model.specs.Types.{Crash, Deliver, LiveJob, Local, Net, StreamDraft, Take, Typed, WorldStep, Cmd}
 use Rattle.model.specs.Words.{ascending, insert_once, numbers_from}
 use Rattle.model.specs.Network.{node_count}
@@ -199,10 +201,6 @@ pub on_ok : {T E : Type 0} (P Q : Type 0) (r : Result T E) → (P → Q) → OnO
 on_ok P Q (Ok t) f h = f h
 on_ok P Q (Err e) f h = tt
 
-pub if_err : {T E : Type 0} (P Q : E → Type 0) (r : Result T E) → ((e : E) → P e → Q e) → IfErr r P → IfErr r Q
-if_err P Q (Ok t) f h = tt
-if_err P Q (Err e) f h = f e h
-
 -- two workstations of the network
 pub both_inside : (net : Net) (now : WorldState) (a b : ℕ) → now.net ≡ net → a < node_count net → b < node_count net
     → IsTrue (are_inside now.net (a ∷ b ∷ []))
@@ -220,14 +218,6 @@ pub handed_on : {T E : Type 0} (P : E → Type 0) (e : E) (r : Result T E) → I
 handed_on P e (Ok t) told h = tt
 handed_on P e (Err f) told h = subst P (sym told) h
 
--- the item at an index, and those behind it
-pub from_here : {X : Type 0} (xs : List X) (i : ℕ) (x : X) → i < length xs → x ≡ get_or xs i x
-    → drop i xs ≡ x ∷ drop (i + 1) xs
-from_here {X} xs i x h is =
-    let one : suc i ≡ i + 1 = omega arith in
-    drop-cons xs i x h
-    ∙ (ap (λ (y : X). y ∷ drop (suc i) xs) (sym is) ∙ ap (λ (k : ℕ). x ∷ drop k xs) one)
-
 -- one live job more is put among the others
 pub one_more_job : (live items : List LiveJob) (i : ℕ) (l : LiveJob) (old new all : List ℕ) → items ≡ live
     → i < length items → l ≡ get_or items i l → new ≡ insert_once l.job old
@@ -235,7 +225,7 @@ pub one_more_job : (live items : List LiveJob) (i : ℕ) (l : LiveJob) (old new 
     → with_all (map (λ (p : LiveJob). p.job) (drop (i + 1) live)) new ≡ all
 one_more_job live items i l old new all same h is put before =
     let rest : drop i live ≡ l ∷ drop (i + 1) live =
-    subst (λ (ys : List LiveJob). drop i ys ≡ l ∷ drop (i + 1) ys) same (from_here items i l h is) in
+    subst (λ (ys : List LiveJob). drop i ys ≡ l ∷ drop (i + 1) ys) same (drop_here items i l h is) in
     ap (with_all (map (λ (p : LiveJob). p.job) (drop (i + 1) live))) put
     ∙ (with_one_more (map (λ (p : LiveJob). p.job) (drop (i + 1) live)) l.job old
     ∙ (sym (ap (λ (ys : List LiveJob). with_all (map (λ (p : LiveJob). p.job) ys) old) rest) ∙ before))
@@ -246,7 +236,7 @@ ends w rc j = Take w (Local.Ended j rc)
 
 pub next_end : (w : ℕ) (rc : ℤ) (jobs : List ℕ) (i j : ℕ) → i < length jobs → j ≡ get_or jobs i j
     → map (ends w rc) (drop i jobs) ≡ ends w rc j ∷ map (ends w rc) (drop (i + 1) jobs)
-next_end w rc jobs i j h is = ap (map (ends w rc)) (from_here jobs i j h is)
+next_end w rc jobs i j h is = ap (map (ends w rc)) (drop_here jobs i j h is)
 
 pub no_more_ends : (w : ℕ) (rc : ℤ) (jobs : List ℕ) (i : ℕ) → length jobs ≤ i → map (ends w rc) (drop i jobs) ≡ []
 no_more_ends w rc jobs i h = ap (map (ends w rc)) (drop_all i jobs h)

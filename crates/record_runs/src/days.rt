@@ -17,7 +17,7 @@ use record_script::{OneStep, StepForm};
 use std::alloc::Global;
 
 /// Why a day has no plan.
-#[derive(Clone, Copy, Debug, PartialEq, Eq)]
+#[derive(Clone, Copy)]
 pub enum DayFault {
     /// It has more streams, or more jobs, than this, which is the most that a plan may have.
     TooMany(u32),

@@ -13,7 +13,7 @@ use carry_forward::CarryFault;
 use network_world::StepRefused;
 
 /// Why a line of a record cannot be taken.
-#[derive(Clone, Copy, PartialEq, Eq)]
+#[derive(Clone, Copy)]
 pub enum Stop {
     /// No packet of this number was sent on this way.
     NoPacket,

@@ -1,13 +1,14 @@
 -- The network of a record without faults is accepted.
-use Rattle.std.proofs.Common.{◌≡◌, ◌<◌, ◌≤◌, ◌+◌, ℕ, Bool, false, List, [], ◌∷◌, ◌++◌, Option, Some, None}
-use Rattle.std.proofs.Common.{length, refl, ap, sym, subst, ◌∙◌, inl, inr, arith, eqb, option_map, slice_get, take}
+use Rattle.std.proofs.Common.{◌≡◌, ◌<◌, ◌≤◌, ℕ, Bool, false, List, [], ◌∷◌, ◌++◌, Option, Some, None}
+use Rattle.std.proofs.Common.{length, refl, ap, sym, subst, ◌∙◌, arith, eqb, option_map, slice_get, take}
 use Rattle.std.specs.Prelude.{nat_lt}
 use Rattle.std.specs.Bool.{then_some}
 use Rattle.std.specs.List.{list_any}
 use Rattle.std.specs.Option.{option_map_or}
 use Rattle.std.proofs.Math.Seq.{take-append_seam}
-use Rattle.std.proofs.lemmas.Bool.Decides.{eqb_tells, nat_tests}
+use Rattle.std.proofs.lemmas.Bool.Decides.{nat_tests}
 use Rattle.std.proofs.lemmas.Option.{slice_get_within}
+use Rattle.network_tree.proofs.Accepted.{no_bad_hop, no_miss}
 use Rattle.model.specs.Types.{Net}
 use Rattle.model.specs.Network.{IsTree, node_count}
 use Rattle.network_tree.specs.Repeats.{has_repeat, stands_before}
@@ -37,21 +38,6 @@ none_stands {A = A} eq xs new w = go (slice_get xs w) refl
 
 no_repeat : {A : Type 0} (eq : A → A → Bool) (xs : List A) → AreNew eq xs → has_repeat eq xs ≡ false
 no_repeat eq xs new = any_nothing (stands_before eq xs) 0 (length xs) (λ k _ _. none_stands eq xs new k)
-
-no_bad_hop : (u : Net) → IsTree u → first_ws u (has_bad_hop u) ≡ None
-no_bad_hop u t = find_nothing (has_bad_hop u) 0 (node_count u) (λ w _ low. good w low)
-  where
-    good : (w : ℕ) → w < 0 + node_count u → has_bad_hop u w ≡ false
-    good w low =
-        elim (eqb_tells w 0) [
-          | inl e ↦ rw (e.1, t.top, t.managed) refl
-          | inr e ↦ rw (e.0, t.hops w (omega (arith, e.1)) (omega (arith, low))) refl
-        ]
-
-no_miss : (u : Net) → IsTree u → first_ws u (misses_the_master u) ≡ None
-no_miss u t =
-    find_nothing (misses_the_master u) 0 (node_count u)
-    (λ w _ low. rw (t.ends w (omega (arith, low))) refl)
 
 -- the faults by their parts
 abbrev fault_by : Bool → Bool → Option ℕ → Option ℕ → Option ℕ → Bool → Option NetFault

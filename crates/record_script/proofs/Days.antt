@@ -1,6 +1,7 @@
 -- A record without definitions takes no plan of a day.
 use Rattle.std.proofs.Common.{◌≡◌, ℕ, ◌+◌, Bool, true, false, ◌||◌, List, [], ◌∷◌, None, refl, ap, ◌∙◌}
 use Rattle.std.specs.List.{list_any}
+use Rattle.lemmas.proofs.Booleans.{neither}
 use Rattle.record_rows.specs.declared.rows.Row.{Row}
 use Rattle.record_rows.specs.declared.rows.Row.TheVariants as row
 use Rattle.record_rows.specs.declared.rows.StepRow.{StepRow}
@@ -54,10 +55,6 @@ row_dayless : (p : Place) (r : Row) (f : Fate) → dayless p ≡ true → fate_o
 row_dayless p r fate.Skipped l is d = (ap dayless (same_below p).0 ∙ l, refl)
 row_dayless p r fate.NoForm l is d = (ap dayless (same_below p).1 ∙ l, refl)
 row_dayless p r fate.Stands l is d = stands_dayless p r l is d
-
-neither : (a b : Bool) → (a || b) ≡ false → (a ≡ false) × (b ≡ false)
-neither true b e = absurd (cc)
-neither false b e = (refl, e)
 
 days_from : (p : Place) (raw : List Row) → dayless p ≡ true → list_any is_definitions (placed_from p raw) ≡ false
     → list_any is_day (placed_from p raw) ≡ false

@@ -7,6 +7,7 @@ use Rattle.std.proofs.lemmas.List.Elements.{filter_map-append}
 use Rattle.std.proofs.lemmas.List.Folds.{list_any-append}
 use Rattle.std.proofs.lemmas.Bool.Decides.{eqb_tells, nat_tests}
 use Rattle.std.proofs.lemmas.Slice.Eq.{bytes_eq-Decides}
+use Rattle.lemmas.proofs.Booleans.{and_false, neither, not_fails}
 use Rattle.model.specs.Types.{Node, PromptDef, Resource}
 use Rattle.network_tree.specs.Faults.{are_one_prompt, are_one_resource, have_one_name}
 use Rattle.record_rows.specs.declared.rows.Row.{Row}
@@ -103,20 +104,8 @@ found_by {A = A} p (x ∷ xs) e = go (p x) refl (found_by p xs)
         let more = each rest in
         (more.0, ap (λ b. cond b (Some x) (find p xs)) is ∙ more.1, more.2)
 
-pub not_lacking : (b : Bool) → not b ≡ false → b ≡ true
-not_lacking true e = refl
-not_lacking false e = absurd (cc)
-
 same_station : (o : Option Station) (a b : Station) → o ≡ Some a → o ≡ Some b → a ≡ b
 same_station o a b e h = cc
-
-neither : (a b : Bool) → (a || b) ≡ false → (a ≡ false) × (b ≡ false)
-neither true b e = absurd (cc)
-neither false b e = (refl, e)
-
-and_false : (a : Bool) → (a && false) ≡ false
-and_false true = refl
-and_false false = refl
 
 -- a resource whose total is too great
 abbrev pub is_great : Row → Bool
@@ -171,7 +160,7 @@ module _ (rows : List Row) where
       let key = neither (bytes_eq w v && bytes_eq n m) (list_any (key_eq (w, n)) (filter_map resource_of above)) free in
       ap (λ b. b || list_any (are_one_resource (record { ws = no w; name = n; total = total }))
       (filter_map (resource_def (numbered rows)) above))
-      (pair_other w v n m e (not_lacking (is_station (stations rows) v) known.0) key.0)
+      (pair_other w v n m e (not_fails (is_station (stations rows) v) known.0) key.0)
       ∙ resources_other w n total above e known.1 key.1
   resources_other w n total (r ∷ above) e all free =
       resources_other w n total above e (neither (lacks_station (stations rows) r) (list_any (lacks_station (stations rows)) above) all).1 free
@@ -187,7 +176,7 @@ module _ (rows : List Row) where
   none_bad count (row.Resource v m t ∷ some) is all small =
       let known = neither (not (is_station (stations rows) v)) (list_any (lacks_station (stations rows)) some) all in
       let fits = neither (nat_lt 1024 (within 0 t)) (list_any is_great some) small in
-      let at_ = named_there v (not_lacking (is_station (stations rows) v) known.0) in
+      let at_ = named_there v (not_fails (is_station (stations rows) v) known.0) in
       let low : nat_le count (no v) ≡ false = low_number (no v) count (subst (λ c. no v < c) (sym is) at_.1) in
       ap (λ b. (b || nat_lt 1024 (within 0 t)) || list_any (λ (r : Resource). nat_le count r.ws || nat_lt 1024 r.total) (filter_map (resource_def (numbered rows)) some)) low
       ∙ ap (λ b. b || list_any (λ (r : Resource). nat_le count r.ws || nat_lt 1024 r.total) (filter_map (resource_def (numbered rows)) some)) fits.0
@@ -213,7 +202,7 @@ module _ (rows : List Row) where
       let key : (w, n) ≡ a = cc in
       let def : record { ws = no w; name = n; total = within 0 t } ≡ b = cc in
       subst (λ r. list_any (are_one_resource r) (filter_map (resource_def (numbered rows)) above) ≡ false) def
-      (resources_other w n (within 0 t) above (not_lacking (is_station (stations rows) w) known.0) parts.0
+      (resources_other w n (within 0 t) above (not_fails (is_station (stations rows) w) known.0) parts.0
       (subst (λ k. list_any (key_eq k) (filter_map resource_of above) ≡ false) (sym key) free))
   one_other above below r a b whole all is picked free = absurd (cc)
 

@@ -1,9 +1,9 @@
 -- A record without faults names each workstation, resource and prompt once, and not too many of them.
 use Rattle.std.proofs.Common.{◌≡◌, ◌<◌, ◌≤◌, ℕ, Bool, false, List, [], ◌∷◌, ◌++◌, Option, Some, None, length}
 use Rattle.std.proofs.Common.{refl, ap, sym, subst, ◌∙◌, arith, cond, bytes_eq}
-use Rattle.std.specs.Prelude.{filter_map, count_by, nat_le}
+use Rattle.std.specs.Prelude.{filter_map, count_by}
 use Rattle.std.specs.List.{cons_option, list_any}
-use Rattle.std.proofs.lemmas.Bool.Decides.{nat_tests}
+use Rattle.lemmas.proofs.Numbers.{le_false}
 use Rattle.record_rows.specs.declared.rows.Row.{Row}
 use Rattle.record_rows.specs.declared.rows.Row.TheVariants as row
 use Rattle.record_faults.specs.declared.places.Place.TheVariants as place
@@ -15,19 +15,16 @@ use Rattle.record_script.proofs.Picked.{Around, around, few_picked, picked_count
 use Rattle.record_script.proofs.Shapes.{above_master}
 use Rattle.record_script.proofs.Walked.{Passes, each_passes}
 
-below_most : (m n : ℕ) → nat_le m n ≡ false → n < m
-below_most m n e = grind (arith, nat_tests)
-
-ws_each : (r : Row) → cond (is_ws r) 1 0 ≡ length (cons_option (station_name r) [])
+pub ws_each : (r : Row) → cond (is_ws r) 1 0 ≡ length (cons_option (station_name r) [])
 ws_each (row.Master n) = refl
 ws_each (row.Station s) = refl
 ws_each r = refl
 
-resource_each : (r : Row) → cond (is_resource r) 1 0 ≡ length (cons_option (resource_of r) [])
+pub resource_each : (r : Row) → cond (is_resource r) 1 0 ≡ length (cons_option (resource_of r) [])
 resource_each (row.Resource w n t) = refl
 resource_each r = refl
 
-prompt_each : (r : Row) → cond (is_prompt r) 1 0 ≡ length (cons_option (prompt_of r) [])
+pub prompt_each : (r : Row) → cond (is_prompt r) 1 0 ≡ length (cons_option (prompt_of r) [])
 prompt_each (row.Prompt n t) = refl
 prompt_each r = refl
 
@@ -44,7 +41,7 @@ station_low n raw above below (row.Master m) a e is p =
     (ap (list_any (bytes_eq a)) none, omega (arith, few))
 station_low n raw above below (row.Station s) a e is p =
     let same : s.name ≡ a = cc in
-    let few = below_most 256 (count_by is_ws above) p.count in (
+    let few = le_false 256 (count_by is_ws above) p.count in (
       subst (λ x. list_any (bytes_eq x) (filter_map station_name above) ≡ false) same p.once,
       subst (λ k. k < 256) (picked_count is_ws station_name ws_each above) few,
     )
@@ -56,7 +53,7 @@ resource_low : (n : Named) (above below : List Row) (here : Row) (a : List ℕ �
 unfolding above_of is_duplicate is_beyond
 resource_low n above below (row.Resource w name t) a is p =
     let same : (w, name) ≡ a = cc in
-    let few = below_most 65535 (count_by is_resource above) p.count in (
+    let few = le_false 65535 (count_by is_resource above) p.count in (
       subst (λ x. list_any (key_eq x) (filter_map resource_of above) ≡ false) same p.once,
       subst (λ k. k < 65535) (picked_count is_resource resource_of resource_each above) few,
     )
@@ -68,7 +65,7 @@ prompt_low : (n : Named) (above below : List Row) (here : Row) (a : List ℕ)
 unfolding above_of is_duplicate is_beyond
 prompt_low n above below (row.Prompt name t) a is p =
     let same : name ≡ a = cc in
-    let few = below_most 65535 (count_by is_prompt above) p.count in (
+    let few = le_false 65535 (count_by is_prompt above) p.count in (
       subst (λ x. list_any (bytes_eq x) (filter_map prompt_of above) ≡ false) same p.once,
       subst (λ k. k < 65535) (picked_count is_prompt prompt_of prompt_each above) few,
     )

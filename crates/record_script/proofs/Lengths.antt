@@ -8,6 +8,7 @@ use Rattle.std.proofs.lemmas.List.{length-map, length-take-le}
 use Rattle.std.proofs.lemmas.List.Splits.{length-slice_split}
 use Rattle.std.proofs.lemmas.List.Sums.{sum_by-append}
 use Rattle.std.proofs.lemmas.Bool.Decides.{nat_tests}
+use Rattle.lemmas.proofs.Lists.{index_last}
 use Rattle.syntax.specs.Splits.{lines_of, without_last_feed}
 use Rattle.record_rows.specs.declared.rows.Row.{Row}
 use Rattle.record_rows.specs.Rows.{row_of, rows_of}
@@ -35,10 +36,6 @@ count_most p (x ∷ xs) = go (p x) (count_most p xs)
         at_most true = omega arith
         at_most false = omega arith
 
-read_last : (before : List ℕ) (a : ℕ) → slice_index (before ++ a ∷ []) (length before) ≡ a
-read_last [] a = refl
-read_last (x ∷ before) a = read_last before a
-
 -- without a line feed at its end a text has fewer of them than bytes
 fewer : (text : List ℕ) → eqb (length text) 0 ≡ false → eqb (slice_index text (length text - 1)) 10 ≡ false
     → count_by (λ c. eqb c 10) text < length text
@@ -52,7 +49,7 @@ fewer text some last = go (last_split text)
         let long : length text ≡ length before + 1 = ap length s.2 ∙ length-append before (a ∷ []) in
         let place_ : length text - 1 ≡ length before = omega (arith, long) in
         let at_ : slice_index text (length text - 1) ≡ a =
-        ap (λ k. slice_index text k) place_ ∙ ap (λ l. slice_index l (length before)) s.2 ∙ read_last before a in
+        ap (λ k. slice_index text k) place_ ∙ ap (λ l. slice_index l (length before)) s.2 ∙ index_last before a in
         let no_feed : eqb a 10 ≡ false = sym (ap (λ b. eqb b 10) at_) ∙ last in
         let counted : count_by (λ c. eqb c 10) text ≡ count_by (λ c. eqb c 10) before + (0 + cond (eqb a 10) 1 0) =
         ap (count_by (λ c. eqb c 10)) s.2 ∙ sum_by-append (λ y. cond (eqb y 10) 1 0) before (a ∷ []) in

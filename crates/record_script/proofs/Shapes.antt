@@ -2,6 +2,8 @@
 use Rattle.std.proofs.Common.{◌≡◌, ◌⊎◌, ℕ, Bool, true, false, ◌||◌, List, [], ◌∷◌, ◌++◌, Option, Some, None, inl, inr, refl, ap, sym, subst, ◌∙◌}
 use Rattle.std.specs.Prelude.{filter_map}
 use Rattle.std.specs.List.{cons_option, list_any}
+use Rattle.lemmas.proofs.Booleans.{neither}
+use Rattle.lemmas.proofs.Lists.{no_middle}
 use Rattle.record_rows.specs.declared.rows.Row.{Row}
 use Rattle.record_rows.specs.declared.rows.Row.TheVariants as row
 use Rattle.record_faults.specs.declared.places.Place.{Place}
@@ -112,20 +114,12 @@ heads a b xs ys e = cc
 tails : {A : Type 0} (a b : A) (xs ys : List A) → a ∷ xs ≡ b ∷ ys → xs ≡ ys
 tails a b xs ys e = cc
 
-no_middle : {A : Type 0} (above below : List A) (a : A) → [] ≡ above ++ a ∷ below → ⊥
-no_middle [] below a e = cc
-no_middle (x ∷ above) below a e = cc
-
 none_more : (o : Option (List ℕ)) (xs : List (List ℕ)) → o ≡ None → xs ≡ [] → cons_option o xs ≡ []
 none_more o xs e h = ap (λ q. cons_option q xs) e ∙ h
 
 none_less : (o : Option (List ℕ)) (xs : List (List ℕ)) → cons_option o xs ≡ [] → (o ≡ None) × (xs ≡ [])
 none_less None xs e = (refl, e)
 none_less (Some a) xs e = absurd (cc)
-
-neither : (a b : Bool) → (a || b) ≡ false → (a ≡ false) × (b ≡ false)
-neither true b e = absurd (cc)
-neither false b e = (refl, e)
 
 -- no workstation stands above the master
 master_from : (p : Place) (raw above below : List Row) (m : List ℕ)

@@ -1,8 +1,10 @@
 -- The steps of a record without faults name workstations of its network, and take no more plans than there are.
-use Rattle.std.proofs.Common.{◌≡◌, ◌<◌, ◌+◌, ℕ, Bool, true, false, ◌&&◌, ◌||◌, not, List, [], ◌∷◌, length, refl, ap, sym, subst, ◌∙◌, arith}
+use Rattle.std.proofs.Common.{◌≡◌, ◌<◌, ◌+◌, ℕ, Bool, true, false, ◌&&◌, ◌||◌, not, List, [], ◌∷◌, length, refl, sym}
+use Rattle.std.proofs.Common.{subst}
 use Rattle.std.specs.Prelude.{nat_lt}
 use Rattle.std.specs.List.{list_any, list_all}
-use Rattle.std.proofs.lemmas.Bool.Decides.{nat_tests}
+use Rattle.lemmas.proofs.Booleans.{and_made, neither, not_fails}
+use Rattle.lemmas.proofs.Numbers.{lt_told}
 use Rattle.record_rows.specs.declared.rows.Row.{Row}
 use Rattle.record_rows.specs.declared.rows.Row.TheVariants as row
 use Rattle.record_rows.specs.declared.rows.StepRow.{StepRow}
@@ -17,17 +19,7 @@ use Rattle.record_script.specs.Numbers.{Numbered, numbered, ws_no}
 use Rattle.record_script.specs.Steps.{own_step, cut_step, step_form, steps_from}
 use Rattle.record_script.specs.Inside.{ws_in_one, ws_in}
 use Rattle.record_script.specs.declared.scripts.ScriptStep.{ScriptStep}
-use Rattle.record_script.proofs.Defined.{named_there, not_lacking}
-
-neither : (a b : Bool) → (a || b) ≡ false → (a ≡ false) × (b ≡ false)
-neither true b e = absurd (cc)
-neither false b e = (refl, e)
-
-both_hold : (a b : Bool) → a ≡ true → b ≡ true → (a && b) ≡ true
-both_hold a b e h = ap (λ x. x && b) e ∙ h
-
-is_low : (a b : ℕ) → a < b → nat_lt a b ≡ true
-is_low a b low = grind (arith, nat_tests)
+use Rattle.record_script.proofs.Defined.{named_there}
 
 module _ (all : List Station) (n : Numbered) (count : ℕ) (there : (w : List ℕ) → is_station all w ≡ true → ws_no n w < count) where
   abbrev no : List ℕ → ℕ
@@ -37,16 +29,16 @@ module _ (all : List Station) (n : Numbered) (count : ℕ) (there : (w : List �
   low w = nat_lt w count
 
   known_low : (w : List ℕ) → not (is_station all w) ≡ false → low (no w) ≡ true
-  known_low w e = is_low (no w) count (there w (not_lacking (is_station all w) e))
+  known_low w e = lt_told (no w) count (there w (not_fails (is_station all w) e))
 
   one_low : (w : List ℕ) → not (is_station all w) ≡ false → list_all low (no w ∷ []) ≡ true
-  one_low w e = both_hold (low (no w)) true (known_low w e) refl
+  one_low w e = and_made (low (no w)) true (known_low w e) refl
 
   two_low : (a b : List ℕ) → (not (is_station all a) || not (is_station all b)) ≡ false
       → list_all low (no a ∷ no b ∷ []) ≡ true
   two_low a b e =
       let parts = neither (not (is_station all a)) (not (is_station all b)) e in
-      both_hold (low (no a)) (low (no b) && true) (known_low a parts.0) (one_low b parts.1)
+      and_made (low (no a)) (low (no b) && true) (known_low a parts.0) (one_low b parts.1)
 
   own_low : (w : List ℕ) (o : OwnRow) → not (is_station all w) ≡ false
       → list_all low (ws_in_one (own_step (no w) o)) ≡ true
@@ -62,9 +54,9 @@ module _ (all : List Station) (n : Numbered) (count : ℕ) (there : (w : List �
   unfolding step_is_unknown cut_step
   cut_low w k cut.Next e = one_low w e
   cut_low w k (cut.NextDay d) e = one_low w e
-  cut_low w k (cut.Own o) e = both_hold (low (no w)) _ (known_low w e) (own_low w o e)
+  cut_low w k (cut.Own o) e = and_made (low (no w)) _ (known_low w e) (own_low w o e)
   cut_low w k (cut.Deliver a d) e =
-      both_hold (low (no w)) _ (known_low w (neither (not (is_station all a)) (not (is_station all w)) e).1)
+      and_made (low (no w)) _ (known_low w (neither (not (is_station all a)) (not (is_station all w)) e).1)
       (two_low a w e)
 
   step_low : (s : StepRow) → step_is_unknown all s ≡ false
@@ -89,7 +81,7 @@ module _ (all : List Station) (n : Numbered) (count : ℕ) (there : (w : List �
   steps_at line [] e = refl
   steps_at line (row.Step s ∷ some) e =
       let parts = neither (step_is_unknown all s) (list_any (lacks_station all) some) e in
-      both_hold (list_all low (ws_in (step_form n s))) _ (step_low s parts.0) (steps_at (line + 1) some parts.1)
+      and_made (list_all low (ws_in (step_form n s))) _ (step_low s parts.0) (steps_at (line + 1) some parts.1)
   steps_at line (r ∷ some) e =
       steps_at (line + 1) some (neither (lacks_station all r) (list_any (lacks_station all) some) e).1
 

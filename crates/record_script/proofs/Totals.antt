@@ -5,6 +5,7 @@ use Rattle.std.specs.List.{list_any}
 use Rattle.std.specs.Option.{option_map_or}
 use Rattle.std.specs.Str.Parse.{digits_value}
 use Rattle.std.proofs.lemmas.Bool.Decides.{nat_tests}
+use Rattle.lemmas.proofs.Booleans.{neither}
 use Rattle.syntax.specs.Names.{name_of}
 use Rattle.syntax.specs.Numbers.{is_number}
 use Rattle.syntax.specs.Splits.{lines_of, words_of, first_word, after_word}
@@ -151,10 +152,6 @@ settled_small : (f : Fate) (r : Row) → is_great r ≡ false → is_great (sett
 settled_small fate.Stands r e = e
 settled_small fate.Skipped r e = refl
 settled_small fate.NoForm r e = refl
-
-neither : (a b : Bool) → (a || b) ≡ false → (a ≡ false) × (b ≡ false)
-neither true b e = absurd (cc)
-neither false b e = (refl, e)
 
 placed_small : (p : Place) (raw : List Row) → list_any is_great raw ≡ false → list_any is_great (placed_from p raw) ≡ false
 unfolding placed_from

@@ -2,6 +2,7 @@
 use Rattle.std.proofs.Common.{◌≡◌, ℕ, ◌+◌, Bool, true, false, ◌||◌, not, List, [], ◌∷◌, ◌++◌, Option, Some, None, length}
 use Rattle.std.proofs.Common.{refl, sym, subst, append-nil, append_assoc, cond}
 use Rattle.std.specs.Option.{option_map_or}
+use Rattle.lemmas.proofs.Booleans.{neither, not_fails}
 use Rattle.record_rows.specs.declared.rows.Row.{Row}
 use Rattle.record_rows.specs.Ranges.{in_range}
 use Rattle.record_faults.specs.Known.{Named, above_of}
@@ -29,14 +30,6 @@ none_of : (b : Bool) (k : ScriptKind) (o : Option ScriptKind)
 none_of true k o e = absurd (cc)
 none_of false k o e = (refl, e)
 
-neither : (a b : Bool) → (a || b) ≡ false → (a ≡ false) × (b ≡ false)
-neither true b e = absurd (cc)
-neither false b e = (refl, e)
-
-not_not : (b : Bool) → not b ≡ false → b ≡ true
-not_not true e = refl
-not_not false e = absurd (cc)
-
 pub passes : (n : Named) (p : Placed) → fault_of n p ≡ None → Passes n p
 unfolding fault_of
 passes n p e =
@@ -58,7 +51,7 @@ passes n p e =
       once = second.0;
       station = names.0;
       item = names.1;
-      range = not_not (in_range r) ranges.0;
+      range = not_fails (in_range r) ranges.0;
       condition = counts.0;
       count = counts.1;
       tree = fifth.0;

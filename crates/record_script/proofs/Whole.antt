@@ -4,6 +4,7 @@ use Rattle.std.proofs.Common.{length, refl, ap, sym, ◌∙◌, arith, cond, opt
 use Rattle.std.specs.Prelude.{filter_map, nat_lt}
 use Rattle.std.specs.List.{list_any, list_all, position_or_len}
 use Rattle.std.proofs.lemmas.Bool.Decides.{nat_tests}
+use Rattle.lemmas.proofs.Booleans.{not_fails}
 use Rattle.model.specs.Network.{node_count}
 use Rattle.network_tree.specs.Faults.{net_fault}
 use Rattle.record_rows.specs.declared.rows.Row.{Row}
@@ -57,10 +58,6 @@ no_definitions rows e = go (nat_lt (position_or_len is_definitions rows) (length
         let past : length rows ≤ position_or_len is_definitions rows = grind (arith, nat_tests) in
         absent is_definitions rows past
 
-is_so : (b : Bool) → not b ≡ false → b ≡ true
-is_so true e = refl
-is_so false e = absurd (cc)
-
 -- a record without faults has steps
 has_steps : (rows : List Row) → first_fault (named_in rows) rows ≡ None → list_any is_steps rows ≡ true
 has_steps rows e = go (last_split rows)
@@ -69,7 +66,7 @@ has_steps rows e = go (last_split rows)
     go (inl none) = absurd (some_rows (named_in rows) rows e none)
     go (inr s) =
         let p = each_passes (named_in rows) rows s.0 [] s.1 e s.2 in
-        let steps : list_any is_steps (s.0 ++ s.1 ∷ []) ≡ true = is_so (list_any is_steps (s.0 ++ s.1 ∷ [])) p.whole in
+        let steps : list_any is_steps (s.0 ++ s.1 ∷ []) ≡ true = not_fails (list_any is_steps (s.0 ++ s.1 ∷ [])) p.whole in
         ap (list_any is_steps) s.2 ∙ steps
 
 -- and so a workstation

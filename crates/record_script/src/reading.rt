@@ -23,7 +23,7 @@ use record_rows::{Row, read_rows};
 use std::alloc::Global;
 
 /// Why a text is no record.
-#[derive(Clone, Copy, Debug, PartialEq, Eq)]
+#[derive(Clone, Copy, Debug)]
 pub enum ScriptFault {
     /// The lowest faulty line, from 1, and the first kind of its faults.
     At(u32, ScriptKind),

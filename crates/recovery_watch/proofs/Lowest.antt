@@ -1,6 +1,7 @@
 -- The lowest job for which there is advice, one job further.
-use Rattle.std.proofs.Common.{◌≡◌, ◌∙◌, ℕ, Bool, List, None, ap, false, refl, sym, true}
+use Rattle.std.proofs.Common.{◌≡◌, ◌∙◌, ℕ, List, None, ap, sym}
 use Rattle.std.specs.Prelude.{◌==◌, ◌&&◌, filter}
+use Rattle.lemmas.proofs.Booleans.{and_again}
 use Rattle.model.specs.Words.{least}
 use Rattle.model.specs.History.{View}
 use Rattle.model.specs.Catalogue.{StreamJob, is_member, jobs, jobs_of}
@@ -9,16 +10,11 @@ use Rattle.dependencies.specs.Planned.{IsPlannedJob}
 use Rattle.dependencies.proofs.Lowest.{lower_of, numbers_of}
 use Rattle.recovery_watch.specs.Advice.{needs_advice, needs_advice_in}
 
-twice : (a b c : Bool) → (a && (b && (a && (b && c)))) ≡ (a && (b && c))
-twice true true c = refl
-twice true false c = refl
-twice false b c = refl
-
 -- it is an own member's job for which there is advice
 pub advisable : (V : View) (w : ℕ) (p : StreamJob) → IsPlannedJob V p
     → ((p.doc.ws == w) && (is_member V p.parent.no && needs_advice V w p.doc.no)) ≡ needs_advice_in V w p
 unfolding needs_advice
-advisable V w p h = rw h.found (twice (p.doc.ws == w) (is_member V p.parent.no) _)
+advisable V w p h = rw h.found (and_again (p.doc.ws == w) (is_member V p.parent.no) _)
 
 -- the lowest of those among these
 abbrev pub lowest_among : View → ℕ → List StreamJob → List ℕ

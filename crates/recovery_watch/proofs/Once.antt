@@ -1,8 +1,9 @@
 -- A job that is advised to be rerun was not rerun.
-use Rattle.std.proofs.Common.{◌≡◌, ◌∷◌, [], ℕ, Bool, List, None, Option, Some, false, refl, subst, true}
+use Rattle.std.proofs.Common.{◌≡◌, ◌∷◌, [], ℕ, Bool, List, None, Option, Some, false, subst, true}
 use Rattle.std.proofs.lemmas.Bool.{eqb-true}
 use Rattle.std.specs.Option.{option_map_or}
-use Rattle.std.specs.Prelude.{◌==◌, ◌&&◌, IfSome, filter, if◌then◌else◌, not, option_and_then}
+use Rattle.std.specs.Prelude.{◌==◌, IfSome, filter, if◌then◌else◌, not, option_and_then}
+use Rattle.lemmas.proofs.Booleans.{and_left, and_right}
 use Rattle.base_types.specs.declared.Recovery.{Recovery}
 use Rattle.base_types.specs.declared.Recovery.TheVariants as recovery
 use Rattle.model.specs.Types.{Cmd, Events, Rerun}
@@ -15,16 +16,8 @@ use Rattle.model_laws.proofs.Options.{least_passes}
 use Rattle.recovery_watch.specs.Advice.{advice, advised_at, advised_by, has_ended_badly, is_called_off, is_waiting}
 use Rattle.recovery_watch.specs.Advice.{needs_advice, needs_advice_in, recovers}
 
-left : (a b : Bool) → (a && b) ≡ true → a ≡ true
-left true b h = refl
-left false b h = cc
-
-right : (a b : Bool) → (a && b) ≡ true → b ≡ true
-right true b h = h
-right false b h = cc
-
 fifth : (a b c d e : Bool) → all_of (a ∷ b ∷ c ∷ d ∷ e ∷ []) ≡ true → e ≡ true
-fifth a b c d e h = left e true (right d _ (right c _ (right b _ (right a _ h))))
+fifth a b c d e h = and_left e true (and_right d _ (and_right c _ (and_right b _ (and_right a _ h))))
 
 -- a recovery that advises to rerun
 by_recovery : (r : Recovery) (k j n : ℕ) → advised_by r k ≡ Some (Rerun j) → recovers r n ≡ true

@@ -1,6 +1,6 @@
 -- One item more in a walk.
 use Rattle.std.proofs.Common.{◌≡◌, ◌<◌, ◌+◌, ℕ, suc, List, ◌∷◌, ◌++◌, codes, length, map, ap, ◌∙◌, refl, sym}
-use Rattle.std.proofs.Common.{add-one, append_assoc, drop, drop-cons, flat_map, get_or}
+use Rattle.std.proofs.Common.{add-one, append_assoc, drop, drop-cons, get_or}
 use Rattle.report_text.specs.Lists.{after_commas}
 
 -- what is left to write, where the text of one item more was written
@@ -12,11 +12,6 @@ left text xs i x one whole now new low is split before put =
     drop-cons xs i x low ∙ ap (λ y. y ∷ drop (suc i) xs) (sym is) ∙ ap (λ n. x ∷ drop n xs) (sym (add-one i)) in
     before ∙ ap (λ l. now ++ text l) cut ∙ ap (λ t. now ++ t) split
     ∙ sym (append_assoc now one (text (drop (i + 1) xs))) ∙ ap (λ l. l ++ text (drop (i + 1) xs)) (sym put)
-
-pub left_further : {X : Type 0} (f : X → List ℕ) (xs : List X) (i : ℕ) (x : X) (whole now new : List ℕ) → i < length xs
-    → x ≡ get_or xs i x → whole ≡ now ++ flat_map f (drop i xs) → new ≡ now ++ f x
-    → whole ≡ new ++ flat_map f (drop (i + 1) xs)
-left_further f xs i x whole now new low is before put = left (flat_map f) xs i x (f x) whole now new low is refl before put
 
 pub commas_further : {X : Type 0} (f : X → List ℕ) (xs : List X) (i : ℕ) (x : X) (whole now new : List ℕ) → i < length xs
     → x ≡ get_or xs i x → whole ≡ now ++ after_commas (map f (drop i xs)) → new ≡ now ++ (codes "," ++ f x)

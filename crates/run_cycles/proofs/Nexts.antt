@@ -7,7 +7,8 @@ use Rattle.calendars.specs.Nth.{below}
 use Rattle.model.specs.Words.{some_is}
 use Rattle.std.proofs.Common.{take_while}
 use Rattle.std.proofs.lemmas.List.Sums.{take_while-cons}
-use Rattle.run_cycles.proofs.Walks.{below-zero, below-suc, none, split, all_free, broken}
+use Rattle.run_rules.proofs.Places.{any_none}
+use Rattle.run_cycles.proofs.Walks.{below-zero, below-suc, split, all_free, broken}
 
 other_number : (m n : ℕ) → n < m → eqb m n ≡ false
 other_number m n h = grind (arith, nat_tests)
@@ -167,7 +168,7 @@ module _ (free : ℕ → Bool) where
             let own : given last day n ≡ false =
             ap (λ b. dated n && b) (stopped last day n n (omega arith) below_day within here) ∙ and_false (dated n) in
             let lower : list_any (given last day) (below n) ≡ false =
-            none (given last day) n
+            any_none (given last day) n
             (λ m less. ap (λ b. dated m && b) (stopped last day n m (omega (arith, less)) below_day within here) ∙ and_false (dated m)) in
             ap (λ b. b || list_any (given last day) (below n)) own ∙ (lower ∙ sym (and_false (works day)))
 

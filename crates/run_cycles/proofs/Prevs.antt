@@ -7,29 +7,15 @@ use Rattle.calendars.specs.Nth.{below}
 use Rattle.model.specs.Words.{some_is}
 use Rattle.std.proofs.Common.{take_while}
 use Rattle.std.proofs.lemmas.List.Sums.{take_while-cons}
-use Rattle.run_cycles.proofs.Walks.{below-suc, none, all_free}
+use Rattle.lemmas.proofs.Booleans.{and_false, and_true, or_false, or_regroup}
+use Rattle.run_rules.proofs.Places.{any_none}
+use Rattle.run_cycles.proofs.Walks.{below-suc, all_free}
 
 pub higher : (m n : ℕ) → n < m → eqb m n ≡ false
 higher m n h = grind (arith, nat_tests)
 
 pub lower : (m n : ℕ) → m < n → eqb m n ≡ false
 lower m n h = grind (arith, nat_tests)
-
-pub and_false : (b : Bool) → (b && false) ≡ false
-and_false true = refl
-and_false false = refl
-
-pub and_true : (b : Bool) → (b && true) ≡ b
-and_true true = refl
-and_true false = refl
-
-pub or_false : (b : Bool) → (b || false) ≡ b
-or_false true = refl
-or_false false = refl
-
-or_assoc : (x y z : Bool) → (x || (y || z)) ≡ ((x || y) || z)
-or_assoc true y z = refl
-or_assoc false y z = refl
 
 and_assoc : (a b c : Bool) → ((a && b) && c) ≡ (a && (b && c))
 and_assoc true b c = refl
@@ -156,7 +142,7 @@ module _ (free : ℕ → Bool) where
             let last : a + 1 + k ≡ a + suc k = omega arith in
             ap (λ b. dated a || b)
             (h ∙ ap (λ n. list_any dated (take_while free (range_with_len (a + 1) k)) || (all_free free (a + 1) (suc k) && dated n)) last)
-            ∙ or_assoc (dated a) (list_any dated (take_while free (range_with_len (a + 1) k)))
+            ∙ or_regroup (dated a) (list_any dated (take_while free (range_with_len (a + 1) k)))
             (all_free free (a + 1) (suc k) && dated (a + suc k))
         go false h = refl
 
@@ -191,7 +177,7 @@ module _ (free : ℕ → Bool) where
         ∙ (below-suc (given day) day
         ∙ (ap (λ b. (dated day && b) || list_any (given day) (below day)) (from_itself day)
         ∙ (ap (λ b. (dated day && works day) || b)
-        (none (given day) day (λ m low. ap (λ b. dated m && b) (from_before day m low) ∙ and_false (dated m)))
+        (any_none (given day) day (λ m low. ap (λ b. dated m && b) (from_before day m low) ∙ and_false (dated m)))
         ∙ alone (dated day) (works day))))
     prev_gives day (suc k) =
         let top : day + 1 + suc k ≡ suc (day + 1 + k) = omega arith in

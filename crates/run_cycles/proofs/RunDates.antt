@@ -1,6 +1,6 @@
 -- The days between two on which a stream runs.
 use Rattle.std.proofs.Common.{◌≡◌, ℕ, ◌+◌, ◌-◌, ◌<◌, ◌≤◌, ◌&&◌, not, Bool, true, false, nat_le, min}
-use Rattle.std.proofs.Common.{List, filter, Some, None, option_map, Result, Ok, Err, IfOk, slice_get, refl, sym, ap, ◌∙◌, arith}
+use Rattle.std.proofs.Common.{List, filter, Some, None, option_map, slice_get, refl, sym, ap, ◌∙◌, arith}
 use Rattle.std.proofs.lemmas.Bool.Decides.{nat_tests}
 use Rattle.std.specs.List.{range_with_len}
 use Rattle.std.specs.Option.{option_map_or}
@@ -13,10 +13,6 @@ use Rattle.composer_parser.specs.declared.Defs.{Defs}
 use Rattle.composer_parser.specs.declared.ScheduleDef.{ScheduleDef}
 use Rattle.workload_defs.specs.Days.{free_of, free_of_stream}
 use Rattle.run_cycles.specs.Runs.{any_gives, runs_of, runs}
-
-pub if_ok : {T E : Type 0} (P Q : T → Type 0) (r : Result T E) → ((x : T) → P x → Q x) → IfOk r P → IfOk r Q
-if_ok P Q (Ok x) f h = f x h
-if_ok P Q (Err e) f h = tt
 
 pub dates_of : (d : Defs) (n from to day : ℕ) (set items list : List ℕ) (len : ℕ) → len ≡ min to last_day + 1 - from
     → list ≡ items → items ≡ filter (runs d n) (range_with_len from len) → has set day ≡ has list day

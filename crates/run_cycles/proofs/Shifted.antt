@@ -2,6 +2,8 @@
 use Rattle.std.proofs.Common.{◌≡◌, ℕ, ◌+◌, ◌-◌, ◌<◌, ◌≤◌, ◌&&◌, ◌||◌, Bool, true, false, not, cond, min, filter, slice_get, Option, Some, None}
 use Rattle.std.proofs.Common.{refl, sym, ap, ◌∙◌, arith, eqb, eq-eqb}
 use Rattle.std.specs.List.{list_any}
+use Rattle.run_rules.proofs.Places.{any_none}
+use Rattle.lemmas.proofs.Booleans.{and_false, and_true, or_false}
 use Rattle.calendars.specs.Dates.{last_day}
 use Rattle.calendars.specs.Free.{is_free, is_workday}
 use Rattle.calendars.specs.Nth.{below, days_after, days_before}
@@ -13,9 +15,9 @@ use Rattle.composer_parser.specs.declared.Shift.TheVariants.{Ignore, Next, Prev}
 use Rattle.model.specs.Words.{some_is}
 use Rattle.run_cycles.specs.Items.{is_dated}
 use Rattle.run_cycles.specs.Shifts.{all_days, shifted, gives, free_run}
-use Rattle.run_cycles.proofs.Walks.{none, split, alike}
+use Rattle.run_cycles.proofs.Walks.{split, alike}
 use Rattle.run_cycles.proofs.Nexts.{next_gives}
-use Rattle.run_cycles.proofs.Prevs.{given, prev_gives, and_false, and_true, or_false, higher, lower}
+use Rattle.run_cycles.proofs.Prevs.{given, prev_gives, higher, lower}
 
 module _ (d : Defs) (free : FreeDays) (on : OnDef) (day : ℕ) (within : day ≤ last_day) where
   by_shift : (s : Option Shift) → on.shift ≡ s
@@ -29,7 +31,7 @@ module _ (d : Defs) (free : FreeDays) (on : OnDef) (day : ℕ) (within : day ≤
       → list_any q all_days ≡ q day
   only q above under =
       split q (last_day + 1) day (omega (arith, within)) above
-      ∙ (ap (λ b. q day || b) (none q day under) ∙ or_false (q day))
+      ∙ (ap (λ b. q day || b) (any_none q day under) ∙ or_false (q day))
 
   pub by_none : (b : Bool) → on.shift ≡ None → b ≡ is_dated d free on day → b ≡ gives d free day on
   by_none b is told =

@@ -14,13 +14,6 @@ pub below-suc : (q : ℕ → Bool) (n : ℕ) → list_any q (below (suc n)) ≡ 
 unfolding below
 below-suc q n = refl
 
--- where none of the numbers below passes
-pub none : (q : ℕ → Bool) (n : ℕ) → ((m : ℕ) → m < n → q m ≡ false) → list_any q (below n) ≡ false
-none q zero h = below-zero q
-none q (suc n) h =
-    below-suc q n
-    ∙ (ap (λ b. b || list_any q (below n)) (h n (omega arith)) ∙ none q n (λ m low. h m (omega (arith, low))))
-
 -- tests that are the same of all the numbers below
 pub alike : (p q : ℕ → Bool) (n : ℕ) → ((m : ℕ) → m < n → p m ≡ q m) → list_any p (below n) ≡ list_any q (below n)
 alike p q zero h = below-zero p ∙ sym (below-zero q)

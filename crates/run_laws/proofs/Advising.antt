@@ -3,21 +3,21 @@ use Rattle.std.proofs.Common.{[], ◌++◌, ◌≡◌, ◌∙◌, ◌∷◌, ◌
 use Rattle.std.proofs.lemmas.List.Sums.{fold-append}
 use Rattle.std.specs.List.{AllByRecursion}
 use Rattle.std.specs.Prelude.{fold}
+use Rattle.lemmas.proofs.Lists.{all_append}
 use Rattle.composer_parser.specs.declared.Defs.{Defs}
 use Rattle.model.specs.Types.{Cmd, Entry, Input, Local, Net, Order, Orders, Rerun, StartFailed, Turn, Typed, Unlinked}
 use Rattle.model.specs.History.{View}
 use Rattle.model.specs.NewEntry.{makes, next_entry, own_entry}
 use Rattle.agent_core.specs.Nodes.{NodeState, present_in, session_in, view_in}
 use Rattle.recovery_watch.specs.Advice.{advice}
-use Rattle.node_keeping.specs.Traces.{Event, Trace}
-use Rattle.node_keeping.specs.declared.ends.NodeEnd.{NodeEnd}
+use Rattle.node_inputs.specs.Traces.{Event, Trace}
+use Rattle.node_inputs.specs.declared.ends.NodeEnd.{NodeEnd}
 use Rattle.node_inputs.specs.Actions.{Action, IfThere, Nothing}
 use Rattle.node_inputs.specs.Inputs.{Take}
 use Rattle.run_laws.specs.Alone.{alone_with}
 use Rattle.run_laws.specs.Held.{held_after}
 use Rattle.node_loop.specs.Runs.{Advise, Come, Comes, Run}
 use Rattle.run_laws.proofs.Rules.{Gives, IsJoined, nothing_gives, wants_gives}
-use Rattle.run_laws.proofs.Given.{all_append}
 use Rattle.run_laws.proofs.Splits.{IsFurther, IsHere, split_cons}
 use Rattle.run_laws.proofs.Taking.{IsRule, IsTold, Steps, take_gives}
 use Rattle.run_laws.proofs.Tracing.{IsDone, StepTrace, step_trace}

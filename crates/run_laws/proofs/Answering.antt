@@ -5,6 +5,7 @@ use Rattle.std.proofs.lemmas.List.Elements.{All-from_recursion, filter_map-appen
 use Rattle.std.proofs.lemmas.List.Sums.{sum_by-append}
 use Rattle.std.specs.List.{All, AllByRecursion}
 use Rattle.std.specs.Prelude.{filter, if◌then◌else◌, nat_lt, option_and_then}
+use Rattle.lemmas.proofs.Lists.{all_append}
 use Rattle.model.specs.Types.{Body, Cmd, Entry, Events, Obeyed, Orders, Rerun}
 use Rattle.model.specs.Equalities.{feed_eq}
 use Rattle.model.specs.Facts.{answered, commands, reruns}
@@ -14,10 +15,9 @@ use Rattle.model.specs.Words.{least}
 use Rattle.model_laws.proofs.Feeds.{list_of_elsewhere, list_of_here}
 use Rattle.recovery_watch.specs.Advice.{advice, advised_at, needs_advice}
 use Rattle.agent_core.specs.Nodes.{NodeState}
-use Rattle.node_keeping.specs.Traces.{Event, Trace, kept}
-use Rattle.node_keeping.specs.declared.ends.NodeEnd.{NodeEnd}
+use Rattle.node_inputs.specs.Traces.{Event, Trace, kept}
+use Rattle.node_inputs.specs.declared.ends.NodeEnd.{NodeEnd}
 use Rattle.run_laws.specs.Held.{held_after}
-use Rattle.run_laws.proofs.Given.{all_append}
 use Rattle.run_laws.proofs.Marks.{Marks}
 use Rattle.run_laws.proofs.Keeping.{OfKept}
 use Rattle.run_laws.proofs.Made.{HasNextPlace, IsNextAnswer}

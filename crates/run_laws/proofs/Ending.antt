@@ -2,14 +2,15 @@
 use Rattle.std.proofs.Common.{[], ◌++◌, ◌≡◌, ◌∙◌, ◌∷◌, List, None, Option, Some, ap, append_assoc, refl, subst, sym}
 use Rattle.std.proofs.lemmas.List.{append-nil}
 use Rattle.std.specs.Option.{option_to_list}
+use Rattle.node_inputs.proofs.Lasting.{kept-append}
 use Rattle.model.specs.Types.{Entry, Input}
 use Rattle.agent_core.specs.Nodes.{NodeState}
-use Rattle.node_keeping.specs.Traces.{Event, Trace, kept}
-use Rattle.node_keeping.specs.declared.ends.NodeEnd.{NodeEnd}
+use Rattle.node_inputs.specs.Traces.{Event, Trace, kept}
+use Rattle.node_inputs.specs.declared.ends.NodeEnd.{NodeEnd}
 use Rattle.run_laws.specs.Held.{IsInHand}
 use Rattle.run_laws.proofs.Rules.{Gives, IsJoined}
 use Rattle.run_laws.proofs.Taking.{IsRule, Steps}
-use Rattle.run_laws.proofs.Tracing.{StepTrace, done_keeps_none, kept-append, step_trace}
+use Rattle.run_laws.proofs.Tracing.{StepTrace, done_keeps_none, step_trace}
 
 -- what it holds beside what it kept, which is nothing where the run goes on
 pub record HoldsWhatItKept (old : NodeState) (trace : Trace) (end : Option NodeEnd) (new : NodeState) : Type 0 where

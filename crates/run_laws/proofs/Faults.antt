@@ -19,9 +19,9 @@ use Rattle.agent_core.specs.Steps.{IsDue, step_at}
 use Rattle.agent_core.specs.declared.faults.StepFault.{StepFault}
 use Rattle.agent_core.specs.declared.faults.StepFault.TheVariants as fault
 use Rattle.carry_forward.specs.declared.faults.CarryFault.TheVariants as carry
-use Rattle.node_keeping.specs.Traces.{Trace}
-use Rattle.node_keeping.specs.declared.ends.NodeEnd.{NodeEnd}
-use Rattle.node_keeping.specs.declared.ends.NodeEnd.TheVariants.{Limit}
+use Rattle.node_inputs.specs.Traces.{Trace}
+use Rattle.node_inputs.specs.declared.ends.NodeEnd.{NodeEnd}
+use Rattle.node_inputs.specs.declared.ends.NodeEnd.TheVariants.{Limit}
 use Rattle.node_inputs.specs.Inputs.{PassOver}
 use Rattle.std.specs.Option.{option_or}
 use Rattle.model.specs.Words.{first_of_these}

@@ -12,9 +12,9 @@ use Rattle.agent_core.specs.Nodes.{NodeState, present_in, session_in, view_in}
 use Rattle.file_watch.specs.Circle.{DepPlace}
 use Rattle.file_watch.specs.Probes.{next_probe, path_at}
 use Rattle.file_watch.proofs.Due.{probe_may_be_told}
-use Rattle.node_keeping.specs.Traces.{Event, Trace}
-use Rattle.node_keeping.specs.declared.ends.NodeEnd.{NodeEnd}
-use Rattle.node_keeping.specs.declared.ends.NodeEnd.TheVariants.{Limit, NoMemory}
+use Rattle.node_inputs.specs.Traces.{Event, Trace}
+use Rattle.node_inputs.specs.declared.ends.NodeEnd.{NodeEnd}
+use Rattle.node_inputs.specs.declared.ends.NodeEnd.TheVariants.{Limit, NoMemory}
 use Rattle.node_inputs.specs.Actions.{IfThere, Nothing, Action}
 use Rattle.node_inputs.specs.Inputs.{Take}
 use Rattle.run_laws.specs.Held.{held_after}

@@ -1,14 +1,14 @@
 -- An end for a refusal comes with an entry that was refused, and with one alone.
 use Rattle.std.proofs.Common.{[], ◌++◌, ◌≡◌, ◌∙◌, ◌∷◌, ℕ, List, None, Option, Some, ap, inl, inr, refl, subst, sym}
-use Rattle.std.proofs.lemmas.List.Elements.{filter_map-append}
 use Rattle.std.specs.List.{AllByRecursion}
+use Rattle.node_inputs.proofs.Lasting.{refusals-append}
 use Rattle.model.specs.Types.{Entry, Input, Launch, Out, Send, Work}
 use Rattle.agent_core.specs.Nodes.{NodeState}
 use Rattle.mail_frames.specs.declared.frames.Frame.{Frame}
-use Rattle.node_keeping.specs.Keeping.{IsRefusal}
-use Rattle.node_keeping.specs.Traces.{Event, Trace, refusals, refused_by}
-use Rattle.node_keeping.specs.declared.ends.NodeEnd.{NodeEnd}
-use Rattle.node_keeping.specs.declared.ends.NodeEnd.TheVariants.{NoMemory}
+use Rattle.node_inputs.specs.Keeping.{IsRefusal}
+use Rattle.node_inputs.specs.Traces.{Event, Trace, refusals}
+use Rattle.node_inputs.specs.declared.ends.NodeEnd.{NodeEnd}
+use Rattle.node_inputs.specs.declared.ends.NodeEnd.TheVariants.{NoMemory}
 use Rattle.node_inputs.specs.Actions.{Action, Then}
 use Rattle.node_inputs.specs.Inputs.{Carried, Carry, CarryOut, IsKeeping, Keep, SendFrame, StartIt}
 use Rattle.run_laws.proofs.Given.{send_gives}
@@ -20,9 +20,6 @@ use Rattle.run_laws.proofs.Tracing.{IsDone, all_done}
 pub record IsForced (old : NodeState) (trace : Trace) (end : Option NodeEnd) (new : NodeState) : Type 0 where
   pub quiet : EndsFree end → refusals trace ≡ []
   pub forced : (why : NodeEnd) → end ≡ Some why → IsRefusal why → (e : Entry) × (refusals trace ≡ (e, why) ∷ [])
-
-refusals-append : (a b : Trace) → refusals (a ++ b) ≡ refusals a ++ refusals b
-refusals-append a b = filter_map-append refused_by a b
 
 front_quiet : (a b : Trace) → refusals a ≡ [] → refusals (a ++ b) ≡ refusals b
 front_quiet a b none = refusals-append a b ∙ ap (λ (l : List (Entry × NodeEnd)). l ++ refusals b) none

@@ -3,25 +3,17 @@ use Rattle.std.proofs.Common.{[], ◌++◌, ◌≡◌, ◌∙◌, ◌∷◌, ℕ
 use Rattle.std.proofs.lemmas.List.Elements.{filter_map-append}
 use Rattle.std.specs.List.{AllByRecursion}
 use Rattle.std.specs.Prelude.{filter_map}
+use Rattle.lemmas.proofs.Lists.{all_append}
 use Rattle.model.specs.Types.{Launch, Out, Packet, Send, Work}
 use Rattle.mail_frames.specs.declared.frames.Frame.{Frame}
 use Rattle.outside.specs.Calls.{StartCall}
 use Rattle.agent_core.specs.Nodes.{NodeState}
-use Rattle.node_keeping.specs.Traces.{Event, Trace, starts, start_of}
-use Rattle.node_keeping.specs.declared.ends.NodeEnd.{NodeEnd}
+use Rattle.node_inputs.specs.Traces.{Event, Trace, starts, start_of}
+use Rattle.node_inputs.specs.declared.ends.NodeEnd.{NodeEnd}
 use Rattle.node_inputs.specs.Actions.{Action, IfThere, Nothing}
 use Rattle.node_inputs.specs.Inputs.{Carried, Carry, CarryOut, SendFrame, SendIt, StartIt, frame_of, is_lost}
 use Rattle.run_laws.specs.Launches.{launches_started}
 use Rattle.run_laws.proofs.Rules.{Gives, IsJoined, call_gives, each_gives, each_of_gives, if_gives, if_there_gives, nothing_gives, wants_gives}
-
-pub all_append : {X : Type 0} (P : X → Type 0) (xs ys : List X) → AllByRecursion P xs → AllByRecursion P ys
-    → AllByRecursion P (xs ++ ys)
-all_append P [] ys h k = k
-all_append P (x ∷ xs) ys h k = (h.0, all_append P xs ys h.1 k)
-
-pub all_front : {X : Type 0} (P : X → Type 0) (xs ys : List X) → AllByRecursion P (xs ++ ys) → AllByRecursion P xs
-all_front P [] ys h = tt
-all_front P (x ∷ xs) ys h = (h.0, all_front P xs ys h.1)
 
 -- an action on what was carried so far
 abbrev StartsNone : Action Carried

@@ -1,15 +1,15 @@
 -- What a node holds grows by what it keeps.
-use Rattle.std.proofs.Common.{[], ◌+◌, ◌++◌, ◌≡◌, ◌≤◌, ◌∙◌, ◌∷◌, ℕ, List, ap, append_assoc, arith, inl, inr, refl, sym}
-use Rattle.std.proofs.lemmas.List.Sums.{sum_by-append}
+use Rattle.std.proofs.Common.{[], ◌++◌, ◌≡◌, ◌≤◌, ◌∙◌, ◌∷◌, ℕ, List, ap, append_assoc, arith, inl, inr, refl, sym}
 use Rattle.std.specs.List.{AllByRecursion}
+use Rattle.model_laws.proofs.Answered.{answered-append}
+use Rattle.node_inputs.proofs.Lasting.{kept-append}
 use Rattle.model.specs.Types.{Body, Entry, Feed}
 use Rattle.model.specs.Facts.{answered}
 use Rattle.model.specs.History.{list_of}
 use Rattle.model_laws.proofs.Feeds.{feed_cases, list_of-append}
 use Rattle.agent_core.specs.Nodes.{NodeState}
-use Rattle.node_keeping.specs.Traces.{Event, Trace, kept}
+use Rattle.node_inputs.specs.Traces.{Event, Trace, kept}
 use Rattle.run_laws.specs.Held.{held_after}
-use Rattle.run_laws.proofs.Tracing.{kept-append}
 
 -- one more entry, and what was kept behind it
 pub held_more : (node : NodeState) (front more : Trace) (e : Entry) (f : Feed)
@@ -19,10 +19,6 @@ held_more node front more e f =
     ∙ ap (λ (l : List Entry). list_of l f) (sym (append_assoc node.kept (kept front) (e ∷ kept more)))
     ∙ list_of-append (node.kept ++ kept front) (e ∷ kept more) f
     ∙ ap (λ (l : List Body). held_after node front f ++ l) (list_of-append (e ∷ []) (kept more) f)
-
-pub answered-append : (a : ℕ) (xs ys : List Body) → answered a (xs ++ ys) ≡ answered a xs + answered a ys
-unfolding answered
-answered-append a xs ys = sum_by-append _ xs ys
 
 pub answered_grows : (node : NodeState) (front more : Trace) (e : Entry) (f : Feed) (a : ℕ)
     → answered a (held_after node front f) ≤ answered a (held_after node (front ++ Event.Keeps e ∷ more) f)

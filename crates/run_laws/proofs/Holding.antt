@@ -1,7 +1,7 @@
 -- The laws that hold of all events hold of each run.
 use Rattle.std.proofs.Common.{ℕ, refl}
 use Rattle.composer_parser.specs.declared.Defs.{Defs}
-use Rattle.node_keeping.specs.Traces.{Event}
+use Rattle.node_inputs.specs.Traces.{Event}
 use Rattle.node_loop.specs.Runs.{Run}
 use Rattle.run_laws.proofs.Rules.{Gives}
 use Rattle.run_laws.proofs.Starting.{StartsItsLaunches, one_starts_none, starts_rule}

@@ -9,9 +9,9 @@ use Rattle.model.specs.Step.{Effect, effect}
 use Rattle.agent_core.specs.Nodes.{NodeState, present_in, session_in, view_in}
 use Rattle.agent_core.specs.Steps.{IsTaken}
 use Rattle.agent_core.specs.declared.faults.Step.{Step}
-use Rattle.node_keeping.specs.Traces.{Event, Trace}
-use Rattle.node_keeping.specs.declared.ends.NodeEnd.{NodeEnd}
-use Rattle.node_keeping.specs.declared.ends.NodeEnd.TheVariants.{NoMemory}
+use Rattle.node_inputs.specs.Traces.{Event, Trace}
+use Rattle.node_inputs.specs.declared.ends.NodeEnd.{NodeEnd}
+use Rattle.node_inputs.specs.declared.ends.NodeEnd.TheVariants.{NoMemory}
 use Rattle.node_inputs.specs.Inputs.{Take}
 use Rattle.run_laws.specs.Held.{held_after}
 use Rattle.run_laws.proofs.Rules.{free_memory, stop_gives}

@@ -7,6 +7,7 @@ use Rattle.std.specs.Bool.{then_some}
 use Rattle.std.specs.List.{AllByRecursion}
 use Rattle.std.specs.Option.{option_map_or, option_to_list}
 use Rattle.std.specs.Prelude.{IfSome, ◌&&◌, ◌==◌, filter, filter_map, flat_map, if◌then◌else◌, not, option_map, length}
+use Rattle.lemmas.proofs.Lists.{all_append, one_filtered}
 use Rattle.model.specs.Types.{Body, Cmd, Ended, Entry, Events, Failed, Feed, Fulfil, Fulfilled, Input, Kill, Launch, Linked, LiveJob, Local, Mail, Net}
 use Rattle.model.specs.Types.{Next, Obeyed, Orders, Out, Send, StartFailed, Started, Turn, Typed, Unlinked}
 use Rattle.model.specs.Types.{Packet}
@@ -30,7 +31,7 @@ use Rattle.agent_core.specs.Nodes.{NodeState, session_in, view_in}
 use Rattle.agent_core.specs.Steps.{IsTaken, effect_in}
 use Rattle.agent_core.specs.declared.faults.Step.{Step}
 use Rattle.run_laws.specs.Launches.{launch_in, launch_of}
-use Rattle.run_laws.proofs.Given.{IsNoLaunch, LaunchesFirst, all_append, launch_out, no_launch_out}
+use Rattle.run_laws.proofs.Given.{IsNoLaunch, LaunchesFirst, launch_out, no_launch_out}
 use Rattle.run_laws.proofs.Taking.{IsEffect, its_effect}
 
 -- what is kept, and what is given out, are of one launch or of none
@@ -132,13 +133,6 @@ body_heads net V me live t b (TurnGives.launched j h) =
 -- an entry of the node's own events
 own_launch : (V : View) (me : ℕ) (b : Body) → launch_of me (next_entry V (Events me) b) ≡ launch_in b
 own_launch V me b = rw (eq-eqb me me refl) refl
-
-one_filtered : {A B : Type 0} (f : A → Option B) (a : A) → filter_map f (a ∷ []) ≡ option_to_list (f a)
-one_filtered {A} {B} f a = go (f a) refl
-  where
-    go : (o : Option B) → f a ≡ o → filter_map f (a ∷ []) ≡ option_to_list o
-    go None e = rw e refl
-    go (Some b) e = rw e refl
 
 turn_launches : (net u : Net) (V : View) (me : ℕ) (s r : Session) (t : ℕ) (b : Option Body)
     → IfSome b (TurnGives net V me s.live t)

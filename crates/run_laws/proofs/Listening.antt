@@ -31,8 +31,8 @@ use Rattle.outside.specs.Calls.{Asked}
 use Rattle.plan_builder.specs.Limits.{plan_fault}
 use Rattle.plan_builder.specs.declared.faults.PlanFault.{PlanFault}
 use Rattle.symphony_view.specs.Listings.{listing_of}
-use Rattle.node_keeping.specs.Traces.{Event}
-use Rattle.node_keeping.specs.declared.ends.NodeEnd.TheVariants.{Limit, Shutdown}
+use Rattle.node_inputs.specs.Traces.{Event}
+use Rattle.node_inputs.specs.declared.ends.NodeEnd.TheVariants.{Limit, Shutdown}
 use Rattle.node_inputs.specs.Actions.{Action, Call, Each, From, If, IfThere, Nothing, Stop, Then, Wants}
 use Rattle.node_inputs.specs.Inputs.{Follow, Lose, Refused, Take, Takes}
 use Rattle.node_loop.specs.Frames.{Frames, entry_of, input_of}

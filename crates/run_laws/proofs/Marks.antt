@@ -2,18 +2,20 @@
 use Rattle.std.proofs.Common.{[], ◌++◌, ◌≡◌, ◌∙◌, ◌∷◌, ◌⊎◌, List, None, Option, Some, ap, append_assoc, inl, inr, refl, subst, sym}
 use Rattle.std.proofs.lemmas.List.{append-nil}
 use Rattle.std.specs.List.{AllByRecursion}
+use Rattle.lemmas.proofs.Lists.{no_middle}
+use Rattle.node_inputs.proofs.Lasting.{kept-append}
 use Rattle.model.specs.Types.{Entry, Input}
 use Rattle.model.specs.History.{view_of}
 use Rattle.agent_core.specs.Nodes.{NodeState, view_in}
-use Rattle.node_keeping.specs.Keeping.{IsRefusal}
-use Rattle.node_keeping.specs.Traces.{Event, Trace, kept}
-use Rattle.node_keeping.specs.declared.ends.NodeEnd.{NodeEnd}
+use Rattle.node_inputs.specs.Keeping.{IsRefusal}
+use Rattle.node_inputs.specs.Traces.{Event, Trace, kept}
+use Rattle.node_inputs.specs.declared.ends.NodeEnd.{NodeEnd}
 use Rattle.node_inputs.specs.Actions.{Action}
 use Rattle.run_laws.specs.Held.{held_after}
 use Rattle.run_laws.proofs.Rules.{EndsFree, IsJoined}
-use Rattle.run_laws.proofs.Splits.{InFirst, InSecond, IsFurther, IsHere, IsOnly, not_empty, only_one, split_append, split_cons}
+use Rattle.run_laws.proofs.Splits.{InFirst, InSecond, IsFurther, IsHere, IsOnly, only_one, split_append, split_cons}
 use Rattle.run_laws.proofs.Taking.{Steps}
-use Rattle.run_laws.proofs.Tracing.{IsDone, StepTrace, kept-append, step_keeps, step_trace}
+use Rattle.run_laws.proofs.Tracing.{IsDone, StepTrace, step_keeps, step_trace}
 
 -- the node is the same, and holds what it kept since
 pub record Follows (a : NodeState) (front : Trace) (b : NodeState) : Type 0 where
@@ -58,7 +60,7 @@ module _ (R : Mark) (m : IsMark R) where
     me_ = refl;
     net_ = refl;
     grows = λ h. sym (append-nil s.kept);
-    each = λ front event back split. absurd (not_empty front back event split);
+    each = λ front event back split. absurd (no_middle front back event split);
   }
 
   joins : (a b c : NodeState) (front back : Trace) (end : Option NodeEnd) → Marks R a front None b → Marks R b back end c
@@ -132,7 +134,7 @@ step_event input old trace end new h front event back split = go (step_trace inp
     go (StepTrace.refused e why is r there ends) =
         let only : IsOnly (Event.Refuses e why) front back event = only_one (Event.Refuses e why) front back event (sym there ∙ split) in
         StepEvent.refuses e why r is only.none_before (sym only.is) only.none_behind ends
-    go (StepTrace.spent e is there ends) = absurd (not_empty front back event (sym there ∙ split))
+    go (StepTrace.spent e is there ends) = absurd (no_middle front back event (sym there ∙ split))
 
 -- a step, where the mark holds of its events
 pub step_marked : (R : Mark) (input : Input) (old : NodeState) (trace : Trace) (end : Option NodeEnd) (new : NodeState)

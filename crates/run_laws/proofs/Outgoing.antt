@@ -3,6 +3,8 @@ use Rattle.std.proofs.Common.{[], ◌++◌, ◌≡◌, ◌∙◌, ◌∷◌, ◌
 use Rattle.std.specs.List.{AllByRecursion}
 use Rattle.std.specs.Option.{option_map_or, option_to_list}
 use Rattle.std.specs.Prelude.{filter, flat_map, if◌then◌else◌, option_map, ◌&&◌}
+use Rattle.lemmas.proofs.Lists.{all_append, all_left, all_middle, no_middle}
+use Rattle.node_inputs.proofs.Lasting.{kept-append}
 use Rattle.model.specs.Types.{Ack, Body, Entry, Events, Feed, Fulfil, Input, Kill, Launch, Launched, Linked, Local, Mail, Net, Next, Obeyed, Out, Packet, Send, StartFailed}
 use Rattle.model.specs.Types.{Turn, Typed, Unlinked}
 use Rattle.model.specs.Words.{below, nth}
@@ -23,17 +25,17 @@ use Rattle.agent_core.proofs.Holding.{view_later}
 use Rattle.agent_core.specs.Nodes.{NodeState, session_in, view_in}
 use Rattle.agent_core.specs.Steps.{IsTaken, effect_in}
 use Rattle.agent_core.specs.declared.faults.Step.{Step}
-use Rattle.node_keeping.specs.Traces.{Event, Trace, kept}
-use Rattle.node_keeping.specs.declared.ends.NodeEnd.{NodeEnd}
+use Rattle.node_inputs.specs.Traces.{Event, Trace, kept}
+use Rattle.node_inputs.specs.declared.ends.NodeEnd.{NodeEnd}
 use Rattle.node_inputs.specs.Actions.{Action, IfThere, Nothing, Then}
 use Rattle.node_inputs.specs.Inputs.{Carried, Carry, CarryOut, IsKeeping, Keep, SendFrame, frame_of, is_lost}
 use Rattle.run_laws.specs.Held.{held_after}
 use Rattle.run_laws.specs.Outgoing.{IsItsWork, IsObeyedKill, TellsOfHeld}
 use Rattle.run_laws.proofs.Rules.{Gives, IsJoined, call_gives, each_of_gives, if_gives, nothing_gives, wants_gives}
-use Rattle.run_laws.proofs.Splits.{InFirst, InSecond, not_empty, only_one, split_append}
-use Rattle.run_laws.proofs.Given.{IsGiven, all_append, all_front}
+use Rattle.run_laws.proofs.Splits.{InFirst, InSecond, only_one, split_append}
+use Rattle.run_laws.proofs.Given.{IsGiven}
 use Rattle.run_laws.proofs.Taking.{GivesOut, IsAsk, IsEffect, IsRule, Steps, its_effect}
-use Rattle.run_laws.proofs.Tracing.{IsDone, all_done, front_kept, kept-append, trace_keeps}
+use Rattle.run_laws.proofs.Tracing.{IsDone, all_done, front_kept, trace_keeps}
 use Rattle.run_laws.proofs.Marks.{Follows, IsMark, Mark, Marks, MarksAll, held_joined, marks_joined, one_marked, step_marked}
 use Rattle.model.specs.Turn.{turn_body}
 
@@ -190,17 +192,13 @@ record GoesOut (old new : NodeState) (made : Option Entry) (front : Trace) (even
   kept_before : kept front ≡ option_to_list made
   is_out : IsOut old.me new made event
 
-one_of : {X : Type 0} (P : X → Type 0) (front back : List X) (x : X) → AllByRecursion P (front ++ x ∷ back) → P x
-one_of P [] back x h = h.0
-one_of P (y ∷ front) back x h = one_of P front back x h.1
-
 no_ask : (event : Event) → IsGiven event → IsAsk event → ⊥
 no_ask (Event.Asks call) g a = g
 no_ask event g a = absurd a
 
 keeping_gives_none : (m : Option Entry) (trace front back : Trace) (end : Option NodeEnd) (event : Event) → IsKeeping m trace end → IsGiven event
     → trace ≡ front ++ event ∷ back → ⊥
-keeping_gives_none None trace front back end event h g split = not_empty front back event (sym h.0 ∙ split)
+keeping_gives_none None trace front back end event h g split = no_middle front back event (sym h.0 ∙ split)
 keeping_gives_none (Some e) trace front back end event (inl h) g split =
     no_keep event g (only_one (Event.Keeps e) front back event (sym h.0 ∙ split)).is
   where
@@ -213,7 +211,7 @@ keeping_gives_none (Some e) trace front back end event (inr (inl h)) g split =
     no_refusal : (x : Event) → IsGiven x → Event.Refuses e h.0 ≡ x → ⊥
     no_refusal (Event.Refuses d why) k same = k
     no_refusal x k same = cc
-keeping_gives_none (Some e) trace front back end event (inr (inr h)) g split = not_empty front back event (sym h.0 ∙ split)
+keeping_gives_none (Some e) trace front back end event (inr (inr h)) g split = no_middle front back event (sym h.0 ∙ split)
 
 goes_out : (input : Input) (old : NodeState) (trace : Trace) (end : Option NodeEnd) (new : NodeState) (h : Steps input old trace end new)
     (front : Trace) (event : Event) (back : Trace) → trace ≡ front ++ event ∷ back → IsGiven event → GoesOut old new h.step.kept front event
@@ -237,7 +235,7 @@ goes_out input old trace end new h front event back split given = go h.acts
         within : (middle : Trace) → front ≡ b.front ++ middle → InFirst g.asks g.carried middle back event ⊎ InSecond g.asks g.carried middle back event
             → GoesOut old new h.step.kept front event
         within middle is (inl f) =
-            absurd (no_ask event given (one_of IsAsk middle f.rest event (subst (AllByRecursion IsAsk) f.first g.are_asks)))
+            absurd (no_ask event given (all_middle IsAsk middle f.rest event (subst (AllByRecursion IsAsk) f.first g.are_asks)))
         within middle is (inr s) =
             let outs : AllByRecursion (IsOut old.me new h.step.kept) (s.middle ++ event ∷ back) =
             subst (AllByRecursion (IsOut old.me new h.step.kept)) s.second all_out in
@@ -246,11 +244,11 @@ goes_out input old trace end new h front event back split given = go h.acts
                   ap kept (is ∙ ap (λ (t : Trace). b.front ++ t) s.before)
                   ∙ trace_keeps h.step.kept (b.front ++ (g.asks ++ s.middle))
                   (front_kept h.step.kept b.front (g.asks ++ s.middle) (b.front ++ (g.asks ++ s.middle)) None refl
-                  (all_front IsDone (g.asks ++ s.middle) (event ∷ back)
+                  (all_left IsDone (g.asks ++ s.middle) (event ∷ back)
                   (subst (AllByRecursion IsDone)
                   (ap (λ (t : Trace). g.asks ++ t) s.second ∙ sym (append_assoc g.asks s.middle (event ∷ back)))
                   (all_done h.step.outs b.middle b.back end new g))) b.begins.0);
-              is_out = one_of (IsOut old.me new h.step.kept) s.middle back event outs;
+              is_out = all_middle (IsOut old.me new h.step.kept) s.middle back event outs;
             }
 
         at : InFirst b.front b.back front back event ⊎ InSecond b.front b.back front back event → GoesOut old new h.step.kept front event

@@ -2,9 +2,9 @@
 use Rattle.std.proofs.Common.{[], ◌++◌, ◌≡◌, ◌∙◌, None, Option, Some, ap, refl, subst}
 use Rattle.model.specs.Types.{Entry}
 use Rattle.agent_core.specs.Nodes.{NodeState}
-use Rattle.node_keeping.specs.Keeping.{IsRefusal}
-use Rattle.node_keeping.specs.Traces.{Event, Trace}
-use Rattle.node_keeping.specs.declared.ends.NodeEnd.{NodeEnd}
+use Rattle.node_inputs.specs.Keeping.{IsRefusal}
+use Rattle.node_inputs.specs.Traces.{Event, Trace}
+use Rattle.node_inputs.specs.declared.ends.NodeEnd.{NodeEnd}
 use Rattle.run_laws.proofs.Taking.{IsRule}
 use Rattle.run_laws.proofs.Marks.{Follows, IsMark, Mark, MarksAll, StepEvent, marks_joined, one_marked, step_marked}
 

@@ -4,6 +4,8 @@ use Rattle.std.proofs.lemmas.Bool.{eq-eqb}
 use Rattle.std.proofs.lemmas.List.Elements.{All-from_recursion}
 use Rattle.std.specs.List.{All, AllByRecursion}
 use Rattle.std.specs.Prelude.{if◌then◌else◌}
+use Rattle.model_laws.proofs.Starts.{launches_one}
+use Rattle.lemmas.proofs.Lists.{no_middle, same_head, same_tail}
 use Rattle.model.specs.Types.{Body, Entry, Events, Feed, Launched}
 use Rattle.model.specs.Equalities.{feed_eq}
 use Rattle.model.specs.Facts.{launches}
@@ -11,11 +13,10 @@ use Rattle.model.specs.History.{Seen, list_of}
 use Rattle.model_laws.proofs.Feeds.{feed_cases, list_of_here}
 use Rattle.model_laws.proofs.Growth.{launches-append}
 use Rattle.agent_core.specs.Nodes.{NodeState}
-use Rattle.node_keeping.specs.Traces.{Event, Trace}
-use Rattle.node_keeping.specs.declared.ends.NodeEnd.{NodeEnd}
+use Rattle.node_inputs.specs.Traces.{Event, Trace}
+use Rattle.node_inputs.specs.declared.ends.NodeEnd.{NodeEnd}
 use Rattle.run_laws.specs.Held.{held_after}
 use Rattle.run_laws.specs.Launches.{launch_in, launch_of, launches_kept}
-use Rattle.run_laws.proofs.Splits.{same_head, same_tail, not_empty}
 use Rattle.run_laws.proofs.Marks.{Marks}
 use Rattle.run_laws.proofs.Keeping.{OfKept}
 use Rattle.run_laws.proofs.Made.{IsReadyLaunch}
@@ -27,7 +28,7 @@ AreApart [] = Unit {0}
 AreApart (x ∷ xs) = AllByRecursion (λ y. y ≢ x) xs × AreApart xs
 
 pub apart_at : (xs front back : List (ℕ × ℕ)) (x : ℕ × ℕ) → AreApart xs → xs ≡ front ++ x ∷ back → All (λ y. y ≢ x) back
-apart_at [] front back x h split = absurd (not_empty front back x split)
+apart_at [] front back x h split = absurd (no_middle front back x split)
 apart_at (y ∷ xs) [] back x h split =
     All-from_recursion (λ z. z ≢ x) back
     (subst (AllByRecursion (λ z. z ≢ x)) (same_tail split)
@@ -62,10 +63,6 @@ is_launch me e x h =
       where
         clash : None ≡ Some x → ⊥
         clash q = cc
-
-launches_one : (j n : ℕ) (seen : Seen) → launches j (Launched j n seen ∷ []) ≡ 1
-unfolding launches
-launches_one j n seen = rw (eq-eqb j j refl) refl
 
 -- a launch counts from then on
 one_more : (node : NodeState) (front more : Trace) (e : Entry) (j n : ℕ) (seen : Seen) → Events node.me ≡ e.feed

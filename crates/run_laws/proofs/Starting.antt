@@ -5,18 +5,20 @@ use Rattle.std.proofs.lemmas.List.Elements.{filter_map-append}
 use Rattle.std.specs.List.{AllByRecursion}
 use Rattle.std.specs.Option.{option_to_list}
 use Rattle.std.specs.Prelude.{filter_map}
+use Rattle.lemmas.proofs.Lists.{all_left, no_middle}
+use Rattle.node_inputs.proofs.Lasting.{kept-append}
 use Rattle.model.specs.Types.{Entry, Input}
 use Rattle.outside.specs.Calls.{StartCall}
 use Rattle.agent_core.specs.Nodes.{NodeState}
-use Rattle.node_keeping.specs.Traces.{Event, Trace, kept, start_of, starts}
-use Rattle.node_keeping.specs.declared.ends.NodeEnd.{NodeEnd}
+use Rattle.node_inputs.specs.Traces.{Event, Trace, kept, start_of, starts}
+use Rattle.node_inputs.specs.declared.ends.NodeEnd.{NodeEnd}
 use Rattle.node_inputs.specs.Actions.{Then}
 use Rattle.node_inputs.specs.Inputs.{IsKeeping, Keep}
 use Rattle.run_laws.specs.Launches.{launch_of, launches_kept, launches_started}
 use Rattle.run_laws.proofs.Rules.{EndsFree, Gives, IsJoined}
-use Rattle.run_laws.proofs.Given.{all_front, carry_starts, launch_out}
-use Rattle.run_laws.proofs.Splits.{InFirst, InSecond, IsFurther, IsHere, not_empty, only_one, split_append, split_cons}
-use Rattle.run_laws.proofs.Tracing.{IsDone, StepTrace, all_done, done_keeps_none, front_kept, kept-append, step_trace, trace_keeps}
+use Rattle.run_laws.proofs.Given.{carry_starts, launch_out}
+use Rattle.run_laws.proofs.Splits.{InFirst, InSecond, IsFurther, IsHere, only_one, split_append, split_cons}
+use Rattle.run_laws.proofs.Tracing.{IsDone, StepTrace, all_done, done_keeps_none, front_kept, step_trace, trace_keeps}
 use Rattle.run_laws.proofs.Taking.{GivesOut, IsAsk, IsRule, Steps}
 use Rattle.run_laws.proofs.Launching.{AreLaunches, taken_launches}
 
@@ -56,7 +58,7 @@ one_filtered me e = go (launch_of me e) refl
 
 -- at most one
 none_behind : {X : Type 0} (o : Option X) (front back : List X) (x : X) → option_to_list o ≡ front ++ x ∷ back → back ≡ []
-none_behind None front back x e = absurd (not_empty front back x e)
+none_behind None front back x e = absurd (no_middle front back x e)
 none_behind (Some y) front back x e = (only_one y front back x e).none_behind
 
 -- the node is the same and started what it kept, and each launch was kept before it started
@@ -73,7 +75,7 @@ starts_joined = record { rests = rests; joins = joins }
     rests s end free = record {
       me_ = refl;
       started = refl;
-      kept_first = λ front back call split. absurd (not_empty front back (Event.Starts call) split);
+      kept_first = λ front back call split. absurd (no_middle front back (Event.Starts call) split);
     }
 
     joins : (a b c : NodeState) (front back : Trace) (end : Option NodeEnd) → StartsItsLaunches a front None b
@@ -111,7 +113,7 @@ one_starts_none s event none nothing = record {
   me_ = refl;
   started = none ∙ ap (λ (l : List Entry). filter_map (launch_of s.me) l) (sym nothing);
   kept_first = λ front back call split.
-      absurd (not_empty (launches_started front) (launches_started back) (call.job, call.number)
+      absurd (no_middle (launches_started front) (launches_started back) (call.job, call.number)
       (sym none ∙ ap launches_started split ∙ started-append front (Event.Starts call ∷ back)));
 }
 
@@ -126,7 +128,7 @@ step_kept_first made me trace end t same front back call split = go t
 
     nothing_kept : kept trace ≡ [] → ⊥
     nothing_kept none =
-        not_empty (launches_started front) (launches_started back) (call.job, call.number)
+        no_middle (launches_started front) (launches_started back) (call.job, call.number)
         (ap (λ (l : List Entry). filter_map (launch_of me) l) (sym none) ∙ sym same ∙ in_order)
 
     go : StepTrace made trace end → launches_kept me front ≡ launches_started front ++ (call.job, call.number) ∷ []
@@ -155,7 +157,7 @@ step_kept_first made me trace end t same front back call split = go t
             clash q = cc
         at (inr further) =
             let none : kept further.middle ≡ [] = done_keeps_none further.middle
-            (all_front IsDone further.middle (Event.Starts call ∷ back) (subst (AllByRecursion IsDone) further.second done)) in
+            (all_left IsDone further.middle (Event.Starts call ∷ back) (subst (AllByRecursion IsDone) further.second done)) in
             ap (launches_kept me) further.first
             ∙ ap (λ (l : List Entry). filter_map (launch_of me) (e ∷ l)) none
             ∙ one_filtered me e

@@ -2,6 +2,7 @@
 use Rattle.std.proofs.Common.{[], ◌++◌, ◌≡◌, ◌∙◌, ◌∷◌, ◌⊎◌, ℕ, Bool, List, None, Option, Some, ap, append_assoc, false, inl, inr, refl, subst, sym, true}
 use Rattle.std.specs.List.{AllByRecursion}
 use Rattle.std.specs.Prelude.{Ok}
+use Rattle.lemmas.proofs.Lists.{all_append}
 use Rattle.model.specs.Types.{Entry, Input, Local, Out, StartFailed, Unlinked}
 use Rattle.model.specs.Words.{below}
 use Rattle.model.specs.History.{View}
@@ -18,15 +19,14 @@ use Rattle.agent_core.specs.Steps.{IsTaken, effect_in}
 use Rattle.agent_core.specs.declared.faults.Step.{Step}
 use Rattle.agent_core.specs.declared.faults.StepFault.{StepFault}
 use Rattle.agent_core.specs.declared.faults.StepFault.TheVariants as fault
-use Rattle.node_keeping.specs.Traces.{Event, Trace}
-use Rattle.node_keeping.specs.declared.ends.NodeEnd.{NodeEnd}
-use Rattle.node_keeping.specs.declared.ends.NodeEnd.TheVariants.{Limit, NoMemory}
+use Rattle.node_inputs.specs.Traces.{Event, Trace}
+use Rattle.node_inputs.specs.declared.ends.NodeEnd.{NodeEnd}
+use Rattle.node_inputs.specs.declared.ends.NodeEnd.TheVariants.{Limit, NoMemory}
 use Rattle.base_types.specs.declared.LimitName.TheVariants.{Places}
 use Rattle.node_inputs.specs.Actions.{Action, Call, Each, EndsBefore, If, Nothing, Then}
 use Rattle.node_inputs.specs.Inputs.{Carried, Carry, Follow, Give, IsKeeping, Keep, Lose, LoseAll, LoseIf, PassOver, Raise}
 use Rattle.node_inputs.specs.Inputs.{RaiseNew, Refused, Take, TakeQuietly, TakeWith, Takes, Tell, is_lost, is_new_neighbour, nothing_carried, start_told}
 use Rattle.run_laws.proofs.Rules.{Gives, IsJoined, call_gives, each_gives, free_places, if_gives, nothing_gives, stop_gives, then_gives, wants_gives}
-use Rattle.run_laws.proofs.Given.{all_append}
 
 abbrev pub IsAsk : Event → Type 0
 IsAsk (Event.Asks call) = Unit {0}

@@ -1,18 +1,18 @@
 -- The events of a step: its entry is kept first, or the run ends there.
 use Rattle.std.proofs.Common.{[], ◌++◌, ◌≡◌, ◌∙◌, ◌∷◌, List, None, Option, Some, ap, inl, inr, refl, subst, sym}
-use Rattle.std.proofs.lemmas.List.Elements.{filter_map-append}
 use Rattle.std.specs.List.{AllByRecursion}
 use Rattle.std.specs.Option.{option_to_list}
+use Rattle.node_inputs.proofs.Lasting.{kept-append}
+use Rattle.lemmas.proofs.Lists.{all_append, no_middle}
 use Rattle.model.specs.Types.{Entry, Input, Out}
 use Rattle.agent_core.specs.Nodes.{NodeState}
-use Rattle.node_keeping.specs.Keeping.{IsRefusal}
-use Rattle.node_keeping.specs.Traces.{Event, Trace, kept, kept_by}
-use Rattle.node_keeping.specs.declared.ends.NodeEnd.{NodeEnd}
-use Rattle.node_keeping.specs.declared.ends.NodeEnd.TheVariants.{NoMemory}
+use Rattle.node_inputs.specs.Keeping.{IsRefusal}
+use Rattle.node_inputs.specs.Traces.{Event, Trace, kept}
+use Rattle.node_inputs.specs.declared.ends.NodeEnd.{NodeEnd}
+use Rattle.node_inputs.specs.declared.ends.NodeEnd.TheVariants.{NoMemory}
 use Rattle.node_inputs.specs.Actions.{Then}
 use Rattle.node_inputs.specs.Inputs.{IsKeeping, Keep}
-use Rattle.run_laws.proofs.Given.{IsGiven, all_append, carry_gives}
-use Rattle.run_laws.proofs.Splits.{not_empty}
+use Rattle.run_laws.proofs.Given.{IsGiven, carry_gives}
 use Rattle.run_laws.proofs.Taking.{GivesOut, IsAsk, Steps}
 
 -- what is done behind an entry: links are asked for, jobs start or are killed, and frames are sent
@@ -35,9 +35,6 @@ given_is_done (Event.Kills j n ∷ trace) h = (tt, given_is_done trace h.1)
 given_is_done (Event.Sends call ∷ trace) h = (tt, given_is_done trace h.1)
 given_is_done (e ∷ trace) h = absurd h.0
 
-pub kept-append : (a b : Trace) → kept (a ++ b) ≡ kept a ++ kept b
-kept-append a b = filter_map-append kept_by a b
-
 pub done_keeps_none : (trace : Trace) → AllByRecursion IsDone trace → kept trace ≡ []
 done_keeps_none [] h = refl
 done_keeps_none (Event.Asks call ∷ trace) h = done_keeps_none trace h.1
@@ -49,7 +46,7 @@ done_keeps_none (e ∷ trace) h = absurd h.0
 -- where nothing was kept no entry stands
 pub none_kept : (trace front back : Trace) (e : Entry) → kept trace ≡ [] → trace ≡ front ++ Event.Keeps e ∷ back → ⊥
 none_kept trace front back e none split =
-    not_empty (kept front) (kept back) e (sym none ∙ ap kept split ∙ kept-append front (Event.Keeps e ∷ back))
+    no_middle (kept front) (kept back) e (sym none ∙ ap kept split ∙ kept-append front (Event.Keeps e ∷ back))
 
 -- the trace of a step that makes this
 pub data StepTrace (made : Option Entry) (trace : Trace) (end : Option NodeEnd) : Type 0 where

@@ -7,16 +7,16 @@ use Rattle.model.specs.Types.{Cmd, Fulfil, Input, Linked, Local, Turn, Typed, Un
 use Rattle.agent_core.specs.Nodes.{NodeState, view_in}
 use Rattle.file_watch.specs.Circle.{DepPlace}
 use Rattle.file_watch.specs.Probes.{next_probe}
-use Rattle.link_streams.specs.Heard.{Completes, Heard, heard_more, nothing_heard}
+use Rattle.node_loop.specs.Heard.{Completes, Heard, heard_more, nothing_heard}
 use Rattle.mail_frames.specs.declared.frames.Frame.{Frame}
 use Rattle.outside.specs.declared.Failed.{Failed}
 use Rattle.outside.specs.declared.links.Arrival.{Arrival}
 use Rattle.outside.specs.declared.links.Arrival.TheVariants as arrival
 use Rattle.outside.specs.declared.spawners.End.{End}
 use Rattle.recovery_watch.specs.Advice.{advice}
-use Rattle.node_keeping.specs.Traces.{Event, Trace}
-use Rattle.node_keeping.specs.declared.ends.NodeEnd.{NodeEnd}
-use Rattle.node_keeping.specs.declared.ends.NodeEnd.TheVariants.{NoMemory, TurnsSpent}
+use Rattle.node_inputs.specs.Traces.{Event, Trace}
+use Rattle.node_inputs.specs.declared.ends.NodeEnd.{NodeEnd}
+use Rattle.node_inputs.specs.declared.ends.NodeEnd.TheVariants.{NoMemory, TurnsSpent}
 use Rattle.node_inputs.specs.Actions.{Action, Nothing, Then}
 use Rattle.node_inputs.specs.Inputs.{Take}
 use Rattle.node_loop.specs.Frames.{Frames}

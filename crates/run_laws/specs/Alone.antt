@@ -1,7 +1,7 @@
 -- When a node acts by itself, and what it orders then.
 use Rattle.std.specs.Prelude.{ℕ, ◌≡◌, Bool, false, fold, true}
 use Rattle.model.specs.Types.{Cmd, Entry, Order, Orders}
-use Rattle.node_keeping.specs.Traces.{Event, Trace}
+use Rattle.node_inputs.specs.Traces.{Event, Trace}
 
 -- a turn begins with its reading of the clock, and the ends of processes are asked for behind its one arrival
 abbrev pub alone_with : Bool → Event → Bool

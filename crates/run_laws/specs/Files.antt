@@ -4,9 +4,9 @@ use Rattle.base_types.specs.declared.LimitName.TheVariants.{Places}
 use Rattle.model.specs.Types.{Entry, Events, Fulfilled, Obj}
 use Rattle.agent_core.specs.Nodes.{NodeState}
 use Rattle.file_watch.specs.Probes.{path_at}
-use Rattle.node_keeping.specs.Traces.{Event, Trace}
-use Rattle.node_keeping.specs.declared.ends.NodeEnd.{NodeEnd}
-use Rattle.node_keeping.specs.declared.ends.NodeEnd.TheVariants.{Limit, NoMemory}
+use Rattle.node_inputs.specs.Traces.{Event, Trace}
+use Rattle.node_inputs.specs.declared.ends.NodeEnd.{NodeEnd}
+use Rattle.node_inputs.specs.declared.ends.NodeEnd.TheVariants.{Limit, NoMemory}
 use Rattle.run_laws.specs.Held.{held_after}
 
 -- it tells, among this workstation's own events, that the file of a dependency is there

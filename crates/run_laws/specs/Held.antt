@@ -3,9 +3,9 @@ use Rattle.std.specs.Prelude.{[], ◌++◌, ◌∷◌, ◌≡◌, Option, Some}
 use Rattle.model.specs.Types.{Entry}
 use Rattle.model.specs.History.{View, view_of}
 use Rattle.agent_core.specs.Nodes.{NodeState}
-use Rattle.node_keeping.specs.Traces.{Event, Trace, kept}
-use Rattle.node_keeping.specs.declared.ends.NodeEnd.{NodeEnd}
-use Rattle.node_keeping.specs.declared.ends.NodeEnd.TheVariants.{NoMemory}
+use Rattle.node_inputs.specs.Traces.{Event, Trace, kept}
+use Rattle.node_inputs.specs.declared.ends.NodeEnd.{NodeEnd}
+use Rattle.node_inputs.specs.declared.ends.NodeEnd.TheVariants.{NoMemory}
 
 -- behind this front of its trace: what it held before, and what it kept since
 abbrev pub held_after : NodeState → Trace → View

@@ -3,7 +3,7 @@ use Rattle.std.specs.Prelude.{if◌then◌else◌, ℕ, List, None, Option, Some
 use Rattle.model.specs.Types.{Body, Entry, Events, Launched}
 use Rattle.model.specs.Equalities.{feed_eq}
 use Rattle.outside.specs.Calls.{StartCall}
-use Rattle.node_keeping.specs.Traces.{Trace, kept, starts}
+use Rattle.node_inputs.specs.Traces.{Trace, kept, starts}
 
 -- the job and the number of a launch
 abbrev pub launch_in : Body → Option (ℕ × ℕ)

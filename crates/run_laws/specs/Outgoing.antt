@@ -10,7 +10,7 @@ use Rattle.mail_frames.specs.declared.frames.Frame.TheVariants as frame
 use Rattle.mail_frames.specs.Spelling.{frame_bytes}
 use Rattle.outside.specs.Calls.{StartCall}
 use Rattle.agent_core.specs.Nodes.{NodeState}
-use Rattle.node_keeping.specs.Traces.{Trace, kept}
+use Rattle.node_inputs.specs.Traces.{Trace, kept}
 use Rattle.run_laws.specs.Held.{held_after}
 
 -- a job is started with the work that its document has

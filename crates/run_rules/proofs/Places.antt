@@ -7,6 +7,8 @@ use Rattle.std.proofs.lemmas.Int.{by_lt_z, to_z-of_z}
 use Rattle.std.proofs.lemmas.Nat.{mod_below}
 use Rattle.std.specs.List.{list_any}
 use Rattle.std.specs.Option.{option_map_or}
+use Rattle.lemmas.proofs.Numbers.{eq_apart}
+use Rattle.lemmas.proofs.Booleans.{and_false, or_false}
 use Rattle.syntax.specs.Numbers.{signed_of}
 use Rattle.model.specs.Words.{some_is}
 use Rattle.jiff_core.specs.declared.civil.date.Date.{Date}
@@ -17,7 +19,7 @@ use Rattle.jiff_core.proofs.DateLemmas.{civil, days_from_civil-max}
 use Rattle.jiff_core.proofs.SignedLemmas.{signed_arith}
 use Rattle.calendars.specs.Dates.{is_date, days_in_year, days_in_month, days_of_years, days_of_months, days_before, day_of}
 use Rattle.calendars.specs.Nth.{below}
-use Rattle.calendars.proofs.Calendar.{present, absent, months, day_number}
+use Rattle.calendars.proofs.Calendar.{present, absent, months, day_number, first_day, no_months}
 use Rattle.run_rules.specs.Months.{all_months, year_of, month_of, length_of, begin_of, is_in_month, kth, is_kth, IsPlaceOf}
 use Rattle.run_rules.specs.Days.{is_counted, counts_month, is_day_of_month, is_place, has_in_month}
 use Rattle.run_rules.specs.declared.months.MonthPlace.{MonthPlace}
@@ -26,10 +28,6 @@ use Rattle.run_rules.specs.declared.months.MonthPlace.{MonthPlace}
 months_step : (y k : ℕ) → days_of_months y (k + 1) ≡ days_of_months y k + days_in_month y (1 + k)
 unfolding days_of_months
 months_step y k = let same : k + 1 ≡ suc k = omega arith in rw same refl
-
-no_months : (y : ℕ) → days_of_months y 0 ≡ 0
-unfolding days_of_months
-no_months y = refl
 
 whole_year : (y : ℕ) → days_of_months y 12 ≡ days_in_year y
 whole_year y = sym (months y 12) ∙ days_of_months_all (pos y)
@@ -152,12 +150,7 @@ own_month place day h =
     let high : day < begin_of place.month + length_of place.month = omega (arith, begins, within, lasts) in
     between (begin_of place.month) (begin_of place.month + length_of place.month) day low high
 
--- among the numbers below another, where one alone passes
-or_false : (b : Bool) → (b || false) ≡ b
-or_false true = refl
-or_false false = refl
-
-any_none : (p : ℕ → Bool) (n : ℕ) → ((m : ℕ) → m < n → p m ≡ false) → list_any p (below n) ≡ false
+pub any_none : (p : ℕ → Bool) (n : ℕ) → ((m : ℕ) → m < n → p m ≡ false) → list_any p (below n) ≡ false
 unfolding below
 any_none p zero none = refl
 any_none p (suc n) none =
@@ -219,18 +212,12 @@ parts m h = (omega arith, omega (arith, h), omega arith, omega arith)
 is_there : (y m d : ℕ) → 1970 ≤ y → y ≤ 9999 → 1 ≤ m → m ≤ 12 → 1 ≤ d → d ≤ days_in_month y m → is_date y m d ≡ true
 is_there y m d a b c e f g = grind (arith, nat_tests)
 
-least_day : (y m d : ℕ) → is_date y m d ≡ true → 1 ≤ d
-least_day y m d h = grind (arith, nat_tests)
-
 same_test : (a b c d : ℕ) → (a ≡ b → c ≡ d) → (c ≡ d → a ≡ b) → (a == b) ≡ (c == d)
 same_test a b c d there back =
     elim (eqb_tells a b) [
       | inl e ↦ elim (eqb_tells c d) [ inl f ↦ e.0 ∙ sym f.0 | inr g ↦ absurd (g.1 (there e.1)) ]
       | inr o ↦ elim (eqb_tells c d) [ inl f ↦ absurd (o.1 (back f.1)) | inr g ↦ o.0 ∙ sym g.0 ]
     ]
-
-not_equal : (a b : ℕ) → a ≢ b → (a == b) ≡ false
-not_equal a b apart = elim (eqb_tells a b) [ inl e ↦ absurd (apart e.1) | inr o ↦ o.0 ]
 
 -- the days of the month, at the place of one
 module _ (place : MonthPlace) (day : ℕ) (h : IsPlaceOf place day) where
@@ -243,7 +230,7 @@ module _ (place : MonthPlace) (day : ℕ) (h : IsPlaceOf place day) where
       go : (t : Bool) → is_date (year_of place.month) (month_of place.month) x ≡ t
           → some_is (day_of (year_of place.month) (month_of place.month) x) day ≡ (place.day == x)
       go true e =
-          let least : 1 ≤ x = least_day (year_of place.month) (month_of place.month) x e in
+          let least : 1 ≤ x = first_day (year_of place.month) (month_of place.month) x e in
           let step : days_before (year_of place.month) (month_of place.month) x + 1 ≡ begin_of place.month + x =
           day_step (year_of place.month) (month_of place.month) x least in
           let at_ : day + 1 ≡ begin_of place.month + place.day = h.begins in
@@ -252,7 +239,7 @@ module _ (place : MonthPlace) (day : ℕ) (h : IsPlaceOf place day) where
           (λ same. omega (arith, step, at_, same)) (λ same. omega (arith, step, at_, same))
       go false e =
           ap (λ (o : Option ℕ). some_is o day) (sym (absent (year_of place.month) (month_of place.month) x e))
-          ∙ sym (not_equal place.day x (λ same.
+          ∙ sym (eq_apart place.day x (λ same.
           let p = parts place.month h.in_range in
           let within : place.day ≤ length_of place.month = subst (λ (k : ℕ). place.day ≤ k) h.lasts h.within in
           let here : is_date (year_of place.month) (month_of place.month) place.day ≡ true =
@@ -264,7 +251,7 @@ module _ (place : MonthPlace) (day : ℕ) (h : IsPlaceOf place day) where
   by_sign : (o : Option ℤ) → some_is (option_and_then (kth place.month) o) day ≡ option_map_or (is_kth place) o false
   by_sign None = refl
   by_sign (Some (pos zero)) =
-      number_of 0 ∙ not_equal place.day 0 (λ same. let first : 1 ≤ place.day = h.from_one in omega (arith, first, same))
+      number_of 0 ∙ eq_apart place.day 0 (λ same. let first : 1 ≤ place.day = h.from_one in omega (arith, first, same))
   by_sign (Some (pos (suc k))) = number_of (suc k)
   by_sign (Some (negsuc k)) =
       let first : 1 ≤ place.day = h.from_one in
@@ -300,10 +287,6 @@ in_month n words from day first place f h =
     ∙ ap (λ (b : Bool). b && (counts_month n from place.month && list_any (is_day_of_month place.month day) words))
     (own_month place day h) in
     sym (all ∙ (λ i. counts i && days i))
-
-and_false : (b : Bool) → (b && false) ≡ false
-and_false true = refl
-and_false false = refl
 
 -- past the last day no month counts, and none has the day
 pub no_first : (n : ℕ) (words : List (List ℕ)) (from day : ℕ) → 2932896 < from → false ≡ has_in_month n words from day

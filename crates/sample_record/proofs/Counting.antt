@@ -2,12 +2,7 @@
 use Rattle.std.proofs.Common.{◌≡◌, ◌+◌, ◌-◌, ◌<◌, ◌≤◌, ℕ, suc, zero, List, [], ◌∷◌, ◌++◌, flat_map, ap, sym, ◌∙◌}
 use Rattle.std.proofs.Common.{append_assoc, append-nil, arith}
 use Rattle.std.specs.List.{range_with_len}
-
-range_first : (a b : ℕ) → a < b → range_with_len a (b - a) ≡ a ∷ range_with_len (a + 1) (b - (a + 1))
-range_first a b below = let e : b - a ≡ suc (b - (a + 1)) = omega arith in ap (range_with_len a) e
-
-range_none : (a b : ℕ) → b ≤ a → range_with_len a (b - a) ≡ []
-range_none a b above = let e : b - a ≡ 0 = omega arith in ap (range_with_len a) e
+use Rattle.lemmas.proofs.Numbers.{range_first, range_none}
 
 -- one number further
 pub further : (f : ℕ → List ℕ) (all out new : List ℕ) (a b : ℕ) → a < b

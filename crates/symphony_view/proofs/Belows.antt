@@ -1,24 +1,9 @@
 -- One number more below a bound.
-use Rattle.std.proofs.Common.{◌≡◌, ◌+◌, ◌++◌, ◌∷◌, ◌∙◌, [], ℕ, List, ap, arith, flat_map, suc, sym, zero}
+use Rattle.std.proofs.Common.{◌≡◌, ◌+◌, ◌++◌, ◌∷◌, ◌∙◌, [], ℕ, List, ap, flat_map, sym}
 use Rattle.std.proofs.lemmas.Grind.{flat_map-append}
 use Rattle.std.proofs.lemmas.List.{append-nil, append_assoc}
-use Rattle.model.specs.Words.{below, numbers_from}
-
-numbers_more : (from n : ℕ) → numbers_from from (suc n) ≡ numbers_from from n ++ (from + n) ∷ []
-numbers_more from zero =
-    let e : from ≡ from + 0 = omega arith in
-    ap (λ (k : ℕ). k ∷ []) e
-numbers_more from (suc n) =
-    let e : from + 1 + n ≡ from + suc n = omega arith in
-    ap (λ (l : List ℕ). from ∷ l)
-    (numbers_more (from + 1) n ∙ ap (λ (k : ℕ). numbers_from (from + 1) n ++ k ∷ []) e)
-
-below_more : (n : ℕ) → below (n + 1) ≡ below n ++ n ∷ []
-below_more n =
-    let next : n + 1 ≡ suc n = omega arith in
-    let here : 0 + n ≡ n = omega arith in
-    ap (λ (k : ℕ). numbers_from 0 k) next
-    ∙ (numbers_more 0 n ∙ ap (λ (k : ℕ). numbers_from 0 n ++ k ∷ []) here)
+use Rattle.model_laws.proofs.Numbers.{below_more}
+use Rattle.model.specs.Words.{below}
 
 flat_below_more : {A : Type 0} (f : ℕ → List A) (n : ℕ)
     → flat_map f (below (n + 1)) ≡ flat_map f (below n) ++ f n

@@ -3,16 +3,16 @@ use Rattle.std.proofs.Common.{◌≡◌, ◌++◌, ◌∷◌, [], ℕ, Bool, Lis
 use Rattle.std.proofs.lemmas.List.Elements.{All-from_recursion, recursion_from_All}
 use Rattle.std.specs.List.{AllByRecursion}
 use Rattle.std.specs.Prelude.{◌==◌, filter, flat_map, map}
+use Rattle.model_laws.proofs.Inside.{firsts_all}
+use Rattle.lemmas.proofs.Lists.{all_append, flat_all}
 use Rattle.model.specs.Types.{Added, Body, Clock, Declined, Ended, Entry, Events, Failed, Feed, Fulfilled, Launched}
 use Rattle.model.specs.Types.{Late, Lost, NewPlan, Obeyed, Order, Released, Started, StreamDoc, StreamEnded, UntilPassed}
 use Rattle.model.specs.Equalities.{feed_eq}
 use Rattle.model.specs.History.{list_of, view_of}
 use Rattle.model.specs.Catalogue.{catalogue, docs_in, stream}
 use Rattle.model.specs.Fit.{AreFitEntries, IsFit, IsFitBody, IsFitStream}
-use Rattle.dependencies.proofs.Found.{firsts_all}
-use Rattle.model_laws.proofs.Lists.{all_append}
 use Rattle.model_laws.proofs.Options.{there_if}
-use Rattle.dependencies.proofs.Lists.{all_found, flat_all}
+use Rattle.dependencies.proofs.Lists.{all_found}
 
 bodies_fit : (kept : List Entry) (f : Feed) → AllByRecursion IsFit kept → AllByRecursion IsFitBody (list_of kept f)
 unfolding list_of

@@ -5,3 +5,4 @@ pub mod Tables
 pub mod Cpus
 pub mod Listings
 pub mod Symphonies
+pub mod Counts

@@ -1,8 +1,11 @@
-//! What a node shows of its plan: the states of jobs and streams, the listing as text, and the bytes of Symphony.
+//! What a node shows of its plan: the states of jobs and streams, how many are in each, the listing as text, and the bytes
+//! of Symphony.
 //!
 //! The states are those of `model::specs::States`, by the entries that an `Owners` took. `listing` gives the bytes of
 //! `specs/Listings`, and `symphony` those of `specs/Symphonies`. Both are functions of a view that read its events
-//! alone: nodes that hold the same events show the same, which `shows_events_alone` says.
+//! alone: nodes that hold the same events show the same, which `shows_events_alone` says. `state_counts` counts the
+//! members of the plan and their jobs by their states, in the order of the words of states; what is counted is
+//! `specs/Counts`.
 #![tactic(auto)]
 
 mod counts;
@@ -12,6 +15,7 @@ mod launches;
 mod listings;
 mod prompts;
 mod ranges;
+mod state_totals;
 mod states;
 mod symphonies;
 
@@ -23,6 +27,7 @@ ghost use Rattle.symphony_view.specs.Listings.{listing_of};
 ghost use Rattle.symphony_view.specs.Symphonies.{symphony_of};
 
 pub use listings::listing;
+pub use state_totals::{StateCounts, state_counts};
 pub use states::{JobState, StreamState, job_state, stream_state};
 pub use symphonies::symphony;
 

@@ -10,7 +10,7 @@ use network_tree::is_only_shown;
 use owner_fold::Owners;
 
 /// What is known of a global prompt.
-#[derive(Clone, Copy, Debug, PartialEq, Eq)]
+#[derive(Clone, Copy)]
 pub(crate) enum PromptState {
     Waiting,
     Yes,

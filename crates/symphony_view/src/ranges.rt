@@ -5,7 +5,7 @@ use base_types::{PromptDef, Resource};
 use network_tree::Network;
 
 /// The resources, numbered from 1.
-#[tactic(auto, using(crate::proofs::Few::few_resources))]
+#[tactic(auto, using(network_tree::proofs::Sizes::few_resources))]
 pub(crate) fn resources(net: &Network) -> &[Resource]
     ensures value { result.now ≡ net.now.resources }
     ensures few { length result.now ≤ 65535 }
@@ -14,7 +14,7 @@ pub(crate) fn resources(net: &Network) -> &[Resource]
 }
 
 /// The global prompts, numbered from 1.
-#[tactic(auto, using(crate::proofs::Few::few_prompts))]
+#[tactic(auto, using(network_tree::proofs::Sizes::few_prompts))]
 pub(crate) fn prompts(net: &Network) -> &[PromptDef]
     ensures value { result.now ≡ net.now.prompts }
     ensures few { length result.now ≤ 65535 }

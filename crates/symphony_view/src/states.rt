@@ -17,7 +17,7 @@ use network_tree::Network;
 use owner_fold::{Outcome, Owners};
 
 /// The state of a job, in the order of the summary.
-#[derive(Clone, Copy, Debug, PartialEq, Eq)]
+#[derive(Clone, Copy, Debug)]
 pub enum JobState {
     /// Its stream is not released, or a dependency is not satisfied.
     Hold,
@@ -40,7 +40,7 @@ pub enum JobState {
 }
 
 /// The state of a stream, in the order of the summary.
-#[derive(Clone, Copy, Debug, PartialEq, Eq)]
+#[derive(Clone, Copy, Debug)]
 pub enum StreamState {
     /// It is not released, and a dependency is not satisfied.
     Hold,

@@ -32,10 +32,10 @@ use arguments::numbers;
 use calendars::{LAST_DAY, read_date};
 use escapes::unescaped;
 pub use outs::Out;
+use plan_times::east_of;
 use std::alloc::Global;
 use std::str;
 use syntax::{first_word, number_i32, number_u32, number_u64};
-use time_zones::east_of;
 
 /// Answers what is asked of numbers, or else that the question is not understood.
 fn tell_of_numbers(out: &mut Out, word: &str, numbers: &[u32]) {

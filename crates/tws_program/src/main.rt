@@ -3,13 +3,13 @@
 
 use base_types::{NoMemory, Text};
 use real_outside::{ChildSpawner, FileDisk, FileProber, SystemClock, TcpLink};
-use standard_streams::{StdSink, StdSource};
 use std::alloc::{AllocError, Global};
 use std::io::ErrorKind;
 use std::process::ExitCode;
 use std::rt::Env;
 use std::{env, io};
 use tws_top::tws;
+use whole_io::{StdSink, StdSource};
 
 const NO_MEMORY: u8 = 9;
 

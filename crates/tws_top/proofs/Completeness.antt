@@ -1,17 +1,18 @@
 -- What services answer where nothing fails.
 use Rattle.std.proofs.Common.{◌≡◌, ◌≤◌, ◌⊎◌, ◌∙◌, ℕ, List, Option, Some, ap, inl, inr, length, subst, sym}
+use Rattle.lemmas.proofs.Options.{none_some}
 use Rattle.composer_parser.specs.declared.Defs.{Defs}
 use Rattle.definition_texts.specs.Refusals.{AreChecked}
-use Rattle.node_keeping.specs.declared.ends.NodeEnd.TheVariants as run
+use Rattle.node_inputs.specs.declared.ends.NodeEnd.TheVariants as run
 use Rattle.node_restart.specs.declared.faults.RestartFault.TheVariants as made
 use Rattle.node_service.specs.declared.services.ServiceEnd.TheVariants.{Ran, Unmade}
 use Rattle.outside.specs.Causes.{Rose}
 use Rattle.outside.specs.Streams.{Stream}
-use Rattle.service_words.specs.Forms.{AskOf, NodeFor}
-use Rattle.service_words.specs.Services.{Asking, IsServed, IsService, Serving}
+use Rattle.node_commands.specs.Forms.{AskOf, NodeFor}
+use Rattle.node_commands.specs.Services.{Asking, IsServed, IsService, Serving}
 use Rattle.workload_defs.specs.Stations.{number_of}
 use Rattle.tws_top.proofs.Numbers.{Came, at_limit, by_5, came, failed, other_file, refused, replied, row_5, shut_down, source_failed, spent, starved, too_long, unanswered, unknown, unread}
-use Rattle.tws_top.proofs.Services.{long_short, none_some, refuses_checked, same_defs}
+use Rattle.tws_top.proofs.Services.{long_short, refuses_checked, same_defs}
 
 -- a node and an ask are two requests
 two_requests : (name other command : List ℕ) (turns : ℕ) → NodeFor name turns ≡ AskOf other command → ⊥

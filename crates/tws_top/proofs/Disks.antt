@@ -3,15 +3,15 @@ use Rattle.std.proofs.Common.{◌≡◌, ◌⊎◌, ◌∙◌, ℕ, Err, List, O
 use Rattle.std.specs.Io.KnownBytes.{Appends}
 use Rattle.conman_client.specs.declared.ends.AskEnd.TheVariants.{NoAnswer}
 use Rattle.node_inputs.specs.Tellings.{Told}
-use Rattle.node_keeping.specs.declared.ends.NodeEnd.TheVariants as run
+use Rattle.node_inputs.specs.declared.ends.NodeEnd.TheVariants as run
 use Rattle.node_restart.specs.declared.faults.RestartFault.TheVariants as made
 use Rattle.node_service.specs.declared.services.ServiceEnd.TheVariants.{Ran, Unmade}
 use Rattle.outside.specs.Calls.{LinkCalls}
 use Rattle.outside.specs.Causes.{Rose}
 use Rattle.outside.specs.Streams.{Stream}
-use Rattle.service_words.specs.Ends.{other_file_line}
-use Rattle.service_words.specs.Forms.{Request, request_of}
-use Rattle.service_words.specs.Services.{AskedBy, IsAsked, IsServed, ServedBy}
+use Rattle.node_commands.specs.Ends.{other_file_line}
+use Rattle.node_commands.specs.Forms.{Request, request_of}
+use Rattle.node_commands.specs.Services.{AskedBy, IsAsked, IsServed, ServedBy}
 use Rattle.tws_top.specs.Rows.{FindsOtherFile, HasNoAnswer}
 
 module _ {D : Type 0} (seen : D → Option (List ℕ)) (faults moment : D → ℕ) (may_leave : D → List ℕ → Type 0)

@@ -8,19 +8,19 @@ use Rattle.composer_parser.specs.declared.Defs.{Defs}
 use Rattle.conman_client.specs.declared.ends.AskEnd.TheVariants as ask
 use Rattle.definition_texts.specs.Kinds.{word_of}
 use Rattle.definition_texts.specs.declared.refusals.Refusal.{Refusal}
-use Rattle.exit_statuses.specs.Statuses.{number_of as number_of_status}
-use Rattle.exit_statuses.specs.Texts.{definitions_line, limit_line, limit_word}
-use Rattle.exit_statuses.specs.declared.statuses.Status.{Status}
-use Rattle.node_keeping.specs.declared.ends.NodeEnd.TheVariants as run
+use Rattle.replies.specs.Statuses.{number_of as number_of_status}
+use Rattle.replies.specs.Texts.{definitions_line, limit_line, limit_word}
+use Rattle.replies.specs.declared.statuses.Status.{Status}
+use Rattle.node_inputs.specs.declared.ends.NodeEnd.TheVariants as run
 use Rattle.node_restart.specs.declared.faults.RestartFault.TheVariants as made
 use Rattle.node_service.specs.declared.services.ServiceEnd.TheVariants.{Ran, Unmade}
 use Rattle.outside.specs.Causes.{Rose}
 use Rattle.outside.specs.Streams.{Stream}
 use Rattle.whole_io.specs.Whole.{TakesCount}
 use Rattle.workload_defs.specs.Stations.{number_of}
-use Rattle.service_words.specs.Ends.{IsTold, most_of, other_file_line}
-use Rattle.service_words.specs.Forms.{Request, name_in}
-use Rattle.service_words.specs.Services.{Asking, IsAsked, IsServed, IsService, ReadsDefs, RefusesDefs, Serving, UnservedCallsFor}
+use Rattle.node_commands.specs.Ends.{IsTold, most_of, other_file_line}
+use Rattle.node_commands.specs.Forms.{Request, name_in}
+use Rattle.node_commands.specs.Services.{Asking, IsAsked, IsServed, IsService, ReadsDefs, RefusesDefs, Serving, UnservedCallsFor}
 
 module _ (S : Serving) (A : Asking) (same but_link : Type 0) (request : Request) (old new : Option Stream)
     (source source' result : ℕ) (written written' : Option (List ℕ)) (sink sink' : ℕ) where

@@ -1,30 +1,25 @@
 -- What a service came to, by the status.
 use Rattle.std.proofs.Common.{◌<◌, ◌≡◌, ◌≢◌, ◌≤◌, ◌∙◌, ℕ, List, None, Option, Some, ap, arith, inl, inr, length, refl, subst, sym}
+use Rattle.lemmas.proofs.Options.{none_some}
 use Rattle.composer_parser.specs.declared.Defs.{Defs}
 use Rattle.definition_texts.proofs.Readings.{not_refused, one_checked, one_refusal}
 use Rattle.definition_texts.specs.Kinds.{word_of}
 use Rattle.definition_texts.specs.Refusals.{AreChecked, IsRefused}
 use Rattle.definition_texts.specs.declared.refusals.Refusal.{Refusal}
-use Rattle.exit_statuses.specs.Sayings.{Says}
-use Rattle.exit_statuses.specs.Texts.{definitions_line}
-use Rattle.exit_statuses.specs.declared.statuses.Status.{Status}
+use Rattle.replies.specs.Sayings.{Says}
+use Rattle.replies.specs.Texts.{definitions_line}
+use Rattle.replies.specs.declared.statuses.Status.{Status}
 use Rattle.network_world.specs.Stations.{WorldState}
 use Rattle.outside.specs.Streams.{Stream}
-use Rattle.service_words.specs.Ends.{answer_status, answer_text, end_status, end_text}
-use Rattle.service_words.specs.Forms.{Request, name_in, request_of}
-use Rattle.service_words.specs.Services.{Asking, IsService, ReadsDefs, RefusesDefs, Serving, UnservedCallsFor}
-use Rattle.text_words.specs.Dues.{IsOf}
-use Rattle.text_words.specs.Dues as texts
+use Rattle.node_commands.specs.Ends.{answer_status, answer_text, end_status, end_text}
+use Rattle.node_commands.specs.Forms.{Request, name_in, request_of}
+use Rattle.node_commands.specs.Services.{Asking, IsService, ReadsDefs, RefusesDefs, Serving, UnservedCallsFor}
+use Rattle.input_commands.specs.Dues.{IsOf}
+use Rattle.input_commands.specs.Dues as texts
 use Rattle.whole_io.proofs.Lefts.{left_long, left_read}
 use Rattle.whole_io.specs.Whole.{TakesCount}
 use Rattle.workload_defs.specs.Stations.{number_of as number_of_station}
 use Rattle.tws_top.specs.Dues.{Due, IsAnswer, LeftCallsFor, ServiceCallsFor}
-
-some_is : {X : Type 0} {a b : X} → Some a ≡ Some b → a ≡ b
-some_is e = cc
-
-pub none_some : {X : Type 0} {b : X} → None ≡ Some b → ⊥
-none_some e = cc
 
 -- what was read of a source is what it had
 read_defs : (source : Stream) (new : Option Stream) (defs : Defs) → ReadsDefs defs (Some source) new

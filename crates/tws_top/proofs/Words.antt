@@ -1,10 +1,10 @@
 -- Words ask for a service, or are answered by the input alone, and never both.
 use Rattle.std.proofs.Common.{[], ◌<◌, ◌≡◌, ◌∙◌, ◌∷◌, ◌⊎◌, ℕ, Bool, List, None, Option, Some, ap, arith, bytes_eq, codes, false, inl, inr, option_map, refl, subst, sym, true}
 use Rattle.std.specs.Cmp.Lexicographic.{bytes_decides}
-use Rattle.service_words.specs.Forms.{Request, request_of, requested, service_in, service_of}
-use Rattle.service_words.specs.declared.forms.Service.{Service}
-use Rattle.text_words.specs.Words.{asked_of, sample_of_words}
-use Rattle.tws_top.proofs.Services.{none_some}
+use Rattle.lemmas.proofs.Options.{none_some}
+use Rattle.node_commands.specs.Forms.{Request, request_of, requested, service_in, service_of}
+use Rattle.node_commands.specs.declared.forms.Service.{Service}
+use Rattle.input_commands.specs.Words.{asked_of, sample_of_words}
 
 -- without a service there is no request
 pub no_request : (words : List (List ℕ)) → service_in words ≡ None → request_of words ≡ None

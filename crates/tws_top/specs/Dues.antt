@@ -9,17 +9,17 @@ use Rattle.definition_texts.specs.declared.refusals.Refusal.{Refusal}
 use Rattle.network_world.specs.Stations.{WorldState}
 use Rattle.node_service.specs.declared.services.ServiceEnd.{ServiceEnd}
 use Rattle.outside.specs.Streams.{Stream}
-use Rattle.exit_statuses.specs.Sayings.{Says}
-use Rattle.text_words.specs.Dues.{IsOf}
-use Rattle.text_words.specs.Dues as texts
-use Rattle.exit_statuses.specs.Texts.{definitions_line, limit_line, limit_word}
-use Rattle.text_words.specs.Nights.{Night}
-use Rattle.exit_statuses.specs.declared.statuses.Status.{Status}
-use Rattle.exit_statuses.specs.declared.statuses.Status.TheVariants.{DefinitionsRefused, LimitPassed, WordsRefused}
+use Rattle.replies.specs.Sayings.{Says}
+use Rattle.input_commands.specs.Dues.{IsOf}
+use Rattle.input_commands.specs.Dues as texts
+use Rattle.replies.specs.Texts.{definitions_line, limit_line, limit_word}
+use Rattle.input_commands.specs.Nights.{Night}
+use Rattle.replies.specs.declared.statuses.Status.{Status}
+use Rattle.replies.specs.declared.statuses.Status.TheVariants.{DefinitionsRefused, LimitPassed, WordsRefused}
 use Rattle.workload_defs.specs.Stations.{number_of}
-use Rattle.service_words.specs.Ends.{answer_status, answer_text, end_status, end_text}
-use Rattle.service_words.specs.Forms.{Request, name_in, request_of}
-use Rattle.service_words.specs.Services.{Asking, IsAsked, IsServed, Serving, UnservedCallsFor}
+use Rattle.node_commands.specs.Ends.{answer_status, answer_text, end_status, end_text}
+use Rattle.node_commands.specs.Forms.{Request, name_in, request_of}
+use Rattle.node_commands.specs.Services.{Asking, IsAsked, IsServed, Serving, UnservedCallsFor}
 
 -- what a request calls for: what is due before a service, or what its end calls for
 pub data ServiceCallsFor (S : Serving) (A : Asking) (request : Request) (old new : Option Stream) : Status → List ℕ → Type 0 where

@@ -12,13 +12,13 @@ use Rattle.node_restart.specs.Restarting.{IsRefused}
 use Rattle.outside.specs.Calls.{LinkCalls}
 use Rattle.outside.specs.Causes.{Rose}
 use Rattle.outside.specs.Streams.{Stream}
-use Rattle.exit_statuses.specs.Texts.{definitions_line, limit_line, limit_word}
+use Rattle.replies.specs.Texts.{definitions_line, limit_line, limit_word}
 use Rattle.whole_io.specs.Whole.{TakesCount}
 use Rattle.workload_defs.specs.Nets.{net_of, peers_of}
 use Rattle.workload_defs.specs.Stations.{number_of}
-use Rattle.service_words.specs.Ends.{most_of, other_file_line}
-use Rattle.service_words.specs.Forms.{AskOf, NodeFor, Request, name_in, request_of}
-use Rattle.service_words.specs.Services.{ReadsDefs, RefusesDefs}
+use Rattle.node_commands.specs.Ends.{most_of, other_file_line}
+use Rattle.node_commands.specs.Forms.{AskOf, NodeFor, Request, name_in, request_of}
+use Rattle.node_commands.specs.Services.{ReadsDefs, RefusesDefs}
 
 -- The input was read to its end as what is no checked definitions, and nothing but the line was written.
 pub record RefusesRequest (words : List (List ℕ)) (old new : Option Stream) (written written' : Option (List ℕ)) : Type 0 where

@@ -1,5 +1,8 @@
-//! Reading an input to its end, up to a limit, and writing a whole text.
+//! Reading an input to its end, up to a limit, and writing a whole text, over any source and sink; and standard input and
+//! output as such (`StdSource`, `StdSink`), which tell nothing of content.
 #![tactic(auto)]
+
+mod standard_streams;
 
 ghost use Rattle.std.specs.Prelude.{◌≡◌, ◌≤◌, ◌+◌, length, IfOk, OnOk, OnErr};
 ghost use Rattle.std.specs.Result.{IsErrOf};
@@ -10,10 +13,11 @@ ghost use Rattle.whole_io.specs.Whole.{TakesCount, TakesAtMost, WritesFront, Fau
 ghost use Rattle.whole_io.specs.declared.ReadError.TheVariants.{Fault, NoMemory};
 
 use outside::{Failed, Sink, Source};
+pub use standard_streams::{StdSink, StdSource};
 use std::alloc::{AllocError, Global};
 
 /// Why an input was not read to its end.
-#[derive(Clone, Copy, Debug, PartialEq, Eq)]
+#[derive(Clone, Copy)]
 pub enum ReadError {
     /// The source failed.
     Fault,

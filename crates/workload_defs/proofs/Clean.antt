@@ -1,11 +1,13 @@
 -- What definitions are in which the tables tell no fault, item by item.
-use Rattle.std.proofs.Common.{◌≡◌, ◌+◌, ℕ, zero, suc, Bool, true, false, ◌||◌, List, [], ◌∷◌, Option, Some, None}
-use Rattle.std.proofs.Common.{refl, ap, sym, subst, ◌∙◌, inl, inr, arith, bytes_eq, cond, eqb, not, option_map, option_and_then, slice_get, is_none}
+use Rattle.std.proofs.Common.{◌≡◌, ◌+◌, ℕ, zero, suc, Bool, true, false, List, [], ◌∷◌, Option, Some, None}
+use Rattle.std.proofs.Common.{refl, ap, sym, subst, ◌∙◌, inl, inr, arith, bytes_eq, cond, eqb, option_map}
+use Rattle.std.proofs.Common.{option_and_then, slice_get, is_none}
 use Rattle.std.proofs.lemmas.Bool.Decides.{eqb_tells}
 use Rattle.std.specs.Cmp.Lexicographic.{bytes_decides}
 use Rattle.std.specs.List.{enumerate_from}
 use Rattle.std.specs.Option.{option_map_or}
 use Rattle.std.specs.Prelude.{flat_map, min, nat_lt}
+use Rattle.lemmas.proofs.Booleans.{neither, not_fails}
 use Rattle.base_types.specs.declared.PromptDef.{PromptDef}
 use Rattle.composer_parser.specs.declared.CpuDef.{CpuDef}
 use Rattle.composer_parser.specs.declared.Defs.{Defs}
@@ -53,14 +55,6 @@ rows_none {X = X} rows line from (y ∷ ys) e zero n x at_ h =
 rows_none rows line from (y ∷ ys) e (suc i) n x at_ h =
     rows_none rows line (from + 1) ys (both_empty _ _ e).1 i n x (omega (arith, at_)) h
 
-pub two_false : (a b : Bool) → (a || b) ≡ false → (a ≡ false) × (b ≡ false)
-two_false true b e = cc
-two_false false b e = (refl, e)
-
-not_false : (b : Bool) → not b ≡ false → b ≡ true
-not_false true e = refl
-not_false false e = cc
-
 is_there : {X : Type 0} (o : Option X) → is_none o ≡ false → (x : X) × (o ≡ Some x)
 is_there None e = cc
 is_there (Some x) e = (x, refl)
@@ -70,7 +64,7 @@ own None i e = cc
 own (Some m) i e =
     elim (eqb_tells m i) [
       | inl t ↦ ap Some t.1
-      | inr t ↦ let off : eqb m i ≡ true = not_false (eqb m i) e in absurd (let on : eqb m i ≡ false = t.0 in cc)
+      | inr t ↦ let off : eqb m i ≡ true = not_fails (eqb m i) e in absurd (let on : eqb m i ≡ false = t.0 in cc)
     ]
 
 module _ (d : Defs) (clean : IsClean d) where
@@ -89,7 +83,7 @@ module _ (d : Defs) (clean : IsClean d) where
       let all =
       rows_none (λ (p : ℕ × Lined CpuDef). cpu_rows d p.0 p.1.item) (λ p. p.1.line) 0 d.cpus clean.cpus i i c (omega arith)
       at_ in
-      let numbers = two_false (eqb i 256) (is_bad_port c.item.port) all.1.1.0 in
+      let numbers = neither (eqb i 256) (is_bad_port c.item.port) all.1.1.0 in
       let there_ = is_there (domain_at d c.item.domain) all.1.0 in
       record {
         own_place = own (cpu_at d c.item.name) i all.0;
@@ -114,7 +108,7 @@ module _ (d : Defs) (clean : IsClean d) where
       let all =
       rows_none (λ (p : ℕ × Lined ResourceDef). resource_rows d p.0 p.1.item) (λ p. p.1.line) 0 d.resources
       clean.resources i i r (omega arith) at_ in
-      let numbers = two_false (eqb i 65535) (nat_lt 1024 r.item.total) all.1.1.0 in
+      let numbers = neither (eqb i 65535) (nat_lt 1024 r.item.total) all.1.1.0 in
       let there_ = is_there (cpu_at d r.item.ws) all.1.0 in
       record {
         own_place = own (resource_at d r.item.ws r.item.name) i all.0;
@@ -158,7 +152,7 @@ module _ (d : Defs) (clean : IsClean d) where
       let all =
       rows_none (λ (p : ℕ × Lined DomainDef). domain_rows d p.0 (strays d p.0) p.1.item) (λ p. p.1.line) 0 d.domains
       clean.domains i i x (omega arith) at_ in
-      let names = two_false (is_none (cpu_at d x.item.manager)) (lacks_parent d x.item) all.1.0 in
+      let names = neither (is_none (cpu_at d x.item.manager)) (lacks_parent d x.item) all.1.0 in
       let there_ = is_there (cpu_at d x.item.manager) names.0 in
       record {
         own_place = own (domain_at d x.item.name) i all.0;

@@ -1,11 +1,14 @@
 -- The network of definitions in which the tables tell no fault is accepted.
-use Rattle.std.proofs.Common.{◌≡◌, ◌<◌, ◌≤◌, ℕ, Bool, true, false, ◌&&◌, Some}
+use Rattle.std.proofs.Common.{◌≡◌, ◌<◌, ◌≤◌, ℕ, true, false, Some}
 use Rattle.std.proofs.Common.{length, refl, ap, sym, subst, ◌∙◌, inl, inr, arith, bytes_eq, eqb, map, slice_get}
 use Rattle.std.proofs.lemmas.Bool.Decides.{eqb_tells, nat_tests}
 use Rattle.std.proofs.lemmas.List.{length-map}
 use Rattle.std.proofs.lemmas.Option.{slice_get_within}
 use Rattle.std.specs.List.{list_any}
 use Rattle.std.specs.Prelude.{nat_le, nat_lt, unwrap_or}
+use Rattle.lemmas.proofs.Booleans.{and_parts}
+use Rattle.lemmas.proofs.Numbers.{number_tells}
+use Rattle.lemmas.proofs.Texts.{text_tells}
 use Rattle.base_types.specs.declared.PromptDef.{PromptDef}
 use Rattle.base_types.specs.declared.Resource.{Resource}
 use Rattle.composer_parser.specs.declared.CpuDef.{CpuDef}
@@ -20,16 +23,9 @@ use Rattle.workload_defs.specs.Stations.{stations}
 use Rattle.workload_defs.proofs.Apart.{AreApart, apart_by_places, mapped_apart}
 use Rattle.workload_defs.proofs.Clean.{IsClean, good_cpu, good_prompt, good_resource}
 use Rattle.workload_defs.proofs.Lists.{ends_by, from_mapped, not_any, one_there}
-use Rattle.workload_defs.proofs.Numbers.{HasNumber, at_number, is_text, number_known, stations_apart}
+use Rattle.workload_defs.proofs.Numbers.{HasNumber, at_number, number_known, stations_apart}
 use Rattle.workload_defs.proofs.Numbers as numbers
 use Rattle.workload_defs.proofs.Trees.{count_is}
-
-both_true : (a b : Bool) → (a && b) ≡ true → (a ≡ true) × (b ≡ true)
-both_true true b e = (refl, e)
-both_true false b e = cc
-
-is_number : (a b : ℕ) → eqb a b ≡ true → a ≡ b
-is_number a b e = elim (eqb_tells a b) [ inl t ↦ t.1 | inr t ↦ absurd (let off : eqb a b ≡ false = t.0 in cc) ]
 
 not_itself : (n : ℕ) → eqb n n ≡ false → ⊥
 not_itself n e = elim (eqb_tells n n) [ inl t ↦ (let on : eqb n n ≡ true = t.0 in cc) | inr t ↦ t.1 refl ]
@@ -55,18 +51,18 @@ module _ (d : Defs) (clean : IsClean d) where
   one_resource i j a b h g e =
       let one = from_mapped (resource_among (stations d)) d.resources i a h in
       let other = from_mapped (resource_among (stations d)) d.resources j b g in
-      let same = both_true (eqb a.ws b.ws) (bytes_eq a.name b.name) e in
+      let same = and_parts (eqb a.ws b.ws) (bytes_eq a.name b.name) e in
       let ha = known_ws i one.0 one.1 in
       let hb = known_ws j other.0 other.1 in
       let na : a.ws ≡ ha.number = sym (ap (λ (r : Resource). r.ws) one.2) ∙ ws_is i one.0 one.1 ha in
       let nb : b.ws ≡ hb.number = sym (ap (λ (r : Resource). r.ws) other.2) ∙ ws_is j other.0 other.1 hb in
-      let number : ha.number ≡ hb.number = sym na ∙ (is_number a.ws b.ws same.0 ∙ nb) in
+      let number : ha.number ≡ hb.number = sym na ∙ (number_tells a.ws b.ws same.0 ∙ nb) in
       let there_ : slice_get (stations d) hb.number ≡ Some ha.cpu =
       subst (λ n. slice_get (stations d) n ≡ Some ha.cpu) number ha.stands in
       let cpu : ha.cpu ≡ hb.cpu = one_there (stations d) hb.number ha.cpu hb.cpu there_ hb.stands in
       let ws : one.0.item.ws ≡ other.0.item.ws = sym ha.called ∙ (ap (λ (c : CpuDef). c.name) cpu ∙ hb.called) in
       let name : one.0.item.name ≡ other.0.item.name =
-      ap (λ (r : Resource). r.name) one.2 ∙ (is_text a.name b.name same.1 ∙ sym (ap (λ (r : Resource). r.name) other.2)) in
+      ap (λ (r : Resource). r.name) one.2 ∙ (text_tells a.name b.name same.1 ∙ sym (ap (λ (r : Resource). r.name) other.2)) in
       let lower : resource_at d one.0.item.ws one.0.item.name ≡ Some i = (good_resource d clean i one.0 one.1).own_place in
       let upper : resource_at d other.0.item.ws other.0.item.name ≡ Some j = (good_resource d clean j other.0 other.1).own_place in
       let both : resource_at d one.0.item.ws one.0.item.name ≡ resource_at d other.0.item.ws other.0.item.name =
@@ -114,7 +110,7 @@ module _ (d : Defs) (clean : IsClean d) where
       subst (λ (p : PromptDef). prompt_at d p.name ≡ Some i) one.2 ((good_prompt d clean i one.0 one.1).own_place) in
       let upper : prompt_at d b.name ≡ Some j =
       subst (λ (p : PromptDef). prompt_at d p.name ≡ Some j) other.2 ((good_prompt d clean j other.0 other.1).own_place) in
-      let same : prompt_at d a.name ≡ prompt_at d b.name = ap (prompt_at d) (is_text a.name b.name e) in
+      let same : prompt_at d a.name ≡ prompt_at d b.name = ap (prompt_at d) (text_tells a.name b.name e) in
       cc
 
   pub prompts_apart : AreApart are_one_prompt (net_of d).prompts

@@ -6,6 +6,7 @@ use Rattle.std.proofs.lemmas.List.{length-append, length-map}
 use Rattle.std.proofs.lemmas.List.Elements.{All-append, All-filter, All-map}
 use Rattle.std.proofs.lemmas.Option.{slice_get-get_or}
 use Rattle.std.specs.Prelude.{nat_lt}
+use Rattle.lemmas.proofs.Booleans.{neither}
 use Rattle.composer_parser.specs.declared.CpuDef.{CpuDef}
 use Rattle.composer_parser.specs.declared.Defs.{Defs}
 use Rattle.composer_parser.specs.declared.Lined.{Lined}
@@ -17,7 +18,7 @@ use Rattle.workload_defs.specs.Nets.{HasPort, net_of}
 use Rattle.workload_defs.specs.Stations.{is_master, is_that, stations, those}
 use Rattle.workload_defs.specs.Tables.{cpus_seen}
 use Rattle.workload_defs.proofs.Accepted.{accepted_by}
-use Rattle.workload_defs.proofs.Clean.{IsClean, good_cpu, good_resource, two_false}
+use Rattle.workload_defs.proofs.Clean.{IsClean, good_cpu, good_resource}
 use Rattle.workload_defs.proofs.DefinedNets.{few_cpus, few_prompts, few_resources, good_resources, nodes_apart, prompts_apart, resources_apart}
 use Rattle.workload_defs.proofs.Faultless.{clean}
 use Rattle.workload_defs.proofs.Trees.{count_is, is_tree, some_stations}
@@ -50,7 +51,7 @@ module _ (d : Defs) (clean : IsClean d) where
   port_fits : (o : Option ℕ) → is_bad_port o ≡ false → IfSome o (λ n. n < 2 ^ 16)
   port_fits None h = tt
   port_fits (Some n) h =
-      let high : nat_lt 65535 n ≡ false = (two_false (nat_lt n 1) (nat_lt 65535 n) h).1 in
+      let high : nat_lt 65535 n ≡ false = (neither (nat_lt n 1) (nat_lt 65535 n) h).1 in
       let low : n ≤ 65535 = grind (arith, nat_tests) in
       omega (arith, low)
 

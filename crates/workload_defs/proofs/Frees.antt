@@ -6,9 +6,10 @@ use Rattle.std.proofs.lemmas.Bool.{cases_lt}
 use Rattle.std.proofs.lemmas.Bool.Decides.{eqb_tells}
 use Rattle.std.proofs.lemmas.List.{get_or_append_left}
 use Rattle.std.proofs.lemmas.Option.{slice_get-get_or, slice_get_read}
-use Rattle.std.specs.Cmp.Lexicographic.{bytes_decides}
 use Rattle.std.specs.List.{position_from}
 use Rattle.std.specs.Option.{option_map_or}
+use Rattle.lemmas.proofs.Texts.{bytes_turned}
+use Rattle.lemmas.proofs.Lists.{get_last, index_last}
 use Rattle.calendars.specs.declared.FreeDays.{FreeDays}
 use Rattle.composer_parser.specs.declared.CalendarDef.{CalendarDef}
 use Rattle.composer_parser.specs.declared.Defs.{Defs}
@@ -60,10 +61,6 @@ stays_behind [] y i x h = cc
 stays_behind (z ∷ zs) y zero x h = h
 stays_behind (z ∷ zs) y (suc i) x h = stays_behind zs y i x h
 
-last_there : {X : Type 0} (xs : List X) (y : X) → slice_get (xs ++ y ∷ []) (length xs) ≡ Some y
-last_there [] y = refl
-last_there (z ∷ zs) y = last_there zs y
-
 -- a kind that is added
 pub stays_added : (old new : List FreeDays) (free : FreeDays) → new ≡ old ++ free ∷ [] → StaysIn old new
 stays_added old new free is = λ place x there.
@@ -73,7 +70,7 @@ pub there_added : (old new : List FreeDays) (free : FreeDays) (place : ℕ) → 
     → slice_get new place ≡ Some free
 there_added old new free place is at =
     ap (λ (l : List FreeDays). slice_get l place) is
-    ∙ (ap (λ n. slice_get (old ++ free ∷ []) n) at ∙ last_there old free)
+    ∙ (ap (λ n. slice_get (old ++ free ∷ []) n) at ∙ get_last old free)
 
 pub made_added : (d : Defs) (old new : List FreeDays) (was is : List (ℕ × ℕ)) (kind : FreeKind) (key place : ℕ)
     → AreMade d old was → new ≡ old ++ free_of_kind d kind ∷ [] → place ≡ length old → key ≡ key_of kind
@@ -104,10 +101,6 @@ kind_gives d s kind is =
 get_before : (xs : List ℕ) (y i : ℕ) → i < length xs → slice_index (xs ++ y ∷ []) i ≡ slice_index xs i
 get_before xs y i low = get_or_append_left xs (y ∷ []) 0 i low
 
-get_last : (xs : List ℕ) (y : ℕ) → slice_index (xs ++ y ∷ []) (length xs) ≡ y
-get_last [] y = refl
-get_last (z ∷ zs) y = get_last zs y
-
 -- the free days of the streams, one stream further
 pub days_more : (d : Defs) (i : ℕ) (s : Lined ScheduleDef) (kind : FreeKind) (old new : List FreeDays)
     (was is : List ℕ) (place : ℕ)
@@ -132,23 +125,9 @@ days_more d i s kind old new was is place low at of_kind stay there put each bef
           let own : free_of d i ≡ Some (free_of_stream d s.item) =
           ap (λ o. option_map (λ (x : Lined ScheduleDef). free_of_stream d x.item) o)
           (slice_get_read d.schedules (length d.schedules) i s refl low at) in
-          ap (slice_get new) (ap (λ (l : List ℕ). slice_index l n) put ∙ (ap (slice_index (was ++ place ∷ [])) here ∙ get_last was place))
+          ap (slice_get new) (ap (λ (l : List ℕ). slice_index l n) put ∙ (ap (slice_index (was ++ place ∷ [])) here ∙ index_last was place))
           ∙ (there ∙ (ap Some (kind_gives d s.item kind of_kind) ∙ (sym own ∙ ap (free_of d) (sym index))))
     ]
-
--- the first of a name, by its text or by the names alone
-same_text : (a b : List ℕ) → bytes_eq a b ≡ bytes_eq b a
-same_text a b = go (bytes_eq a b) refl (bytes_eq b a) refl
-  where
-    go : (x : Bool) → bytes_eq a b ≡ x → (y : Bool) → bytes_eq b a ≡ y → x ≡ y
-    go true e true h = refl
-    go false e false h = refl
-    go true e false h =
-        let back : bytes_eq b a ≡ true = (bytes_decides b a).1 (sym ((bytes_decides a b).0 e)) in
-        cc
-    go false e true h =
-        let back : bytes_eq a b ≡ true = (bytes_decides a b).1 (sym ((bytes_decides b a).0 h)) in
-        cc
 
 pub holidays_named : (name : List ℕ) (i : ℕ) (calendars : List (Lined CalendarDef))
     → position_from (λ (c : Lined CalendarDef). bytes_eq c.item.name name) i calendars
@@ -156,7 +135,7 @@ pub holidays_named : (name : List ℕ) (i : ℕ) (calendars : List (Lined Calend
 holidays_named name i [] = refl
 holidays_named name i (c ∷ cs) =
     ap (λ b. cond b (Some i) (position_from (λ (k : Lined CalendarDef). bytes_eq k.item.name name) (i + 1) cs))
-    (same_text c.item.name name)
+    (bytes_turned c.item.name name)
     ∙ ap (cond (bytes_eq name c.item.name) (Some i)) (holidays_named name (i + 1) cs)
 
 -- what holds where a call succeeded, by several of its clauses

@@ -1,5 +1,5 @@
 -- What stands at the places of lists.
-use Rattle.std.proofs.Common.{◌≡◌, ◌<◌, ◌≤◌, ◌+◌, ℕ, zero, suc, Bool, true, false, List, [], ◌∷◌, ◌++◌, Option, Some, None}
+use Rattle.std.proofs.Common.{◌≡◌, ◌≤◌, ◌+◌, ℕ, zero, suc, Bool, true, false, List, [], ◌∷◌, ◌++◌, Option, Some, None}
 use Rattle.std.proofs.Common.{length, refl, ap, subst, ◌∙◌, inl, inr, ◌⊎◌, arith, cond, Contains, filter, map, option_map, slice_get, ◌||◌}
 use Rattle.std.proofs.lemmas.Option.{slice_get-map}
 use Rattle.std.specs.Prelude.{filter_map, flat_map}
@@ -40,11 +40,6 @@ ends_by [] m none = omega arith
 ends_by (x ∷ xs) zero none = absurd (none x refl)
 ends_by (x ∷ xs) (suc m) none = let rest = ends_by xs m none in omega (arith, rest)
 
-pub there : {X : Type 0} (xs : List X) (k : ℕ) → k < length xs → (x : X) × (slice_get xs k ≡ Some x)
-there [] k low = absurd (omega (arith, low))
-there (x ∷ xs) zero low = (x, refl)
-there (x ∷ xs) (suc k) low = there xs k (omega (arith, low))
-
 pub one_there : {X : Type 0} (xs : List X) (k : ℕ) (a b : X) → slice_get xs k ≡ Some a → slice_get xs k ≡ Some b → a ≡ b
 one_there xs k a b e h = cc
 
@@ -84,12 +79,6 @@ from_filtered p (y ∷ ys) n x e = go (p y) refl n e (λ m h. from_filtered p ys
     go true is zero e later = let same : y ≡ x = cc in (0, e, subst (λ z. p z ≡ true) same is)
     go true is (suc m) e later = let t = later m e in (suc t.0, t.1, t.2)
     go false is m e later = let t = later m e in (suc t.0, t.1, t.2)
-
--- of two lists behind each other
-pub in_front : {X : Type 0} (xs ys : List X) (k : ℕ) (x : X) → slice_get xs k ≡ Some x → slice_get (xs ++ ys) k ≡ Some x
-in_front [] ys k x e = cc
-in_front (z ∷ xs) ys zero x e = e
-in_front (z ∷ xs) ys (suc k) x e = in_front xs ys k x e
 
 pub at_back : {X : Type 0} (xs ys : List X) (k : ℕ) (x : X) → slice_get ys k ≡ Some x → (n : ℕ) × (slice_get (xs ++ ys) n ≡ Some x)
 at_back [] ys k x e = (k, e)

@@ -2,6 +2,8 @@
 use Rattle.std.proofs.Common.{◌≡◌, ℕ, zero, suc, Bool, true, false, List, [], ◌∷◌, ◌++◌, Some, None}
 use Rattle.std.proofs.Common.{refl, ap, sym, subst, ◌∙◌, inl, inr, arith, bytes_eq, is_none, map, not, slice_get}
 use Rattle.std.specs.Cmp.Lexicographic.{bytes_decides}
+use Rattle.lemmas.proofs.Texts.{text_tells}
+use Rattle.lemmas.proofs.Lists.{get_in_front}
 use Rattle.composer_parser.specs.declared.CpuDef.{CpuDef}
 use Rattle.composer_parser.specs.declared.Defs.{Defs}
 use Rattle.composer_parser.specs.declared.DomainDef.{DomainDef}
@@ -12,10 +14,8 @@ use Rattle.definition_names.specs.Streams.{is_one_ws}
 use Rattle.workload_defs.specs.Stations.{is_master, is_that, number_of, stations, those}
 use Rattle.workload_defs.proofs.Apart.{AreApart, apart_by_places, both_apart, filtered_apart}
 use Rattle.workload_defs.proofs.Clean.{IsClean, good_cpu, manager_domain, one_top}
-use Rattle.workload_defs.proofs.Lists.{at_back, filtered, first_there, found_first, from_both, from_filtered, from_mapped, in_front, mapped}
-
-pub is_text : (a b : List ℕ) → bytes_eq a b ≡ true → a ≡ b
-is_text a b e = (bytes_decides a b).0 e
+use Rattle.workload_defs.proofs.Lists.{at_back, filtered, first_there, found_first, from_both, from_filtered}
+use Rattle.workload_defs.proofs.Lists.{from_mapped, mapped}
 
 pub text_is : (a b : List ℕ) → a ≡ b → bytes_eq a b ≡ true
 text_is a b e = (bytes_decides a b).1 e
@@ -27,7 +27,7 @@ named name_of xs name i e =
     let first = first_there (bytes_eq name) 0 i (map name_of xs) e in
     let place : first.0 ≡ i = omega (arith, first.1) in
     let m = from_mapped name_of xs first.0 first.2.0 first.2.1 in
-    (m.0, subst (λ k. slice_get xs k ≡ Some m.0) place m.1, m.2 ∙ sym (is_text name first.2.0 first.2.2))
+    (m.0, subst (λ k. slice_get xs k ≡ Some m.0) place m.1, m.2 ∙ sym (text_tells name first.2.0 first.2.2))
 
 abbrev pub have_one_name : CpuDef → CpuDef → Bool
 have_one_name a b = bytes_eq a.name b.name
@@ -46,7 +46,7 @@ module _ (d : Defs) (clean : IsClean d) where
       subst (λ (c : CpuDef). cpu_at d c.name ≡ Some i) one.2 ((good_cpu d clean i one.0 one.1).own_place) in
       let upper : cpu_at d b.name ≡ Some j =
       subst (λ (c : CpuDef). cpu_at d c.name ≡ Some j) other.2 ((good_cpu d clean j other.0 other.1).own_place) in
-      let same : cpu_at d a.name ≡ cpu_at d b.name = ap (cpu_at d) (is_text a.name b.name e) in
+      let same : cpu_at d a.name ≡ cpu_at d b.name = ap (cpu_at d) (text_tells a.name b.name e) in
       cc
 
   items_apart : AreApart have_one_name items
@@ -64,7 +64,7 @@ module _ (d : Defs) (clean : IsClean d) where
       go false is top low = is
       go true is top low =
           let same : is_master d b ≡ is_master d a =
-          ap (λ (n : List ℕ). is_one_ws (master_of d) (Some n)) (is_text b.name a.name is) in
+          ap (λ (n : List ℕ). is_one_ws (master_of d) (Some n)) (text_tells b.name a.name is) in
           let both : not true ≡ true = sym (ap not (same ∙ top)) ∙ low in
           cc
 
@@ -102,7 +102,7 @@ module _ (d : Defs) (clean : IsClean d) where
           → (n : ℕ) × (slice_get (those d true d.cpus ++ those d false d.cpus) n ≡ Some l.item)
       go true is =
           let f = filtered (is_that d true) items i l.item own_item is in
-          (f.0, in_front (those d true d.cpus) (those d false d.cpus) f.0 l.item f.1)
+          (f.0, get_in_front (those d true d.cpus) (those d false d.cpus) f.0 l.item f.1)
       go false is =
           let f = filtered (is_that d false) items i l.item own_item (ap not is) in
           at_back (those d true d.cpus) (those d false d.cpus) f.0 l.item f.1
@@ -121,7 +121,7 @@ module _ (d : Defs) (clean : IsClean d) where
       let place : first.0 ≡ n = omega (arith, first.1) in (
         first.2.0,
         subst (λ k. slice_get (stations d) k ≡ Some first.2.0) place first.2.1,
-        sym (is_text name first.2.0.name first.2.2),
+        sym (text_tells name first.2.0.name first.2.2),
       )
 
   pub number_known : (name : List ℕ) (i : ℕ) → cpu_at d name ≡ Some i → HasNumber name
@@ -159,7 +159,7 @@ module _ (d : Defs) (clean : IsClean d) where
 
   pub is_top_manager : (c : CpuDef) → is_master d c ≡ true → c.name ≡ top.item.manager
   is_top_manager c e =
-      sym (is_text top.item.manager c.name (sym (ap (λ o. is_one_ws o (Some c.name)) master_is) ∙ e))
+      sym (text_tells top.item.manager c.name (sym (ap (λ o. is_one_ws o (Some c.name)) master_is) ∙ e))
 
   pub top_manager_is : (c : CpuDef) → c.name ≡ top.item.manager → is_master d c ≡ true
   top_manager_is c e =

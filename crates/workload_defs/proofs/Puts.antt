@@ -1,16 +1,17 @@
 -- Tables of names, one name further, and lists that are made of others.
 use Rattle.std.proofs.Common.{◌≡◌, ℕ, ◌+◌, ◌<◌, Bool, true, false, cond, List, [], ◌∷◌, ◌++◌, bytes_eq, drop, eqb, get_or, length, map, take}
-use Rattle.std.proofs.Common.{Bor, Option, Some, ap, arith, inl, inr, refl, sym, subst, ◌∙◌}
-use Rattle.std.proofs.lemmas.Bool.Decides.{eqb_tells}
+use Rattle.std.proofs.Common.{Bor, Option, Some, ap, arith, refl, sym, subst, ◌∙◌}
 use Rattle.std.proofs.Common.{All}
 use Rattle.std.proofs.Math.ListN.{get_or-map}
 use Rattle.std.proofs.lemmas.List.{append-nil, append_assoc, drop_more, length-map, length-take-le, map-append, take-map, take_more}
 use Rattle.std.specs.List.{enumerate_from, position_from}
+use Rattle.lemmas.proofs.Numbers.{number_itself, number_tells}
+use Rattle.lemmas.proofs.Texts.{text_itself, text_tells}
 use Rattle.indexmap.specs.IndexMap.{insert_entry}
 use Rattle.composer_parser.specs.declared.CpuDef.{CpuDef}
 use Rattle.composer_parser.specs.declared.Defs.{Defs}
 use Rattle.composer_parser.specs.declared.Lined.{Lined}
-use Rattle.name_keys.proofs.Inserted.{inserted, text_itself, text_tells}
+use Rattle.lemmas.proofs.Inserted.{inserted}
 use Rattle.workload_defs.specs.Stations.{is_that, one_of, those}
 use Rattle.workload_defs.specs.Tables.{cpus_seen, name_of, number_at, number_in}
 
@@ -22,18 +23,12 @@ name_put es new k n grown name =
     ap (λ (l : List (List ℕ × ℕ)). number_in l name) grown
     ∙ inserted (λ (t : List ℕ). t) bytes_eq text_tells text_itself name es k n
 
-same_number : (a b : ℕ) → eqb a b ≡ true → a ≡ b
-same_number a b h = elim (eqb_tells a b) [ inl e ↦ e.1 | inr e ↦ absurd (let f : eqb a b ≡ false = e.0 in cc) ]
-
-itself : (a : ℕ) → eqb a a ≡ true
-itself a = elim (eqb_tells a a) [ inl e ↦ e.0 | inr e ↦ absurd (e.1 refl) ]
-
 -- a number
 pub number_put : (es new : List (ℕ × ℕ)) (k n : ℕ) → new ≡ insert_entry (λ (p q : ℕ). eqb p q) es k n
     → (key : ℕ) → number_at new key ≡ cond (eqb key k) (Some n) (number_at es key)
 number_put es new k n grown key =
     ap (λ (l : List (ℕ × ℕ)). number_at l key) grown
-    ∙ inserted (λ (m : ℕ). m) eqb same_number itself key es k n
+    ∙ inserted (λ (m : ℕ). m) eqb number_tells number_itself key es k n
 
 -- the first of a name among workstations behind references
 pub among_seen : (name : List ℕ) (i : ℕ) (cpus : List (Bor CpuDef))

@@ -1,9 +1,11 @@
 -- A set of days is the ascending list of them.
-use Rattle.std.proofs.Common.{◌≡◌, ◌⊎◌, ℕ, suc, ◌+◌, ◌<◌, Bool, true, false, ◌||◌, cond, List, [], ◌∷◌, eqb, slice_index}
+use Rattle.std.proofs.Common.{◌≡◌, ℕ, suc, ◌+◌, ◌<◌, Bool, true, false, ◌||◌, cond, List, [], ◌∷◌, eqb, slice_index}
 use Rattle.std.proofs.Common.{ap, arith, inl, inr, refl, sym, subst, ◌∙◌}
 use Rattle.std.proofs.lemmas.Bool.Decides.{eqb_tells, nat_tests}
 use Rattle.std.specs.List.Sorted.{IsStrictlyIncreasing}
 use Rattle.std.specs.Prelude.{nat_lt}
+use Rattle.lemmas.proofs.Booleans.{or_cases, or_swap, or_twice}
+use Rattle.lemmas.proofs.Numbers.{number_itself, number_tells}
 use Rattle.calendars.specs.Sets.{has}
 use Rattle.model.specs.Words.{ascending, insert_once}
 
@@ -11,16 +13,6 @@ use Rattle.model.specs.Words.{ascending, insert_once}
 pub Rises : List ℕ → Type 0
 Rises [] = Unit {0}
 Rises (x ∷ xs) = ((n : ℕ) → has xs n ≡ true → x < n) × Rises xs
-
-is_same : (a b : ℕ) → eqb a b ≡ true → a ≡ b
-is_same a b h = elim (eqb_tells a b) [ inl e ↦ e.1 | inr e ↦ absurd (let f : eqb a b ≡ false = e.0 in cc) ]
-
-itself : (a : ℕ) → eqb a a ≡ true
-itself a = elim (eqb_tells a a) [ inl e ↦ e.0 | inr e ↦ absurd (e.1 refl) ]
-
-either : (p q : Bool) → (p || q) ≡ true → (p ≡ true) ⊎ (q ≡ true)
-either true q h = inl refl
-either false q h = inr h
 
 tail_rises : (x : ℕ) (xs : List ℕ) → IsStrictlyIncreasing (x ∷ xs) → IsStrictlyIncreasing xs
 tail_rises x xs h = λ k low.
@@ -36,8 +28,8 @@ first_below x y ys h =
 below_all : (x : ℕ) (xs : List ℕ) → IsStrictlyIncreasing (x ∷ xs) → (n : ℕ) → has xs n ≡ true → x < n
 below_all x [] h n there = cc
 below_all x (y ∷ ys) h n there =
-    elim (either (eqb n y) (has ys n) there) [
-      | inl e ↦ (let at : n ≡ y = is_same n y e in omega (arith, at, first_below x y ys h))
+    elim (or_cases (eqb n y) (has ys n) there) [
+      | inl e ↦ (let at : n ≡ y = number_tells n y e in omega (arith, at, first_below x y ys h))
       | inr e ↦
           let low : x < y = first_below x y ys h in
           let later : y < n = below_all y ys (tail_rises x (y ∷ ys) h) n e in
@@ -50,7 +42,7 @@ rises_of [] h = tt
 rises_of (x ∷ xs) h = (below_all x xs h, rises_of xs (tail_rises x xs h))
 
 has_first : (x : ℕ) (xs : List ℕ) → has (x ∷ xs) x ≡ true
-has_first x xs = ap (λ b. b || has xs x) (itself x)
+has_first x xs = ap (λ b. b || has xs x) (number_itself x)
 
 not_again : (x : ℕ) (xs : List ℕ) → ((n : ℕ) → has xs n ≡ true → x < n) → has xs x ≡ false
 not_again x xs h = go (has xs x) refl
@@ -62,11 +54,11 @@ not_again x xs h = go (has xs x) refl
 one_first : (x y : ℕ) (xs ys : List ℕ) → ((n : ℕ) → has xs n ≡ true → x < n) → ((n : ℕ) → has ys n ≡ true → y < n)
     → ((n : ℕ) → has (x ∷ xs) n ≡ has (y ∷ ys) n) → x ≡ y
 one_first x y xs ys low high same =
-    elim (either (eqb x y) (has ys x) (sym (same x) ∙ has_first x xs)) [
-      | inl e ↦ is_same x y e
+    elim (or_cases (eqb x y) (has ys x) (sym (same x) ∙ has_first x xs)) [
+      | inl e ↦ number_tells x y e
       | inr e ↦
-          elim (either (eqb y x) (has xs y) (same y ∙ has_first y ys)) [
-            | inl f ↦ sym (is_same y x f)
+          elim (or_cases (eqb y x) (has xs y) (same y ∙ has_first y ys)) [
+            | inl f ↦ sym (number_tells y x f)
             | inr f ↦ absurd (let a : y < x = high x e in let b : x < y = low y f in omega (arith, a, b))
           ]
     ]
@@ -90,23 +82,13 @@ one_list (x ∷ xs) (y ∷ ys) h k same =
               sym (ap (λ b. b || has xs n) e.0) ∙ (same n ∙ ap (λ b. b || has ys n) other)
         ]
 
--- the ascending list of numbers
-or_swap : (p q r : Bool) → (p || (q || r)) ≡ (q || (p || r))
-or_swap true true r = refl
-or_swap true false r = refl
-or_swap false q r = refl
-
-or_twice : (p r : Bool) → (p || r) ≡ (p || (p || r))
-or_twice true r = refl
-or_twice false r = refl
-
 has_put : (x : ℕ) (ys : List ℕ) (n : ℕ) → has (insert_once x ys) n ≡ (eqb n x || has ys n)
 has_put x [] n = refl
 has_put x (y ∷ ys) n = go (eqb x y) refl (nat_lt x y) (has_put x ys n)
   where
     go : (b : Bool) → eqb x y ≡ b → (c : Bool) → has (insert_once x ys) n ≡ (eqb n x || has ys n)
         → has (cond b (y ∷ ys) (cond c (x ∷ y ∷ ys) (y ∷ insert_once x ys))) n ≡ (eqb n x || (eqb n y || has ys n))
-    go true e c h = or_twice (eqb n y) (has ys n) ∙ ap (λ m. eqb n m || (eqb n y || has ys n)) (sym (is_same x y e))
+    go true e c h = or_twice (eqb n y) (has ys n) ∙ ap (λ m. eqb n m || (eqb n y || has ys n)) (sym (number_tells x y e))
     go false e true h = refl
     go false e false h = ap (λ b. eqb n y || b) h ∙ or_swap (eqb n y) (eqb n x) (has ys n)
 
@@ -121,17 +103,17 @@ put_rises x (y ∷ ys) h = go (eqb x y) refl (nat_lt x y) refl (put_rises x ys h
     go false e true f more =
         let low : x < y = grind (arith, nat_tests) in (
           λ n there.
-              elim (either (eqb n y) (has ys n) there) [
-                | inl at ↦ (let same : n ≡ y = is_same n y at in omega (arith, low, same))
+              elim (or_cases (eqb n y) (has ys n) there) [
+                | inl at ↦ (let same : n ≡ y = number_tells n y at in omega (arith, low, same))
                 | inr later ↦ (let high : y < n = h.0 n later in omega (arith, low, high))
               ],
           h,
         )
     go false e false f more = (
       λ n there.
-          elim (either (eqb n x) (has ys n) (sym (has_put x ys n) ∙ there)) [
+          elim (or_cases (eqb n x) (has ys n) (sym (has_put x ys n) ∙ there)) [
             | inl at ↦
-                let same : n ≡ x = is_same n x at in
+                let same : n ≡ x = number_tells n x at in
                 let high : y < x = grind (arith, nat_tests) in
                 omega (arith, same, high)
             | inr later ↦ h.0 n later

@@ -8,7 +8,7 @@ use Rattle.definition_faults.specs.declared.Fault.{Fault}
 use Rattle.definition_faults.specs.declared.Kind.{Kind}
 use Rattle.definition_faults.specs.declared.Kind.TheVariants.{Duplicate, UnknownName, OutOfRange, ForeignResource, FollowsCycle, Tree}
 
-rank_tells : (k j : Kind) → rank k ≡ rank j → k ≡ j
+pub rank_tells : (k j : Kind) → rank k ≡ rank j → k ≡ j
 rank_tells Duplicate Duplicate h = refl
 rank_tells UnknownName UnknownName h = refl
 rank_tells OutOfRange OutOfRange h = refl

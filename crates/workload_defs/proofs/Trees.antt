@@ -5,6 +5,8 @@ use Rattle.std.proofs.lemmas.List.{length-map}
 use Rattle.std.proofs.lemmas.Option.{slice_get_within}
 use Rattle.std.specs.Option.{option_map_or}
 use Rattle.std.specs.Prelude.{unwrap_or}
+use Rattle.lemmas.proofs.Lists.{get_in_front, got_below}
+use Rattle.lemmas.proofs.Texts.{text_tells}
 use Rattle.composer_parser.specs.declared.CpuDef.{CpuDef}
 use Rattle.composer_parser.specs.declared.Defs.{Defs}
 use Rattle.composer_parser.specs.declared.DomainDef.{DomainDef}
@@ -21,8 +23,9 @@ use Rattle.workload_defs.specs.Stations.{is_master, is_that, number_of, stations
 use Rattle.workload_defs.proofs.Apart.{apart_at}
 use Rattle.network_tree.proofs.Chains.{ends_there, short}
 use Rattle.workload_defs.proofs.Clean.{IsClean, good_cpu, good_domain, one_top}
-use Rattle.workload_defs.proofs.Lists.{any_at, filtered, from_any, from_filtered, from_mapped, in_front, mapped, there}
-use Rattle.workload_defs.proofs.Numbers.{HasNumber, at_number, from_station, have_one_name, is_text, is_top_manager, managed_domain, named}
+use Rattle.workload_defs.proofs.Lists.{any_at, filtered, from_any, from_filtered, from_mapped, mapped}
+use Rattle.workload_defs.proofs.Numbers.{HasNumber, at_number, from_station, have_one_name, is_top_manager}
+use Rattle.workload_defs.proofs.Numbers.{managed_domain, named}
 use Rattle.workload_defs.proofs.Numbers.{number_known, stations_apart, text_is, top, top_is, top_manager_is}
 
 module _ (d : Defs) where
@@ -64,7 +67,7 @@ module _ (d : Defs) where
       → (i : ℕ) × ((x : Lined DomainDef) × (slice_get d.domains i ≡ Some x) × (c.name ≡ x.item.manager))
   manages_one c e =
       let t = from_any (λ (y : Lined DomainDef). bytes_eq y.item.manager c.name) d.domains e in
-      (t.0, (t.1.0, t.1.1, sym (is_text t.1.0.item.manager c.name t.1.2)))
+      (t.0, (t.1.0, t.1.1, sym (text_tells t.1.0.item.manager c.name t.1.2)))
 
 module _ (d : Defs) (clean : IsClean d) where
   abbrev net : Net
@@ -172,7 +175,7 @@ module _ (d : Defs) (clean : IsClean d) where
       go x (c ∷ l) is k e =
           let first : slice_get (those d true d.cpus) 0 ≡ Some c = ap (λ m. slice_get m 0) is in (
             c,
-            in_front (those d true d.cpus) (those d false d.cpus) 0 c first,
+            get_in_front (those d true d.cpus) (those d false d.cpus) 0 c first,
             (from_filtered (is_that d true) (map (λ (e : Lined CpuDef). e.item) d.cpus) 0 c first).2,
           )
 
@@ -263,7 +266,7 @@ module _ (d : Defs) (clean : IsClean d) where
   count_is = length-map (stations d) (node_of d)
 
   station_at : (w : ℕ) → w < node_count net → (c : CpuDef) × (slice_get (stations d) w ≡ Some c)
-  station_at w low = let is = count_is in there (stations d) w (omega (arith, low, is))
+  station_at w low = let is = count_is in got_below (stations d) w (omega (arith, low, is))
 
   hop_inside : (a b : ℕ) → hop net a ≡ Some b → b < node_count net
   hop_inside a b e = go (slice_get net.nodes a) refl

@@ -94,12 +94,13 @@ fn is_full(cpu: &CpuDef) -> bool
 fn manages<'a>(names: &Names<'a>, cpu: &'a CpuDef) -> bool
     ensures { result ≡ spec.manages names.now cpu.now }
 {
-    names
-        .defs()
-        .domains
-        .as_slice()
-        .iter()
-        .any(|domain| domain.item.manager == cpu.name)
+    let domains = names.defs().domains.as_slice();
+    for domain in domains {
+        if domain.item.manager == cpu.name {
+            return true;
+        }
+    }
+    false
 }
 
 /// The neighbour on the way to the master: of a manager the manager of the parent domain, and of another workstation that

@@ -1,12 +1,13 @@
 use Rattle.std.proofs.Common.{ℕ, List, ap, subst, sym}
 use Rattle.std.specs.Prelude.{◌||◌, nat_eq}
+use Rattle.lemmas.proofs.Results.{after_ok}
 use Rattle.indexmap.specs.IndexSet.{contains}
 use Rattle.model.specs.Words.{has}
 use Rattle.model.specs.Catalogue.{stream_of}
 use Rattle.model.specs.Dependencies.{cites}
 use Rattle.counted_decisions.specs.Named.{AddsAll}
 use Rattle.counted_decisions.specs.Sights.{seen_in}
-use Rattle.counted_decisions.proofs.Naming.{after_ok, both_added, no_owner, owner_found}
+use Rattle.counted_decisions.proofs.Naming.{both_added, no_owner, owner_found}
 use Rattle.counted_decisions.proofs.witnesses.add_owner_and_cited.Goals as goal
 
 pub returns-in-None : goal.returns-in-None

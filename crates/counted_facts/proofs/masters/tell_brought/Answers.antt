@@ -1,10 +1,10 @@
 use Rattle.std.proofs.Common.{ℕ, ◌+◌, ◌∙◌, List, ap, false, length, sym, true}
 use Rattle.std.specs.Bool.{then_some}
+use Rattle.lemmas.proofs.Results.{after_ok}
 use Rattle.model.specs.Types.{Events, Feed, StreamDoc}
 use Rattle.model.specs.History.{list_of}
 use Rattle.counted_facts.specs.Places.{brought_at}
 use Rattle.counted_facts.specs.Subjects.{have_number, says_brought}
-use Rattle.counted_facts.proofs.Numbered.{after_ok}
 use Rattle.counted_facts.proofs.Placing.{say_all, say_orders, say_tells}
 use Rattle.counted_facts.proofs.masters.tell_brought.Goals as goal
 

@@ -1,9 +1,9 @@
 use Rattle.std.proofs.Common.{◌+◌, ◌∙◌, ap, false, length, refl, sym}
+use Rattle.lemmas.proofs.Results.{after_ok}
 use Rattle.model.specs.Types.{Events, Feed}
 use Rattle.model.specs.History.{list_of}
 use Rattle.counted_facts.specs.Places.{named_at}
 use Rattle.counted_facts.specs.Subjects.{names, says_named}
-use Rattle.counted_facts.proofs.Numbered.{after_ok}
 use Rattle.counted_facts.proofs.Placing.{say_all, say_orders, say_tells}
 use Rattle.counted_facts.proofs.masters.tell_named.Goals as goal
 

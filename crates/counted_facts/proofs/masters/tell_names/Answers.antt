@@ -1,8 +1,8 @@
 use Rattle.std.specs.Prelude.{◌||◌}
+use Rattle.lemmas.proofs.Results.{after_ok}
 use Rattle.model.specs.Words.{has}
 use Rattle.counted_facts.specs.Subjects.{have_number, names}
 use Rattle.counted_facts.proofs.Naming.{both_named, carried_named, docs_named, fewer}
-use Rattle.counted_facts.proofs.Numbered.{after_ok}
 use Rattle.counted_facts.proofs.Steps.{half_same}
 use Rattle.counted_facts.proofs.masters.tell_names.Goals as goal
 

@@ -1,8 +1,8 @@
 use Rattle.std.proofs.Common.{◌&&◌, ◌∙◌, sym}
 use Rattle.std.specs.Prelude.{◌==◌, ◌||◌}
+use Rattle.lemmas.proofs.Results.{after_ok}
 use Rattle.owner_rows.specs.Subjects.{is_plan}
 use Rattle.counted_facts.proofs.Naming.{fewer, no_plan_named, plan_named, plan_number}
-use Rattle.counted_facts.proofs.Numbered.{after_ok}
 use Rattle.counted_facts.proofs.Steps.{half_same}
 use Rattle.counted_facts.proofs.masters.tell_plan.Goals as goal
 

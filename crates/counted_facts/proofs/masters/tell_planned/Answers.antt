@@ -1,11 +1,11 @@
 use Rattle.std.proofs.Common.{◌&&◌, ◌+◌, ◌∙◌, ap, false, length, refl, sym}
 use Rattle.std.specs.Prelude.{◌==◌}
+use Rattle.lemmas.proofs.Results.{after_ok}
 use Rattle.model.specs.Types.{Events, Feed}
 use Rattle.model.specs.History.{list_of}
 use Rattle.owner_rows.specs.Subjects.{is_plan}
 use Rattle.counted_facts.specs.Places.{planned_at}
 use Rattle.counted_facts.specs.Subjects.{says_planned}
-use Rattle.counted_facts.proofs.Numbered.{after_ok}
 use Rattle.counted_facts.proofs.Placing.{say_all, say_orders, say_tells}
 use Rattle.counted_facts.proofs.masters.tell_planned.Goals as goal
 

@@ -1,6 +1,6 @@
 use Rattle.std.proofs.Common.{◌∙◌, sym}
+use Rattle.lemmas.proofs.Results.{after_ok}
 use Rattle.counted_facts.proofs.Naming.{reply_none, reply_one}
-use Rattle.counted_facts.proofs.Numbered.{after_ok}
 use Rattle.counted_facts.proofs.masters.tell_replied.Goals as goal
 
 pub returns-in-None : goal.returns-in-None

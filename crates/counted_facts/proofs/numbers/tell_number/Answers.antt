@@ -1,6 +1,7 @@
 use Rattle.std.proofs.Common.{ℕ, subst}
+use Rattle.lemmas.proofs.Results.{after_ok}
 use Rattle.counted_facts.specs.Timelines.{HasOneMore}
-use Rattle.counted_facts.proofs.Numbered.{after_ok, number_told}
+use Rattle.counted_facts.proofs.Numbered.{number_told}
 use Rattle.counted_facts.proofs.numbers.tell_number.Goals as goal
 
 pub returns : goal.returns

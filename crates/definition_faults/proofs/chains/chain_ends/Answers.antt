@@ -1,8 +1,8 @@
 use Rattle.std.proofs.Common.{◌∙◌, ap, length, map}
+use Rattle.lemmas.proofs.Lists.{take_whole}
 use Rattle.model.specs.Words.{below}
 use Rattle.definition_faults.specs.Chains.{is_top}
 use Rattle.definition_faults.proofs.Climbs.{tops_climbed}
-use Rattle.definition_faults.proofs.Least.{take_whole}
 use Rattle.definition_faults.proofs.chains.chain_ends.Goals as goal
 
 pub returns : goal.returns

@@ -1,5 +1,5 @@
 use Rattle.std.proofs.Common.{◌++◌, ◌∙◌, ◌∷◌, [], ap, sym}
-use Rattle.definition_faults.proofs.Belows.{below_more}
+use Rattle.model_laws.proofs.Numbers.{below_more}
 use Rattle.definition_faults.proofs.chains.own_places.Goals as goal
 
 pub loop-i-preserved : goal.loop-i-preserved

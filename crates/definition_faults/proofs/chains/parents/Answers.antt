@@ -1,6 +1,6 @@
 use Rattle.std.proofs.Common.{◌++◌, ◌∙◌, ◌∷◌, [], sym}
+use Rattle.model_laws.proofs.Numbers.{map_below_more}
 use Rattle.definition_faults.specs.Chains.{parent_of}
-use Rattle.definition_faults.proofs.Belows.{map_below_more}
 use Rattle.definition_faults.proofs.chains.parents.Goals as goal
 
 pub loop-i-preserved : goal.loop-i-preserved

@@ -1,8 +1,9 @@
 use Rattle.std.proofs.Common.{List, arith, subst}
+use Rattle.lemmas.proofs.Lists.{take_whole}
 use Rattle.composer_parser.specs.declared.EntryDef.{EntryDef}
 use Rattle.composer_parser.specs.declared.Lined.{Lined}
 use Rattle.definition_faults.specs.Conditions.{IsLeastBadLineOf, IsNoted}
-use Rattle.definition_faults.proofs.Least.{entry_more, take_whole}
+use Rattle.definition_faults.proofs.Least.{entry_more}
 use Rattle.definition_faults.proofs.conditions.bad_entry.Goals as goal
 
 pub loop-entry-preserved : goal.loop-entry-preserved

@@ -1,8 +1,9 @@
 use Rattle.std.proofs.Common.{List, arith, filter_map, subst}
+use Rattle.lemmas.proofs.Lists.{take_whole}
 use Rattle.composer_parser.specs.declared.JobDef.{JobDef}
 use Rattle.composer_parser.specs.declared.Lined.{Lined}
 use Rattle.definition_faults.specs.Conditions.{HasBad, IsLeastOf, IsNoted, condition_of_job}
-use Rattle.definition_faults.proofs.Least.{job_more, take_whole}
+use Rattle.definition_faults.proofs.Least.{job_more}
 use Rattle.definition_faults.proofs.conditions.bad_job.Goals as goal
 
 pub loop-job-preserved : goal.loop-job-preserved

@@ -1,11 +1,12 @@
 use Rattle.std.proofs.Common.{◌++◌, ◌∙◌, ℕ, List, ap, arith, filter_map, flat_map, subst, sym}
 use Rattle.std.proofs.lemmas.List.{append-nil}
+use Rattle.lemmas.proofs.Lists.{take_whole}
 use Rattle.composer_parser.specs.declared.Defs.{Defs}
 use Rattle.composer_parser.specs.declared.Lined.{Lined}
 use Rattle.composer_parser.specs.declared.EntryDef.{EntryDef}
 use Rattle.composer_parser.specs.declared.ScheduleDef.{ScheduleDef}
 use Rattle.definition_faults.specs.Conditions.{HasBad, IsLeastBadLineOf, IsLeastOf, condition_of_job, conditions_of_stream}
-use Rattle.definition_faults.proofs.Least.{stream_more, take_whole}
+use Rattle.definition_faults.proofs.Least.{stream_more}
 use Rattle.definition_faults.proofs.conditions.first_bad_condition.Goals as goal
 
 pub loop-schedule-init : goal.loop-schedule-init

@@ -1,7 +1,7 @@
 use Rattle.std.proofs.Common.{◌≡◌, ◌<◌, ◌++◌, ◌∙◌, ◌∷◌, [], ap, arith, get_or, length, sym}
+use Rattle.model_laws.proofs.Numbers.{map_below_more}
 use Rattle.composer_parser.specs.declared.Defs.{Defs}
 use Rattle.definition_faults.specs.Graphs.{begin_of, behind}
-use Rattle.definition_faults.proofs.Belows.{map_below_more}
 use Rattle.definition_faults.proofs.Places.{begin_more}
 use Rattle.definition_faults.proofs.graphs.begins.Goals as goal
 

@@ -1,5 +1,6 @@
 use Rattle.std.proofs.Common.{◌≡◌, ◌∙◌, ◌∷◌, ℕ, List, Some, ap, subst, sym}
 use Rattle.std.specs.Prelude.{◌&&◌, ◌==◌, filter, is_some}
+use Rattle.model_laws.proofs.Options.{lesser_all}
 use Rattle.model.specs.Types.{Job}
 use Rattle.model.specs.Words.{least, lesser}
 use Rattle.model.specs.History.{view_of}
@@ -9,7 +10,7 @@ use Rattle.owner_fold.specs.Times.{timed_jobs, timed_jobs_left}
 use Rattle.owner_fold.specs.DocPlaces.{stream_job}
 use Rattle.dependencies.specs.Dues.{due_at}
 use Rattle.dependencies.specs.Planned.{ArePlannedJobs}
-use Rattle.dependencies.proofs.Lowest.{first_passes, lower_has, lowest_passed, lowest_taken}
+use Rattle.dependencies.proofs.Lowest.{first_passes, lowest_passed, lowest_taken}
 use Rattle.dependencies.proofs.Timed.{due_jobs_at_first, timed_jobs_planned}
 use Rattle.dependencies.proofs.dues.lowest_job.Goals as goal
 
@@ -40,7 +41,7 @@ loop-parent-preserved-then-job_has_due c =
       planned = planned.1;
       owned =
           subst (λ (n : ℕ). owner V (Job n) ≡ Some c.args.w) (sym lower)
-          (lower_has (λ (n : ℕ). owner V (Job n) ≡ Some c.args.w) p.doc.no c.loop-parent.lowest
+          (lesser_all (λ (n : ℕ). owner V (Job n) ≡ Some c.args.w) p.doc.no c.loop-parent.lowest
           (planned.0.owned
           ∙ ap Some
           (first_passes p.doc.ws c.args.w c.job_has_due.result

@@ -1,5 +1,6 @@
 use Rattle.std.proofs.Common.{◌≡◌, ◌∙◌, ◌∷◌, ℕ, List, Some, ap, subst, sym}
 use Rattle.std.specs.Prelude.{◌&&◌, ◌==◌, filter, is_some}
+use Rattle.model_laws.proofs.Options.{lesser_all}
 use Rattle.model.specs.Types.{Stream, StreamDoc}
 use Rattle.model.specs.Words.{least, lesser}
 use Rattle.model.specs.History.{view_of}
@@ -8,7 +9,7 @@ use Rattle.model.specs.OwnMembers.{own_numbers}
 use Rattle.owner_fold.specs.Times.{timed_streams, timed_streams_left}
 use Rattle.dependencies.specs.Dues.{due_at}
 use Rattle.dependencies.specs.Planned.{ArePlannedStreams}
-use Rattle.dependencies.proofs.Lowest.{first_passes, lower_has, lowest_passed, lowest_taken}
+use Rattle.dependencies.proofs.Lowest.{first_passes, lowest_passed, lowest_taken}
 use Rattle.dependencies.proofs.Timed.{due_streams_at_first, timed_streams_planned}
 use Rattle.dependencies.proofs.dues.lowest_stream.Goals as goal
 
@@ -39,7 +40,7 @@ loop-doc-preserved-then-stream_has_due c =
       planned = planned.1;
       owned =
           subst (λ (n : ℕ). owner V (Stream n) ≡ Some c.args.w) (sym lower)
-          (lower_has (λ (n : ℕ). owner V (Stream n) ≡ Some c.args.w) d.no c.loop-doc.lowest
+          (lesser_all (λ (n : ℕ). owner V (Stream n) ≡ Some c.args.w) d.no c.loop-doc.lowest
           (planned.0.owned
           ∙ ap Some
           (first_passes d.ws c.args.w c.stream_has_due.result

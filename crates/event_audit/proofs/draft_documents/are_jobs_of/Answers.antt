@@ -1,9 +1,10 @@
 use Rattle.std.proofs.Common.{◌+◌, ◌∙◌, ◌≡◌, ◌<◌, ℕ, ap, arith, length, map, refl, subst, sym}
 use Rattle.std.proofs.lemmas.Option.{slice_get_read}
 use Rattle.std.specs.List.{enumerate_from}
+use Rattle.lemmas.proofs.Lists.{not_alike}
 use Rattle.model.specs.History.{view_of}
 use Rattle.event_audit.specs.Drafts.{job_given}
-use Rattle.event_audit.proofs.Alike.{alike_by, alike_more, not_alike}
+use Rattle.event_audit.proofs.Alike.{alike_by, alike_more}
 use Rattle.event_audit.proofs.Behind.{clash}
 use Rattle.event_audit.proofs.Placed.{placed_at, placed_length}
 use Rattle.event_audit.proofs.draft_documents.are_jobs_of.Goals as goal

@@ -1,7 +1,9 @@
 use Rattle.outside.specs.Files.{Told}
 use Rattle.gated_puts.specs.Steps.{GatedOf, Opened}
-use Rattle.gated_puts.proofs.Tears.{gate_left, gate_start, left_between, moments_between, moments_after, on_ok, on_err, gate_told, gate_opened, gated_same, opened_gated}
+use Rattle.gated_puts.proofs.Tears.{gate_left, gate_start, left_between, moments_between, moments_after, gate_told}
+use Rattle.gated_puts.proofs.Tears.{gate_opened, gated_same, opened_gated}
 use Rattle.std.proofs.Common.{sym, subst}
+use Rattle.lemmas.proofs.Results.{on_err, on_ok}
 use Rattle.gated_puts.proofs.puts.open_gate.Goals as goal
 
 pub returns-in_err-write_at-clause-any_moment : goal.returns-in_err-write_at-clause-any_moment

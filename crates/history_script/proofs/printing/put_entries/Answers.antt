@@ -1,7 +1,8 @@
 use Rattle.std.proofs.Common.{◌++◌, flat_map}
+use Rattle.lemmas.proofs.Lists.{left_further}
 use Rattle.model.specs.Ranges.{InRange}
 use Rattle.history_script.specs.Printed.{entry_line}
-use Rattle.history_script.proofs.Further.{all_further, all_of, left_further}
+use Rattle.history_script.proofs.Further.{all_further, all_of}
 use Rattle.history_script.proofs.printing.put_entries.Goals as goal
 
 pub loop-entry-preserved : goal.loop-entry-preserved

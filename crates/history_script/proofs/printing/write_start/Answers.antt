@@ -1,5 +1,5 @@
 use Rattle.std.proofs.Common.{rules}
-use Rattle.history_script.proofs.Further.{on_ok}
+use Rattle.lemmas.proofs.Results.{on_ok}
 use Rattle.history_script.proofs.printing.write_start.Goals as goal
 
 pub returns-clause-range : goal.returns-clause-range

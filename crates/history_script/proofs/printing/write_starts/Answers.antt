@@ -1,6 +1,7 @@
 use Rattle.std.proofs.Common.{◌++◌, flat_map}
+use Rattle.lemmas.proofs.Lists.{left_further}
 use Rattle.history_script.specs.Printed.{IsStartInRange, start_line}
-use Rattle.history_script.proofs.Further.{all_further, all_of, left_further}
+use Rattle.history_script.proofs.Further.{all_further, all_of}
 use Rattle.history_script.proofs.printing.write_starts.Goals as goal
 
 pub loop-start-preserved : goal.loop-start-preserved

@@ -1,12 +1,13 @@
 use Rattle.std.proofs.Common.{◌≡◌, ◌∙◌, ℕ, List, Bor, ap, arith, length, map, sym}
 use Rattle.std.specs.Prelude.{Ok, Err}
+use Rattle.lemmas.proofs.Results.{if_ok}
 use Rattle.syntax.specs.Splits.{lines_of}
 use Rattle.history_script.specs.Fronts.{history_place, network_of}
 use Rattle.history_script.specs.Histories.{line_behind, lines_behind}
 use Rattle.history_script.specs.Rows.{row_of}
 use Rattle.history_script.specs.declared.histories.HistoryText.{HistoryText}
 use Rattle.history_script.proofs.Sizes.{behind_fits, numbers_fit, record_fits}
-use Rattle.history_script.proofs.Whole.{count_in, entries_in, if_ok, read_fault, read_with, same_fault, starts_in}
+use Rattle.history_script.proofs.Whole.{count_in, entries_in, read_fault, read_with, same_fault, starts_in}
 use Rattle.history_script.proofs.reading.read_history.Goals as goal
 
 pub read_network-requires-clause-few : goal.read_network-requires-clause-few

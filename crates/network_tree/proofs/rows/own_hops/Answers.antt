@@ -1,6 +1,6 @@
 use Rattle.std.proofs.Common.{arith, unwrap_or}
+use Rattle.model_laws.proofs.Numbers.{map_below_more}
 use Rattle.model.specs.Network.{hop}
-use Rattle.network_tree.proofs.Fills.{map_below_more}
 use Rattle.network_tree.proofs.Trees.{few}
 use Rattle.network_tree.proofs.rows.own_hops.Goals as goal
 

@@ -1,6 +1,6 @@
 use Rattle.std.proofs.Common.{arith}
+use Rattle.model_laws.proofs.Numbers.{map_below_more}
 use Rattle.network_tree.specs.Ways.{row}
-use Rattle.network_tree.proofs.Fills.{map_below_more}
 use Rattle.network_tree.proofs.Trees.{few}
 use Rattle.network_tree.proofs.rows.table.Goals as goal
 

@@ -1,5 +1,6 @@
 use Rattle.std.proofs.Common.{◌∙◌, ap, arith, length, refl}
-use Rattle.network_world.proofs.Lists.{set_length, there_is}
+use Rattle.lemmas.proofs.Lists.{got_below}
+use Rattle.network_world.proofs.Lists.{set_length}
 use Rattle.network_world.proofs.Sending.{room_all, room_next, room_same}
 use Rattle.network_world.proofs.lanes.make_room.Goals as goal
 
@@ -11,14 +12,14 @@ make_room_at-requires c = omega (arith, c.loop-i-test.true, c.len-i-end.ensures,
 
 pub returns-in_err-make_room_at-clause-same : goal.returns-in_err-make_room_at-clause-same
 returns-in_err-make_room_at-clause-same c =
-    let place = there_is c.loop-i.lanes c.loop-i.i
+    let place = got_below c.loop-i.lanes c.loop-i.i
     (omega (arith, c.loop-i-test.true, c.len-i-end.ensures, c.loop-i.invariant.count)) in
     let got = c.in_err-make_room_at.ensures place.0 place.1 in
     room_same c.loop-i.lanes c.make_room_at.new.lanes c.loop-i.i place.0 got.0 place.1 got.1 ∙ c.loop-i.invariant.same
 
 pub loop-i-preserved : goal.loop-i-preserved
 loop-i-preserved c =
-    let place = there_is c.loop-i.lanes c.loop-i.i
+    let place = got_below c.loop-i.lanes c.loop-i.i
     (omega (arith, c.loop-i-test.true, c.len-i-end.ensures, c.loop-i.invariant.count)) in
     let got = c.in_ok-make_room_at.ensures place.0 place.1 in
     record {

@@ -1,6 +1,7 @@
 use Rattle.std.proofs.Common.{◌+◌, ◌∙◌, ap, map}
+use Rattle.lemmas.proofs.Results.{if_ok}
 use Rattle.night_records.specs.Composers.{composer_text, text_before_steps}
-use Rattle.night_records.proofs.Told.{behind_is, if_ok}
+use Rattle.night_records.proofs.Told.{behind_is}
 use Rattle.night_records.proofs.composers.composer_text.Goals as goal
 
 pub returns : goal.returns

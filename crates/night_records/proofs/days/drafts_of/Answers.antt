@@ -1,12 +1,13 @@
 use Rattle.std.proofs.Common.{ap, Err}
+use Rattle.lemmas.proofs.Numbers.{le_true}
 use Rattle.calendars.specs.Dates.{last_day}
 use Rattle.plan_builder.specs.declared.PlanFault.TheVariants.{Limit, OutOfRange}
 use Rattle.night_records.specs.Days.{full, timeless}
-use Rattle.night_records.proofs.GivenDays.{day_within, drafts_given}
+use Rattle.night_records.proofs.GivenDays.{drafts_given}
 use Rattle.night_records.proofs.days.drafts_of.Goals as goal
 
 pub day_docs-requires : goal.day_docs-requires
-day_docs-requires c = day_within c.args.day last_day c.requires
+day_docs-requires c = le_true c.args.day last_day c.requires
 
 pub returns-in-Ok-clause-drafts : goal.returns-in-Ok-clause-drafts
 returns-in-Ok-clause-drafts c =

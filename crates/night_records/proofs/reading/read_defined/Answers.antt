@@ -1,5 +1,6 @@
 use Rattle.std.proofs.Common.{◌∙◌, Err, ap}
-use Rattle.night_records.proofs.Told.{both_ok, defined_read, defined_tells, if_err, refused_tells}
+use Rattle.lemmas.proofs.Results.{if_err}
+use Rattle.night_records.proofs.Told.{both_ok, defined_read, defined_tells, refused_tells}
 use Rattle.night_records.proofs.reading.read_defined.Goals as goal
 
 pub returns-in-Ok-clause-read : goal.returns-in-Ok-clause-read

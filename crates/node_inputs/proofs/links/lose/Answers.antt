@@ -1,6 +1,6 @@
 use Rattle.std.proofs.Common.{refl}
 use Rattle.outside.specs.Calls.{Asked}
-use Rattle.node_keeping.specs.Traces.{Event}
+use Rattle.node_inputs.specs.Traces.{Event}
 use Rattle.node_inputs.proofs.Doing.{did_outside, did_then, out_call}
 use Rattle.node_inputs.proofs.Telling.{ask_told}
 use Rattle.node_inputs.specs.Tellings.{told_by}

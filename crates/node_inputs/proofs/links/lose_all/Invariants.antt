@@ -2,7 +2,7 @@ use Rattle.std.proofs.Common.{ℕ, ◌-◌, List, Option}
 use Rattle.model.specs.Words.{numbers_from}
 use Rattle.file_watch.specs.Asked.{Probe}
 use Rattle.outside.specs.Calls.{SpawnerCalls}
-use Rattle.node_keeping.specs.Keeping.{IsReady}
+use Rattle.node_inputs.specs.Keeping.{IsReady}
 use Rattle.node_inputs.specs.Actions.{Each}
 use Rattle.node_inputs.specs.Inputs.{LoseAll, LoseIf}
 use Rattle.node_inputs.specs.Stepping.{AreKeepable, TellLost}

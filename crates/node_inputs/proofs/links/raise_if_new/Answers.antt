@@ -1,7 +1,7 @@
 use Rattle.std.proofs.Common.{◌<◌, ◌≡◌, false, get_or, refl, rules, subst, sym, true}
 use Rattle.model.specs.Network.{are_neighbours, node_count}
 use Rattle.outside.specs.Calls.{Asked}
-use Rattle.node_keeping.specs.Traces.{Event}
+use Rattle.node_inputs.specs.Traces.{Event}
 use Rattle.node_inputs.specs.Actions.{Call, Nothing}
 use Rattle.node_inputs.specs.Inputs.{is_new_neighbour}
 use Rattle.agent_core.specs.Nodes.{present_in, view_in}

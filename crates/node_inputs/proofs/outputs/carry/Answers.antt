@@ -1,5 +1,5 @@
 use Rattle.std.proofs.Common.{None, refl, subst, sym}
-use Rattle.node_keeping.specs.Traces.{Event}
+use Rattle.node_inputs.specs.Traces.{Event}
 use Rattle.model.specs.Types.{Send}
 use Rattle.node_inputs.specs.Doings.{DoesOutside, end_of}
 use Rattle.node_inputs.specs.Inputs.{CarryOut, carried_with}

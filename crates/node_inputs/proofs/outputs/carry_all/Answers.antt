@@ -1,12 +1,13 @@
 use Rattle.std.proofs.Common.{◌+◌, ◌<◌, ◌≡◌, ◌≤◌, [], Err, Option, Some, drop, get_or, length, refl, rules, subst, sym, ℕ, Bool}
-use Rattle.node_keeping.specs.declared.ends.NodeEnd.TheVariants.{NoMemory}
+use Rattle.lemmas.proofs.Lists.{drop_at_end}
+use Rattle.node_inputs.specs.declared.ends.NodeEnd.TheVariants.{NoMemory}
 use Rattle.node_inputs.specs.Actions.{Each}
 use Rattle.node_inputs.specs.Doings.{DoesOutside}
 use Rattle.node_inputs.specs.Inputs.{Carry, CarryOut, carried_with, nothing_carried}
 use Rattle.node_inputs.specs.Tellings.{told_by}
-use Rattle.node_keeping.specs.declared.ends.NodeEnd.{NodeEnd}
+use Rattle.node_inputs.specs.declared.ends.NodeEnd.{NodeEnd}
 use Rattle.node_inputs.proofs.Doing.{CompletingOutside}
-use Rattle.node_inputs.proofs.Looping.{each_out_done, each_out_more, next_item, no_item, outside_all, outside_end, outside_one}
+use Rattle.node_inputs.proofs.Looping.{each_out_done, each_out_more, next_item, outside_all, outside_end, outside_one}
 use Rattle.node_inputs.proofs.outputs.carry_all.Goals as goal
 
 pub loop-out-init : goal.loop-out-init
@@ -57,4 +58,4 @@ returns-clause-all g c = λ clock files.
     let inv = c.loop-out.invariant clock files in
     let i = c.loop-out.out-index in
     let all : length c.args.outs.now ≤ i = search rules in
-    (inv.0, inv.1, outside_all (each_out_done (CarryOut c.args.agent.now) (drop i c.args.outs.now) (no_item c.args.outs.now i all) inv.2))
+    (inv.0, inv.1, outside_all (each_out_done (CarryOut c.args.agent.now) (drop i c.args.outs.now) (drop_at_end c.args.outs.now i all) inv.2))

@@ -1,17 +1,18 @@
 use Rattle.std.proofs.Common.{[], ◌≡◌, ◌∙◌, ◌∷◌, Err, Bool, None, Some, ap, false, get_or, length, refl, rules, set, subst, sym, true}
 use Rattle.std.specs.Prelude.{if◌then◌else◌, is_ok, option_map, List, ℕ}
+use Rattle.lemmas.proofs.Options.{map_none, map_some}
 use Rattle.mail_frames.specs.Spelling.{frame_bytes}
 use Rattle.mail_frames.specs.declared.frames.Frame.{Frame}
 use Rattle.outside.specs.Calls.{Sends, Sent}
-use Rattle.node_keeping.specs.Traces.{Event}
-use Rattle.node_keeping.specs.declared.ends.NodeEnd.TheVariants.{NoMemory}
+use Rattle.node_inputs.specs.Traces.{Event}
+use Rattle.node_inputs.specs.declared.ends.NodeEnd.TheVariants.{NoMemory}
 use Rattle.node_inputs.specs.Actions.{IfThere, Nothing, Wants}
 use Rattle.node_inputs.specs.Doings.{end_of}
 use Rattle.node_inputs.specs.Inputs.{SendFrame, carried_with, frame_of, is_lost}
 use Rattle.node_inputs.specs.Tellings.{told_by}
 use Rattle.node_inputs.proofs.Choosing.{out_if_false, out_if_true, out_not_there, out_there}
 use Rattle.node_inputs.proofs.Doing.{out_answer, out_as, out_nothing, out_of_memory, out_wants}
-use Rattle.node_inputs.proofs.Flagging.{lost_more, map_none, map_some}
+use Rattle.node_inputs.proofs.Flagging.{lost_more}
 use Rattle.node_inputs.proofs.Telling.{send_told}
 use Rattle.node_inputs.proofs.outputs.send.Goals.{then-is_err, else-is_err}
 use Rattle.node_inputs.proofs.outputs.send.Goals as goal

@@ -1,7 +1,7 @@
 use Rattle.std.proofs.Common.{[], ◌∷◌, Some, ap, refl}
 use Rattle.std.specs.Prelude.{is_ok}
 use Rattle.outside.specs.Calls.{StartCall}
-use Rattle.node_keeping.specs.Traces.{Event}
+use Rattle.node_inputs.specs.Traces.{Event}
 use Rattle.node_inputs.specs.Inputs.{carried_with}
 use Rattle.node_inputs.proofs.Telling.{start_told}
 use Rattle.node_inputs.proofs.outputs.start.Goals as goal

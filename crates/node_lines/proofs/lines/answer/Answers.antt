@@ -1,7 +1,7 @@
 use Rattle.std.proofs.Common.{◌≡◌, Err, Ok, inr, rules}
 use Rattle.conman_syntax.specs.Rows.{due_line}
 use Rattle.conman_syntax.specs.declared.faults.CommandFault.TheVariants.{BadArgument, TooMany, UnknownCommand}
-use Rattle.node_keeping.specs.declared.ends.NodeEnd.TheVariants.{NoMemory}
+use Rattle.node_inputs.specs.declared.ends.NodeEnd.TheVariants.{NoMemory}
 use Rattle.node_inputs.specs.Doings.{end_of}
 use Rattle.node_inputs.specs.Tellings.{told_by}
 use Rattle.node_inputs.proofs.Doing.{did_as, did_outside, out_as, out_stop}

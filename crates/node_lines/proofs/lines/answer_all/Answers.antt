@@ -1,7 +1,8 @@
 use Rattle.std.proofs.Common.{◌+◌, ◌<◌, ◌≡◌, ◌≤◌, Err, Some, ap, drop, get_or, length, rules}
+use Rattle.lemmas.proofs.Lists.{drop_at_end}
 use Rattle.node_inputs.specs.Actions.{Each}
 use Rattle.node_inputs.specs.Doings.{end_of}
-use Rattle.node_inputs.proofs.Looping.{completing_all, completing_end, completing_one, each_done, each_more, next_item, no_item}
+use Rattle.node_inputs.proofs.Looping.{completing_all, completing_end, completing_one, each_done, each_more, next_item}
 use Rattle.node_inputs.proofs.Taking.{did_answer}
 use Rattle.node_lines.specs.Lines.{AnswerFrame}
 use Rattle.node_lines.proofs.lines.answer_all.Goals as goal
@@ -36,4 +37,4 @@ returns-clause-does g c = λ clock files.
     let i = c.loop-frame.frame-index in
     let all : length c.args.frames.now ≤ i = search rules in
     completing_all g.K.Keeper.spent c.loop-frame.invariant.ready_
-    (each_done (AnswerFrame c.args.workload.now) (drop i c.args.frames.now) (no_item c.args.frames.now i all) (c.loop-frame.invariant.does_ clock files))
+    (each_done (AnswerFrame c.args.workload.now) (drop i c.args.frames.now) (drop_at_end c.args.frames.now i all) (c.loop-frame.invariant.does_ clock files))

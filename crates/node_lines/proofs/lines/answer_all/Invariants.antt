@@ -1,6 +1,6 @@
 use Rattle.std.proofs.Common.{ℕ, List, Option, drop}
 use Rattle.file_watch.specs.Asked.{Probe}
-use Rattle.node_keeping.specs.Keeping.{IsReady}
+use Rattle.node_inputs.specs.Keeping.{IsReady}
 use Rattle.node_inputs.specs.Actions.{Each}
 use Rattle.node_inputs.specs.Stepping.{AreKeepable}
 use Rattle.node_inputs.specs.Tellings.{told_by}

@@ -2,8 +2,8 @@ use Rattle.std.proofs.Common.{◌≡◌, Err, List, None, Some, ap, false, inr, 
 use Rattle.std.specs.Prelude.{◌==◌}
 use Rattle.conman_orders.specs.Names.{workstation}
 use Rattle.outside.specs.Calls.{Asked, Asks}
-use Rattle.node_keeping.specs.Traces.{Event}
-use Rattle.node_keeping.specs.declared.ends.NodeEnd.TheVariants.{NoMemory}
+use Rattle.node_inputs.specs.Traces.{Event}
+use Rattle.node_inputs.specs.declared.ends.NodeEnd.TheVariants.{NoMemory}
 use Rattle.node_inputs.specs.Doings.{DoesOutside, end_of}
 use Rattle.node_inputs.specs.Tellings.{told_by}
 use Rattle.node_inputs.proofs.Doing.{out_answer, out_as, out_call, out_stop, out_then}

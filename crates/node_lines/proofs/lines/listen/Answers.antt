@@ -1,6 +1,6 @@
 use Rattle.std.proofs.Common.{◌≡◌, Err, Some, ap, inl, inr, rules}
 use Rattle.mail_frames.specs.Streams.{AreFramesOf}
-use Rattle.node_keeping.specs.declared.ends.NodeEnd.TheVariants.{NoMemory}
+use Rattle.node_inputs.specs.declared.ends.NodeEnd.TheVariants.{NoMemory}
 use Rattle.node_inputs.specs.Doings.{end_of}
 use Rattle.node_inputs.specs.Tellings.{told_by}
 use Rattle.node_inputs.proofs.Doing.{did_as, did_outside, out_as, out_stop}

@@ -1,5 +1,5 @@
 use Rattle.std.proofs.Common.{◌≡◌, Err, List, Some, ap, inr, rules, subst, ℕ}
-use Rattle.node_keeping.specs.declared.ends.NodeEnd.TheVariants.{NoMemory}
+use Rattle.node_inputs.specs.declared.ends.NodeEnd.TheVariants.{NoMemory}
 use Rattle.node_inputs.specs.Doings.{DoesOutside, end_of}
 use Rattle.node_inputs.specs.Tellings.{told_by}
 use Rattle.node_inputs.proofs.Doing.{out_answer, out_as, out_stop}

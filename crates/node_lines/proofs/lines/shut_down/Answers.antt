@@ -1,5 +1,5 @@
 use Rattle.std.proofs.Common.{◌≡◌, Err, List, None, Some, ap, inr, rules, subst, ℕ}
-use Rattle.node_keeping.specs.declared.ends.NodeEnd.TheVariants.{NoMemory, Shutdown}
+use Rattle.node_inputs.specs.declared.ends.NodeEnd.TheVariants.{NoMemory, Shutdown}
 use Rattle.node_inputs.specs.Actions.{Stop}
 use Rattle.node_inputs.specs.Doings.{DoesOutside, end_of}
 use Rattle.node_inputs.specs.Tellings.{told_by}

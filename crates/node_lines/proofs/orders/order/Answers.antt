@@ -2,7 +2,7 @@ use Rattle.std.proofs.Common.{◌≡◌, Err, Ok, inr, rules}
 use Rattle.agent_core.specs.Nodes.{present_in, view_in}
 use Rattle.conman_orders.specs.Orders.{due_order}
 use Rattle.conman_orders.specs.declared.orders.ResolveFault.TheVariants.{NotACommand, UnknownName}
-use Rattle.node_keeping.specs.declared.ends.NodeEnd.TheVariants.{NoMemory}
+use Rattle.node_inputs.specs.declared.ends.NodeEnd.TheVariants.{NoMemory}
 use Rattle.node_inputs.specs.Doings.{end_of}
 use Rattle.node_inputs.specs.Tellings.{told_by}
 use Rattle.node_inputs.proofs.Doing.{did_as, did_outside, out_as, out_nothing, out_stop}

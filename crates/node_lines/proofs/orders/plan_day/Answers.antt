@@ -3,7 +3,7 @@ use Rattle.std.specs.Prelude.{◌==◌, nat_le}
 use Rattle.calendars.specs.Dates.{last_day}
 use Rattle.plan_builder.specs.Limits.{plan_fault}
 use Rattle.plan_builder.specs.declared.faults.PlanFault.TheVariants.{Limit, OutOfRange}
-use Rattle.node_keeping.specs.declared.ends.NodeEnd.TheVariants.{NoMemory}
+use Rattle.node_inputs.specs.declared.ends.NodeEnd.TheVariants.{NoMemory}
 use Rattle.node_inputs.specs.Doings.{end_of}
 use Rattle.node_inputs.specs.Tellings.{told_by}
 use Rattle.node_inputs.proofs.Doing.{did_as, did_outside, out_as, out_stop}

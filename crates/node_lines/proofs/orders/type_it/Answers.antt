@@ -2,7 +2,7 @@ use Rattle.std.proofs.Common.{◌≡◌, Err, List, None, Ok, Option, Some, ap, 
 use Rattle.model.specs.Types.{Input, Typed}
 use Rattle.agent_core.specs.declared.faults.StepFault.{StepFault}
 use Rattle.node_replies.specs.declared.replies.Refusal.{Refusal}
-use Rattle.node_keeping.specs.declared.ends.NodeEnd.TheVariants.{NoMemory}
+use Rattle.node_inputs.specs.declared.ends.NodeEnd.TheVariants.{NoMemory}
 use Rattle.node_inputs.specs.Doings.{Does, DoesOutside, end_of}
 use Rattle.node_inputs.specs.Stepping.{TakesTelling}
 use Rattle.node_inputs.specs.Tellings.{told_by}

@@ -1,6 +1,6 @@
 use Rattle.std.proofs.Common.{◌≡◌, rules}
 use Rattle.outside.specs.declared.links.Arrival.TheVariants as arrival
-use Rattle.node_keeping.specs.declared.ends.NodeEnd.TheVariants.{NoMemory}
+use Rattle.node_inputs.specs.declared.ends.NodeEnd.TheVariants.{NoMemory}
 use Rattle.node_inputs.specs.Tellings.{told_by}
 use Rattle.node_inputs.proofs.Doing.{did_outside, out_nothing, out_stop}
 use Rattle.node_inputs.proofs.Taking.{on_ok}

@@ -1,11 +1,12 @@
 use Rattle.std.proofs.Common.{◌+◌, ◌<◌, ◌≡◌, ◌≤◌, ◌∙◌, Err, false, None, Some, ap, drop, get_or, length, rules, sym}
-use Rattle.node_keeping.specs.declared.ends.NodeEnd.TheVariants.{NoMemory}
+use Rattle.lemmas.proofs.Lists.{drop_at_end}
+use Rattle.node_inputs.specs.declared.ends.NodeEnd.TheVariants.{NoMemory}
 use Rattle.node_inputs.specs.Doings.{end_of}
 use Rattle.node_inputs.specs.Inputs.{Lose}
 use Rattle.node_inputs.specs.Tellings.{told_by}
 use Rattle.node_inputs.proofs.Choosing.{out_if_false}
 use Rattle.node_inputs.proofs.Doing.{did_outside, out_nothing}
-use Rattle.node_inputs.proofs.Looping.{next_item, no_item}
+use Rattle.node_inputs.proofs.Looping.{next_item}
 use Rattle.node_inputs.proofs.Taking.{did_answer}
 use Rattle.node_loop.specs.Frames.{input_of}
 use Rattle.node_loop.proofs.Turning.{frame_bad, frame_ended, frame_taken, frame_unread, frames_more}
@@ -68,7 +69,7 @@ returns-else-is_bad-clause-does g c = λ clock files.
     let all : length c.args.frames.now ≤ i = search rules in
     let bad : c.args.is_bad ≡ false = search rules in
     let told = told_by (g.L.Link.calls c.loop-frame.link) (g.J.Spawner.calls c.loop-frame.jobs) clock files in
-    frames_more c.args.x c.args.is_bad (drop i c.args.frames.now) _ (no_item c.args.frames.now i all) (c.loop-frame.invariant.does_ clock files)
+    frames_more c.args.x c.args.is_bad (drop i c.args.frames.now) _ (drop_at_end c.args.frames.now i all) (c.loop-frame.invariant.does_ clock files)
     c.loop-frame.agent c.loop-frame.keeper told None
     (did_outside g.K.Keeper.spent c.loop-frame.keeper c.loop-frame.invariant.ready_
     (out_if_false (Lose c.args.x) c.args.is_bad bad (out_nothing c.loop-frame.agent told)))

@@ -1,5 +1,5 @@
 use Rattle.model.specs.Words.{with_at}
-use Rattle.link_streams.specs.Heard.{nothing_heard}
+use Rattle.node_loop.specs.Heard.{nothing_heard}
 use Rattle.node_inputs.specs.Tellings.{told_by}
 use Rattle.node_inputs.proofs.Doing.{did_outside, did_then}
 use Rattle.node_inputs.proofs.Taking.{on_ok}

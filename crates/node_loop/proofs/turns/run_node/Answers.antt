@@ -2,8 +2,8 @@ use Rattle.std.proofs.Common.{◌+◌, ◌-◌, ◌<◌, ◌≤◌, Some, refl, 
 use Rattle.node_inputs.specs.Tellings.{told_by}
 use Rattle.node_inputs.proofs.Doing.{did_outside, out_stop}
 use Rattle.node_inputs.proofs.Looping.{completing_end, completing_one}
-use Rattle.node_keeping.specs.declared.ends.NodeEnd.TheVariants.{TurnsSpent}
-use Rattle.link_streams.specs.Heard.{nothing_heard}
+use Rattle.node_inputs.specs.declared.ends.NodeEnd.TheVariants.{TurnsSpent}
+use Rattle.node_loop.specs.Heard.{nothing_heard}
 use Rattle.node_loop.specs.Runs.{Run, running_with}
 use Rattle.node_loop.proofs.Turning.{one_turn, turns_begin, turns_done, turns_more, turns_over}
 use Rattle.node_loop.proofs.turns.run_node.Goals as goal

@@ -1,9 +1,9 @@
 use Rattle.std.proofs.Common.{ℕ, ◌-◌}
-use Rattle.node_keeping.specs.Keeping.{IsReady}
+use Rattle.node_inputs.specs.Keeping.{IsReady}
 use Rattle.node_inputs.specs.Stepping.{AreKeepable}
 use Rattle.node_inputs.specs.Tellings.{told_by}
 use Rattle.node_inputs.proofs.Doing.{Completing}
-use Rattle.link_streams.specs.Heard.{AreHeard, Heard}
+use Rattle.node_loop.specs.Heard.{AreHeard, Heard}
 use Rattle.node_loop.specs.Runs.{Run, running, running_with}
 use Rattle.node_lines.proofs.Keeping.{Standing}
 use Rattle.node_loop.proofs.turns.run_node.Given as goal

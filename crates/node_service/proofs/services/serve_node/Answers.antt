@@ -3,8 +3,8 @@ use Rattle.model.specs.Types.{Net}
 use Rattle.message_file.specs.Files.{kept_of}
 use Rattle.message_file.specs.State.{kept_in}
 use Rattle.node_inputs.specs.Tellings.{told_by}
-use Rattle.node_keeping.specs.Keeping.{bodies}
-use Rattle.node_keeping.specs.Traces.{kept}
+use Rattle.node_inputs.specs.Keeping.{bodies}
+use Rattle.node_inputs.specs.Traces.{kept}
 use Rattle.node_restart.specs.Restarting.{Restarts}
 use Rattle.node_service.specs.Serving.{HasRun}
 use Rattle.node_service.proofs.Serving.{disk_cause, end_told, held_first, keeps_front, serving_left, serving_own}

@@ -1,10 +1,11 @@
 use Rattle.std.specs.Prelude.{Err}
+use Rattle.lemmas.proofs.Results.{if_err}
 use Rattle.record_runs.specs.Causes.{no_moment}
 use Rattle.record_runs.specs.Taken.{Leads}
 use Rattle.record_runs.specs.Days.{take_planned}
 use Rattle.record_runs.specs.Runs.{take_line}
 use Rattle.record_runs.proofs.Planned.{asked_inside, asked_is, asked_next, asked_none, halts_too, leads_too}
-use Rattle.record_runs.proofs.Tables.{if_err, on_ok}
+use Rattle.record_runs.proofs.Tables.{on_ok}
 use Rattle.record_runs.proofs.days.take_any_line.Goals as goal
 
 pub take_line-requires-clause-no_day : goal.take_line-requires-clause-no_day

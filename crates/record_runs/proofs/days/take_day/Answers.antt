@@ -1,12 +1,13 @@
 use Rattle.std.proofs.Common.{subst, sym}
 use Rattle.std.specs.Prelude.{Err}
+use Rattle.lemmas.proofs.Results.{if_err}
 use Rattle.record_runs.specs.Causes.{no_moment}
 use Rattle.record_runs.specs.Taken.{HaltsFor, Leads}
 use Rattle.record_runs.specs.declared.stops.Halt.{Halt}
 use Rattle.record_runs.specs.Days.{take_planned}
 use Rattle.record_runs.specs.Runs.{take_line}
 use Rattle.record_runs.proofs.Planned.{halts_too, leads_too, no_plan_halts, planned_is}
-use Rattle.record_runs.proofs.Tables.{if_err, on_ok}
+use Rattle.record_runs.proofs.Tables.{on_ok}
 use Rattle.record_runs.proofs.days.take_day.Goals as goal
 
 pub returns-in_ok-plan-in-Ok-clause-taken : goal.returns-in_ok-plan-in-Ok-clause-taken

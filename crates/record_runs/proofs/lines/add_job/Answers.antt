@@ -1,6 +1,6 @@
 use Rattle.std.proofs.Common.{◌∙◌, ℕ, ap}
+use Rattle.model_laws.proofs.Keys.{key_inserted}
 use Rattle.model.specs.Words.{insert_once}
-use Rattle.batchman_core.proofs.Gatherings.{key_inserted}
 use Rattle.record_runs.proofs.lines.add_job.Goals as goal
 
 pub returns : goal.returns

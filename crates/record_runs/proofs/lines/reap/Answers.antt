@@ -1,6 +1,7 @@
 use Rattle.std.proofs.Common.{◌∙◌, ap, map, sym}
+use Rattle.lemmas.proofs.Results.{if_err}
 use Rattle.record_runs.specs.Lines.{live_jobs}
-use Rattle.record_runs.proofs.Tables.{ends, halts_as, if_err, leads_as, on_ok}
+use Rattle.record_runs.proofs.Tables.{ends, halts_as, leads_as, on_ok}
 use Rattle.record_runs.proofs.lines.reap.Goals as goal
 
 pub returns-clause-taken : goal.returns-clause-taken

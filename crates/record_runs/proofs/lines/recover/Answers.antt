@@ -1,8 +1,9 @@
+use Rattle.lemmas.proofs.Results.{if_err}
 use Rattle.model.specs.Types.{Take, Typed}
 use Rattle.model.specs.World.{view_at}
 use Rattle.recovery_watch.specs.Advice.{advice}
 use Rattle.record_runs.specs.Lines.{advised, only}
-use Rattle.record_runs.proofs.Tables.{advised_this, halts_as, if_err, leads_as, on_ok}
+use Rattle.record_runs.proofs.Tables.{advised_this, halts_as, leads_as, on_ok}
 use Rattle.record_runs.proofs.lines.recover.Goals as goal
 
 pub returns-in-Some-clause-taken : goal.returns-in-Some-clause-taken

@@ -1,4 +1,5 @@
-use Rattle.record_runs.proofs.Tables.{handed_on, stop_halts, if_err, on_ok, no_stop, stop_leads}
+use Rattle.lemmas.proofs.Results.{if_err}
+use Rattle.record_runs.proofs.Tables.{handed_on, stop_halts, on_ok, no_stop, stop_leads}
 use Rattle.record_runs.proofs.lines.stop_in.Goals as goal
 
 pub returns-in_err-act-clause-stopped : goal.returns-in_err-act-clause-stopped

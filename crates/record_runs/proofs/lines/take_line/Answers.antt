@@ -1,5 +1,6 @@
 use Rattle.std.proofs.Common.{map, sym, subst}
 use Rattle.std.specs.Prelude.{IfErr, OnOk}
+use Rattle.lemmas.proofs.Results.{if_err}
 use Rattle.model.specs.Types.{Crash, Deliver}
 use Rattle.model.specs.World.{view_at}
 use Rattle.recovery_watch.specs.Advice.{advice}
@@ -8,7 +9,7 @@ use Rattle.record_script.specs.declared.StepForm.TheVariants as form
 use Rattle.record_runs.specs.Lines.{advised, live_jobs, only, undelivered}
 use Rattle.record_runs.specs.Runs.{take_line}
 use Rattle.record_runs.specs.Taken.{HaltsFor, Leads}
-use Rattle.record_runs.proofs.Tables.{crash_is, ends, flow_is, if_err, line_halts, line_leads, on_ok, reap_is, recover_is}
+use Rattle.record_runs.proofs.Tables.{crash_is, ends, flow_is, line_halts, line_leads, on_ok, reap_is, recover_is}
 use Rattle.record_runs.proofs.lines.take_line.Goals as goal
 
 pub returns-in-One-clause-stopped : goal.returns-in-One-clause-stopped

@@ -1,4 +1,5 @@
-use Rattle.record_runs.proofs.Tables.{handed_on, one_halts, if_err, on_ok, no_act, one_leads}
+use Rattle.lemmas.proofs.Results.{if_err}
+use Rattle.record_runs.proofs.Tables.{handed_on, one_halts, on_ok, no_act, one_leads}
 use Rattle.record_runs.proofs.lines.take_one.Goals as goal
 
 pub returns-in_err-act-clause-stopped : goal.returns-in_err-act-clause-stopped

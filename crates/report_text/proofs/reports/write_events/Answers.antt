@@ -1,5 +1,5 @@
+use Rattle.lemmas.proofs.Lists.{left_further}
 use Rattle.report_text.specs.Reports.{entry_line}
-use Rattle.report_text.proofs.Further.{left_further}
 use Rattle.report_text.proofs.reports.write_events.Goals as goal
 
 pub loop-entry-preserved : goal.loop-entry-preserved

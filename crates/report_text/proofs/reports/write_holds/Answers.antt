@@ -1,5 +1,5 @@
+use Rattle.lemmas.proofs.Lists.{left_further}
 use Rattle.report_text.specs.Reports.{holds_line}
-use Rattle.report_text.proofs.Further.{left_further}
 use Rattle.report_text.proofs.reports.write_holds.Goals as goal
 
 pub loop-held-preserved : goal.loop-held-preserved

@@ -1,5 +1,5 @@
+use Rattle.lemmas.proofs.Lists.{left_further}
 use Rattle.report_text.specs.Reports.{node_part}
-use Rattle.report_text.proofs.Further.{left_further}
 use Rattle.report_text.proofs.reports.write_nodes.Goals as goal
 
 pub loop-node-preserved : goal.loop-node-preserved

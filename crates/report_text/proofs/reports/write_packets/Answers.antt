@@ -1,5 +1,5 @@
+use Rattle.lemmas.proofs.Lists.{left_further}
 use Rattle.report_text.specs.Reports.{packets_line}
-use Rattle.report_text.proofs.Further.{left_further}
 use Rattle.report_text.proofs.reports.write_packets.Goals as goal
 
 pub loop-pair-preserved : goal.loop-pair-preserved

@@ -1,5 +1,5 @@
+use Rattle.lemmas.proofs.Lists.{left_further}
 use Rattle.report_text.specs.Reports.{start_line}
-use Rattle.report_text.proofs.Further.{left_further}
 use Rattle.report_text.proofs.reports.write_starts.Goals as goal
 
 pub loop-start-preserved : goal.loop-start-preserved

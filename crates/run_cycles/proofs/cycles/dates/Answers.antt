@@ -1,7 +1,8 @@
 use Rattle.std.proofs.Common.{◌≡◌, ◌+◌, ◌-◌, ◌&&◌, ℕ, nat_le, arith}
+use Rattle.lemmas.proofs.Results.{if_ok}
 use Rattle.calendars.specs.Sets.{has}
 use Rattle.run_cycles.specs.Runs.{runs}
-use Rattle.run_cycles.proofs.RunDates.{if_ok, dates_of}
+use Rattle.run_cycles.proofs.RunDates.{dates_of}
 use Rattle.run_cycles.proofs.cycles.dates.Goals as goal
 
 pub returns : goal.returns

@@ -3,8 +3,8 @@ use Rattle.composer_parser.specs.declared.Defs.{Defs}
 use Rattle.model.specs.Types.{Entry, Rerun}
 use Rattle.agent_core.specs.Nodes.{NodeState}
 use Rattle.recovery_watch.specs.Advice.{advice}
-use Rattle.node_keeping.specs.Traces.{Event, Trace}
-use Rattle.node_keeping.specs.declared.ends.NodeEnd.{NodeEnd}
+use Rattle.node_inputs.specs.Traces.{Event, Trace}
+use Rattle.node_inputs.specs.declared.ends.NodeEnd.{NodeEnd}
 use Rattle.run_laws.specs.Alone.{IsOwnOrder}
 use Rattle.run_laws.specs.Held.{held_after}
 use Rattle.node_loop.specs.Runs.{Run, Running, running}

@@ -1,6 +1,6 @@
 use Rattle.std.proofs.Common.{true}
 use Rattle.std.specs.Prelude.{Ok}
-use Rattle.node_keeping.specs.Traces.{Event}
+use Rattle.node_inputs.specs.Traces.{Event}
 use Rattle.node_loop.specs.Runs.{running}
 use Rattle.run_laws.proofs.Finding.{run_files}
 use Rattle.run_laws.proofs.laws.files_follow_probes.Goals as goal

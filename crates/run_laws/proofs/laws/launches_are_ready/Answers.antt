@@ -1,4 +1,4 @@
-use Rattle.node_keeping.specs.Traces.{Event}
+use Rattle.node_inputs.specs.Traces.{Event}
 use Rattle.node_loop.specs.Runs.{running}
 use Rattle.run_laws.proofs.Holding.{run_keeps}
 use Rattle.run_laws.proofs.Made.{IsReadyLaunch, made_ready}

@@ -1,4 +1,4 @@
-use Rattle.node_keeping.specs.Traces.{Event}
+use Rattle.node_inputs.specs.Traces.{Event}
 use Rattle.node_loop.specs.Runs.{running}
 use Rattle.run_laws.proofs.Holding.{run_ends}
 use Rattle.run_laws.proofs.laws.nothing_follows_a_refusal.Goals as goal

@@ -1,4 +1,4 @@
-use Rattle.node_keeping.specs.Traces.{Event}
+use Rattle.node_inputs.specs.Traces.{Event}
 use Rattle.node_loop.specs.Runs.{running}
 use Rattle.run_laws.proofs.Holding.{run_gives_out}
 use Rattle.run_laws.proofs.laws.what_goes_out_was_kept.Goals as goal

@@ -1,12 +1,13 @@
 use Rattle.std.proofs.Common.{◌≡◌, ◌∙◌, None, Option, Some, ap, arith, false, inl, inr, refl, subst, sym, true, ⊎_elim}
 use Rattle.std.specs.Prelude.{IsSome}
-use Rattle.service_words.specs.Forms.{AskOf, NodeFor, Request, request_of, service_in}
-use Rattle.text_words.specs.Words.{asked_of, asks_record}
+use Rattle.lemmas.proofs.Options.{none_some}
+use Rattle.node_commands.specs.Forms.{AskOf, NodeFor, Request, request_of, service_in}
+use Rattle.input_commands.specs.Words.{asked_of, asks_record}
 use Rattle.tws_top.specs.Rows.{PassesLimit}
 use Rattle.tws_top.proofs.Completeness.{ask_alone, ask_done, node_done}
 use Rattle.tws_top.proofs.Disks.{disk_rose, no_answer_given, other_file_found}
 use Rattle.tws_top.proofs.Numbers.{came, row_1, row_10, row_11, row_12, row_2, row_3, row_4, row_5, row_6, row_7, row_8, row_silent, service_numbers}
-use Rattle.tws_top.proofs.Services.{exact_of, none_some, service_answer, service_due, text_answer}
+use Rattle.tws_top.proofs.Services.{exact_of, service_answer, service_due, text_answer}
 use Rattle.tws_top.proofs.Words.{five_among, has_request, no_input, no_request, not_of_texts, of_texts, services_among, texts_among}
 use Rattle.tws_top.proofs.top.tws.Goals as goal
 

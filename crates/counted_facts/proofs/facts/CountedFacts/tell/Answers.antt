@@ -1,7 +1,7 @@
 use Rattle.std.proofs.Common.{List, subst, sym}
+use Rattle.lemmas.proofs.Results.{after_ok}
 use Rattle.model.specs.Types.{Entry}
 use Rattle.counted_facts.specs.Told.{AreMasterFacts}
-use Rattle.counted_facts.proofs.Numbered.{after_ok}
 use Rattle.counted_facts.proofs.facts.CountedFacts.tell.Goals as goal
 
 pub returns : goal.returns

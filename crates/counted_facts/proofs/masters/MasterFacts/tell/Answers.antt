@@ -1,4 +1,4 @@
-use Rattle.counted_facts.proofs.Numbered.{after_ok}
+use Rattle.lemmas.proofs.Results.{after_ok}
 use Rattle.counted_facts.proofs.masters.MasterFacts.tell.Goals as goal
 
 pub returns : goal.returns

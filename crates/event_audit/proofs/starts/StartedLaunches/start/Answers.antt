@@ -1,4 +1,5 @@
-use Rattle.event_audit.proofs.Starting.{after_ok, started_more}
+use Rattle.lemmas.proofs.Results.{after_ok}
+use Rattle.event_audit.proofs.Starting.{started_more}
 use Rattle.event_audit.proofs.starts.StartedLaunches.start.Goals as goal
 
 pub returns : goal.returns

@@ -1,11 +1,11 @@
 use Rattle.std.proofs.Common.{List, map, refl, subst, sym, ◌∙◌}
+use Rattle.lemmas.proofs.Results.{on_err}
 use Rattle.agent_core.specs.Nodes.{session_in, view_in}
 use Rattle.agent_core.specs.Steps.{effect_in}
 use Rattle.model.specs.Types.{Out}
 use Rattle.network_world.specs.Lanes.{HaveMore, HaveRoomFor, seen}
 use Rattle.network_world.specs.Stations.{Station}
 use Rattle.network_world.specs.Moves.{HasTaken, IsInputDue}
-use Rattle.network_world.proofs.Exits.{on_err}
 use Rattle.network_world.proofs.Sending.{room_enough}
 use Rattle.network_world.proofs.Stopped.{refused_due, same_station, station_taken}
 use Rattle.network_world.proofs.stations.Station.take.Goals as goal

@@ -6,6 +6,7 @@ use Rattle.network_world.specs.Stations.{WorldState}
 use Rattle.network_world.specs.Journals.{seen}
 use Rattle.network_world.specs.Standing.{IsRefusalDue, Steps}
 use Rattle.std.proofs.Common.{ℕ}
+use Rattle.lemmas.proofs.Results.{on_err}
 use Rattle.model.specs.Types.{Input}
 use Rattle.network_world.specs.Deliveries.{IsBrought, IsNotBrought}
 use Rattle.network_world.specs.declared.refusals.StepRefused.{StepRefused}
@@ -13,7 +14,7 @@ use Rattle.network_world.proofs.Taking.{noted_over, same_state, same_world, stat
 use Rattle.network_world.proofs.Stopping.{brought_free, crash_deliver_not, crash_deliver_refused, crash_deliver_steps, stop_at_can_be_noted}
 use Rattle.network_world.proofs.Stopping.{stop_mark_inside}
 use Rattle.network_world.proofs.Beginning.{stations_restore}
-use Rattle.network_world.proofs.Exits.{if_err, on_err}
+use Rattle.network_world.proofs.Exits.{if_err}
 use Rattle.network_world.proofs.worlds.World.crash_deliver.Goals as goal
 
 brought_here : (s v : WorldState) (a b k : ℕ) (input : Input) → s ≡ v → IsBrought v a b k input → IsBrought s a b k input

@@ -1,4 +1,5 @@
 use Rattle.std.proofs.Common.{◌∙◌, ◌<◌, [], subst, sym}
+use Rattle.lemmas.proofs.Results.{on_err}
 use Rattle.model.specs.Types.{CrashTake, Input}
 use Rattle.model.specs.Network.{node_count}
 use Rattle.model.specs.World.{Origin}
@@ -8,7 +9,7 @@ use Rattle.network_world.specs.Standing.{IsRefusalDue, Steps}
 use Rattle.network_world.proofs.Taking.{noted_over, refused_of, same_state, same_world, state, still_a_world, stopped_of}
 use Rattle.network_world.proofs.Stopping.{crash_take_limited, crash_take_refused, crash_take_steps, stop_at_can_be_noted}
 use Rattle.network_world.proofs.Beginning.{stations_restore}
-use Rattle.network_world.proofs.Exits.{if_err, on_err}
+use Rattle.network_world.proofs.Exits.{if_err}
 use Rattle.network_world.proofs.worlds.World.crash_take.Goals as goal
 
 pub returns-in_err-check-clause-refused : goal.returns-in_err-check-clause-refused

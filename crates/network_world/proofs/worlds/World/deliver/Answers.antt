@@ -6,13 +6,14 @@ use Rattle.network_world.specs.Stations.{WorldState}
 use Rattle.network_world.specs.Journals.{CanNote, HasNoted, seen}
 use Rattle.network_world.specs.Standing.{IsRefusalDue, Steps}
 use Rattle.std.proofs.Common.{ℕ}
+use Rattle.lemmas.proofs.Results.{on_err}
 use Rattle.model.specs.Types.{Input}
 use Rattle.network_world.specs.Deliveries.{IsBrought, IsNotBrought}
 use Rattle.network_world.specs.declared.refusals.StepRefused.{StepRefused}
 use Rattle.network_world.proofs.Taking.{noted_over, same_state, same_world, state, still_a_world}
 use Rattle.network_world.proofs.Delivering.{mark_inside}
 use Rattle.network_world.proofs.Delivering.{deliver_can_be_noted, deliver_not, deliver_refused, deliver_steps}
-use Rattle.network_world.proofs.Exits.{if_err, on_err}
+use Rattle.network_world.proofs.Exits.{if_err}
 use Rattle.network_world.proofs.worlds.World.deliver.Goals as goal
 
 brought_here : (s v : WorldState) (a b k : ℕ) (input : Input) → s ≡ v → IsBrought v a b k input → IsBrought s a b k input

@@ -1,8 +1,9 @@
 use Rattle.std.proofs.Common.{◌≡◌, ◌<◌, ◌∙◌, ℕ, List, Some, ap, arith, get_or, length, option_map, subst, sym}
+use Rattle.lemmas.proofs.Lists.{get_there}
 use Rattle.agent_core.specs.Nodes.{NodeState}
 use Rattle.network_world.specs.Stations.{Station, WorldState}
 use Rattle.network_world.specs.Standing.{NodeStandsFor}
-use Rattle.network_world.proofs.Showing.{item_there, node_shown}
+use Rattle.network_world.proofs.Showing.{node_shown}
 use Rattle.network_world.proofs.worlds.World.node.Goals as goal
 
 pub bounds-stations-i : goal.bounds-stations-i
@@ -23,7 +24,7 @@ returns c =
     let same : c.as_slice-stations.result.now ≡ s.stations =
     c.as_slice-stations.ensures ∙ ap (λ (v : WorldState). v.stations) c.self.view_is in
     let place : c.from-i.result ≡ c.args.w = omega (arith, c.from-i.ensures, c.w.view_is) in
-    let at_w = item_there s.stations c.args.w c.index-stations-i.result
+    let at_w = get_there s.stations c.args.w c.index-stations-i.result
     (subst (λ (n : ℕ). c.args.w < n) (sym c.stands.ensures.world.stands.station_count) c.requires)
     (c.index-stations-i.is
     ∙ ap (λ (l : List Station). get_or l c.from-i.result c.index-stations-i.result) same

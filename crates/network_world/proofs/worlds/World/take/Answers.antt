@@ -1,4 +1,5 @@
 use Rattle.std.proofs.Common.{◌∙◌, ◌<◌, ◌≤◌, List, subst, sym}
+use Rattle.lemmas.proofs.Results.{on_err}
 use Rattle.model.specs.Types.{Out, Take}
 use Rattle.model.specs.Network.{node_count}
 use Rattle.model.specs.World.{Origin}
@@ -7,7 +8,7 @@ use Rattle.network_world.specs.Journals.{CanNote, HasNoted, seen}
 use Rattle.network_world.specs.Standing.{IsRefusalDue, Steps}
 use Rattle.network_world.proofs.Taking.{noted_over, same_state, same_world, state, still_a_world, take_can_be_noted, take_limited}
 use Rattle.network_world.proofs.Taking.{refused_of, take_refused, take_steps, taken_of}
-use Rattle.network_world.proofs.Exits.{if_err, on_err}
+use Rattle.network_world.proofs.Exits.{if_err}
 use Rattle.network_world.proofs.worlds.World.take.Goals as goal
 
 pub returns-in_err-check-clause-refused : goal.returns-in_err-check-clause-refused

@@ -1,15 +1,16 @@
 use Rattle.std.proofs.Common.{◌++◌, ◌∙◌, ◌≡◌, List, Some, ap, map, slice_get, subst, sym, take}
 use Rattle.std.proofs.lemmas.List.{take_all}
+use Rattle.lemmas.proofs.Lists.{get_there}
 use Rattle.model.specs.Types.{JobDoc}
 use Rattle.model.specs.Catalogue.{StreamJob}
 use Rattle.owner_fold.specs.DocPlaces.{AreJobPlaces, first_jobs_among, stream_job}
-use Rattle.owner_fold.proofs.Standing.{item_at, job_of_doc, known_further}
+use Rattle.owner_fold.proofs.Standing.{job_of_doc, known_further}
 use Rattle.owner_fold.proofs.doc_places.DocPlaces.add_jobs.Goals as goal
 
 pub loop-i-preserved : goal.loop-i-preserved
 loop-i-preserved c =
     let item : slice_get c.as_slice-job-items.result.now c.loop-i.i ≡ Some c.job-item.result =
-    item_at c.as_slice-job-items.result.now c.loop-i.i c.job-item.result c.loop-i-test.true c.job-item.is
+    get_there c.as_slice-job-items.result.now c.loop-i.i c.job-item.result c.loop-i-test.true c.job-item.is
     in
     record {
       streams = c.in_ok-add_job.ensures.streams ∙ c.loop-i.invariant.streams;

@@ -1,11 +1,12 @@
 use Rattle.std.proofs.Common.{[], ◌++◌, ◌∙◌, ◌∷◌, ◌≡◌, List, Some, ap, append_assoc, flat_map, slice_get, subst, sym}
 use Rattle.std.proofs.Common.{arith, length, take}
 use Rattle.std.proofs.lemmas.List.{take_all}
+use Rattle.lemmas.proofs.Lists.{get_there, take_further}
 use Rattle.model.specs.Types.{Events, StreamDoc}
 use Rattle.model.specs.History.{list_of}
 use Rattle.model.specs.Catalogue.{docs_in}
 use Rattle.owner_fold.specs.DocPlaces.{AreDocPlacesOf}
-use Rattle.owner_fold.proofs.Standing.{item_at, last_doc, places_copied, take_further}
+use Rattle.owner_fold.proofs.Standing.{last_doc, places_copied}
 use Rattle.owner_fold.proofs.doc_places.DocPlaces.with.Goals as goal
 
 pub loop-i-init : goal.loop-i-init
@@ -23,7 +24,7 @@ pub loop-i-preserved : goal.loop-i-preserved
 loop-i-preserved c =
     let item : slice_get (docs_in c.args.e.now.body) c.loop-i.i ≡ Some c.doc-item.result =
     ap (λ (l : List StreamDoc). slice_get l c.loop-i.i) (sym c.docs_of-doc-items.ensures)
-    ∙ item_at c.docs_of-doc-items.result.now c.loop-i.i c.doc-item.result c.loop-i-test.true c.doc-item.is
+    ∙ get_there c.docs_of-doc-items.result.now c.loop-i.i c.doc-item.result c.loop-i-test.true c.doc-item.is
     in
     let before : List StreamDoc = flat_map docs_in (list_of c.args.entries.now (Events 0)) in
     record {

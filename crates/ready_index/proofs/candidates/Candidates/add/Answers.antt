@@ -1,9 +1,9 @@
 use Rattle.std.proofs.Common.{◌∙◌, ap}
+use Rattle.model_laws.proofs.Keys.{key_inserted}
 use Rattle.model.specs.Words.{insert_once}
-use Rattle.ready_index.proofs.Keys.{key_put}
 use Rattle.ready_index.proofs.candidates.Candidates.add.Goals as goal
 
 pub returns : goal.returns
 returns c =
-    c.in_ok-insert.ensures.keys ∙ key_put c.self.inside.places.keys c.args.place
+    c.in_ok-insert.ensures.keys ∙ key_inserted c.self.inside.places.keys c.args.place
     ∙ ap (insert_once c.args.place) c.self.view_is

@@ -1,8 +1,9 @@
 use Rattle.std.proofs.Common.{◌∙◌, sym, subst}
 use Rattle.std.proofs.lemmas.Result.{on_ok_weaker}
+use Rattle.model_laws.proofs.Decisions.{job_number}
 use Rattle.model.specs.History.{view_of}
 use Rattle.owner_fold.specs.DocPlaces.{stream_job}
-use Rattle.dependencies.proofs.Found.{job_number, job_planned}
+use Rattle.dependencies.proofs.Found.{job_planned}
 use Rattle.ready_index.specs.Standing.{IsLookedAt}
 use Rattle.ready_index.proofs.Standings.{not_owned, not_there}
 use Rattle.ready_index.proofs.index.Index.look_at.Goals as goal

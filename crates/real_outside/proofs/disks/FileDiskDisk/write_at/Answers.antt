@@ -1,4 +1,4 @@
-use Rattle.real_outside.proofs.Same.{torn_same}
+use Rattle.outside.proofs.Same.{torn_same}
 use Rattle.real_outside.proofs.disks.FileDiskDisk.write_at.Goals as goal
 
 pub returns-clause-crash : goal.returns-clause-crash

@@ -1,2 +1,0 @@
--- What bytes are answered with where definitions are wanted.
-pub mod Replies

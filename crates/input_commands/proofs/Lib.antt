@@ -1,0 +1,13 @@
+mod Bridges
+mod OneRun
+mod Tellings
+mod Calling
+mod Histories
+mod Dues
+mod Outcomes
+mod Stops
+mod SoundTexts
+mod Worlds
+mod Rows
+mod Drafts
+pub mod Answered

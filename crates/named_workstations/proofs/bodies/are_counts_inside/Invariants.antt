@@ -1,8 +1,0 @@
-use Rattle.std.proofs.Common.{◌≡◌, drop}
-use Rattle.model.specs.Workstations.{ws_in_seen}
-use Rattle.named_workstations.specs.Inside.{are_inside}
-use Rattle.named_workstations.proofs.bodies.are_counts_inside.Given as goal
-
-abbrev pub invariant-loop-item : goal.invariant-loop-item
-invariant-loop-item l =
-    are_inside l.count (ws_in_seen l.seen) ≡ are_inside l.count (ws_in_seen (drop l.item-index l.item-items))

@@ -1,2 +1,0 @@
--- Which workstations are in a network.
-pub mod Inside

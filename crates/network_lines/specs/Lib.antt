@@ -1,3 +1,0 @@
--- Networks whose lines are read back, and to what.
-pub mod Printables
-pub mod Returns

@@ -1,8 +1,0 @@
-use Rattle.std.proofs.Common.{◌≡◌, ◌++◌, drop}
-use Rattle.model.specs.History.{view_of}
-use Rattle.night_summary.specs.Counts.{job_places}
-use Rattle.night_summary.proofs.counts.job_places.Given as goal
-
-abbrev pub invariant-loop-s : goal.invariant-loop-s
-invariant-loop-s l =
-    job_places l.net (view_of l.o) l.streams ≡ l.places ++ job_places l.net (view_of l.o) (drop l.s-index l.streams)

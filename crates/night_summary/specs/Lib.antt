@@ -1,2 +1,0 @@
--- What is counted for the summary of a night.
-pub mod Counts

@@ -1,7 +1,0 @@
-use Rattle.told_launches.proofs.Telling.{launched_at}
-use Rattle.told_launches.proofs.rows.ToldLaunches.is_launched.Goals as goal
-
-pub returns : goal.returns
-returns c =
-    λ G told. launched_at c.args.self.now G c.w.inside.0 c.args.w c.j.inside.0 c.args.j c.args.n c.contains.result
-    c.w.view_is c.j.view_is c.contains.ensures told

@@ -1,7 +1,0 @@
-use Rattle.told_launches.proofs.Telling.{nothing_told}
-use Rattle.told_launches.proofs.rows.ToldLaunches.new.Goals as goal
-
-pub returns : goal.returns
-returns c =
-    nothing_told (record { counts = c.new.result; launched = c.new-2.result; ended = c.new-3.result }) c.new.ensures.empty
-    c.new-2.ensures.empty c.new-3.ensures.empty

@@ -1,3 +1,0 @@
-pub mod Keys
-pub mod Marks
-pub mod Told

@@ -1,0 +1,127 @@
+#!/usr/bin/env python3
+"""Lemmas that stand twice: statements that stand to the letter in the proofs of two or more crates.
+
+What counts: each declaration at the start of a line in crates/NAME/proofs/**/*.antt whose signature is a proposition or
+a function type, `pub` or not. Its statement is what stands behind `name :`, over all its lines, with white space folded
+and with the name left out. Two statements are one where their words are one and mean one: a word that a `use` line
+takes from a crate of this tree, or that the file itself declares, counts with the module that it comes from.
+
+What does not count: files Answers.antt and Invariants.antt, which answer goals of functions, and their generated
+neighbours; what stands in a block, as a `where` or a `module`; declarations of data, records and abbreviations; a
+signature that has neither an arrow nor an equation, since such a one is a value; statements `goal.NAME`.
+
+Usage: trials/lemmas.py    lists each such statement, with file, line and name, and ends with 1 where there is one.
+"""
+import glob
+import os
+import re
+import sys
+
+TOP = os.path.dirname(os.path.dirname(os.path.abspath(__file__)))
+WORD = re.compile(r"[^\s(){},;.]+")
+HEAD = re.compile(r"(?:pub )?([^\s(){},;.:]+) : ?(.*)")
+NO_LEMMA = {"abbrev", "data", "record", "module", "mod", "use", "mutual", "open", "ruleset", "pattern", "where"}
+ANSWERS = {"Answers.antt", "Invariants.antt", "Lib.antt"}
+
+
+def uncommented(line):
+    """The line without its comment."""
+    return "" if line.startswith("--") else line.split(" -- ")[0].rstrip()
+
+
+def blocks_of(text):
+    """Each stretch of lines that begins at the start of a line: its line number, and its lines without comments."""
+    blocks = []
+    for number, line in enumerate(text.split("\n"), 1):
+        line = uncommented(line)
+        if not line:
+            continue
+        if line[0] not in " \t":
+            blocks.append((number, [line]))
+        elif blocks:
+            blocks[-1][1].append(line)
+    return blocks
+
+
+def taken_of(line):
+    """What a `use` line brings into the file: each word with the module that it comes from."""
+    path = re.sub(r"^(pub )?use ", "", line)
+    if "{" in path:
+        module, words = path.split("{", 1)
+        for word in words.rstrip("} ").split(","):
+            parts = word.strip().split(" as ")
+            if parts[0]:
+                yield parts[-1].strip(), (module.rstrip("."), parts[0].strip())
+    else:
+        parts = path.strip().split(" as ")
+        yield parts[-1].strip().split(".")[-1], (parts[0].strip(), "")
+
+
+def lemmas_of(path):
+    """The lemmas of a file: line, name and statement, and what each word of the statement means in this file."""
+    with open(path, encoding="utf-8") as file:
+        blocks = blocks_of(file.read())
+    meaning, found = {}, []
+    for number, lines in blocks:
+        first = lines[0].removeprefix("pub ")
+        if first.startswith("use "):
+            meaning.update(taken_of(" ".join(line.strip() for line in lines)))
+            continue
+        words = first.split()
+        while words and words[0] in ("abbrev", "pub", "pattern", "unfoldable"):
+            words = words[1:]
+        if words and words[0] in ("data", "record"):
+            words = words[1:]
+        if words and words[0] != "unfolding":
+            meaning.setdefault(words[0], (path, words[0]))
+        head = HEAD.match(lines[0])
+        if not head or first.split()[0] in NO_LEMMA:
+            continue
+        said = [head.group(2)]
+        for line in lines[1:]:
+            if line.strip().startswith("unfolding"):
+                break
+            said.append(line.strip())
+        statement = " ".join(" ".join(said).split())
+        if ("→" in statement or "≡" in statement) and not statement.startswith("goal."):
+            found.append((number, head.group(1), statement))
+    return found, meaning
+
+
+def meant(statement, meaning):
+    """What decides whether two equal statements are one: the words that come from this tree, each with its module."""
+    words = []
+    for word in sorted(set(WORD.findall(statement))):
+        for form in (word, "◌" + word + "◌"):
+            module = meaning.get(form)
+            if module and not module[0].startswith("Rattle.std."):
+                words.append((word, module))
+    return (statement, tuple(words))
+
+
+def copies(top):
+    """The statements that stand in two or more crates: for each its text and its places."""
+    places = {}
+    for path in sorted(glob.glob("crates/*/proofs/**/*.antt", root_dir=top, recursive=True)):
+        if os.path.basename(path) in ANSWERS:
+            continue
+        found, meaning = lemmas_of(os.path.join(top, path))
+        for number, name, statement in found:
+            places.setdefault(meant(statement, meaning), []).append((path, number, name))
+    return [(key[0], found) for key, found in places.items() if len({path.split("/")[1] for path, _, _ in found}) > 1]
+
+
+def main():
+    twice = copies(TOP)
+    for statement, places in twice:
+        print(statement)
+        for path, number, name in places:
+            print(f"    {path}:{number} {name}")
+    more = sum(len(places) - 1 for _, places in twice)
+    if twice:
+        print(f"{len(twice)} statements of lemmas stand in two or more crates: {more} copies too many")
+    return 1 if twice else 0
+
+
+if __name__ == "__main__":
+    sys.exit(main())

@@ -10,16 +10,16 @@ a line for each edit with the sum of its text and its function.
 
 Usage: trials/edits.py          says which edits were not tried on what they stand on, and ends with 1 where one was not.
                                 It proves nothing.
-       trials/edits.py NAME..   tries those of these crates, and writes the sums of those that were refused. It needs the
-                                libraries below the crates, and builds those that are not there.
+       trials/edits.py NAME..   tries those of these crates, and writes the sums of those that were refused. It checks each
+                                crate first, over the libraries that `rt ci` kept on this machine, as trials/over.py does.
 """
 import hashlib
 import os
 import re
-import shutil
-import subprocess
 import sys
-import tempfile
+
+sys.dont_write_bytecode = True
+from kit import begun_of, check, crates_here, libraries_that_lack, rt_of_kit
 
 TOP = os.path.dirname(os.path.dirname(os.path.abspath(__file__)))
 HEAD = re.compile(r"(\s*)(pub(\([a-z]+\))? )?(const )?(unsafe )?fn ")
@@ -151,23 +151,6 @@ def look():
     return status
 
 
-def room_for(name, edits):
-    """A copy of the crates as they stand, with the libraries that were built of them and these edits of the crate."""
-    room = tempfile.mkdtemp(prefix="edits-", dir=f"{TOP}/.git")
-    for file in ("crates.txt", "HANDLES"):
-        shutil.copy(f"{TOP}/{file}", room)
-    for one in os.listdir(f"{TOP}/crates"):
-        for part in ("src", "specs", "proofs"):
-            if os.path.isdir(f"{TOP}/crates/{one}/{part}"):
-                shutil.copytree(f"{TOP}/crates/{one}/{part}", f"{room}/crates/{one}/{part}")
-        if os.path.isfile(f"{TOP}/crates/{one}/out/rlib/stamp"):
-            shutil.copytree(f"{TOP}/crates/{one}/out/rlib", f"{room}/crates/{one}/out/rlib", copy_function=os.link)
-    os.makedirs(f"{room}/crates/{name}/must-fail")
-    for edit in edits:
-        shutil.copy(f"{TOP}/crates/{name}/edits/{edit}", f"{room}/crates/{name}/must-fail/")
-    return room
-
-
 def try_edits(name):
     crate = f"{TOP}/crates/{name}"
     if not files_below(f"{crate}/edits", ".edit"):
@@ -178,16 +161,21 @@ def try_edits(name):
         write_seen(crate, tried)
         print(f"{name}: all edits were tried on what they stand on")
         return 0
-    room = room_for(name, untried)
-    try:
-        found = subprocess.run(
-            ["rt", "must-fail", name], cwd=room, env={**os.environ, "RT_JOBS": "1"}, capture_output=True, text=True
-        )
-    finally:
-        shutil.rmtree(room, ignore_errors=True)
-    said = found.stdout + found.stderr
-    print(said, end="")
-    refused = {edit: made for edit, made in untried.items() if f"must-fail {name}/{edit}: refused, as it must be" in said}
+    rt = rt_of_kit()
+    crates = crates_here(rt)
+    lacking = libraries_that_lack(rt, crates[name], crates)
+    if lacking:
+        print("not kept yet:", *lacking)
+        return 4
+    if check(rt, crates[name], []):
+        print(f"{name}: the crate itself is not proved")
+        return 1
+    refused = {}
+    for edit in untried:
+        kind, said = rt.must_fail(crates[name], f"{crate}/edits/{edit}", ["--jobs", "1"], begun_of(crates[name]))
+        print(said, flush=True)
+        if kind in (rt.REFUSED, rt.AT_LIMIT):
+            refused[edit] = untried[edit]
     write_seen(crate, {**tried, **refused})
     return 0 if len(refused) == len(untried) else 1
 

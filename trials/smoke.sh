@@ -2,10 +2,10 @@
 # Serves one real node on a loopback port: asks it for the plan of a day, sees its job run, and shuts it down. It ends
 # with 0 where each answer is the one that is due, and else with 1 and what came in its place. It takes a second or two,
 # and some 30 where a node does not answer.
-# Usage: trials/smoke.sh. TWS may name another program, from the top folder on.
+# Usage: trials/smoke.sh [PROGRAM]. PROGRAM is named from the top folder on, as out/quick/tws, which trials/quick.sh makes.
 set -u
 cd "$(dirname "$0")/.." || exit 1
-tws=${TWS:-crates/tws_program/out/tws_program}
+tws=${1:-crates/tws_program/out/tws_program}
 if [ ! -x "$tws" ]; then
   echo "there is no program $tws" >&2
   exit 1

@@ -263,6 +263,7 @@ turn_taken old held new t e live launch kill outs k one on is l x o =
       outs_ = turn_outs new t e ∙ sym given;
     })
 
+-- the sends of a walk over the workstations
 abbrev pub sends_from : NodeState → ℕ → List Out
 sends_from n i = sends_among n (numbers_from i (node_count (present_in n) - i))
 

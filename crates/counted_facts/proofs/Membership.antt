@@ -41,6 +41,7 @@ some_place test passed found (b ∷ bs) =
 pub brought_told : (s : ℕ) (events : List Body) → nat_lt 0 (brought_at s events) ≡ list_any (brings s) events
 brought_told s events = some_place (brings s) 0 0 events
 
+-- streams that are named
 has_numbers : (docs : List StreamDoc) (s : ℕ) → has (map (λ (d : StreamDoc). d.no) docs) s ≡ have_number docs s
 has_numbers [] s = refl
 has_numbers (d ∷ docs) s = ap (λ (b : Bool). (d.no == s) || b) (has_numbers docs s)

@@ -82,6 +82,7 @@ good_stays events b j h =
     (job_quiet events b j (job_row j events) h (job_row_told j events)))
     ∙ good_told events j (job_row j events) (job_row_told j events)
 
+-- what is cancelled
 cancelled_with : (o : Obj) (events : List Body) (b : Body)
     → is_cancelled o (events ++ b ∷ []) ≡ (is_cancelled o events || cancels o b)
 unfolding is_cancelled

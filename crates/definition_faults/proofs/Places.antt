@@ -46,6 +46,7 @@ placed_in_table d (Job n i) table is low =
     ap (λ (k : ℕ). k + i + 1)
     (ap (λ (l : List ℕ). get_or l n 0) is ∙ map_below_at (begin_of d) (length d.schedules) n 0 low)
 
+-- what options say that are there
 of_two : {X : Type 0} (a b : Option X) (t : X) → option_or a b ≡ Some t → (a ≡ Some t) ⊎ (b ≡ Some t)
 of_two None b t h = inr h
 of_two (Some x) b t h = inl h

@@ -113,6 +113,7 @@ all_right net G starts h t =
     each_sound net G starts (λ k e s. h k (slice_get_within G k e s) e s)
     (λ k s e. t k (slice_get_within starts k s e) s e)
 
+-- one further
 pub below_more : (net : Net) (G : List Entry) (i : ℕ) (e : Entry) → AreRightBelow net G i → slice_get G i ≡ Some e
     → IsRightEntry net (take i G) e → AreRightBelow net G (i + 1)
 below_more net G i e h there right k less x s =

@@ -1,5 +1,5 @@
 -- Who is behind one that manages no domain: nobody.
-use Rattle.std.proofs.Common.{◌≡◌, ◌∷◌, ◌+◌, ◌<◌, ◌≤◌, ◌∙◌, ◌⊎◌, [], ℕ, Bool, List, None, Option, Some, ap, arith, false, inl, inr}
+use Rattle.std.proofs.Common.{◌≡◌, ◌∷◌, ◌+◌, ◌<◌, ◌≤◌, ◌∙◌, [], ℕ, Bool, List, None, Option, Some, ap, arith, false, inl, inr}
 use Rattle.std.proofs.Common.{length, refl, suc, sym, true, zero}
 use Rattle.std.proofs.lemmas.Bool.Decides.{eqb_tells}
 use Rattle.std.specs.List.{list_any}
@@ -8,7 +8,7 @@ use Rattle.std.specs.Prelude.{◌&&◌, ◌||◌, ◌==◌, drop, option_and_the
 use Rattle.lemmas.proofs.Booleans.{or_false}
 use Rattle.model.specs.Types.{Net, Node}
 use Rattle.model.specs.Words.{below, has, numbers_from}
-use Rattle.model.specs.Network.{IsTree, chain, climb, hop, is_behind, is_manager, node_count}
+use Rattle.model.specs.Network.{IsTree, climb, hop, is_behind, is_manager, node_count}
 
 -- a workstation with a hop is one of the network
 inside : {X : Type 0} (g : Node → Option X) (nodes : List Node) (w : ℕ) (x : X)

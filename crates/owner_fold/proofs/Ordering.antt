@@ -1,5 +1,5 @@
 -- Whether any order was taken, one entry further.
-use Rattle.std.proofs.Common.{[], ℕ, ◌&&◌, ◌++◌, ◌∙◌, ◌∷◌, ◌≡◌, ◌||◌, Bool, List, ap, cond, false, filter, map, refl, sym, true}
+use Rattle.std.proofs.Common.{[], ℕ, ◌&&◌, ◌++◌, ◌∙◌, ◌∷◌, ◌≡◌, ◌||◌, Bool, List, ap, cond, false, filter, map, refl, true}
 use Rattle.std.proofs.lemmas.List.Folds.{list_any-append}
 use Rattle.lemmas.proofs.Booleans.{neither}
 use Rattle.model.specs.Types.{Body, Entry, Events, Feed, Orders}

@@ -1,5 +1,5 @@
 -- Whose streams have a job on whom: exactly the pairs of the jobs that were walked over.
-use Rattle.std.proofs.Common.{[], ℕ, ◌+◌, ◌++◌, ◌<◌, ◌^◌, ◌∙◌, ◌∷◌, ◌≡◌, ◌≤◌, ◌||◌, ◌&&◌, Bool, List, Option, None, Some, add-one}
+use Rattle.std.proofs.Common.{[], ℕ, ◌+◌, ◌++◌, ◌<◌, ◌^◌, ◌∙◌, ◌∷◌, ◌≡◌, ◌≤◌, ◌||◌, ◌&&◌, Bool, List, Option, None, add-one}
 use Rattle.std.proofs.Common.{ap, arith, cond, eqb, false, flat_map, inl, inr, length, refl, slice_get, subst, suc, sym, take, true, zero}
 use Rattle.std.proofs.lemmas.Bool.Decides.{eqb_tells}
 use Rattle.std.specs.List.{list_any}
@@ -8,9 +8,9 @@ use Rattle.std.specs.Prelude.{nat_lt}
 use Rattle.lemmas.proofs.Booleans.{or_assoc, or_false, or_regroup, or_turned}
 use Rattle.lemmas.proofs.Lists.{take_whole}
 use Rattle.grouped_places.specs.Codes.{code}
-use Rattle.model.specs.Types.{Entry, Events, StreamDoc}
+use Rattle.model.specs.Types.{Entry, StreamDoc}
 use Rattle.model.specs.Words.{has, insert_once}
-use Rattle.model.specs.History.{list_of, view_of}
+use Rattle.model.specs.History.{list_of}
 use Rattle.model.specs.Catalogue.{StreamJob, catalogue, jobs, jobs_in}
 use Rattle.owner_fold.specs.DocPlaces.{first_docs_among, first_jobs_among}
 use Rattle.owner_fold.specs.Pairs.{AreWorksAmong, AreWorksOf, is_work}

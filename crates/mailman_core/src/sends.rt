@@ -100,11 +100,14 @@ impl Mail {
         ensures { batch.new.items ≡ take 8 (batch.old.items
             ++ unsent net.now (view_of o.now) me to (acked_by self.now to) (feed.now ∷ [])) }
     {
+        let held = o.count(*feed);
+        if held == 0 {
+            return;
+        }
         if goes_elsewhere(net, me, to, feed) {
             return;
         }
         let acked = self.acked_count(to, feed);
-        let held = o.count(*feed);
         if held <= acked {
             return;
         }
@@ -154,7 +157,7 @@ impl Mail {
         }
     }
 
-    /// Adds what is to be sent of the feeds of orders.
+    /// Adds what is to be sent of the feeds of orders, which are not looked at where no order is held.
     fn add_orders(&self, net: &Network, o: &Owners, me: Ws, to: Ws, batch: &mut Batch)
         requires from { me < node_count net.now }
         requires to { to < node_count net.now }
@@ -163,6 +166,9 @@ impl Mail {
             ++ unsent net.now (view_of o.now) me to (acked_by self.now to)
             (flat_map (λ a. map (types.Orders a) ws) ws)) }
     {
+        if !o.has_orders() {
+            return;
+        }
         for a in 0..net.count() {
             if is_full(batch) {
                 return;

@@ -85,8 +85,8 @@ pub fn next_plan(
     }
     let docs = fresh_documents(alloc, o, carried.as_slice(), drafts.as_slice())?;
     let cut = cut(alloc, net, o)?;
-    let docs = SharedDocs::of(alloc, docs)?;
-    Ok(Body::NewPlan(1 + run, cut, carried, docs))
+    let shared = SharedDocs::of(alloc, docs)?;
+    Ok(Body::NewPlan(1 + run, cut, carried, shared))
 }
 
 /// The document of a submitted stream: the only fresh one, over the members of the plan. `RunsSpent` does not come.

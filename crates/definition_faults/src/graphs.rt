@@ -1,5 +1,5 @@
 //! Streams and entries with what they follow, as objects of one list in the order of the text.
-ghost use Rattle.std.specs.Prelude.{◌≡◌, ◌++◌, IfOk, OnOk, length, map, filter_map, slice_index};
+ghost use Rattle.std.specs.Prelude.{◌≡◌, ◌++◌, ◌∷◌, [], IfOk, OnOk, length, map, filter_map, slice_index};
 ghost use Rattle.std.specs.Option.{option_to_list};
 ghost use Rattle.model.specs.Words.{below};
 ghost use Rattle.definition_faults.specs.Graphs as spec;
@@ -63,11 +63,17 @@ fn put_stream<'a>(
     ensures { OnOk result (objects.new.items ≡ objects.old.items ++ spec.stream_objects names.now (n, schedule.now)) }
 {
     let stream = &schedule.item;
-    let follows = followed(alloc, names, begins, n, false, stream.clauses.as_slice())?;
-    objects.push(Follower {
-        line: schedule.line,
-        follows,
-    })?;
+    let clauses = stream.clauses.as_slice();
+    put_object(
+        alloc,
+        objects,
+        names,
+        begins,
+        n,
+        false,
+        schedule.line,
+        clauses,
+    )?;
     put_entries(alloc, objects, names, begins, n, stream.entries.as_slice())
 }
 
@@ -83,12 +89,29 @@ fn put_entries<'a>(
     ensures { OnOk result (objects.new.items ≡ objects.old.items ++ map (spec.entry_object names.now n) entries.now) }
 {
     for entry in entries {
-        let follows = followed(alloc, names, begins, n, true, entry.item.clauses.as_slice())?;
-        objects.push(Follower {
-            line: entry.line,
-            follows,
-        })?;
+        let clauses = entry.item.clauses.as_slice();
+        put_object(alloc, objects, names, begins, n, true, entry.line, clauses)?;
     }
+    Ok(())
+}
+
+/// Puts a stream or an entry with these clauses.
+fn put_object<'a>(
+    alloc: Global,
+    objects: &mut Vec<Follower>,
+    names: &Names<'a>,
+    begins: &[usize],
+    n: usize,
+    inside: bool,
+    line: u32,
+    clauses: &'a [Lined<Clause>],
+) -> Result<(), NoMemory>
+    requires { begins.now ≡ map (spec.begin_of names.now) (below (length names.now.schedules)) }
+    ensures { OnOk result (objects.new.items
+        ≡ objects.old.items ++ spec.object line (spec.followed names.now n inside clauses.now) ∷ []) }
+{
+    let follows = followed(alloc, names, begins, n, inside, clauses)?;
+    objects.push(Follower { line, follows })?;
     Ok(())
 }
 

@@ -63,6 +63,18 @@ fn is_inside(net: &Net, entry: &Entry) -> bool
     is_entry_inside(net.nodes.len() as u16, entry)
 }
 
+/// The entry, where it names workstations of the network alone.
+fn inside(net: &Net, entry: Entry) -> Option<Entry>
+    requires { node_count net.now ≤ 256 }
+    ensures entry { result ≡ spec.inside net.now entry }
+    ensures fit { IsFit entry → IfSome result IsFit }
+{
+    if is_inside(net, &entry) {
+        return Some(entry);
+    }
+    None
+}
+
 /// The entry that bytes are, where it names workstations of the network alone. The only error is that memory ran out.
 #[tactic(auto, unfolding(crate::specs::Histories::entry_of))]
 fn entry_of(alloc: Global, net: &Net, bytes: &[u8]) -> Result<Option<Entry>, NoMemory>
@@ -72,12 +84,7 @@ fn entry_of(alloc: Global, net: &Net, bytes: &[u8]) -> Result<Option<Entry>, NoM
     ensures fit { IfOk result (λ o. IfSome o IsFit) }
 {
     match read_entry(alloc, bytes) {
-        Ok(entry) => {
-            if is_inside(net, &entry) {
-                return Ok(Some(entry));
-            }
-            Ok(None)
-        }
+        Ok(entry) => Ok(inside(net, entry)),
         Err(EntryFault::NoMemory) => Err(NoMemory),
         Err(EntryFault::Short(_)) => Ok(None),
         Err(EntryFault::Version) => Ok(None),

@@ -3,13 +3,14 @@ ghost use Rattle.std.specs.Prelude.{◌≡◌, ◌<◌, ◌++◌, ◌∷◌, ◌
 ghost use Rattle.std.specs.List.{position};
 ghost use Rattle.std.specs.String.{string_bytes};
 ghost use Rattle.network_tree.specs.Faults.{net_fault};
+ghost use Rattle.record_script.specs.Scripts.{read_of};
 ghost use Rattle.history_script.specs.Fronts as spec;
 ghost use Rattle.history_script.specs.declared.histories.HistoryFault.TheVariants.{At as Told};
 ghost use Rattle.history_script.specs.declared.histories.HistoryKind as kinds;
 
 use crate::histories::{HistoryFault, HistoryKind};
 use base_types::{Net, NoMemory};
-use record_script::{ScriptFault, read_script};
+use record_script::{Script, ScriptFault, read_script};
 use std::alloc::Global;
 
 fn is_history(line: &str) -> bool
@@ -82,6 +83,32 @@ fn record_text(alloc: Global, texts: &[&str], place: Option<usize>) -> Result<St
     Ok(made)
 }
 
+/// The network of a record.
+fn net_of(script: Script) -> Net
+    ensures { result ≡ script.net }
+{
+    let (net, _plans, _steps) = script.into_parts();
+    net
+}
+
+/// The network of a record by its text, or its first fault as one of a history. The network is one that `Network::new`
+/// accepts.
+fn net_in(alloc: Global, text: &str) -> Result<Net, HistoryFault>
+    requires { length text.now < 2 ^ 32 }
+    ensures net { IfOk result (λ net. spec.net_or_fault (read_of text.now) ≡ Ok net) }
+    ensures accepted { IfOk result (λ net. net_fault net ≡ None) }
+    ensures at { (n : ℕ) → (k : kinds.HistoryKind) → result ≡ Err (Told n k)
+        → spec.net_or_fault (read_of text.now) ≡ Err (n, k) }
+{
+    match read_script(alloc, text) {
+        Ok(script) => Ok(net_of(script)),
+        Err(ScriptFault::At(line, kind)) => {
+            Err(HistoryFault::At(line, HistoryKind::OfRecord(kind)))
+        }
+        Err(ScriptFault::NoMemory) => Err(HistoryFault::NoMemory),
+    }
+}
+
 /// The network of a history by its lines and the place of `$HISTORY`, or their first fault. The network is one that
 /// `Network::new` accepts.
 #[tactic(auto, unfolding(crate::specs::Fronts::network_of))]
@@ -98,14 +125,5 @@ pub(crate) fn read_network(
         → spec.network_of place (map (λ x. x.now) texts.now) ≡ Err (n, k) }
 {
     let made = record_text(alloc, texts, place)?;
-    match read_script(alloc, made.as_str()) {
-        Ok(script) => {
-            let (net, _plans, _steps) = script.into_parts();
-            Ok(net)
-        }
-        Err(ScriptFault::At(line, kind)) => {
-            Err(HistoryFault::At(line, HistoryKind::OfRecord(kind)))
-        }
-        Err(ScriptFault::NoMemory) => Err(HistoryFault::NoMemory),
-    }
+    net_in(alloc, made.as_str())
 }

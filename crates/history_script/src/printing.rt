@@ -1,8 +1,9 @@
 //! The text of a history.
-ghost use Rattle.std.specs.Prelude.{◌≡◌, ◌++◌, IfOk, IsOk, OnOk, flat_map};
+ghost use Rattle.std.specs.Prelude.{◌≡◌, ◌++◌, IfOk, IsOk, OnOk, codes, flat_map};
 ghost use Rattle.std.specs.List.{All};
 ghost use Rattle.model.specs.Fit.{AreFitEntries, IsFit};
 ghost use Rattle.model.specs.Ranges.{InRange};
+ghost use Rattle.history_script.specs.Digits.{digits_of};
 ghost use Rattle.history_script.specs.Printed as spec;
 
 use crate::digits::write_digits;
@@ -13,6 +14,16 @@ use report_text::name;
 use std::alloc::Global;
 use std::io::{self, Write};
 
+/// Writes `entry HEX` by the bytes of an entry.
+fn put_digits(out: &mut Vec<u8>, bytes: &[u8]) -> Result<(), NoMemory>
+    ensures { OnOk result (out.new.items ≡ out.old.items ++ (codes "entry " ++ digits_of bytes.now ++ codes "\n")) }
+{
+    out.extend_from_slice(b"entry ")?;
+    write_digits(out, bytes)?;
+    out.extend_from_slice(b"\n")?;
+    Ok(())
+}
+
 /// Writes `entry HEX`.
 #[tactic(auto, unfolding(crate::specs::Printed::entry_line))]
 fn put_entry(alloc: Global, out: &mut Vec<u8>, entry: &Entry) -> Result<(), NoMemory>
@@ -21,10 +32,7 @@ fn put_entry(alloc: Global, out: &mut Vec<u8>, entry: &Entry) -> Result<(), NoMe
     ensures range { OnOk result (InRange entry.now) }
 {
     let bytes = write_entry(alloc, entry)?;
-    out.extend_from_slice(b"entry ")?;
-    write_digits(out, bytes.as_slice())?;
-    out.extend_from_slice(b"\n")?;
-    Ok(())
+    put_digits(out, bytes.as_slice())
 }
 
 /// Writes the lines of entries.

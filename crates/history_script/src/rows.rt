@@ -1,5 +1,5 @@
 //! The lines behind `$HISTORY`, each read by itself.
-ghost use Rattle.std.specs.Prelude.{◌≡◌, IfOk, map};
+ghost use Rattle.std.specs.Prelude.{◌≡◌, IfOk, Some, map, option_and_then};
 ghost use Rattle.std.specs.List.{list_all};
 ghost use Rattle.std.specs.Char.{is_ascii_digit};
 ghost use Rattle.record_rows.specs.Rows.{is_skipped as is_skipped_line};
@@ -7,6 +7,7 @@ ghost use Rattle.record_rows.specs.Words.{sized};
 ghost use Rattle.syntax.specs.Numbers.{is_number as is_number_word};
 ghost use Rattle.history_script.specs.Rows as spec;
 ghost use Rattle.history_script.specs.Rows.{row_of};
+ghost use Rattle.history_script.specs.declared.rows.HistoryRow.TheVariants as row;
 
 use crate::digits::some_bytes;
 use base_types::{Bytes, Items, JobNo, NoMemory, Text};
@@ -92,24 +93,26 @@ fn entry_row(alloc: Global, rest: &str) -> Result<Option<HistoryRow>, NoMemory>
     }
 }
 
+/// `JOB NUMBER`, behind the name of the workstation
+fn start_at(ws: Text, job: &str, number: &str) -> Option<HistoryRow>
+    ensures { result ≡ option_and_then (λ j. option_and_then (λ n. Some (row.Start ws j n)) (sized 32 number.now)) (sized 32 job.now) }
+{
+    let job = job_no(job)?;
+    let number = count(number)?;
+    Some(HistoryRow::Start(ws, job, number))
+}
+
 /// `start W JOB NUMBER`
 #[tactic(auto, unfolding(crate::specs::Rows::start_row))]
 fn start_row(alloc: Global, words: &[&str]) -> Result<Option<HistoryRow>, NoMemory>
     ensures { IfOk result (λ o. o ≡ spec.start_row (map (λ x. x.now) words.now)) }
 {
     match words {
-        [ws, job, number] => {
-            let Some(ws) = name(alloc, ws)? else {
-                return Ok(None);
-            };
-            let Some(job) = job_no(job) else {
-                return Ok(None);
-            };
-            let Some(number) = count(number) else {
-                return Ok(None);
-            };
-            Ok(Some(HistoryRow::Start(ws, job, number)))
-        }
+        [ws, job, number] => match name(alloc, ws) {
+            Ok(Some(ws)) => Ok(start_at(ws, job, number)),
+            Ok(None) => Ok(None),
+            Err(error) => Err(error),
+        },
         _ => Ok(None),
     }
 }

@@ -1,5 +1,5 @@
 -- Drafts, one draft further.
-use Rattle.std.proofs.Common.{◌≡◌, ℕ, ◌+◌, ◌<◌, List, [], ◌∷◌, ◌++◌, Some, All, get_or, length, take}
+use Rattle.std.proofs.Common.{◌≡◌, ℕ, ◌+◌, ◌-◌, ◌<◌, ◌≤◌, List, [], ◌∷◌, ◌++◌, Some, All, filter, get_or, length, take}
 use Rattle.std.proofs.Common.{ap, subst, sym, ◌∙◌}
 use Rattle.std.proofs.Common.{arith, slice_get}
 use Rattle.std.proofs.lemmas.List.{take_more}
@@ -12,6 +12,7 @@ use Rattle.composer_parser.specs.declared.EntryDef.{EntryDef}
 use Rattle.composer_parser.specs.declared.Lined.{Lined}
 use Rattle.composer_parser.specs.declared.ScheduleDef.{ScheduleDef}
 use Rattle.run_cycles.specs.Runs.{runs}
+use Rattle.run_cycles.proofs.Ranges.{no_more}
 use Rattle.plan_builder.specs.Limits.{running}
 use Rattle.plan_builder.specs.Drafts.{AreDraftsOf, AreJobDrafts, IsDraftAt, IsJobDraft, IsStreamDraft}
 use Rattle.plan_builder.specs.declared.times.PlanDay.{PlanDay}
@@ -65,3 +66,13 @@ running_low d day streams is =
     subst (All (λ (n : ℕ). n < length d.schedules)) (sym is)
     (All-filter (λ (n : ℕ). runs d n day) (λ (n : ℕ). n < length d.schedules) (range_with_len 0 (length d.schedules))
     (places_low (length d.schedules)))
+
+-- a walk over the places of the streams, at its end
+pub all_running : (d : Defs) (day n count : ℕ) (streams : List ℕ) → count ≤ n
+    → filter (λ k. runs d k day) (range_with_len 0 count)
+    ≡ streams ++ filter (λ k. runs d k day) (range_with_len n (count - n))
+    → count ≡ length d.schedules → streams ≡ running d day
+unfolding running
+all_running d day n count streams past h same =
+    no_more (λ k. runs d k day) (filter (λ k. runs d k day) (range_with_len 0 count)) n count streams past h
+    ∙ ap (λ (m : ℕ). filter (λ k. runs d k day) (range_with_len 0 m)) same

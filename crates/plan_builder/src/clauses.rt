@@ -50,7 +50,12 @@ fn limit_in(clause: &Clause) -> Option<u32>
 pub(crate) fn is_carried(clauses: &[Lined<Clause>]) -> bool
     ensures { result ≡ spec.is_carried clauses.now }
 {
-    clauses.iter().any(|clause| is_carry(&clause.item))
+    for clause in clauses {
+        if is_carry(&clause.item) {
+            return true;
+        }
+    }
+    false
 }
 
 fn is_carry(clause: &Clause) -> bool

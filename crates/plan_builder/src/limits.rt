@@ -17,7 +17,12 @@ pub(crate) fn running(alloc: Global, w: &Workload, day: u32) -> Result<Vec<u32>,
     ensures { IfOk result (λ v. v.items ≡ spec.running w.now day) }
 {
     let count = w.streams();
-    let streams = (0..count).filter(|n| runs_on(w, *n, day)).collect(alloc)?;
+    let mut streams = Vec::new(alloc);
+    for n in 0..count {
+        if runs_on(w, n, day) {
+            streams.push(n)?;
+        }
+    }
     Ok(streams)
 }
 

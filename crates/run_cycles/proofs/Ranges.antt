@@ -1,6 +1,6 @@
 -- The days of a range that pass a test.
 use Rattle.std.proofs.Common.{◌≡◌, ◌≢◌, ℕ, zero, suc, ◌+◌, ◌-◌, ◌<◌, ◌≤◌, ◌&&◌, ◌||◌, ◌==◌, Bool, true, false, cond, nat_le, nat_lt, min}
-use Rattle.std.proofs.Common.{List, [], ◌∷◌, ◌++◌, append-nil, filter, inl, inr, refl, sym, ap, ◌∙◌, arith}
+use Rattle.std.proofs.Common.{List, [], ◌∷◌, ◌++◌, append_assoc, append-nil, filter, inl, inr, refl, sym, ap, ◌∙◌, arith}
 use Rattle.std.proofs.lemmas.Bool.Decides.{eqb_tells, nat_tests}
 use Rattle.std.specs.List.{range_with_len}
 use Rattle.calendars.specs.Sets.{has}
@@ -97,49 +97,32 @@ bounds_same from to last len day r is = go (nat_le from day) (nat_le day last) r
         let high : day ≤ last = grind (arith, nat_tests) in
         ap (λ c. c && r) (same_bound from to last len day is low high)
 
--- the days of a range with one more
-filter_range : (p : ℕ → Bool) (n a : ℕ) → filter p (range_with_len a (suc n))
-    ≡ filter p (range_with_len a n) ++ cond (p (a + n)) ((a + n) ∷ []) []
-filter_range p zero a =
-    let here : a ≡ a + 0 = omega arith in ap (λ (k : ℕ). cond (p k) (k ∷ []) []) here
-filter_range p (suc n) a = go (p a) (filter_range p n (a + 1))
-  where
-    next : a + 1 + n ≡ a + suc n
-    next = omega arith
+one_less : (day end : ℕ) → day < end → end - day ≡ suc (end - (day + 1))
+one_less day end low = omega (arith, low)
 
-    go : (b : Bool) → filter p (range_with_len (a + 1) (suc n))
-        ≡ filter p (range_with_len (a + 1) n) ++ cond (p (a + 1 + n)) ((a + 1 + n) ∷ []) []
-        → cond b (a ∷ filter p (range_with_len (a + 1) (suc n))) (filter p (range_with_len (a + 1) (suc n)))
-        ≡ cond b (a ∷ filter p (range_with_len (a + 1) n)) (filter p (range_with_len (a + 1) n))
-        ++ cond (p (a + suc n)) ((a + suc n) ∷ []) []
-    go true h =
-        ap (λ (l : List ℕ). a ∷ l)
-        (h ∙ ap (λ (k : ℕ). filter p (range_with_len (a + 1) n) ++ cond (p k) (k ∷ []) []) next)
-    go false h = h ∙ ap (λ (k : ℕ). filter p (range_with_len (a + 1) n) ++ cond (p k) (k ∷ []) []) next
+-- a walk over a range that takes these days, one day further
+module _ (p : ℕ → Bool) (all : List ℕ) where
+  pub put_day : (day end : ℕ) (old new : List ℕ) → day < end → p day ≡ true → new ≡ old ++ day ∷ []
+      → all ≡ old ++ filter p (range_with_len day (end - day))
+      → all ≡ new ++ filter p (range_with_len (day + 1) (end - (day + 1)))
+  put_day day end old new low passes grown h =
+      let rest = filter p (range_with_len (day + 1) (end - (day + 1))) in
+      h
+      ∙ (ap (λ (k : ℕ). old ++ filter p (range_with_len day k)) (one_less day end low)
+      ∙ (ap (λ (b : Bool). old ++ cond b (day ∷ rest) rest) passes
+      ∙ (sym (append_assoc old (day ∷ []) rest) ∙ ap (λ (l : List ℕ). l ++ rest) (sym grown))))
 
-one_more : (p : ℕ → Bool) (from day : ℕ) → from ≤ day → filter p (range_with_len from (day + 1 - from))
-    ≡ filter p (range_with_len from (day - from)) ++ cond (p day) (day ∷ []) []
-one_more p from day low =
-    let steps : day + 1 - from ≡ suc (day - from) = omega (arith, low) in
-    let at_ : from + (day - from) ≡ day = omega (arith, low) in
-    ap (λ (k : ℕ). filter p (range_with_len from k)) steps
-    ∙ (filter_range p (day - from) from
-    ∙ ap (λ (k : ℕ). filter p (range_with_len from (day - from)) ++ cond (p k) (k ∷ []) []) at_)
+  pub skip_day : (day end : ℕ) (old : List ℕ) → day < end → p day ≡ false
+      → all ≡ old ++ filter p (range_with_len day (end - day))
+      → all ≡ old ++ filter p (range_with_len (day + 1) (end - (day + 1)))
+  skip_day day end old low passes h =
+      let rest = filter p (range_with_len (day + 1) (end - (day + 1))) in
+      h
+      ∙ (ap (λ (k : ℕ). old ++ filter p (range_with_len day k)) (one_less day end low)
+      ∙ ap (λ (b : Bool). old ++ cond b (day ∷ rest) rest) passes)
 
-pub put_day : (p : ℕ → Bool) (from day : ℕ) (old new : List ℕ) → from ≤ day
-    → old ≡ filter p (range_with_len from (day - from)) → new ≡ old ++ day ∷ [] → p day ≡ true
-    → new ≡ filter p (range_with_len from (day + 1 - from))
-put_day p from day old new low before grown runs_ =
-    grown
-    ∙ (ap (λ (l : List ℕ). l ++ day ∷ []) before
-    ∙ sym (one_more p from day low
-    ∙ ap (λ b. filter p (range_with_len from (day - from)) ++ cond b (day ∷ []) []) runs_))
-
-pub skip_day : (p : ℕ → Bool) (from day : ℕ) (old : List ℕ) → from ≤ day
-    → old ≡ filter p (range_with_len from (day - from)) → p day ≡ false
-    → old ≡ filter p (range_with_len from (day + 1 - from))
-skip_day p from day old low before runs_ =
-    before
-    ∙ sym (one_more p from day low
-    ∙ (ap (λ b. filter p (range_with_len from (day - from)) ++ cond b (day ∷ []) []) runs_
-    ∙ append-nil (filter p (range_with_len from (day - from)))))
+  pub no_more : (day end : ℕ) (old : List ℕ) → end ≤ day → all ≡ old ++ filter p (range_with_len day (end - day))
+      → old ≡ all
+  no_more day end old past h =
+      let left : end - day ≡ 0 = omega (arith, past) in
+      sym (h ∙ (ap (λ (k : ℕ). old ++ filter p (range_with_len day k)) left ∙ append-nil old))

@@ -43,8 +43,12 @@ fn any_gives(w: &Workload, free: &FreeDays, ons: &[Lined<OnDef>], except: bool, 
     requires { IsDay day }
     ensures { result ≡ spec.any_gives w.now free.now ons.now except day }
 {
-    ons.iter()
-        .any(|on| statement_gives(w, free, &on.item, except, day))
+    for on in ons {
+        if statement_gives(w, free, &on.item, except, day) {
+            return true;
+        }
+    }
+    false
 }
 
 /// Whether a statement is an ON, or an EXCEPT, and gives a day.
@@ -87,8 +91,11 @@ fn days_before(
 ) -> Result<Vec<u32>, NoMemory>
     ensures { IfOk result (λ v. v.items ≡ filter (spec.runs w.now stream) (range_with_len from (end - from))) }
 {
-    let days = (from..end)
-        .filter(|day| runs_on(w, stream, *day))
-        .collect(alloc)?;
+    let mut days = Vec::new(alloc);
+    for day in from..end {
+        if runs_on(w, stream, day) {
+            days.push(day)?;
+        }
+    }
     Ok(days)
 }

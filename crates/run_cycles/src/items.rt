@@ -55,7 +55,12 @@ fn first_of(cycle: &Option<CycleDef>) -> Option<u32>
 fn gives_any(w: &Workload, free: &FreeDays, first: Option<u32>, items: &[OnItem], day: u32) -> bool
     ensures { result ≡ list_any (spec.gives w.now free.now first day) items.now }
 {
-    items.iter().any(|item| gives(w, free, first, item, day))
+    for item in items {
+        if gives(w, free, first, item, day) {
+            return true;
+        }
+    }
+    false
 }
 
 /// Whether an item gives a day, where rules count from this first day on.
@@ -95,13 +100,23 @@ fn gives_calendar(dates: &[u32], free: &FreeDays, offset: &Option<Offset>, day: 
 fn has(dates: &[u32], day: u32) -> bool
     ensures { result ≡ list_any (λ date. date == day) dates.now }
 {
-    dates.iter().any(|date| *date == day)
+    for date in dates {
+        if *date == day {
+            return true;
+        }
+    }
+    false
 }
 
 fn gives_shifted(dates: &[u32], free: &FreeDays, offset: &Offset, day: u32) -> bool
     ensures { result ≡ list_any (spec.moves_to free.now offset.now day) dates.now }
 {
-    dates.iter().any(|date| moves_to(free, offset, day, *date))
+    for date in dates {
+        if moves_to(free, offset, day, *date) {
+            return true;
+        }
+    }
+    false
 }
 
 fn moves_to(free: &FreeDays, offset: &Offset, day: u32, date: u32) -> bool

@@ -72,7 +72,13 @@ fn comes_from_behind(w: &Workload, free: &FreeDays, on: &OnDef, day: u32) -> boo
     requires { IsDay day }
     ensures { result ≡ list_any (is_dated_of w.now free.now on.now) (spec.free_run free.now (days_after day)) }
 {
-    (day + 1..LAST_DAY + 1)
-        .take_while(|date| is_free(free, *date))
-        .any(|date| is_dated(w, free, on, date))
+    for date in day + 1..LAST_DAY + 1 {
+        if !is_free(free, date) {
+            return false;
+        }
+        if is_dated(w, free, on, date) {
+            return true;
+        }
+    }
+    false
 }

@@ -31,8 +31,8 @@ returns-in-Some-clause-causes c =
 pub returns-clause-value : goal.returns-clause-value
 returns-clause-value c =
     plan_so c.args.net.now (view_of c.args.o.now) c.args.drafts.now c.run-run.result c.in_ok-cut.cut
-    c.in_ok-carried.carried c.in_ok-docs.docs c.run-run.ensures c.in_ok-cut.ensures (carried_in c.args.net.now c.net.result.now (view_of c.args.o.now) c.in_ok-carried.carried c.net.ensures.value c.in_ok-carried.ensures)
-    (c.in_ok-docs.ensures ∙ (λ p. documents (view_of c.args.o.now) (c.as_slice-4.ensures p) (c.as_slice-5.ensures p)))
+    c.in_ok-carried.carried c.in_ok-shared.shared c.run-run.ensures c.in_ok-cut.ensures (carried_in c.args.net.now c.net.result.now (view_of c.args.o.now) c.in_ok-carried.carried c.net.ensures.value c.in_ok-carried.ensures)
+    (c.in_ok-shared.ensures ∙ c.in_ok-docs.ensures ∙ (λ p. documents (view_of c.args.o.now) (c.as_slice-4.ensures p) (c.as_slice-5.ensures p)))
 
 pub returns-clause-accepted : goal.returns-clause-accepted
 returns-clause-accepted c =

@@ -11,6 +11,15 @@ peers_of-requires c = few_listed c.args.names.now c.requires.faultless c.args.li
 pub station_table-requires : goal.station_table-requires
 station_table-requires c = few_listed c.args.names.now c.requires.faultless c.args.list.now c.requires.stations
 
+pub net_of-requires : goal.net_of-requires
+net_of-requires c = record {
+  faultless = c.requires.faultless;
+  stations = c.requires.stations;
+  table =
+      subst (λ (l : List CpuDef). IsStationTable c.in_ok-numbers.numbers.entries l) c.requires.stations
+      c.in_ok-numbers.ensures;
+}
+
 pub returns : goal.returns
 returns c = record {
   net_ = c.in_ok-net.ensures;

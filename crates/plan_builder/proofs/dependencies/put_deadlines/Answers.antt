@@ -1,0 +1,9 @@
+use Rattle.plan_builder.specs.Dependencies.{deadline_in}
+use Rattle.plan_builder.proofs.Walks.{lists_more}
+use Rattle.plan_builder.proofs.dependencies.put_deadlines.Goals as goal
+
+pub loop-clause-preserved : goal.loop-clause-preserved
+loop-clause-preserved c =
+    lists_more (deadline_in c.args.plan.now) c.args.clauses.now c.loop-clause.clause-index c.clause-item.result _
+    c.loop-clause.deps c.put_deadline.new.deps c.loop-clause-test.true c.clause-item.is c.in_ok-put_deadline.ensures
+    c.loop-clause.invariant

@@ -19,7 +19,6 @@ const FIRST_WINDOW: u32 = 512;
 
 /// The body of the record at a place of a file. None where a gate stands there that is not open. What is told is told of
 /// the file as the last call found it.
-#[tactic(auto, using(crate::proofs::Looked::no_looks, crate::proofs::Looked::one_look, crate::proofs::Looked::more_looks))]
 pub(crate) fn record_at<F: Folder>(
     alloc: Global,
     folder: &mut F,

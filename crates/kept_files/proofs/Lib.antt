@@ -1,3 +1,5 @@
 mod Growing
 mod Looked
 mod Beginning
+mod FirstBytes
+mod ToldFiles

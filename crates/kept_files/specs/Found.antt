@@ -3,6 +3,8 @@ use Rattle.std.specs.Prelude.{◌≡◌, ◌≢◌, ◌+◌, ◌<◌, ◌≤◌,
 use Rattle.std.specs.declared.option.Option.{Option}
 use Rattle.outside.specs.Records.{longest_body, longest_file}
 use Rattle.message_file.specs.Files.{record_of, IsNoRecord}
+use Rattle.kept_files.specs.declared.faults.FileFault.{FileFault}
+use Rattle.kept_files.specs.declared.faults.FileFault.TheVariants.{Folder, NoMemory, NotThisFile}
 use Rattle.kept_files.specs.declared.windows.Found.{Found}
 use Rattle.kept_files.specs.declared.windows.Found.TheVariants.{Closed, Broken, Record, Longer}
 
@@ -33,3 +35,15 @@ IsNext place (Some body) bytes = BeginsRecord place body bytes
 abbrev pub IsRoomy : ℕ → Option (List ℕ) → Type 0
 IsRoomy place None = ⊤
 IsRoomy place (Some body) = (length body ≤ longest_body) × (place + 5 + length body < longest_file)
+
+-- why no record was read at a place, told of the bytes that stand behind it
+abbrev pub BreaksHere : ℕ → FileFault → List ℕ → Type 0
+BreaksHere place (NotThisFile at_) bytes = (at_ ≡ place) × IsNoRecord place bytes
+BreaksHere place Folder bytes = ⊤
+BreaksHere place NoMemory bytes = ⊤
+
+-- the first place at which the bytes are not those of a head, or at which they end
+pub record Differs (bytes head : List ℕ) (place : ℕ) : Type 0 where
+  pub within : place < 8
+  pub same : take place bytes ≡ take place head
+  pub apart : take (place + 1) bytes ≢ take (place + 1) head

@@ -1,8 +1,10 @@
 -- What a message file keeps while a node may write it, and which files are none.
-use Rattle.std.specs.Prelude.{◌≡◌, ◌≢◌, ◌⊎◌, ℕ, List, [], ◌++◌, drop, Some}
+use Rattle.std.specs.Prelude.{◌≡◌, ◌≢◌, ◌⊎◌, ℕ, List, [], ◌++◌, drop, Some, ⊤}
 use Rattle.outside.specs.Kept.{Bodies}
 use Rattle.message_file.specs.Files.{head_of, place_behind, records, IsFileOf}
 use Rattle.message_file.specs.Refusals.{RefusesFile}
+use Rattle.kept_files.specs.declared.faults.FileFault.{FileFault}
+use Rattle.kept_files.specs.declared.faults.FileFault.TheVariants.{Folder, NoMemory, NotThisFile}
 use Rattle.message_file.specs.declared.attaches.AttachFault.TheVariants.{NotAMessageFile, OtherOwner}
 
 -- the file keeps these bodies; one that has no bytes yet keeps none
@@ -30,3 +32,15 @@ OnlyKeepsMore becomes owner name = (old new : List ℕ) → becomes name old new
 abbrev pub IsNoFileAt : ℕ → ℕ → List ℕ → Type 0
 IsNoFileAt owner place file =
     (file ≢ []) × (RefusesFile owner (NotAMessageFile place) (Some file) ⊎ RefusesFile owner (OtherOwner place) (Some file))
+
+-- why a file was not read, told of it
+abbrev pub IsRefused : ℕ → FileFault → List ℕ → Type 0
+IsRefused owner (NotThisFile place) file = IsNoFileAt owner place file
+IsRefused owner Folder file = ⊤
+IsRefused owner NoMemory file = ⊤
+
+-- where a file is refused, it keeps nothing of this owner's
+abbrev pub KeepsNone : ℕ → FileFault → List ℕ → Type 0
+KeepsNone owner (NotThisFile place) file = (kept : Bodies) → Keeps owner file kept → ⊥
+KeepsNone owner Folder file = ⊤
+KeepsNone owner NoMemory file = ⊤

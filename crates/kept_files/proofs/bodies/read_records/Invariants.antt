@@ -3,7 +3,7 @@ use Rattle.outside.specs.Records.{longest_file}
 use Rattle.message_file.specs.Files.{HasRoom, place_behind}
 use Rattle.kept_files.specs.Growth.{BeginsWith, OnlyKeepsMore}
 use Rattle.kept_files.specs.Looking.{OnlyLooks}
-use Rattle.kept_files.proofs.bodies.read_bodies.Given as goal
+use Rattle.kept_files.proofs.bodies.read_records.Given as goal
 
 abbrev pub invariant-loop-bodies : goal.invariant-loop-bodies
 invariant-loop-bodies g l =

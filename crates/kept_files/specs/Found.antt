@@ -47,3 +47,10 @@ pub record Differs (bytes head : List ℕ) (place : ℕ) : Type 0 where
   pub within : place < 8
   pub same : take place bytes ≡ take place head
   pub apart : take (place + 1) bytes ≢ take (place + 1) head
+
+-- how far what is found reaches, of a window of this size that shows so many bytes
+abbrev pub IsBounded : ℕ → ℕ → ℕ → Found → Type 0
+IsBounded size shown place Closed = ⊤
+IsBounded size shown place Broken = ⊤
+IsBounded size shown place (Record n) = (5 + n ≤ shown) × (n ≤ longest_body) × (place + 5 + n < longest_file)
+IsBounded size shown place (Longer whole) = (size < whole) × (whole ≤ 5 + longest_body)

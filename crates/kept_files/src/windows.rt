@@ -1,7 +1,7 @@
 //! What stands at a place of a file, by a window on the bytes behind it.
 ghost use Rattle.std.specs.Prelude.{◌≡◌, ◌+◌, ◌<◌, ◌≤◌, ◌^◌, ℕ, List, length, take};
 ghost use Rattle.outside.specs.Records.{longest_file};
-ghost use Rattle.kept_files.specs.Found.{IsFound};
+ghost use Rattle.kept_files.specs.Found.{IsBounded, IsFound};
 
 use base_types::{LONGEST_ENTRY, LONGEST_FILE};
 use byte_fields::take_u32;
@@ -24,7 +24,8 @@ pub(crate) fn found_in(window: &[u8], size: u32, place: u64) -> Found
     requires some { 5 ≤ size }
     requires fits { length window.now ≤ size }
     requires low { place < longest_file }
-    ensures { (bytes : List ℕ) → window.now ≡ take size bytes → IsFound place size window.now bytes result }
+    ensures found { (bytes : List ℕ) → window.now ≡ take size bytes → IsFound place size window.now bytes result }
+    ensures bounds { IsBounded size (length window.now) place result }
 {
     let [gate, ..] = window else {
         return Found::Broken;

@@ -44,7 +44,7 @@ returns-clause-front g c =
     if_ok (λ bodies. IfSome new (λ file. Keeps owner file bodies))
     (λ bodies. IfSome old (λ file. (kept : Bodies) → Keeps owner file kept → GoesOn kept bodies)) c.read_records.result
     (λ bodies keeps. goes_on owner bodies old new (looks.grows owner name only) keeps)
-    (c.read_records.ensures.kept (λ a b may. only a b (c.has_head.ensures.looks.others name a b may)))
+    (search rules)
 
 pub returns-clause-never_own : goal.returns-clause-never_own
 returns-clause-never_own g c =
@@ -57,4 +57,4 @@ returns-clause-never_own g c =
     if_err (λ fault. IfSome new (IsRefused owner fault)) (λ fault. IfSome old (KeepsNone owner fault))
     c.read_records.result
     (λ fault refused. kept_none owner fault old new (looks.grows owner name only) refused)
-    (c.read_records.ensures.refused (λ a b may. only a b (c.has_head.ensures.looks.others name a b may)))
+    (search rules)

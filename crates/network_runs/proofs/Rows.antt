@@ -1,11 +1,11 @@
 -- A small night of two workstations, and what the definitions make of it, by computation.
-use Rattle.std.proofs.Common.{[], ◌≡◌, ◌∷◌, ℕ, List, None, Option, Some, refl, true}
-use Rattle.model.specs.Types.{Clock, Command, Entry, Events, Mail, Order, Orders, Rerun, Start}
+use Rattle.std.proofs.Common.{[], ◌≡◌, ◌∷◌, None, Some, refl, true}
+use Rattle.model.specs.Types.{Clock, Command, Entry, Events, Mail, Order, Orders, Rerun}
 use Rattle.model.specs.History.{list_of}
 use Rattle.model.specs.Spelling.{entry_bytes}
 use Rattle.mail_frames.specs.declared.frames.Frame.TheVariants as frame
 use Rattle.outside.specs.declared.links.Arrival.TheVariants as arrival
-use Rattle.node_inputs.specs.Traces.{Event, Trace}
+use Rattle.node_inputs.specs.Traces.{Event}
 use Rattle.node_inputs.specs.declared.ends.NodeEnd.TheVariants.{DiskFault}
 use Rattle.network_runs.specs.Happenings.{Begins, Does, Night, Stops, heard_from, kept_at, launches_at, left_at_stop, made, since, started, until_stop}
 use Rattle.network_runs.specs.Nights.{frame_in}

@@ -37,13 +37,13 @@ pub const DEFAULT_PRIORITY: u8 = 10;
 pub const GREATEST_LIMIT: u16 = 1024;
 
 /// The most steps of a replay.
-pub const MOST_STEPS: u32 = 200_000;
+pub(crate) const MOST_STEPS: u32 = 200_000;
 
 /// The packets of a replay at which it takes no further step.
-pub const MOST_PACKETS: u32 = 20_000_000;
+pub(crate) const MOST_PACKETS: u32 = 20_000_000;
 
 /// The bytes of kept entries of a replay at which it takes no further step.
-pub const MOST_BYTES: u32 = 268_435_456;
+pub(crate) const MOST_BYTES: u32 = 268_435_456;
 
 /// The last place of a feed.
-pub const LAST_PLACE: u32 = 4_294_967_295;
+pub(crate) const LAST_PLACE: u32 = 4_294_967_295;

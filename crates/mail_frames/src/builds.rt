@@ -5,12 +5,12 @@ ghost use Rattle.mail_frames.specs.Spelling.{IsSpelled, FrameBytes, IsAckContent
 
 use crate::frames::Frame;
 use crate::writes::fill;
-use crate::{ACK, COMMAND, LENGTH, MAIL};
+use crate::{ACK, BYTES_OF_LENGTH, COMMAND, MAIL};
 use base_types::{Bytes, Feed, Growing, NoMemory, Text, Ws};
 use std::alloc::Global;
 
 /// How many bytes stand before the content: the length and the kind.
-const HEAD: usize = LENGTH + 1;
+const HEAD: usize = BYTES_OF_LENGTH + 1;
 
 /// The frame whose bytes both have together.
 pub fn frame_of(alloc: Global, front: &[u8], back: &[u8]) -> Result<Frame, NoMemory>
@@ -36,9 +36,9 @@ fn kind_of(front: &[u8], back: &[u8]) -> u8
     ensures { result ≡ slice_index (front.now ++ back.now) 4 }
 {
     if front.len() >= HEAD {
-        front[LENGTH]
+        front[BYTES_OF_LENGTH]
     } else {
-        back[LENGTH - front.len()]
+        back[BYTES_OF_LENGTH - front.len()]
     }
 }
 

@@ -21,7 +21,7 @@ pub use laws::{no_frame_begins_another, one_reading, what_was_written_is_read};
 pub use writes::write_frame;
 
 /// How many bytes tell the length of a frame, the highest first.
-pub const LENGTH: usize = 4;
+pub const BYTES_OF_LENGTH: usize = 4;
 
 /// The byte that tells what a frame holds.
 const MAIL: u8 = 1;

@@ -2,7 +2,7 @@
 
 use crate::streams::{CLIENT, Come, GREETING, caller_of, is_waiting, take};
 use base_types::{Bytes, Ws};
-use mail_frames::{LENGTH, LONGEST_COMMAND};
+use mail_frames::{BYTES_OF_LENGTH, LONGEST_COMMAND};
 use std::alloc::{AllocError, Global};
 use std::collections::VecDeque;
 use std::io::Read;
@@ -92,7 +92,7 @@ impl<S: Read + OpenStream + Drop> Caller<S> {
         if length == 0 || length > LONGEST_COMMAND {
             return Said::Wrong;
         }
-        let whole = LENGTH + length as usize;
+        let whole = BYTES_OF_LENGTH + length as usize;
         if count < whole {
             return Said::Nothing;
         }

@@ -3,11 +3,11 @@
 use crate::channels::Channel;
 use crate::commons::Commons;
 use crate::logs::{Topic, Value};
-use crate::queues::Queue;
 use crate::seals::{CODE, HELLO, NONCE, NetworkKey, Talk, numbers_of};
 use crate::streams::{CLIENT, Come, GREETING, Piece, caller_of, take_piece, write_at_once};
 use base_types::{Bytes, Items, Ws};
 use mail_frames::{BYTES_OF_LENGTH, LONGEST_COMMAND};
+use sealed_records::Queue;
 use std::alloc::{AllocError, Global};
 use std::collections::VecDeque;
 use std::fs::{File, Files};

@@ -1,11 +1,10 @@
 //! A connection with what waits to go out over it.
 
 use crate::pieces::Pieces;
-use crate::queues::Queue;
-use crate::seals::{AROUND, MOST_IN_RECORD, Seals};
+use crate::seals::Seals;
 use crate::streams::{Come, is_waiting, take_some};
 use base_types::Items;
-use keyed_hash::{CODE, are_same};
+use sealed_records::{MOST_IN_RECORD, Queue, Taken, Unput};
 use std::alloc::Global;
 use std::io;
 use std::io::{ErrorKind, Read, Write};
@@ -39,17 +38,6 @@ const BEAT: u64 = 5;
 
 /// How many seconds may pass without a record.
 const SILENCE: u64 = 20;
-
-/// What became of the next record.
-#[derive(Drop)]
-enum Opened {
-    Record,
-    /// It is not there whole.
-    Nothing,
-    /// It is not under the key.
-    Wrong,
-    NoMemory,
-}
 
 /// A connection with what waits to go out over it. No call of it waits for the other end.
 #[derive(Drop)]
@@ -140,18 +128,11 @@ impl<S: Read + Write + OpenStream + Drop> Channel<S> {
         let Some(seals) = &mut self.seals else {
             return Ok(());
         };
-        let Ok(length) = u16::try_from(bytes.len()) else {
-            return Err(ErrorKind::InvalidInput.into());
-        };
-        let length = length.to_be_bytes();
-        let code = seals.to.code(length, bytes);
-        if seals.to.next().is_none() {
-            return Err(ErrorKind::InvalidInput.into());
+        match seals.to.put(bytes, &mut self.out) {
+            Ok(()) => Ok(()),
+            Err(Unput::TooMany) => Err(ErrorKind::InvalidInput.into()),
+            Err(Unput::NoMemory) => Err(ErrorKind::OutOfMemory.into()),
         }
-        self.out.put(&length)?;
-        self.out.put(bytes)?;
-        self.out.put(&code)?;
-        Ok(())
     }
 
     /// Sends of what waits as much as the other end takes now. It fails where the connection is gone, where the other end
@@ -214,13 +195,19 @@ impl<S: Read + Write + OpenStream + Drop> Channel<S> {
     /// The bytes of all records that are there whole, up to some 64 kilobytes. What is sent goes in many small records, and
     /// one poll brings what one without a key would bring.
     fn take_records(&mut self, alloc: Global, now: Duration) -> Come {
+        let Some(seals) = &mut self.seals else {
+            return Come::Wrong;
+        };
         let mut taken = Vec::new(alloc);
         for _ in 0..MOST_AT_ONCE {
-            match self.open_record(&mut taken, now) {
-                Opened::Record if taken.len() < ENOUGH => {}
-                Opened::Wrong if taken.is_empty() => return Come::Wrong,
-                Opened::NoMemory if taken.is_empty() => return Come::NoMemory,
+            match seals.from.take(&mut self.come, &mut taken) {
+                Taken::Record => self.heard = now,
+                Taken::Wrong if taken.is_empty() => return Come::Wrong,
+                Taken::NoMemory if taken.is_empty() => return Come::NoMemory,
                 _ => break,
+            }
+            if taken.len() >= ENOUGH {
+                break;
             }
         }
         if taken.is_empty() {
@@ -246,39 +233,5 @@ impl<S: Read + Write + OpenStream + Drop> Channel<S> {
             Ok(read) if read == count => Come::Nothing,
             _ => Come::End,
         }
-    }
-
-    /// Adds the bytes of the next record to what was taken, once it is there whole. A wrong one stays.
-    fn open_record(&mut self, taken: &mut Vec<u8>, now: Duration) -> Opened {
-        let Some(seals) = &mut self.seals else {
-            return Opened::Wrong;
-        };
-        let [a, b, behind @ ..] = self.come.rest() else {
-            return Opened::Nothing;
-        };
-        let length = [*a, *b];
-        let count = usize::from(u16::from_be_bytes(length));
-        if count > MOST_IN_RECORD {
-            return Opened::Wrong;
-        }
-        if behind.len() < count + CODE {
-            return Opened::Nothing;
-        }
-        let (bytes, behind) = behind.split_at(count);
-        let Some(code) = behind.first_chunk::<CODE>() else {
-            return Opened::Nothing;
-        };
-        if !are_same(&seals.from.code(length, bytes), code) {
-            return Opened::Wrong;
-        }
-        if taken.extend_from_slice(bytes).is_err() {
-            return Opened::NoMemory;
-        }
-        if seals.from.next().is_none() {
-            return Opened::Wrong;
-        }
-        self.heard = now;
-        self.come.skip(count + AROUND);
-        Opened::Record
     }
 }

@@ -24,7 +24,6 @@ mod logs;
 mod pieces;
 mod probers;
 mod processes;
-mod queues;
 mod seals;
 mod spawners;
 mod streams;

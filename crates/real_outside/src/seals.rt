@@ -1,19 +1,9 @@
-//! The records of a connection under a key, and the greeting by which both ends prove that they know it.
-ghost use Rattle.std.specs.Prelude.{◌≡◌, ◌+◌, ◌<◌, ◌^◌, ◌++◌, IfSome};
-ghost use Rattle.keyed_hash.specs.Hmac.{hmac_sha256};
+//! The greeting by which both ends of a connection prove that they know the key.
 
 use byteorder::{BigEndian, ByteOrder};
 pub use keyed_hash::CODE;
 use keyed_hash::{are_same, code_of};
-
-/// The most bytes that one record has.
-pub const MOST_IN_RECORD: usize = 16_384;
-
-/// How many bytes tell the length of a record.
-pub const LENGTH: usize = 2;
-
-/// How many bytes a record has beside its own.
-pub const AROUND: usize = LENGTH + CODE;
+use sealed_records::Seal;
 
 /// How many bytes are drawn anew by each end for each connection.
 pub const NONCE: usize = 32;
@@ -153,39 +143,9 @@ pub fn numbers_of(hello: &[u8; HELLO]) -> Option<(u16, u16)> {
     ))
 }
 
-/// The codes of the records in one direction: each is under the same key, and under how many there were before.
-#[derive(Drop)]
-pub struct Seal {
-    key: [u8; CODE],
-    count: u64,
-}
-
-/// The codes of the records in both directions.
+/// The records in both directions.
 #[derive(Drop)]
 pub struct Seals {
     pub to: Seal,
     pub from: Seal,
-}
-
-impl Seal {
-    fn new(key: [u8; CODE]) -> Self {
-        Seal { key, count: 0 }
-    }
-
-    /// The code of the next record.
-    pub fn code(&self, length: [u8; LENGTH], bytes: &[u8]) -> [u8; CODE] {
-        let mut head = [0u8; 8 + LENGTH];
-        BigEndian::write_u64(&mut head[..8], self.count);
-        head[8..].copy_from_slice(&length);
-        code_of(&self.key, &head, bytes)
-    }
-
-    /// The next record is now the one behind it. Where they cannot be counted further there is none.
-    pub fn next(&mut self) -> Option<()>
-        ensures counted { IfSome result (λ _. self.new.count ≡ self.old.count + 1) }
-        ensures key { self.new.key ≡ self.old.key }
-    {
-        self.count = self.count.checked_add(1)?;
-        Some(())
-    }
 }

@@ -44,6 +44,15 @@ struct Left {
     identity: String,
 }
 
+/// What the system tells of a process that was noted.
+#[derive(Drop)]
+enum State {
+    There,
+    Gone,
+    /// It cannot tell.
+    Untold,
+}
+
 /// The processes that were started and have not been reported, and those of earlier runs of the node.
 #[derive(Drop)]
 struct Children<R: Processes> {
@@ -61,7 +70,7 @@ impl<R: Processes + Files<File = File> + Clock + AllocGlobal + Clone + Drop> Chi
     fn start(&mut self, job: JobNo, number: u32, work: &Work) -> io::Result<()> {
         let launch = Launch { job: job.0, number };
         self.look_at_left();
-        self.end_left_of(job.0);
+        self.end_left_of(job.0)?;
         self.running.reserve(1)?;
         let file = self.folder.open(&launch)?;
         let child = match self.spawn("setsid", &launch, work, &file) {
@@ -213,7 +222,7 @@ impl<R: Processes + Files<File = File> + Clock + AllocGlobal + Clone + Drop> Chi
             return;
         };
         match number_of(identity.as_str()) {
-            Some(process) if self.is_there(process, identity.as_str()) => {
+            Some(process) if self.may_run(process, identity.as_str()) => {
                 self.tell(
                     "left",
                     launch,
@@ -239,19 +248,26 @@ impl<R: Processes + Files<File = File> + Clock + AllocGlobal + Clone + Drop> Chi
         let _ = self.folder.drop_note(launch);
     }
 
-    /// Whether the process of this identity still runs. Where the system cannot tell, it may.
-    fn is_there(&self, process: u32, known: &str) -> bool {
+    /// Whether the process of this identity still runs.
+    fn state_of(&self, process: u32, known: &str) -> State {
         match identity(self.alloc, &self.rt, process) {
-            Ok(now) => now.as_str() == known,
-            Err(error) => error.kind() != ErrorKind::NotFound,
+            Ok(now) if now.as_str() == known => State::There,
+            Ok(_) => State::Gone,
+            Err(error) if error.kind() == ErrorKind::NotFound => State::Gone,
+            Err(_) => State::Untold,
         }
+    }
+
+    /// Whether the process of this identity may still run.
+    fn may_run(&self, process: u32, known: &str) -> bool {
+        !matches!(self.state_of(process, known), State::Gone)
     }
 
     /// Drops what is left no more.
     fn pass_left(&mut self) {
         for _ in 0..self.left.len() {
             if let Some(left) = self.left.pop_front() {
-                if self.is_there(left.process, left.identity.as_str()) {
+                if self.may_run(left.process, left.identity.as_str()) {
                     let _ = self.left.push_back(left);
                 } else {
                     self.drop_left(&left.launch, "gone");
@@ -260,29 +276,39 @@ impl<R: Processes + Files<File = File> + Clock + AllocGlobal + Clone + Drop> Chi
         }
     }
 
-    /// Ends what is left of the earlier launches of a job, so that its work is not done twice side by side.
-    fn end_left_of(&mut self, job: u32) {
+    /// Ends what is left of the earlier launches of a job, so that its work is not done twice side by side. It fails where one
+    /// of them cannot be ended.
+    fn end_left_of(&mut self, job: u32) -> io::Result<()> {
+        let mut ended = Ok(());
         for _ in 0..self.left.len() {
             if let Some(left) = self.left.pop_front() {
-                if left.launch.job == job {
-                    self.end_left(&left);
+                if left.launch.job != job {
+                    let _ = self.left.push_back(left);
+                } else if self.is_ended(&left) {
+                    self.drop_left(&left.launch, "cleared");
                 } else {
                     let _ = self.left.push_back(left);
+                    ended = Err(ErrorKind::TimedOut.into());
                 }
             }
         }
+        ended
     }
 
-    /// Ends what is left of a launch, and waits until it is gone, half a second at most.
-    fn end_left(&mut self, left: &Left) {
+    /// Ends what is left of a launch, and tells whether it is gone within half a second. A process is killed where the system
+    /// says that it is the one that was noted.
+    fn is_ended(&mut self, left: &Left) -> bool {
         for _ in 0..MOST_WAITS {
-            if !self.is_there(left.process, left.identity.as_str()) {
-                break;
+            match self.state_of(left.process, left.identity.as_str()) {
+                State::Gone => return true,
+                State::There => {
+                    let _ = kill_with_group(self.alloc, &self.rt, left.process);
+                }
+                State::Untold => {}
             }
-            let _ = kill_with_group(self.alloc, &self.rt, left.process);
             thread::sleep(&self.rt, Duration::from_millis(WAIT));
         }
-        self.drop_left(&left.launch, "cleared");
+        false
     }
 }
 
@@ -370,7 +396,8 @@ impl<R: Processes + Files<File = File> + Clock + AllocGlobal + Clone + Drop> Spa
 
     ghost faults = { λ s. s.faults };
 
-    /// It fails where the file of its output cannot be opened, the shell cannot be started, or memory runs out.
+    /// It fails where the file of its output cannot be opened, the shell cannot be started, what is left of an earlier launch
+    /// cannot be ended, or memory runs out.
     fn start(&mut self, job: JobNo, number: u32, work: &Work) -> Result<(), Failed> {
         let started = self.children.start(job, number, work);
         counted(&mut self.faults, &self.children.commons, "start", started)

@@ -3,8 +3,8 @@
 where one of them saw something else than it must:
 
   readers   12 clients read 64 bytes of a long listing each half second, and 40 more never read: an honest client is
-            answered once their listings are made, then within 3 seconds each time, and the node takes less than 300
-            megabytes.
+            answered while their listings are made, one a turn; once they are made, within 3 seconds each time; and the
+            node takes less than 300 megabytes.
   port      a node whose port is taken says so in its log, calls nobody, and listens within 4 seconds once it is free.
   wire      a peer that greets as the agent and never reads is let go after some 10 seconds, and the log says why;
             meanwhile an honest client is answered within 3 seconds.
@@ -58,11 +58,13 @@ def readers(program):
         if room.until_answers("MDM") is None or room.ask("MDM", "jnextplan 12/01/2026")[0] != 0:
             return "the master makes no plan"
         _, listing, alone = room.ask("MDM", "sj")
+        usual = room.ask("MDM", "showcpus")[2]
         slow = [small_reader(room) for _ in range(12)]
         stop = threading.Event()
         threading.Thread(target=trickle, args=(slow, stop), daemon=True).start()
         silent = [small_reader(room) for _ in range(40)]
         first, _ = worst_answer(room, 1)
+        made = room.until(lambda: room.ask("MDM", "showcpus")[2] < 1 + usual, MOST_SECONDS + 104 * alone)
         worst, answered = worst_answer(room, 8)
         memory = room.memory(node)
         stop.set()
@@ -70,9 +72,10 @@ def readers(program):
             stream.close()
     print(
         f"readers: a listing of {len(listing)} bytes alone took {alone:.2f} s; behind 52 of them an honest client waited "
-        f"{first:.2f} s, then {worst:.2f} s at most, and the node held {memory >> 20} megabytes"
+        f"{first:.2f} s; they were made after {made} s, and then it waited {worst:.2f} s at most, and the node held "
+        f"{memory >> 20} megabytes"
     )
-    if not answered or first > MOST_SECONDS + 104 * alone or worst > MOST_SECONDS or memory > MOST_MEMORY:
+    if not answered or made is None or first > MOST_SECONDS + 104 * alone or worst > MOST_SECONDS or memory > MOST_MEMORY:
         return "clients that do not read hold the node up"
     return None
 

@@ -9,9 +9,9 @@ key is let in. `tws ask` without the key, or with one that others may read, is n
 
 Without a key it shows what the key is for: the same greeting brings the plan to the stranger.
 
-It prints what each try came to and ends with 0, or with 1 where one came to something else. It takes some 25 seconds;
+It prints what each try came to and ends with 0, or with 1 where one came to something else. It takes some 40 seconds;
 the gate runs it. Usage: trials/strangers.py [PROGRAM [MANY]]. PROGRAM is named from the top folder on, as
-out/quick/tws. MANY is how many connections are made at the end, 2,000 without it; 10,000 are tried by hand.
+out/quick/tws. MANY is how many connections are made at the end, 10,000 without it.
 """
 import hashlib
 import hmac
@@ -208,7 +208,7 @@ def many(room, node, count):
         held.append(stream)
         if len(held) > 400:
             held.pop(0).close()
-        if i % 500 == 0:
+        if i % 1_000 == 0:
             status, _, took = room.ask("MDM", "showcpus")
             answered, worst = answered and status == 0, max(worst, took)
     memory = room.memory(node)
@@ -275,7 +275,7 @@ def without_a_key(program):
 
 def main(words):
     program, rest = program_of(words)
-    faults = without_a_key(program) + under_a_key(program, int(rest[0]) if rest else 2_000)
+    faults = without_a_key(program) + under_a_key(program, int(rest[0]) if rest else 10_000)
     for fault in faults:
         print(fault, file=sys.stderr)
     return 1 if faults else 0

@@ -4,7 +4,6 @@ use crate::fronts::text_of;
 use std::alloc::Global;
 use std::fs::Files;
 use std::io;
-use std::io::ErrorKind;
 use std::process::{Command, Processes, Stdio};
 
 /// The place of a process's start among the words behind its name, of which the first is its state.
@@ -14,18 +13,19 @@ const START: usize = 19;
 const RUN: &str = "/proc/sys/kernel/random/boot_id";
 
 /// What tells a process from each other one that ever had its number: the number, when it started, and the run of the
-/// system, in one line. It fails where no such process runs, and where the system does not tell.
-pub fn identity<R: Files>(alloc: Global, rt: &R, process: u32) -> io::Result<String> {
+/// system, in one line. None where it has ended and only its end is still kept. It fails where there is no such process,
+/// and where the system does not tell.
+pub fn identity<R: Files>(alloc: Global, rt: &R, process: u32) -> io::Result<Option<String>> {
     let mut path = String::new(alloc);
     write!(path, "/proc/{}/stat", process)?;
     let told = text_of(alloc, rt, path.as_str())?;
     let Some(start) = start_of(told.as_str()) else {
-        return Err(ErrorKind::NotFound.into());
+        return Ok(None);
     };
     let run = text_of(alloc, rt, RUN)?;
     let mut line = String::new(alloc);
     write!(line, "{} {} {}\n", process, start, run.as_str().trim_end())?;
-    Ok(line)
+    Ok(Some(line))
 }
 
 /// When the process started of which the system tells this. None where it has ended and only its end is still kept.

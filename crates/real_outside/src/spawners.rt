@@ -123,10 +123,11 @@ impl<R: Processes + Files<File = File> + Clock + AllocGlobal + Clone + Drop> Chi
         command.spawn(&self.rt)
     }
 
-    /// Notes the process of a launch beside its output. Where that fails the launch goes on.
+    /// Notes the process of a launch beside its output, where it has not ended yet. Where that fails the launch goes on.
     fn note(&mut self, launch: &Launch, process: u32) {
         let noted = match identity(self.alloc, &self.rt, process) {
-            Ok(identity) => self.folder.keep_note(launch, identity.as_str()),
+            Ok(Some(identity)) => self.folder.keep_note(launch, identity.as_str()),
+            Ok(None) => Ok(()),
             Err(error) => Err(error),
         };
         if let Err(error) = noted {
@@ -251,7 +252,7 @@ impl<R: Processes + Files<File = File> + Clock + AllocGlobal + Clone + Drop> Chi
     /// Whether the process of this identity still runs.
     fn state_of(&self, process: u32, known: &str) -> State {
         match identity(self.alloc, &self.rt, process) {
-            Ok(now) if now.as_str() == known => State::There,
+            Ok(Some(now)) if now.as_str() == known => State::There,
             Ok(_) => State::Gone,
             Err(error) if error.kind() == ErrorKind::NotFound => State::Gone,
             Err(_) => State::Untold,

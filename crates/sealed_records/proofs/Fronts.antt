@@ -1,9 +1,10 @@
 -- What is taken is a front of what was put; an honest wire brings what was made.
-use Rattle.std.proofs.Common.{◌≡◌, ℕ, ◌+◌, ◌-◌, ◌<◌, ◌≤◌, List, [], ◌∷◌, ◌++◌, length, take, drop, refl, sym, ◌∙◌, ap, subst, append_assoc, arith, length-append}
-use Rattle.std.proofs.Math.Seq.{take-append_seam, drop-append_seam}
+use Rattle.std.proofs.Common.{Bool, true, false, if◌then◌else◌, ◌≡◌, ℕ, ◌+◌, ◌≤◌, List, [], ◌∷◌, ◌++◌, length, take, drop, refl, sym, ◌∙◌, ap, subst, append_assoc, arith, length-append, length-drop}
+use Rattle.std.proofs.Math.Seq.{take-append_seam, drop-append_seam, drop-append-add}
+use Rattle.std.proofs.lemmas.List.{take-append-drop, take-append-le}
 use Rattle.std.proofs.lemmas.Nat.{from_be_bytes-to_be_bytes_2}
 use Rattle.std.specs.Int.{w16, to_be_bytes, from_be_bytes}
-use Rattle.sealed_records.specs.Records.{Direction, AreMade, Accepts, AreShort, IsAccepted, code_of_record, next, record_of, told_by, wire}
+use Rattle.sealed_records.specs.Records.{Direction, AreMade, Accepts, AreShort, IsAccepted, code_of_record, next, record_of, wire}
 
 pub in_order : (from : Direction) (put taken : List (List ℕ)) (come rest : List ℕ)
     → AreMade from put come → Accepts from come taken rest
@@ -32,66 +33,97 @@ parted a b c d = append_assoc (a ++ b) c d ∙ append_assoc a b (c ++ d)
 pub only_one : (d : Direction) (made more bytes rest : List ℕ) → length made ≤ 16384
     → IsAccepted d (record_of d made ++ more) bytes rest → (bytes ≡ made) × (rest ≡ more)
 only_one d made more bytes rest short is =
-    let head : List ℕ = is.0 in
+    let head : List ℕ = is.head in
     let own : List ℕ = to_be_bytes w16 (length made) in
     let code : List ℕ = code_of_record d (own ++ made) in
-    let other : List ℕ = code_of_record d (head ++ bytes) in
-    let two : length own ≡ length head = sym is.1 in
-    let spread : own ++ (made ++ (code ++ more)) ≡ head ++ (bytes ++ (other ++ rest)) =
-        sym (parted own made code more) ∙ is.4 ∙ parted head bytes other rest in
-    let heads : own ≡ head = same_front own (made ++ (code ++ more)) head (bytes ++ (other ++ rest)) two spread in
-    let behind : made ++ (code ++ more) ≡ bytes ++ (other ++ rest) =
-        same_back own (made ++ (code ++ more)) head (bytes ++ (other ++ rest)) two spread in
+    let two : length own ≡ length head = sym is.two in
+    let spread : own ++ (made ++ (code ++ more)) ≡ head ++ (bytes ++ (is.code ++ rest)) =
+    sym (parted own made code more) ∙ is.whole ∙ parted head bytes is.code rest in
+    let heads : own ≡ head = same_front own (made ++ (code ++ more)) head (bytes ++ (is.code ++ rest)) two spread in
+    let behind : made ++ (code ++ more) ≡ bytes ++ (is.code ++ rest) =
+    same_back own (made ++ (code ++ more)) head (bytes ++ (is.code ++ rest)) two spread in
     let long : length made ≡ length bytes =
-        sym (from_be_bytes-to_be_bytes_2 (length made) (omega (arith, short))) ∙ ap (from_be_bytes w16) heads ∙ sym is.2 in
-    let bodies : made ≡ bytes = same_front made (code ++ more) bytes (other ++ rest) long behind in
-    let codes : code ≡ other = ap (λ h. code_of_record d (h ++ made)) heads ∙ ap (λ b. code_of_record d (head ++ b)) bodies in
-    let backs : code ++ more ≡ other ++ rest = same_back made (code ++ more) bytes (other ++ rest) long behind in
-    (sym bodies, sym (same_back code more other rest (ap length codes) backs))
+    sym (from_be_bytes-to_be_bytes_2 (length made) (omega (arith, short))) ∙ ap (from_be_bytes w16) heads ∙ sym is.told in
+    let bodies : made ≡ bytes = same_front made (code ++ more) bytes (is.code ++ rest) long behind in
+    let codes : code ≡ is.code =
+    ap (λ h. code_of_record d (h ++ made)) heads ∙ ap (λ b. code_of_record d (head ++ b)) bodies ∙ sym is.own in
+    let backs : code ++ more ≡ is.code ++ rest = same_back made (code ++ more) bytes (is.code ++ rest) long behind in
+    (sym bodies, sym (same_back code more is.code rest (ap length codes) backs))
 
 -- nothing is accepted where nothing has come
-none_of_nothing : (d : Direction) (bytes rest head : List ℕ) → length head ≡ 2
-    → [] ≡ ((head ++ bytes) ++ code_of_record d (head ++ bytes)) ++ rest → ⊥
-none_of_nothing d bytes rest [] two same = cc
-none_of_nothing d bytes rest (x ∷ head) two same = cc
+none_of_nothing : (bytes code rest head : List ℕ) → length head ≡ 2 → [] ≡ ((head ++ bytes) ++ code) ++ rest → ⊥
+none_of_nothing bytes code rest [] two same = cc
+none_of_nothing bytes code rest (x ∷ head) two same = cc
 
 pub honest : (from : Direction) (put : List (List ℕ)) → AreShort put → AreMade from put (wire from put)
-honest from [] short = λ bytes rest is. none_of_nothing from bytes rest is.0 is.1 is.4
+honest from [] short = λ bytes rest is. none_of_nothing bytes is.code rest is.head is.two is.whole
 honest from (made ∷ more) short = λ bytes rest is.
     let one = only_one from made (wire (next from) more) bytes rest short.0 is in
     (one.0, subst (AreMade (next from) more) (sym one.1) (honest (next from) more short.1))
 
--- what is put behind others
-pub put_behind : (out own bytes code : List ℕ) → ((out ++ own) ++ bytes) ++ code ≡ out ++ ((own ++ bytes) ++ code)
-put_behind out own bytes code =
-    append_assoc (out ++ own) bytes code ∙ append_assoc out own (bytes ++ code) ∙ ap (λ l. out ++ l) (sym (append_assoc own bytes code))
-
--- what was put last is what stands behind the others
-pub put_last : (out own bytes : List ℕ) → drop (length out) ((out ++ own) ++ bytes) ≡ own ++ bytes
-put_last out own bytes = ap (drop (length out)) (append_assoc out own bytes) ∙ drop-append_seam out (own ++ bytes)
+-- the first two bytes tell the same as all
+pub told_first : (come : List ℕ) → 2 ≤ length come → from_be_bytes w16 come ≡ from_be_bytes w16 (take 2 come)
+told_first [] low = absurd (omega (arith, low))
+told_first (x ∷ []) low = absurd (omega (arith, low))
+told_first (x ∷ y ∷ more) low = refl
 
 -- what is accepted tells its length at its front
 pub told_length : (d : Direction) (come bytes rest : List ℕ) → IsAccepted d come bytes rest → length bytes ≡ from_be_bytes w16 (take 2 come)
 told_length d come bytes rest is =
-    let head : List ℕ = is.0 in
-    let behind : List ℕ = bytes ++ (code_of_record d (head ++ bytes) ++ rest) in
-    let whole : come ≡ head ++ behind = is.4 ∙ parted head bytes (code_of_record d (head ++ bytes)) rest in
-    let front : take 2 come ≡ head =
-        ap (take 2) whole ∙ ap (λ n. take n (head ++ behind)) (sym is.1) ∙ take-append_seam head behind in
-    is.2 ∙ ap (from_be_bytes w16) (sym front)
+    let behind : List ℕ = bytes ++ (is.code ++ rest) in
+    let front : take 2 come ≡ is.head =
+    ap (take 2) (is.whole ∙ parted is.head bytes is.code rest) ∙ ap (λ n. take n (is.head ++ behind)) (sym is.two)
+    ∙ take-append_seam is.head behind in
+    is.told ∙ ap (from_be_bytes w16) (sym front)
 
 -- what is accepted has the code of the next record behind what it tells
 pub told_code : (d : Direction) (come bytes rest told behind : List ℕ) → IsAccepted d come bytes rest
-    → come ≡ told ++ behind → length told ≡ 2 + from_be_bytes w16 (take 2 come) → length (code_of_record d told) ≡ 32
-    → code_of_record d told ≡ take 32 behind
-told_code d come bytes rest told behind is cut long size =
-    let head : List ℕ = is.0 in
-    let code : List ℕ = code_of_record d (head ++ bytes) in
-    let same : told ++ behind ≡ (head ++ bytes) ++ (code ++ rest) = sym cut ∙ is.4 ∙ append_assoc (head ++ bytes) code rest in
-    let alike : length told ≡ length (head ++ bytes) =
-        omega (arith, long, told_length d come bytes rest is, is.1, length-append head bytes) in
-    let fronts : told ≡ head ++ bytes = same_front told behind (head ++ bytes) (code ++ rest) alike same in
-    let backs : behind ≡ code ++ rest = same_back told behind (head ++ bytes) (code ++ rest) alike same in
-    let codes : code_of_record d told ≡ code = ap (code_of_record d) fronts in
-    let count : length code ≡ 32 = ap length (sym codes) ∙ size in
-    codes ∙ sym (ap (take 32) backs ∙ ap (λ n. take n (code ++ rest)) (sym count) ∙ take-append_seam code rest)
+    → come ≡ told ++ behind → length told ≡ 2 + from_be_bytes w16 (take 2 come) → code_of_record d told ≡ take 32 behind
+told_code d come bytes rest told behind is cut long =
+    let own : List ℕ = is.head ++ bytes in
+    let same : told ++ behind ≡ own ++ (is.code ++ rest) = sym cut ∙ is.whole ∙ append_assoc own is.code rest in
+    let alike : length told ≡ length own =
+    omega (arith, long, told_length d come bytes rest is, is.two, length-append is.head bytes) in
+    let fronts : told ≡ own = same_front told behind own (is.code ++ rest) alike same in
+    let backs : behind ≡ is.code ++ rest = same_back told behind own (is.code ++ rest) alike same in
+    ap (code_of_record d) fronts ∙ sym is.own
+    ∙ sym (ap (take 32) backs ∙ ap (λ n. take n (is.code ++ rest)) (sym is.size) ∙ take-append_seam is.code rest)
+
+-- what stands before this place, with the code of the next record behind it, is accepted
+pub taken_record : (d : Direction) (come told behind : List ℕ) (count : ℕ) → come ≡ told ++ behind → length told ≡ 2 + count
+    → count ≡ from_be_bytes w16 (take 2 come) → count ≤ 16384 → 32 ≤ length behind → code_of_record d told ≡ take 32 behind
+    → IsAccepted d come (drop 2 told) (drop (2 + count + 32) come)
+taken_record d come told behind count cut long tells low enough is =
+    let head : List ℕ = take 2 told in
+    let bytes : List ℕ = drop 2 told in
+    let code : List ℕ = take 32 behind in
+    let rest : List ℕ = drop (2 + count + 32) come in
+    let whole : head ++ bytes ≡ told = take-append-drop 2 told in
+    let size : length bytes ≡ count = omega (arith, long, length-drop 2 told) in
+    let two : length head ≡ 2 = omega (arith, long, size, sym (length-append head bytes) ∙ ap length whole) in
+    let front : take 2 come ≡ head = ap (take 2) cut ∙ take-append-le 2 told behind (omega (arith, long)) in
+    let far : 2 + count + 32 ≡ length told + 32 = omega (arith, long) in
+    let left : rest ≡ drop 32 behind =
+    ap (λ n. drop n come) far ∙ ap (drop (length told + 32)) cut ∙ drop-append-add told behind 32 in
+    let parts : code ++ drop 32 behind ≡ behind = take-append-drop 32 behind in
+    let digest : length code ≡ 32 =
+    omega (arith, enough, length-drop 32 behind, sym (length-append code (drop 32 behind)) ∙ ap length parts) in
+    record {
+      head = head;
+      code = code;
+      two = two;
+      told = size ∙ tells ∙ ap (from_be_bytes w16) front;
+      short = omega (arith, size, low);
+      size = digest;
+      own = sym is ∙ ap (code_of_record d) (sym whole);
+      whole = cut ∙ ap (λ l. told ++ l) (sym parts) ∙ sym (append_assoc told code (drop 32 behind))
+          ∙ ap (λ l. (l ++ code) ++ drop 32 behind) (sym whole) ∙ ap (λ l. ((head ++ bytes) ++ code) ++ l) (sym left);
+    }
+
+-- what a call that succeeded has appended
+pub grown : (b : Bool) (new old more : List ℕ) → new ≡ (if b then old ++ more else old) → b ≡ true → new ≡ old ++ more
+grown true new old more is done = is
+grown false new old more is done = cc
+
+pub never : false ≡ true → ⊥
+never e = cc

@@ -1,5 +1,5 @@
 -- The records of one direction of a connection under a key.
-use Rattle.std.specs.Prelude.{◌≡◌, ℕ, ◌+◌, ◌≤◌, ◌<◌, ◌⊎◌, ◌^◌, List, [], ◌∷◌, ◌++◌, length, take, drop}
+use Rattle.std.specs.Prelude.{◌≡◌, ℕ, ◌+◌, ◌≤◌, ◌<◌, ◌⊎◌, ◌^◌, List, [], ◌∷◌, ◌++◌, length, take}
 use Rattle.std.specs.Int.{w16, w64, to_be_bytes, from_be_bytes}
 use Rattle.keyed_hash.specs.Hmac.{hmac_sha256}
 use Rattle.sealed_records.specs.declared.seals.Taken.{Taken}
@@ -41,9 +41,15 @@ AreShort (bytes ∷ more) = (length bytes ≤ 16384) × AreShort more
 
 -- What has come begins with a record that is accepted as the next one, with these bytes, and this is left: the head tells
 -- how many bytes there are, and the code is that of the next record.
-abbrev pub IsAccepted : Direction → List ℕ → List ℕ → List ℕ → Type 0
-IsAccepted d come bytes rest = (head : List ℕ) × (length head ≡ 2) × (length bytes ≡ from_be_bytes w16 head)
-    × (length bytes ≤ 16384) × (come ≡ ((head ++ bytes) ++ code_of_record d (head ++ bytes)) ++ rest)
+pub record IsAccepted (d : Direction) (come bytes rest : List ℕ) : Type 0 where
+  pub head : List ℕ
+  pub code : List ℕ
+  pub two : length head ≡ 2
+  pub told : length bytes ≡ from_be_bytes w16 head
+  pub short : length bytes ≤ 16384
+  pub size : length code ≡ 32
+  pub own : code ≡ code_of_record d (head ++ bytes)
+  pub whole : come ≡ ((head ++ bytes) ++ code) ++ rest
 
 -- these records are accepted in turn, and this is left
 abbrev pub Accepts : Direction → List ℕ → List (List ℕ) → List ℕ → Type 0

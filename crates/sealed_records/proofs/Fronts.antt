@@ -25,10 +25,6 @@ pub same_back : (a b c d : List ℕ) → length a ≡ length c → a ++ b ≡ c 
 same_back a b c d long same =
     sym (drop-append_seam a b) ∙ ap (λ n. drop n (a ++ b)) long ∙ ap (drop (length c)) same ∙ drop-append_seam c d
 
--- a record in three parts, with the bytes behind it
-pub parted : (a b c d : List ℕ) → ((a ++ b) ++ c) ++ d ≡ a ++ (b ++ (c ++ d))
-parted a b c d = append_assoc (a ++ b) c d ∙ append_assoc a b (c ++ d)
-
 -- a wire that begins with this record is accepted with no other bytes, and leaves what stands behind it
 pub only_one : (d : Direction) (made more bytes rest : List ℕ) → length made ≤ 16384
     → IsAccepted d (record_of d made ++ more) bytes rest → (bytes ≡ made) × (rest ≡ more)
@@ -38,7 +34,7 @@ only_one d made more bytes rest short is =
     let code : List ℕ = code_of_record d (own ++ made) in
     let two : length own ≡ length head = sym is.two in
     let spread : own ++ (made ++ (code ++ more)) ≡ head ++ (bytes ++ (is.code ++ rest)) =
-    sym (parted own made code more) ∙ is.whole ∙ parted head bytes is.code rest in
+    sym (append_assoc (own ++ made) code more ∙ append_assoc own made (code ++ more)) ∙ is.whole ∙ append_assoc (head ++ bytes) is.code rest ∙ append_assoc head bytes (is.code ++ rest) in
     let heads : own ≡ head = same_front own (made ++ (code ++ more)) head (bytes ++ (is.code ++ rest)) two spread in
     let behind : made ++ (code ++ more) ≡ bytes ++ (is.code ++ rest) =
     same_back own (made ++ (code ++ more)) head (bytes ++ (is.code ++ rest)) two spread in
@@ -72,7 +68,7 @@ pub told_length : (d : Direction) (come bytes rest : List ℕ) → IsAccepted d 
 told_length d come bytes rest is =
     let behind : List ℕ = bytes ++ (is.code ++ rest) in
     let front : take 2 come ≡ is.head =
-    ap (take 2) (is.whole ∙ parted is.head bytes is.code rest) ∙ ap (λ n. take n (is.head ++ behind)) (sym is.two)
+    ap (take 2) (is.whole ∙ append_assoc (is.head ++ bytes) is.code rest ∙ append_assoc is.head bytes (is.code ++ rest)) ∙ ap (λ n. take n (is.head ++ behind)) (sym is.two)
     ∙ take-append_seam is.head behind in
     is.told ∙ ap (from_be_bytes w16) (sym front)
 
@@ -124,6 +120,3 @@ taken_record d come told behind count cut long tells low enough is =
 pub grown : (b : Bool) (new old more : List ℕ) → new ≡ (if b then old ++ more else old) → b ≡ true → new ≡ old ++ more
 grown true new old more is done = is
 grown false new old more is done = cc
-
-pub never : false ≡ true → ⊥
-never e = cc

@@ -1,8 +1,9 @@
 use Rattle.std.proofs.Common.{◌≡◌, ◌++◌, ◌≤◌, ◌+◌, ◌-◌, ℕ, List, length, length-drop, take, drop, refl, sym, ap, subst, is_ok, ◌∙◌, arith}
+use Rattle.std.proofs.lemmas.Bool.{false≢true}
 use Rattle.std.proofs.lemmas.List.{take_all}
 use Rattle.std.specs.Int.{w16, from_be_bytes}
 use Rattle.sealed_records.specs.Records.{IsAccepted, code_of_record, next}
-use Rattle.sealed_records.proofs.Fronts.{grown, never, told_code, told_first, taken_record}
+use Rattle.sealed_records.proofs.Fronts.{grown, told_code, told_first, taken_record}
 use Rattle.sealed_records.proofs.seals.Seal.take.Goals as goal
 
 pub returns-then-not-are_same : goal.returns-then-not-are_same
@@ -19,7 +20,7 @@ returns-then-not-are_same c =
     let long : length told ≡ 2 + from_be_bytes w16 (take 2 come) = omega (arith, c.split_at.ensures.front_len, tells) in
     let made : c.code.result ≡ code_of_record c.args.self.now told =
     c.code.ensures in (
-      λ bytes rest is. absurd (never (c.if-not-are_same.ensures.1
+      λ bytes rest is. absurd (false≢true (c.if-not-are_same.ensures.1
           (made ∙ told_code c.args.self.now come bytes rest told behind is cut long ∙ sym c.in-Some.ensures.cases.same))),
       refl,
       refl,

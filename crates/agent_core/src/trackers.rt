@@ -1,10 +1,9 @@
 //! What keeps track of the best job at a node.
-ghost use Rattle.std.specs.Prelude.{◌≡◌, ◌<◌, ◌++◌, ◌∷◌, [], ℕ, IfOk, IfSome, IsOk, List, None, is_none};
+ghost use Rattle.std.specs.Prelude.{◌≡◌, ◌<◌, ◌++◌, ◌∷◌, [], ℕ, IfOk, IfSome, IsOk, IsTrue, List, None, is_none};
 ghost use Rattle.model.specs.Types.{Entry as Taken, PromptDef as Prompts, Resource as Resources};
 ghost use Rattle.model.specs.Network.{node_count};
 ghost use Rattle.model.specs.History.{view_of};
 ghost use Rattle.model.specs.Readiness as spec;
-ghost use Rattle.ready_index.specs.Standing.{IsIndexOf};
 ghost use Rattle.agent_core.specs.Standing.{Tracks};
 
 use base_types::{Entry, JobNo, NoMemory, Ws};
@@ -26,26 +25,18 @@ impl Drop for Tracker {
     }
 }
 
-/// The index after an entry that `o` has taken just before. None where it has no memory for it.
-fn kept_up(mut index: Index, net: &Network, o: &Owners, w: Ws, e: &Entry) -> Option<Index>
+/// Takes an entry that `o` has taken just before into an index that is there. Whether it had the memory for it.
+fn keep_up(index: &mut Option<Index>, net: &Network, o: &Owners, w: Ws, e: &Entry) -> bool
     requires { w < node_count net.now }
-    ensures { (before : List Taken) → o.now ≡ before ++ e.now ∷ [] → IsIndexOf (view_of before) w index
-        → Tracks result o.now w }
+    ensures { IsTrue result → (before : List Taken) → o.now ≡ before ++ e.now ∷ [] → Tracks index.old before w
+        → Tracks index.new o.now w }
 {
-    match index.took(net, o, w, e) {
-        Ok(()) => Some(index),
-        Err(_) => None,
-    }
-}
-
-/// What becomes of an index by an entry that `o` has taken just before.
-fn followed(before: Option<Index>, net: &Network, o: &Owners, w: Ws, e: &Entry) -> Option<Index>
-    requires { w < node_count net.now }
-    ensures { (taken : List Taken) → o.now ≡ taken ++ e.now ∷ [] → Tracks before taken w → Tracks result o.now w }
-{
-    match before {
-        None => None,
-        Some(index) => kept_up(index, net, o, w, e),
+    match index {
+        None => true,
+        Some(index) => match index.took(net, o, w, e) {
+            Ok(()) => true,
+            Err(_) => false,
+        },
     }
 }
 
@@ -78,8 +69,9 @@ impl Tracker {
         ensures { (before : List Taken) → o.now ≡ before ++ e.now ∷ [] → Tracks self.old.index before w
             → Tracks self.new.index o.now w }
     {
-        let before = self.index.take();
-        self.index = followed(before, net, o, w, e);
+        if !keep_up(&mut self.index, net, o, w, e) {
+            self.index = None;
+        }
     }
 }
 

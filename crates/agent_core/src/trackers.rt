@@ -1,21 +1,19 @@
 //! What keeps track of the best job at a node.
-ghost use Rattle.std.specs.Prelude.{◌≡◌, ◌<◌, ◌++◌, ◌∷◌, [], ℕ, IfOk, IfSome, IsOk, IsTrue, List, None, is_none};
-ghost use Rattle.model.specs.Types.{Entry as Taken, PromptDef as Prompts, Resource as Resources};
+ghost use Rattle.std.specs.Prelude.{◌≡◌, ◌<◌, ◌++◌, ◌∷◌, [], IsTrue, List, None, OnErr, OnOk};
+ghost use Rattle.model.specs.Types.{Entry as Taken};
 ghost use Rattle.model.specs.Network.{node_count};
-ghost use Rattle.model.specs.History.{view_of};
-ghost use Rattle.model.specs.Readiness as spec;
-ghost use Rattle.agent_core.specs.Standing.{Tracks};
+ghost use Rattle.agent_core.specs.Standing.{IsIndexed, Tracks};
 
-use base_types::{Entry, JobNo, NoMemory, Ws};
-use dependencies::{Readiness, Scan};
+use base_types::{Entry, NoMemory, Ws};
+use dependencies::Readiness;
 use network_tree::Network;
 use owner_fold::Owners;
 use ready_index::Index;
 use std::alloc::Global;
 
-/// An index, which is given up where it has no memory for an entry. Then each job is looked at, until it is made anew.
+/// An index, which is given up where it has no memory for an entry. It is then made anew before the next input.
 pub(crate) struct Tracker {
-    index: Option<Index>,
+    pub(crate) index: Option<Index>,
 }
 
 /// Written out, so that dropping one is a call for whoever owns it.
@@ -48,19 +46,26 @@ impl Tracker {
         Tracker { index: None }
     }
 
-    /// The index of the entries that `o` took.
-    pub(crate) fn of(alloc: Global, net: &Network, o: &Owners, w: Ws) -> Result<Tracker, NoMemory>
-        ensures { IfOk result (λ t. Tracks t.index o.now w) }
+    /// Makes the index of the entries that `o` took where there is none. There is one then, unless memory ran out, and in
+    /// that case nothing changes.
+    pub(crate) fn renew(
+        &mut self,
+        alloc: Global,
+        net: &Network,
+        o: &Owners,
+        w: Ws,
+    ) -> Result<(), NoMemory>
+        requires { Tracks self.old.index o.now w }
+        ensures indexed { OnOk result (IsIndexed self.new.index o.now w) }
+        ensures tracks { Tracks self.new.index o.now w }
+        ensures err { OnErr result (self.new ≡ self.old) }
     {
+        if self.index.is_some() {
+            return Ok(());
+        }
         let index = Index::of(alloc, net, o, w)?;
-        Ok(Tracker { index: Some(index) })
-    }
-
-    /// Whether the index is to be made anew.
-    pub(crate) fn is_missing(&self) -> bool
-        ensures { result ≡ is_none self.now.index }
-    {
-        self.index.is_none()
+        self.index = Some(index);
+        Ok(())
     }
 
     /// Takes an entry that `o` has taken just before. It never refuses.
@@ -71,31 +76,6 @@ impl Tracker {
     {
         if !keep_up(&mut self.index, net, o, w, e) {
             self.index = None;
-        }
-    }
-}
-
-impl Readiness for Tracker {
-    ghost stands_for = { λ tracker taken w resources prompts. Tracks tracker.index taken w };
-
-    /// Never refuses.
-    fn took(&mut self, net: &Network, o: &Owners, w: Ws, e: &Entry) -> Result<(), NoMemory>
-        requires { w < node_count net.now }
-        ensures taken { IsOk result }
-        ensures stands { (before : List Taken) → o.now ≡ before ++ e.now ∷ [] → Tracks self.old.index before w
-            → Tracks self.new.index o.now w }
-    {
-        self.follow(net, o, w, e);
-        Ok(())
-    }
-
-    /// The best job, by the index where there is one.
-    fn best(&self, net: &Network, o: &Owners, w: Ws) -> Option<JobNo>
-        ensures { Tracks self.now.index o.now w → result ≡ spec.best net.now (view_of o.now) w }
-    {
-        match &self.index {
-            Some(index) => index.best(net, o, w),
-            None => Scan.best(net, o, w),
         }
     }
 }

@@ -1,4 +1,4 @@
-use Rattle.std.proofs.Common.{false, length, lit<, sym, true}
+use Rattle.std.proofs.Common.{◌∙◌, false, length, lit<, sym, true}
 use Rattle.std.proofs.lemmas.Iterator.Consumers.{YieldsList-at, YieldsList-end, YieldsList-turn}
 use Rattle.std.proofs.lemmas.Iterator.Splits.{YieldsList-from_str_split}
 use Rattle.night_records.proofs.Feeds.{at_end, at_skipped, at_told, one_more}

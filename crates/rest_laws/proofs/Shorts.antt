@@ -33,7 +33,7 @@ use Rattle.rest_laws.proofs.Sizes.{event_short}
 use Rattle.rest_laws.proofs.Taken.{count_at}
 
 -- what a turn makes is no order
-event_answered : (N : Net) (V : View) (w : ℕ) (live : List LiveJob) (t : ℕ) (b : Body) → TurnGives N V w live t b
+pub event_answered : (N : Net) (V : View) (w : ℕ) (live : List LiveJob) (t : ℕ) (b : Body) → TurnGives N V w live t b
     → has_short_answer b ≡ true
 event_answered N V w live t b (TurnGives.clocked due) = refl
 event_answered N V w live t b (TurnGives.lost j n e dead) = refl

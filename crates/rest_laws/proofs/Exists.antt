@@ -21,7 +21,7 @@ use Rattle.rest_laws.proofs.Ahead.{flat_all}
 use Rattle.rest_laws.proofs.Gains.{either}
 use Rattle.rest_laws.proofs.Lefts.{delivered_same, linked_same}
 use Rattle.rest_laws.proofs.Sending.{IsAck, IsMail, IsNone, Near, Sends, Sent}
-use Rattle.rest_laws.proofs.ToRest.{taken_append}
+use Rattle.rest_laws.proofs.Rounds.{taken_append}
 use Rattle.rest_laws.proofs.Phases.{names_same, turn_named, Done, mail_done, ack_done, Phase, phase_none, phase_on}
 use Rattle.rest_laws.proofs.Phases.{turn_of, phase_turns}
 

@@ -9,7 +9,6 @@ use Rattle.model.specs.Invariant.{Invariant}
 use Rattle.rest_laws.specs.Gains.{gained}
 use Rattle.rest_laws.specs.Left.{bound_of, caps_of, entries, keeps_to, left}
 use Rattle.rest_laws.specs.Rest.{IsAtRest}
-use Rattle.rest_laws.specs.Rounds.{AreTaken}
 use Rattle.rest_laws.specs.ToRest.{AlwaysRounds, AreAmong, AreLinkedUp, AreRounds, BeginAtRestBut, ComesToRest, IsRoundFrom}
 use Rattle.rest_laws.specs.ToRest.{Reaches, later}
 use Rattle.rest_laws.proofs.Bounds.{all_linking, covered, most_is, times_low}
@@ -18,11 +17,7 @@ use Rattle.rest_laws.proofs.Done.{done}
 use Rattle.rest_laws.proofs.Gains.{at_most, gains, kept_run}
 use Rattle.rest_laws.proofs.Lefts.{Keeps, steps_keep}
 use Rattle.rest_laws.proofs.Rises.{run_rises}
-
-pub taken_append : (net : Net) (ss ts : List WorldStep) (x y z : World) → AreTaken net x ss y → AreTaken net y ts z
-    → AreTaken net x (ss ++ ts) z
-taken_append net [] ts x y z h k = subst (λ (y : World). AreTaken net y ts z) (sym h) k
-taken_append net (s ∷ ss) ts x y z h k = (h.0, h.1, taken_append net ss ts h.0 y z h.2 k)
+use Rattle.rest_laws.proofs.Rounds.{open_taken, taken_append}
 
 pub reaches_on : (net : Net) (readings : ℕ → List ℕ) (x y z : World) → Reaches net readings x y → Reaches net readings y z
     → Reaches net readings x z
@@ -70,14 +65,19 @@ module _ (net : Net) (readings : ℕ → List ℕ) (x : World) (tree : IsTree ne
     ends : Reaches net readings x z
     ends =
         reaches_on net readings x r.begin z begins
-        (record { steps = r.steps; keep = r.keep; taken = r.round.taken })
+        (record { steps = r.steps; keep = r.keep; taken = open_taken net (clocks 0) r.begin z r.steps r.round })
 
     risen : gained net y ≤ gained net r.begin
     risen = gained_more net y r.begin (links_rise net r.up.links y r.begin r.up.linking r.up.come_up)
 
     none_lost : gained net y ≤ gained net z
     none_lost =
-        omega (arith, risen, gained_more net r.begin z (run_rises net r.steps r.begin z r.round.each r.round.taken))
+        omega (
+          arith,
+          risen,
+          gained_more net r.begin z
+              (run_rises net r.steps r.begin z r.round.each (open_taken net (clocks 0) r.begin z r.steps r.round)),
+        )
 
     gained_or_rest : (gained net y < gained net z) ⊎ IsAtRest net (clocks 0) r.begin
     gained_or_rest =

@@ -1,3 +1,2 @@
 mod Told
 mod Lines
-mod Advised

@@ -1,5 +1,5 @@
 -- The order of a line is small, and so its answer is short.
-use Rattle.std.proofs.Common.{[], if◌then◌else◌, ℕ, ◌≡◌, Bool, Err, IfOk, List, Ok, Option, None, Some, arith, false}
+use Rattle.std.proofs.Common.{if◌then◌else◌, ℕ, ◌≡◌, Bool, Err, IfOk, List, Ok, Option, None, Some, arith, false}
 use Rattle.std.proofs.Common.{option_and_then, refl, subst, true}
 use Rattle.model.specs.Types.{AddDep, AltPri, Cancel, Cmd, Confirm, DelDep, Fence, Kill, Limit, Net, Obj, Order, Release}
 use Rattle.model.specs.Types.{ReplyGlobal, ReplyOwn, Rerun, Stop, StreamLimit, Submit, SwitchMgr, Total}

@@ -1,8 +1,8 @@
 -- Where there is always one more round, rounds come to rest.
-use Rattle.std.proofs.Common.{◌≡◌, ℕ, zero, suc, ◌+◌, ◌*◌, ◌<◌, ◌≤◌, true, ◌⊎◌, inl, inr, List, [], ◌∷◌, ◌++◌, refl, sym}
-use Rattle.std.proofs.Common.{subst, arith}
+use Rattle.std.proofs.Common.{◌≡◌, ℕ, zero, suc, ◌+◌, ◌*◌, ◌<◌, ◌≤◌, true, ◌⊎◌, inl, inr, List, [], ◌∷◌, ◌++◌, refl}
+use Rattle.std.proofs.Common.{arith}
 use Rattle.lemmas.proofs.Lists.{all_append}
-use Rattle.model.specs.Types.{Net, WorldStep}
+use Rattle.model.specs.Types.{Net}
 use Rattle.model.specs.Network.{IsTree, node_count}
 use Rattle.model.specs.World.{World}
 use Rattle.model.specs.Invariant.{Invariant}

@@ -1,5 +1,5 @@
 -- Where there is always one more round, rounds come to rest.
-use Rattle.std.proofs.Common.{◌≡◌, ℕ, zero, suc, ◌+◌, ◌*◌, ◌<◌, ◌≤◌, true, ◌⊎◌, inl, inr, List, [], ◌∷◌, ◌++◌, refl}
+use Rattle.std.proofs.Common.{◌≡◌, ℕ, zero, suc, ◌+◌, ◌*◌, ◌<◌, ◌≤◌, true, ◌⊎◌, inl, inr, List, [], ◌++◌, refl}
 use Rattle.std.proofs.Common.{arith}
 use Rattle.lemmas.proofs.Lists.{all_append}
 use Rattle.model.specs.Types.{Net}

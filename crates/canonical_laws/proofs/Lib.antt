@@ -1,0 +1,14 @@
+pub mod Lists
+pub mod Homes
+pub mod Targets
+pub mod Weights
+pub mod Counts
+pub mod Objects
+pub mod Streams
+pub mod Forms
+pub mod Items
+pub mod Named
+pub mod Circles
+pub mod Conditions
+pub mod Faultless
+pub mod Lines

@@ -1,0 +1,15 @@
+//! What holds of all definitions with one normal form.
+ghost use Rattle.std.specs.Prelude.{◌≡◌};
+ghost use Rattle.composer_parser.specs.declared.Defs.{Defs as Definitions};
+ghost use Rattle.composer_print.specs.Normal.{normal};
+ghost use Rattle.composer_laws.specs.Lines.{without_lines};
+ghost use Rattle.definition_faults.specs.Faults.{IsFaultless};
+
+/// Definitions with the normal form of definitions without a fault have none. So does the normal form itself, and so do
+/// definitions that differ in their lines alone, or that are read from a canonical text.
+pub fn one_form_is_faultless()
+    ensures together { (d : Definitions) → (e : Definitions) → normal d ≡ normal e → IsFaultless d → IsFaultless e }
+    ensures form { (d : Definitions) → IsFaultless d → IsFaultless (normal d) }
+    ensures lines { (d : Definitions) → (e : Definitions) → without_lines d ≡ without_lines e → IsFaultless d → IsFaultless e }
+    ensures back { (d : Definitions) → (e : Definitions) → without_lines e ≡ normal d → IsFaultless d → IsFaultless e }
+{}

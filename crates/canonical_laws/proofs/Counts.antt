@@ -89,8 +89,8 @@ ones (x ∷ xs) = omega (arith, ones xs)
 neither_way : {A : Type 0} (xs : List A) → Both (false ≡ false) (total (λ x. 0) xs ≡ 0)
 neither_way xs = (λ e. no_total xs, λ e. refl)
 
-nothing_told : Both (false ≡ false) (0 ≡ 0)
-nothing_told = (λ e. refl, λ e. refl)
+nothing_told : (n : ℕ) → Both (false ≡ false) (n ≡ n)
+nothing_told n = (λ e. refl, λ e. refl)
 
 unknown_zero : (d : Defs) (n : ℕ) (inside : Bool) (own : Option (List ℕ)) (c : Clause)
     → Both (has_unknown d n inside own c ≡ false) (weight (unknown_weights d n inside own) c ≡ 0)
@@ -98,7 +98,7 @@ unknown_zero d n inside own (Follows ps) = any_zero (is_unknown_pred d n inside)
 unknown_zero d n inside own (Needs ns) = any_zero (is_unknown_need d own) ns
 unknown_zero d n inside own (Prompt ps) = any_zero (is_unknown_prompt d) ps
 unknown_zero d n inside own (Opens fs) = neither_way fs
-unknown_zero d n inside own c = nothing_told
+unknown_zero d n inside own c = nothing_told 0
 
 range_zero : (c : Clause) → Both (is_out_of_range c ≡ false) (weight range_weights c ≡ 0)
 range_zero (Follows ps) = neither_way ps
@@ -112,7 +112,7 @@ foreign_zero own (Follows ps) = neither_way ps
 foreign_zero own (Needs ns) = any_zero (is_foreign own) ns
 foreign_zero own (Prompt ps) = neither_way ps
 foreign_zero own (Opens fs) = neither_way fs
-foreign_zero own c = nothing_told
+foreign_zero own c = nothing_told 0
 
 all_is : (c : Clause) → dependency_count c ≡ weight all_weights c
 all_is (Follows ps) = ones ps

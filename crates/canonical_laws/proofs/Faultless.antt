@@ -1,5 +1,5 @@
 -- Definitions and their normal form are faultless together.
-use Rattle.std.proofs.Common.{◌≡◌, ◌+◌, ℕ, List, [], ◌∷◌, ◌++◌, Option, Some, None, Contains, inl, inr, refl, ap, sym, subst, ◌∙◌, arith, slice_get, is_none}
+use Rattle.std.proofs.Common.{◌≡◌, ◌+◌, ℕ, false, List, [], ◌∷◌, ◌++◌, Option, Some, None, Contains, inl, inr, refl, ap, sym, subst, ◌∙◌, arith, slice_get, is_none}
 use Rattle.lemmas.proofs.Booleans.{neither}
 use Rattle.composer_parser.specs.declared.Lined.{Lined}
 use Rattle.composer_parser.specs.declared.Defs.{Defs}

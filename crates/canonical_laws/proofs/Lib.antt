@@ -12,3 +12,5 @@ pub mod Circles
 pub mod Conditions
 pub mod Faultless
 pub mod Lines
+pub mod Networks
+pub mod Meanings

@@ -1,9 +1,11 @@
 //! What holds of all definitions with one normal form.
-ghost use Rattle.std.specs.Prelude.{◌≡◌};
+ghost use Rattle.std.specs.Prelude.{◌≡◌, ℕ, length};
 ghost use Rattle.composer_parser.specs.declared.Defs.{Defs as Definitions};
 ghost use Rattle.composer_print.specs.Normal.{normal};
 ghost use Rattle.composer_laws.specs.Lines.{without_lines};
 ghost use Rattle.definition_faults.specs.Faults.{IsFaultless};
+ghost use Rattle.workload_defs.specs.Days.{free_of};
+ghost use Rattle.workload_defs.specs.Nets.{net_of, peers_of};
 
 /// Definitions with the normal form of definitions without a fault have none. So does the normal form itself, and so do
 /// definitions that differ in their lines alone, or that are read from a canonical text.
@@ -12,4 +14,13 @@ pub fn one_form_is_faultless()
     ensures form { (d : Definitions) → IsFaultless d → IsFaultless (normal d) }
     ensures lines { (d : Definitions) → (e : Definitions) → without_lines d ≡ without_lines e → IsFaultless d → IsFaultless e }
     ensures back { (d : Definitions) → (e : Definitions) → without_lines e ≡ normal d → IsFaultless d → IsFaultless e }
+{}
+
+/// Definitions with one normal form give the same network, the same addresses, as many streams, and the same free days of
+/// each stream.
+pub fn one_form_gives_the_same()
+    ensures net { (d : Definitions) → (e : Definitions) → normal d ≡ normal e → net_of d ≡ net_of e }
+    ensures peers { (d : Definitions) → (e : Definitions) → normal d ≡ normal e → peers_of d ≡ peers_of e }
+    ensures streams { (d : Definitions) → (e : Definitions) → normal d ≡ normal e → length d.schedules ≡ length e.schedules }
+    ensures free { (d : Definitions) → (e : Definitions) → normal d ≡ normal e → (n : ℕ) → free_of d n ≡ free_of e n }
 {}

@@ -6,4 +6,4 @@
 
 mod laws;
 
-pub use laws::one_form_is_faultless;
+pub use laws::{one_form_gives_the_same, one_form_is_faultless};

@@ -1,0 +1,24 @@
+-- What definitions with one normal form give.
+use Rattle.std.proofs.Common.{◌≡◌, ℕ, length, ap, sym, ◌∙◌}
+use Rattle.composer_parser.specs.declared.Defs.{Defs}
+use Rattle.composer_print.specs.Normal.{normal}
+use Rattle.workload_defs.specs.Nets.{net_of, peers_of}
+use Rattle.workload_defs.specs.Days.{free_of}
+use Rattle.canonical_laws.proofs.Forms.{is_form}
+use Rattle.canonical_laws.proofs.Networks.{nets_same, peers_same, free_same, count_same}
+
+-- what is that of the normal form is the same of both
+pub through : {A : Type 0} (f : Defs → A) → ((d : Defs) → f (normal d) ≡ f d) → (d e : Defs) → normal d ≡ normal e → f d ≡ f e
+through f h d e same = sym (h d) ∙ ap f same ∙ h e
+
+pub one_net : (d e : Defs) → normal d ≡ normal e → net_of d ≡ net_of e
+one_net d e same = through net_of (λ x. nets_same x (normal x) (is_form x)) d e same
+
+pub one_list_of_peers : (d e : Defs) → normal d ≡ normal e → peers_of d ≡ peers_of e
+one_list_of_peers d e same = through (λ x. peers_of x) (λ x. peers_same x (normal x) (is_form x)) d e same
+
+pub one_count : (d e : Defs) → normal d ≡ normal e → length d.schedules ≡ length e.schedules
+one_count d e same = through (λ x. length x.schedules) (λ x. count_same x (normal x) (is_form x)) d e same
+
+pub one_free : (d e : Defs) → normal d ≡ normal e → (n : ℕ) → free_of d n ≡ free_of e n
+one_free d e same n = through (λ x. free_of x n) (λ x. free_same x (normal x) (is_form x) n) d e same

@@ -1,0 +1,14 @@
+use Rattle.canonical_laws.proofs.Meanings.{one_net, one_list_of_peers, one_count, one_free}
+use Rattle.canonical_laws.proofs.laws.one_form_gives_the_same.Goals as goal
+
+pub returns-clause-net : goal.returns-clause-net
+returns-clause-net c = λ d e same. one_net d e same
+
+pub returns-clause-peers : goal.returns-clause-peers
+returns-clause-peers c = λ d e same. one_list_of_peers d e same
+
+pub returns-clause-streams : goal.returns-clause-streams
+returns-clause-streams c = λ d e same. one_count d e same
+
+pub returns-clause-free : goal.returns-clause-free
+returns-clause-free c = λ d e same n. one_free d e same n

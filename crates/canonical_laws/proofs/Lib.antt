@@ -14,3 +14,4 @@ pub mod Faultless
 pub mod Lines
 pub mod Networks
 pub mod Meanings
+pub mod Runs

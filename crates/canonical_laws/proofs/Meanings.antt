@@ -2,10 +2,12 @@
 use Rattle.std.proofs.Common.{◌≡◌, ℕ, length, ap, sym, ◌∙◌}
 use Rattle.composer_parser.specs.declared.Defs.{Defs}
 use Rattle.composer_print.specs.Normal.{normal}
+use Rattle.run_cycles.specs.Runs.{runs}
 use Rattle.workload_defs.specs.Nets.{net_of, peers_of}
 use Rattle.workload_defs.specs.Days.{free_of}
 use Rattle.canonical_laws.proofs.Forms.{is_form}
 use Rattle.canonical_laws.proofs.Networks.{nets_same, peers_same, free_same, count_same}
+use Rattle.canonical_laws.proofs.Runs.{runs_same}
 
 -- what is that of the normal form is the same of both
 pub through : {A : Type 0} (f : Defs → A) → ((d : Defs) → f (normal d) ≡ f d) → (d e : Defs) → normal d ≡ normal e → f d ≡ f e
@@ -22,3 +24,6 @@ one_count d e same = through (λ x. length x.schedules) (λ x. count_same x (nor
 
 pub one_free : (d e : Defs) → normal d ≡ normal e → (n : ℕ) → free_of d n ≡ free_of e n
 one_free d e same n = through (λ x. free_of x n) (λ x. free_same x (normal x) (is_form x) n) d e same
+
+pub one_run : (d e : Defs) → normal d ≡ normal e → (n day : ℕ) → runs d n day ≡ runs e n day
+one_run d e same n day = through (λ x. runs x n day) (λ x. runs_same x (normal x) (is_form x) n day) d e same

@@ -4,6 +4,7 @@ ghost use Rattle.composer_parser.specs.declared.Defs.{Defs as Definitions};
 ghost use Rattle.composer_print.specs.Normal.{normal};
 ghost use Rattle.composer_laws.specs.Lines.{without_lines};
 ghost use Rattle.definition_faults.specs.Faults.{IsFaultless};
+ghost use Rattle.run_cycles.specs.Runs.{runs};
 ghost use Rattle.workload_defs.specs.Days.{free_of};
 ghost use Rattle.workload_defs.specs.Nets.{net_of, peers_of};
 
@@ -16,11 +17,12 @@ pub fn one_form_is_faultless()
     ensures back { (d : Definitions) → (e : Definitions) → without_lines e ≡ normal d → IsFaultless d → IsFaultless e }
 {}
 
-/// Definitions with one normal form give the same network, the same addresses, as many streams, and the same free days of
-/// each stream.
+/// Definitions with one normal form give the same network, the same addresses, as many streams, and for each stream
+/// the same free days and the same days on which it runs.
 pub fn one_form_gives_the_same()
     ensures net { (d : Definitions) → (e : Definitions) → normal d ≡ normal e → net_of d ≡ net_of e }
     ensures peers { (d : Definitions) → (e : Definitions) → normal d ≡ normal e → peers_of d ≡ peers_of e }
     ensures streams { (d : Definitions) → (e : Definitions) → normal d ≡ normal e → length d.schedules ≡ length e.schedules }
     ensures free { (d : Definitions) → (e : Definitions) → normal d ≡ normal e → (n : ℕ) → free_of d n ≡ free_of e n }
+    ensures days { (d : Definitions) → (e : Definitions) → normal d ≡ normal e → (n : ℕ) → (day : ℕ) → runs d n day ≡ runs e n day }
 {}

@@ -1,4 +1,4 @@
-use Rattle.canonical_laws.proofs.Meanings.{one_net, one_list_of_peers, one_count, one_free}
+use Rattle.canonical_laws.proofs.Meanings.{one_net, one_list_of_peers, one_count, one_free, one_run}
 use Rattle.canonical_laws.proofs.laws.one_form_gives_the_same.Goals as goal
 
 pub returns-clause-net : goal.returns-clause-net
@@ -12,3 +12,6 @@ returns-clause-streams c = λ d e same. one_count d e same
 
 pub returns-clause-free : goal.returns-clause-free
 returns-clause-free c = λ d e same n. one_free d e same n
+
+pub returns-clause-days : goal.returns-clause-days
+returns-clause-days c = λ d e same n day. one_run d e same n day

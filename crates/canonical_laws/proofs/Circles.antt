@@ -1,5 +1,5 @@
 -- What streams and entries follow, as it is written and in normal form, and the circles of these.
-use Rattle.std.proofs.Common.{◌≡◌, ◌+◌, ℕ, zero, suc, Bool, true, false, List, [], ◌∷◌, ◌++◌, map, filter_map, flat_map, take, length, fold, Contains}
+use Rattle.std.proofs.Common.{◌≡◌, ◌+◌, ℕ, Bool, true, false, List, [], ◌∷◌, ◌++◌, map, filter_map, flat_map, take, length, fold, Contains}
 use Rattle.std.proofs.Common.{Option, Some, None, refl, ap, sym, subst, ◌∙◌, slice_get, option_map}
 use Rattle.std.proofs.lemmas.List.{length-map, take-map}
 use Rattle.std.proofs.lemmas.List.Folds.{fold-map}
@@ -18,15 +18,13 @@ use Rattle.composer_print.specs.Normal.{all_unlined, entry_names, normal_entry, 
 use Rattle.composer_print.specs.Scopes.{or_home, preds_in, normal_pred, normal_clauses}
 use Rattle.composer_print.specs.Streams.{items}
 use Rattle.composer_print.proofs.Joins.{items_unlined}
-use Rattle.definition_names.specs.Stations.{master_of}
-use Rattle.definition_names.specs.Targets.{target_of}
 use Rattle.definition_names.specs.declared.Target.{Target}
 use Rattle.definition_names.specs.declared.Target.TheVariants.{Stream, Job}
 use Rattle.definition_faults.specs.Graphs.{begin_of, place_of, preds_of, followed_by, followed, entry_object, stream_objects, graph_of}
 use Rattle.follow_circles.specs.Circles.{follows_of, IsWay, IsOnCircle}
 use Rattle.follow_circles.specs.declared.circles.Follower.{Follower}
 use Rattle.canonical_laws.proofs.Lists.{Both, picks_same, pieces_same}
-use Rattle.canonical_laws.proofs.Homes.{home_of, master_same, Alike}
+use Rattle.canonical_laws.proofs.Homes.{home_of, master_same}
 use Rattle.canonical_laws.proofs.Targets.{AreEntries, target_kept}
 use Rattle.canonical_laws.proofs.Named.{preds_named}
 use Rattle.canonical_laws.proofs.Streams.{IsPlaced, placed, home_at, no_entry, no_header}

@@ -1,16 +1,15 @@
 -- The conditions of definitions, as they are written and in normal form.
-use Rattle.std.proofs.Common.{◌≡◌, ◌<◌, ℕ, zero, suc, List, [], ◌∷◌, ◌++◌, map, filter_map, flat_map, length, Contains, Option, Some, None, refl, ap, sym, subst, ◌∙◌, arith, option_map}
+use Rattle.std.proofs.Common.{◌≡◌, ℕ, zero, suc, List, [], ◌∷◌, ◌++◌, map, filter_map, flat_map, Contains, Option, Some, None, refl, ap, sym, subst, ◌∙◌, arith, option_map}
 use Rattle.std.proofs.lemmas.List.{map-append}
 use Rattle.std.specs.List.{cons_option}
 use Rattle.composer_parser.specs.declared.Lined.{Lined}
 use Rattle.composer_parser.specs.declared.Defs.{Defs}
 use Rattle.composer_parser.specs.declared.EntryDef.{EntryDef}
-use Rattle.composer_parser.specs.declared.JobDef.{JobDef}
 use Rattle.composer_parser.specs.declared.ScheduleDef.{ScheduleDef}
 use Rattle.composer_print.specs.Normal as forms
 use Rattle.composer_print.specs.Normal.{bare, entry_names, normal_entry, normal_schedule}
 use Rattle.composer_print.specs.Scopes.{or_home}
-use Rattle.definition_faults.specs.Conditions.{IsRefused, cond_of_entry, condition_of_job, condition_of_entry, conditions_of_stream, conditions, HasBad}
+use Rattle.definition_faults.specs.Conditions.{cond_of_entry, condition_of_job, condition_of_entry, conditions_of_stream, conditions, HasBad}
 use Rattle.canonical_laws.proofs.Lists.{Both}
 use Rattle.canonical_laws.proofs.Forms.{IsForm}
 
@@ -91,8 +90,9 @@ conditions_both d e form =
           (subst (λ (l : List (ℕ × List ℕ)). Contains l (line, bad.0)) same bad.1) in
           good there_.0 (bad.0, there_.1, bad.2),
       λ good line bad.
-          good 0
-          (bad.0,
-          subst (λ (l : List (ℕ × List ℕ)). Contains l (0, bad.0)) (sym same) (to_unplaced (conditions d) line bad.0 bad.1),
-          bad.2),
+          good 0 (
+            bad.0,
+            subst (λ (l : List (ℕ × List ℕ)). Contains l (0, bad.0)) (sym same) (to_unplaced (conditions d) line bad.0 bad.1),
+            bad.2,
+          ),
     )

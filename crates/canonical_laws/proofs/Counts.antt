@@ -1,6 +1,6 @@
 -- The faults of clauses as counts: of unknown names, of numbers out of range, of foreign resources and of dependencies.
-use Rattle.std.proofs.Common.{◌≡◌, ◌≤◌, ℕ, zero, suc, ◌+◌, ◌<◌, ◌&&◌, ◌||◌, Bool, true, false, cond, eqb, List, [], ◌∷◌, ◌++◌, map, length, take, flat_map}
-use Rattle.std.proofs.Common.{Option, Some, None, refl, ap, sym, subst, ◌∙◌, add-one, arith, slice_get}
+use Rattle.std.proofs.Common.{◌≡◌, ◌≤◌, ℕ, zero, suc, ◌+◌, ◌&&◌, ◌||◌, Bool, true, false, eqb, List, [], ◌∷◌, ◌++◌, length, take, flat_map}
+use Rattle.std.proofs.Common.{Option, Some, refl, ap, sym, subst, ◌∙◌, add-one, arith, slice_get}
 use Rattle.std.proofs.lemmas.Bool.Decides.{nat_tests}
 use Rattle.std.proofs.lemmas.List.Sums.{sum_by-cons, sum_by-take-le}
 use Rattle.std.specs.List.{enumerate_from, list_any}
@@ -10,10 +10,7 @@ use Rattle.lemmas.proofs.Lists.{got_below, take_whole}
 use Rattle.composer_parser.specs.declared.Lined.{Lined}
 use Rattle.composer_parser.specs.declared.Defs.{Defs}
 use Rattle.composer_parser.specs.declared.Clause.{Clause}
-use Rattle.composer_parser.specs.declared.Clause.TheVariants.{At, Until, Deadline, Priority, Limit, CarryForward, Follows, Needs, Prompt, Opens}
-use Rattle.composer_parser.specs.declared.Need.{Need}
-use Rattle.composer_parser.specs.declared.Pred.{Pred}
-use Rattle.composer_parser.specs.declared.PromptItem.{PromptItem}
+use Rattle.composer_parser.specs.declared.Clause.TheVariants.{Follows, Needs, Prompt, Opens}
 use Rattle.composer_print.specs.Streams.{items}
 use Rattle.definition_faults.specs.Clauses.{is_foreign, has_foreign, clause_rows, dependencies, passes, clause_faults}
 use Rattle.definition_faults.specs.Orders.{faults_at}
@@ -233,9 +230,6 @@ none_told {X = X} rows line from (x ∷ xs) h =
     subst (λ m. NoneHolds (rows (m, y))) there_ (h (suc k) y at)) in
     λ i. first i ++ rest i
 
-or_none : (a b : Bool) → a ≡ false → b ≡ false → (a || b) ≡ false
-or_none a b p q = λ i. p i || q i
-
 pub faults_of : (d : Defs) (n : ℕ) (inside : Bool) (own : Option (List ℕ)) (cs : List (Lined Clause))
     → AreGood d n inside own (items cs) → clause_faults d n inside own cs ≡ []
 unfolding clause_faults
@@ -243,8 +237,10 @@ faults_of d n inside own cs good =
     none_told (rows_at d n inside own cs) (λ (p : ℕ × Lined Clause). p.1.line) 0 cs
     (λ k c at.
     let here : k ≡ 0 + k = omega arith in
-    subst (λ m. NoneHolds (rows_at d n inside own cs (m, c))) here
-    ((unknown_zero d n inside own c.item).1 (none_at_item (unknown_weights d n inside own) cs good.unknown k c at),
-    (or_none (passes cs k) (is_out_of_range c.item) (passes_none cs good.few k)
-    ((range_zero c.item).1 (none_at_item range_weights cs good.range k c at)),
-    ((foreign_zero own c.item).1 (none_at_item (foreign_weights own) cs good.foreign k c at), tt))))
+    subst (λ m. NoneHolds (rows_at d n inside own cs (m, c))) here (
+      (unknown_zero d n inside own c.item).1 (none_at_item (unknown_weights d n inside own) cs good.unknown k c at),
+      (
+        λ i. passes_none cs good.few k i || (range_zero c.item).1 (none_at_item range_weights cs good.range k c at) i,
+        ((foreign_zero own c.item).1 (none_at_item (foreign_weights own) cs good.foreign k c at), tt),
+      ),
+    ))

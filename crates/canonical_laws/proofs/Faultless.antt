@@ -1,5 +1,5 @@
 -- Definitions and their normal form are faultless together.
-use Rattle.std.proofs.Common.{◌≡◌, ◌+◌, ℕ, false, List, [], ◌∷◌, ◌++◌, Option, Some, None, Contains, inl, inr, refl, ap, sym, subst, ◌∙◌, arith, slice_get, is_none}
+use Rattle.std.proofs.Common.{◌≡◌, ℕ, false, List, [], ◌∷◌, ◌++◌, Contains, inl, inr, refl, ap, subst, ◌∙◌, arith, slice_get, is_none}
 use Rattle.lemmas.proofs.Booleans.{neither}
 use Rattle.composer_parser.specs.declared.Lined.{Lined}
 use Rattle.composer_parser.specs.declared.Defs.{Defs}
@@ -7,8 +7,8 @@ use Rattle.composer_parser.specs.declared.DomainDef.{DomainDef}
 use Rattle.composer_print.specs.Normal as forms
 use Rattle.composer_print.specs.Normal.{normal}
 use Rattle.definition_names.specs.Names.{cpu_at}
-use Rattle.definition_names.specs.Stations.{top_domains, only_manager, master_of}
-use Rattle.definition_faults.specs.Faults.{tested_faults, HasFault, IsFaultless}
+use Rattle.definition_names.specs.Stations.{top_domains, only_manager}
+use Rattle.definition_faults.specs.Faults.{tested_faults, IsFaultless}
 use Rattle.definition_faults.specs.Graphs.{graph_of}
 use Rattle.definition_faults.specs.Items.{cpu_faults, domain_faults, domain_rows, strays, lacks_parent, calendar_faults, prompt_faults, resource_faults, job_faults}
 use Rattle.definition_faults.specs.Masters.{manager_faults, master_faults}
@@ -95,8 +95,7 @@ faultless_of d sound f (inr (inr on)) = sound.circles on.1.0 on.1.1
 pub faultless_both : (d e : Defs) → IsForm d e → Both (IsFaultless d) (IsFaultless e)
 faultless_both d e form =
     let tested = tested_both d e form in
-    let conditions = conditions_both d e form in
-    (
+    let conditions = conditions_both d e form in (
       λ none.
           let s = sound_of d none in
           faultless_of e

@@ -1,7 +1,5 @@
 -- Definitions of which each list is that of a normal form.
-use Rattle.std.proofs.Common.{◌≡◌, List, Option, map, option_map, refl}
-use Rattle.base_types.specs.declared.PromptDef.{PromptDef}
-use Rattle.composer_parser.specs.declared.Lined.{Lined}
+use Rattle.std.proofs.Common.{◌≡◌, map, option_map, refl}
 use Rattle.composer_parser.specs.declared.Defs.{Defs}
 use Rattle.composer_print.specs.Normal as form
 use Rattle.composer_print.specs.Normal.{unlined, bare, bare_cpu, normal_schedule, normal}

@@ -17,8 +17,8 @@ use Rattle.composer_print.specs.Scopes.{or_home}
 use Rattle.composer_print.specs.Normal as form
 use Rattle.composer_print.specs.Normal.{bare, bare_cpu, unless_under, only, normal_entry, normal_schedule, normal}
 use Rattle.definition_names.specs.Names.{first_of, cpu_names, domain_names, calendar_names, prompt_names, resource_names, job_names}
-use Rattle.definition_names.specs.Stations.{top_domains, only_manager, master_among, master_of, ws_of_stream, ws_of_entry}
-use Rattle.definition_names.specs.Streams.{is_one_ws, is_stream, stream_among, stream_at, entry_at, entry_among, entry_of}
+use Rattle.definition_names.specs.Stations.{top_domains, only_manager, master_among, master_of, ws_of_stream}
+use Rattle.definition_names.specs.Streams.{is_one_ws, is_stream, stream_at, entry_at, entry_of}
 use Rattle.canonical_laws.proofs.Lists.{kept, at_place, position_same}
 
 -- the master
@@ -128,17 +128,17 @@ alike d =
           d.jobs;
       streams =
           λ ws name.
-              position_same (is_stream again ws name) (is_stream given ws name) (normal_schedule m)
-              (stream_kept m again given is stays ws name) 0 d.schedules;
+          position_same (is_stream again ws name) (is_stream given ws name) (normal_schedule m)
+          (stream_kept m again given is stays ws name) 0 d.schedules;
       entries =
           λ n name.
-              at_place (normal_schedule m) (λ o. option_and_then (λ (s : Lined ScheduleDef). entry_at s.item name) o)
-              (λ o. option_and_then (λ (s : Lined ScheduleDef). entry_at s.item name) o) refl (λ s. names_kept m s name)
-              d.schedules n;
+          at_place (normal_schedule m) (λ o. option_and_then (λ (s : Lined ScheduleDef). entry_at s.item name) o)
+          (λ o. option_and_then (λ (s : Lined ScheduleDef). entry_at s.item name) o) refl (λ s. names_kept m s name)
+          d.schedules n;
       homes =
           λ n.
-              at_place (normal_schedule m)
-              (λ o. option_map_or (λ (s : Lined ScheduleDef). option_or s.item.ws again) o again)
-              (λ o. option_map_or (λ (s : Lined ScheduleDef). option_or s.item.ws given) o given) stays
-              (home_kept m again given is stays) d.schedules n;
+          at_place (normal_schedule m)
+          (λ o. option_map_or (λ (s : Lined ScheduleDef). option_or s.item.ws again) o again)
+          (λ o. option_map_or (λ (s : Lined ScheduleDef). option_or s.item.ws given) o given) stays
+          (home_kept m again given is stays) d.schedules n;
     }

@@ -1,6 +1,6 @@
 -- The faults of options, workstations, domains, calendars, prompts, resources and jobs, as they are written and in normal
 -- form.
-use Rattle.std.proofs.Common.{◌≡◌, ◌+◌, ℕ, zero, suc, ◌&&◌, ◌||◌, not, Bool, true, false, cond, eqb, List, [], ◌∷◌, map, filter, flat_map, filter_map, length}
+use Rattle.std.proofs.Common.{◌≡◌, ℕ, zero, suc, ◌&&◌, ◌||◌, not, Bool, true, false, cond, eqb, List, [], ◌∷◌, map, flat_map, filter_map, length}
 use Rattle.std.proofs.Common.{Option, Some, None, refl, ap, sym, ◌∙◌, slice_get, is_none, option_map, option_and_then, unwrap_or, codes}
 use Rattle.std.proofs.lemmas.List.{length-map}
 use Rattle.std.proofs.lemmas.Option.{slice_get-map}
@@ -10,16 +10,12 @@ use Rattle.std.specs.Prelude.{nat_lt, min}
 use Rattle.std.specs.Str.{bytes_eq}
 use Rattle.lemmas.proofs.Numbers.{number_tells}
 use Rattle.lemmas.proofs.Texts.{text_tells}
-use Rattle.base_types.specs.declared.PromptDef.{PromptDef}
 use Rattle.composer_parser.specs.declared.Lined.{Lined}
 use Rattle.composer_parser.specs.declared.Defs.{Defs}
 use Rattle.composer_parser.specs.declared.CpuDef.{CpuDef}
 use Rattle.composer_parser.specs.declared.DomainDef.{DomainDef}
-use Rattle.composer_parser.specs.declared.CalendarDef.{CalendarDef}
-use Rattle.composer_parser.specs.declared.ResourceDef.{ResourceDef}
-use Rattle.composer_parser.specs.declared.JobDef.{JobDef}
 use Rattle.composer_print.specs.Normal.{unlined, bare, bare_cpu}
-use Rattle.composer_print.specs.Stations.{unless_utc, normal_cpu}
+use Rattle.composer_print.specs.Stations.{unless_utc}
 use Rattle.composer_print.specs.Texts.{unless, item_of}
 use Rattle.plan_times.specs.Zones.{east_of}
 use Rattle.definition_names.specs.Names.{first_of, first_on, cpu_at, domain_at}
@@ -34,7 +30,6 @@ use Rattle.definition_faults.specs.declared.Fault.{Fault}
 use Rattle.definition_faults.specs.declared.Kind.{Kind}
 use Rattle.definition_faults.specs.declared.Kind.TheVariants.{Duplicate, UnknownName, OutOfRange, Tree}
 use Rattle.canonical_laws.proofs.Lists.{Both, pieces_both, tables_both, moved, at_place, any_same}
-use Rattle.canonical_laws.proofs.Homes.{Alike}
 use Rattle.canonical_laws.proofs.Forms.{IsForm}
 
 abbrev table : {X : Type 0} → (ℕ → X → List (Bool × Kind)) → List (Lined X) → List Fault
@@ -199,8 +194,11 @@ module _ (d e : Defs) (form : IsForm d e) where
   domains_both =
       table_both (λ k x. domain_rows d k (strays d k) x) (λ k x. domain_rows e k (strays e k) x) bare
       (λ k x. λ i. (is_later (first_of (form.names.domains i) x.item.name) k, Duplicate)
-      ∷ (is_none (first_of (form.names.cpus i) x.item.manager)
-      || option_map_or (λ parent. is_none (first_of (form.names.domains i) parent)) x.item.parent false, UnknownName)
+      ∷ (
+        is_none (first_of (form.names.cpus i) x.item.manager)
+            || option_map_or (λ parent. is_none (first_of (form.names.domains i) parent)) x.item.parent false,
+        UnknownName,
+      )
       ∷ (strays_same k i, Tree)
       ∷ []) d.domains e.domains form.domains
 

@@ -1,6 +1,6 @@
 -- What holds of lists of faults, and of lists that are made of others item by item.
 use Rattle.std.proofs.Common.{◌≡◌, ℕ, zero, suc, ◌+◌, ◌||◌, Bool, true, false, cond, List, [], ◌∷◌, ◌++◌, map, drop, flat_map, filter_map, Option, Some, None}
-use Rattle.std.proofs.Common.{refl, ap, sym, subst, ◌∙◌, add-one, arith, slice_get}
+use Rattle.std.proofs.Common.{refl, ap, sym, ◌∙◌, add-one, slice_get}
 use Rattle.std.proofs.lemmas.List.{map-append}
 use Rattle.std.specs.List.{cons_option, enumerate_from, position_from, list_any}
 use Rattle.lemmas.proofs.Booleans.{neither}

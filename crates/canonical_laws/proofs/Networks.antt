@@ -1,6 +1,6 @@
 -- The network, the addresses and the free days of definitions are those of their normal form.
 use Rattle.std.proofs.Common.{◌≡◌, ◌+◌, ℕ, not, Bool, true, false, cond, eqb, List, [], ◌∷◌, ◌++◌, map, filter, length}
-use Rattle.std.proofs.Common.{Option, Some, None, refl, ap, sym, ◌∙◌, slice_get, option_map, option_and_then, unwrap_or, codes}
+use Rattle.std.proofs.Common.{Option, Some, None, refl, ap, sym, ◌∙◌, slice_get, option_map, option_and_then, unwrap_or}
 use Rattle.std.proofs.lemmas.List.{map-append, length-map}
 use Rattle.std.specs.List.{enumerate_from, list_any}
 use Rattle.std.specs.Option.{option_map_or}
@@ -14,8 +14,6 @@ use Rattle.composer_parser.specs.declared.Defs.{Defs}
 use Rattle.composer_parser.specs.declared.CalendarDef.{CalendarDef}
 use Rattle.composer_parser.specs.declared.CpuDef.{CpuDef}
 use Rattle.composer_parser.specs.declared.DomainDef.{DomainDef}
-use Rattle.composer_parser.specs.declared.FreeDef.{FreeDef}
-use Rattle.composer_parser.specs.declared.ResourceDef.{ResourceDef}
 use Rattle.composer_parser.specs.declared.ScheduleDef.{ScheduleDef}
 use Rattle.composer_print.specs.Normal as forms
 use Rattle.composer_print.specs.Normal.{unlined, bare, bare_cpu, normal_schedule, normal}
@@ -25,10 +23,10 @@ use Rattle.definition_names.specs.Names.{first_of, domain_at, calendar_names}
 use Rattle.definition_names.specs.Streams.{is_one_ws}
 use Rattle.model.specs.Words.{ascending}
 use Rattle.workload_defs.specs.Stations.{is_that, those, stations, number_among, number_of}
-use Rattle.workload_defs.specs.Nets.{manager_of, parent_of, manages, hop_name, hop_of, is_full, node_of, resource_in, resource_among, carry_of, net_of, port_of, peer_of, peers_of}
-use Rattle.workload_defs.specs.Days.{days_at, days_of, free_calendar, has_free_sa, has_free_su, free_of_stream, free_of}
+use Rattle.workload_defs.specs.Nets.{manager_of, parent_of, manages, hop_of, node_of, resource_among, carry_of, net_of, peer_of, peers_of}
+use Rattle.workload_defs.specs.Days.{days_of, free_calendar, has_free_sa, has_free_su, free_of_stream, free_of}
 use Rattle.canonical_laws.proofs.Lists.{kept, at_place, position_same, any_same}
-use Rattle.canonical_laws.proofs.Forms.{IsForm, is_form}
+use Rattle.canonical_laws.proofs.Forms.{IsForm}
 
 filter_mapped : {A B : Type 0} (q : B → Bool) (p : A → Bool) (f : A → B) → ((x : A) → q (f x) ≡ p x) → (xs : List A)
     → filter q (map f xs) ≡ map f (filter p xs)

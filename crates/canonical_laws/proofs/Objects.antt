@@ -1,7 +1,6 @@
 -- The faults of the clauses of a stream or of an entry, as they are written and in normal form.
-use Rattle.std.proofs.Common.{◌≡◌, ◌≤◌, ℕ, eqb, nat_lt, ◌&&◌, ◌||◌, not, Bool, true, false, cond, List, [], ◌∷◌, Option, Some, None, refl, ap, sym, subst, ◌∙◌, is_none}
-use Rattle.std.specs.Option.{option_or, option_map_or}
-use Rattle.std.specs.Str.{bytes_eq}
+use Rattle.std.proofs.Common.{◌≡◌, ◌≤◌, ℕ, eqb, nat_lt, ◌||◌, not, Bool, true, false, cond, List, [], Option, Some, None, refl, ap, sym, subst, ◌∙◌, is_none}
+use Rattle.std.specs.Option.{option_map_or}
 use Rattle.lemmas.proofs.Numbers.{number_tells}
 use Rattle.lemmas.proofs.Texts.{text_itself}
 use Rattle.composer_parser.specs.declared.Lined.{Lined}
@@ -14,17 +13,15 @@ use Rattle.composer_parser.specs.declared.PromptItem.TheVariants as ask
 use Rattle.composer_print.specs.Normal.{all_unlined}
 use Rattle.composer_print.specs.Scopes.{or_home, is_own, pred_ws, normal_pred, normal_need, normal_clauses}
 use Rattle.composer_print.specs.Streams.{items}
-use Rattle.composer_print.specs.Texts.{unless}
 use Rattle.composer_print.proofs.Joins.{items_unlined}
-use Rattle.definition_names.specs.Names.{first_of, first_on, resource_at}
-use Rattle.definition_names.specs.Targets.{target_of}
+use Rattle.definition_names.specs.Names.{first_of, first_on}
 use Rattle.definition_faults.specs.Clauses.{is_foreign, is_foreign_ws, clause_faults}
 use Rattle.definition_faults.specs.Ranges.{needs_too_many, dependency_count, is_out_of_range}
 use Rattle.definition_faults.specs.Unknown.{is_unknown_ws, is_unknown_pred, is_unknown_need, is_unknown_prompt}
 use Rattle.canonical_laws.proofs.Lists.{Both}
 use Rattle.canonical_laws.proofs.Homes.{home_of, Alike}
 use Rattle.canonical_laws.proofs.Targets.{AreEntries, target_kept}
-use Rattle.canonical_laws.proofs.Weights.{Weights, weight, total, weighed}
+use Rattle.canonical_laws.proofs.Weights.{weight, total, weighed}
 use Rattle.canonical_laws.proofs.Counts.{bit, unknown_weights, range_weights, foreign_weights, all_weights, AreGood, good_of, faults_of}
 
 -- workstations
@@ -104,7 +101,6 @@ units_kept own x = units_by own x.units x.ws x.name
 module _ (d e : Defs) (a : Alike d e) (n : ℕ) (inside : Bool) (names : List (List ℕ)) (home own : Option (List ℕ))
     (k : AreEntries d n inside names) (eh : home_of d n ≡ home) (hk : is_unknown_ws d home ≡ false)
     (ok : is_unknown_ws d own ≡ false) where
-
   unknown_same : (cs : List Clause)
       → total (weight (unknown_weights e n inside own)) (normal_clauses names home own cs)
       ≡ total (weight (unknown_weights d n inside own)) cs
@@ -152,8 +148,7 @@ module _ (d e : Defs) (a : Alike d e) (n : ℕ) (inside : Bool) (names : List (L
       (clause_faults e n inside own (all_unlined (normal_clauses names home own (items cs))) ≡ [])
   clauses_both cs =
       let forms : List Clause = normal_clauses names home own (items cs) in
-      let same : items (all_unlined forms) ≡ forms = items_unlined forms in
-      (
+      let same : items (all_unlined forms) ≡ forms = items_unlined forms in (
         λ none.
             faults_of e n inside own (all_unlined forms)
             (subst (AreGood e n inside own) (sym same) ((good_kept (items cs)).0 (good_of d n inside own cs none))),

@@ -1,6 +1,6 @@
 -- The faults of streams and of their entries, as they are written and in normal form.
-use Rattle.std.proofs.Common.{◌≡◌, ◌+◌, ℕ, ◌&&◌, ◌||◌, not, Bool, true, false, cond, List, [], ◌∷◌, ◌++◌, map, flat_map, Option, Some, None}
-use Rattle.std.proofs.Common.{refl, ap, sym, subst, ◌∙◌, append-nil, arith, slice_get, is_none, option_and_then, codes}
+use Rattle.std.proofs.Common.{◌≡◌, ℕ, ◌&&◌, ◌||◌, not, true, false, List, [], ◌∷◌, ◌++◌, map, flat_map, Option, Some}
+use Rattle.std.proofs.Common.{refl, ap, sym, ◌∙◌, append-nil, arith, slice_get, is_none, option_and_then, codes}
 use Rattle.std.specs.List.{enumerate_from, list_any}
 use Rattle.std.specs.Option.{option_or, option_map_or}
 use Rattle.std.specs.Str.{bytes_eq}
@@ -14,13 +14,12 @@ use Rattle.composer_parser.specs.declared.OnDef.{OnDef}
 use Rattle.composer_parser.specs.declared.OnItem.{OnItem}
 use Rattle.composer_parser.specs.declared.OnItem.TheVariants as on_item
 use Rattle.composer_parser.specs.declared.ScheduleDef.{ScheduleDef}
-use Rattle.composer_print.specs.Normal as form
 use Rattle.composer_print.specs.Normal.{bare, all_unlined, entry_names, normal_entry, normal_schedule}
-use Rattle.composer_print.specs.Scopes.{or_home, has_name, normal_clauses}
+use Rattle.composer_print.specs.Scopes.{or_home, normal_clauses}
 use Rattle.composer_print.specs.Streams.{items}
 use Rattle.definition_names.specs.Names.{first_of, first_on}
 use Rattle.definition_names.specs.Stations.{master_of, ws_of_stream, ws_of_entry}
-use Rattle.definition_names.specs.Streams.{stream_at, entry_at, entry_of}
+use Rattle.definition_names.specs.Streams.{stream_at, entry_at}
 use Rattle.definition_faults.specs.Clauses.{clause_faults}
 use Rattle.definition_faults.specs.Entries.{lacks_job, entry_rows, faults_of_entry, entry_faults}
 use Rattle.definition_faults.specs.Items.{is_later}
@@ -28,9 +27,8 @@ use Rattle.definition_faults.specs.Ons.{is_unknown_item, is_bad_item, has_first,
 use Rattle.definition_faults.specs.Orders.{faults_at}
 use Rattle.definition_faults.specs.Streams.{lacks_free_calendar, title_rows, stream_faults, all_stream_faults}
 use Rattle.definition_faults.specs.Unknown.{is_unknown_ws}
-use Rattle.definition_faults.specs.declared.Kind.{Kind}
 use Rattle.definition_faults.specs.declared.Kind.TheVariants.{Duplicate, UnknownName, OutOfRange}
-use Rattle.workload_defs.proofs.Clean.{NoneHolds, rows_none}
+use Rattle.workload_defs.proofs.Clean.{rows_none}
 use Rattle.workload_defs.proofs.Lists.{both_empty}
 use Rattle.canonical_laws.proofs.Lists.{Both, append_then, append_both, pieces_both, lists_both, tables_both, moved, no_position}
 use Rattle.canonical_laws.proofs.Homes.{home_of, home_or, home_stays, Alike}
@@ -110,8 +108,11 @@ module _ (d e : Defs) (a : Alike d e) (n : ℕ) (m : Option (List ℕ)) (s : Lin
       let own : option_or (or_home x.item.ws home) (ws_of_stream e (normal_schedule m s).item) ≡ ws_of_entry d s.item x.item =
       own_after names x ∙ sym (own_before x) in
       λ i. (is_later (a.entries n x.item.name i) k, Duplicate)
-      ∷ (known i
-      || (is_none x.item.work && option_map_or (λ ws. is_none (first_on (a.jobs i) ws x.item.name)) (own i) true), UnknownName)
+      ∷ (
+        known i
+            || (is_none x.item.work && option_map_or (λ ws. is_none (first_on (a.jobs i) ws x.item.name)) (own i) true),
+        UnknownName,
+      )
       ∷ []
 
   entry_clauses : (hk : is_unknown_ws d (or_home s.item.ws m) ≡ false) (x : Lined EntryDef) → is_unknown_ws d x.item.ws ≡ false
@@ -169,10 +170,13 @@ module _ (d e : Defs) (a : Alike d e) (n : ℕ) (m : Option (List ℕ)) (s : Lin
       a.streams (ws_of_stream e (normal_schedule m s).item) s.item.name
       ∙ ap (λ h. stream_at d h s.item.name) (here.after ∙ sym here.before) in
       λ i. (is_later (found i) n, Duplicate)
-      ∷ (known i
-      || option_map_or
-      (λ (f : FreeDef). is_none (first_of (a.calendars i) f.name) && not (bytes_eq f.name (codes "HOLIDAYS"))) s.item.free
-      false, UnknownName)
+      ∷ (
+        known i
+            || option_map_or
+            (λ (f : FreeDef). is_none (first_of (a.calendars i) f.name) && not (bytes_eq f.name (codes "HOLIDAYS"))) s.item.free
+            false,
+        UnknownName,
+      )
       ∷ []
 
   header_both : is_unknown_ws d (or_home s.item.ws m) ≡ false
@@ -204,10 +208,10 @@ module _ (d e : Defs) (a : Alike d e) (n : ℕ) (m : Option (List ℕ)) (s : Lin
       let form_header = clause_faults e n false (ws_of_stream e t.item) t.item.clauses in
       let known : titles ++ ons ≡ [] → is_unknown_ws d (or_home s.item.ws m) ≡ false =
       λ none.
-          let all =
-          rows_none (λ (p : ℕ × Lined ScheduleDef). title_rows d p.0 p.1.item) (λ p. p.1.line) n (s ∷ [])
-          (append-nil titles ∙ (both_empty titles ons none).0) 0 n s (omega arith) refl in
-          ws_put d s.item.ws m mk ∙ (neither (is_unknown_ws d s.item.ws) (lacks_free_calendar d s.item) all.1.0).0 in
+      let all =
+      rows_none (λ (p : ℕ × Lined ScheduleDef). title_rows d p.0 p.1.item) (λ p. p.1.line) n (s ∷ [])
+      (append-nil titles ∙ (both_empty titles ons none).0) 0 n s (omega arith) refl in
+      ws_put d s.item.ws m mk ∙ (neither (is_unknown_ws d s.item.ws) (lacks_free_calendar d s.item) all.1.0).0 in
       append_then (titles ++ ons ++ header) (entry_faults d n s.item) (form_titles ++ form_ons ++ form_header)
       (entry_faults e n t.item)
       (append_then (titles ++ ons) header (form_titles ++ form_ons) form_header

@@ -1,5 +1,5 @@
 -- What a FOLLOWS stands for, as it is written and in its normal form.
-use Rattle.std.proofs.Common.{◌≡◌, ℕ, ◌&&◌, Bool, true, false, cond, List, [], ◌∷◌, Option, Some, None, refl, ap, sym, ◌∙◌, option_map, option_and_then}
+use Rattle.std.proofs.Common.{◌≡◌, ℕ, ◌&&◌, Bool, true, false, cond, List, Option, Some, None, refl, ap, sym, ◌∙◌, option_map, option_and_then}
 use Rattle.std.specs.Option.{option_or}
 use Rattle.composer_parser.specs.declared.Defs.{Defs}
 use Rattle.composer_parser.specs.declared.Pred.{Pred}
@@ -8,8 +8,7 @@ use Rattle.composer_parser.specs.declared.PredPart.TheVariants as part
 use Rattle.composer_print.specs.Scopes.{has_name, normal_pred}
 use Rattle.definition_names.specs.Streams.{stream_at, entry_of}
 use Rattle.definition_names.specs.Targets.{is_bare, ws_of_pred, part_at, target_of}
-use Rattle.definition_names.specs.declared.Target.{Target}
-use Rattle.definition_names.specs.declared.Target.TheVariants.{Stream, Job}
+use Rattle.definition_names.specs.declared.Target.TheVariants.{Job}
 use Rattle.canonical_laws.proofs.Homes.{home_of, Alike}
 
 -- in definitions in which names stand for the same

@@ -1,5 +1,5 @@
 -- What the clauses of an object count together, as they are written and in their normal form.
-use Rattle.std.proofs.Common.{◌≡◌, ℕ, zero, suc, ◌+◌, Bool, true, false, cond, eqb, not, List, [], ◌∷◌, ◌++◌, map, filter, flat_map, Option, refl, ap, sym, ◌∙◌, arith}
+use Rattle.std.proofs.Common.{◌≡◌, ℕ, ◌+◌, Bool, true, false, cond, eqb, not, List, [], ◌∷◌, ◌++◌, map, filter, flat_map, Option, refl, ap, sym, ◌∙◌, arith}
 use Rattle.lemmas.proofs.Numbers.{number_tells}
 use Rattle.composer_parser.specs.declared.Clause.{Clause}
 use Rattle.composer_parser.specs.declared.Clause.TheVariants.{At, Until, Deadline, Priority, Limit, CarryForward, Follows, Needs, Prompt, Opens}

@@ -62,7 +62,7 @@ all_weights = record {
 }
 
 -- tests as counts
-bit_zero : (b : Bool) → Both (b ≡ false) (bit b ≡ 0)
+pub bit_zero : (b : Bool) → Both (b ≡ false) (bit b ≡ 0)
 bit_zero true = (λ e. cc, λ e. absurd (omega (arith, e)))
 bit_zero false = (λ e. refl, λ e. refl)
 
@@ -83,7 +83,7 @@ ones : {X : Type 0} (xs : List X) → length xs ≡ total (λ x. 1) xs
 ones [] = refl
 ones (x ∷ xs) = omega (arith, ones xs)
 
-neither_way : {A : Type 0} (xs : List A) → Both (false ≡ false) (total (λ x. 0) xs ≡ 0)
+pub neither_way : {A : Type 0} (xs : List A) → Both (false ≡ false) (total (λ x. 0) xs ≡ 0)
 neither_way xs = (λ e. no_total xs, λ e. refl)
 
 nothing_told : (n : ℕ) → Both (false ≡ false) (n ≡ n)

@@ -15,3 +15,4 @@ pub mod Lines
 pub mod Networks
 pub mod Meanings
 pub mod Runs
+pub mod Plans

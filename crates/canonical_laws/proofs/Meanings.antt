@@ -1,13 +1,15 @@
 -- What definitions with one normal form give.
-use Rattle.std.proofs.Common.{◌≡◌, ℕ, length, ap, sym, ◌∙◌}
+use Rattle.std.proofs.Common.{◌≡◌, ℕ, length, None, ap, sym, subst, ◌∙◌}
 use Rattle.composer_parser.specs.declared.Defs.{Defs}
 use Rattle.composer_print.specs.Normal.{normal}
+use Rattle.plan_builder.specs.Limits.{limit_fault, time_fault}
 use Rattle.run_cycles.specs.Runs.{runs}
 use Rattle.workload_defs.specs.Nets.{net_of, peers_of}
 use Rattle.workload_defs.specs.Days.{free_of}
 use Rattle.canonical_laws.proofs.Forms.{is_form}
 use Rattle.canonical_laws.proofs.Networks.{nets_same, peers_same, free_same, count_same}
 use Rattle.canonical_laws.proofs.Runs.{runs_same}
+use Rattle.canonical_laws.proofs.Plans.{limits_same, times_both}
 
 -- what is that of the normal form is the same of both
 pub through : {A : Type 0} (f : Defs → A) → ((d : Defs) → f (normal d) ≡ f d) → (d e : Defs) → normal d ≡ normal e → f d ≡ f e
@@ -27,3 +29,11 @@ one_free d e same n = through (λ x. free_of x n) (λ x. free_same x (normal x) 
 
 pub one_run : (d e : Defs) → normal d ≡ normal e → (n day : ℕ) → runs d n day ≡ runs e n day
 one_run d e same n day = through (λ x. runs x n day) (λ x. runs_same x (normal x) (is_form x) n day) d e same
+
+pub one_limit : (d e : Defs) → normal d ≡ normal e → (day : ℕ) → limit_fault d day ≡ limit_fault e day
+one_limit d e same day = through (λ x. limit_fault x day) (λ x. limits_same x (normal x) (is_form x) day) d e same
+
+pub timed_together : (d e : Defs) → normal d ≡ normal e → (day : ℕ) → time_fault d day ≡ None → time_fault e day ≡ None
+timed_together d e same day none =
+    (times_both e (normal e) (is_form e) day).1
+    (subst (λ (x : Defs). time_fault x day ≡ None) same ((times_both d (normal d) (is_form d) day).0 none))

@@ -1,9 +1,10 @@
 //! What holds of all definitions with one normal form.
-ghost use Rattle.std.specs.Prelude.{◌≡◌, ℕ, length};
+ghost use Rattle.std.specs.Prelude.{◌≡◌, ℕ, None, length};
 ghost use Rattle.composer_parser.specs.declared.Defs.{Defs as Definitions};
 ghost use Rattle.composer_print.specs.Normal.{normal};
 ghost use Rattle.composer_laws.specs.Lines.{without_lines};
 ghost use Rattle.definition_faults.specs.Faults.{IsFaultless};
+ghost use Rattle.plan_builder.specs.Limits.{limit_fault, time_fault};
 ghost use Rattle.run_cycles.specs.Runs.{runs};
 ghost use Rattle.workload_defs.specs.Days.{free_of};
 ghost use Rattle.workload_defs.specs.Nets.{net_of, peers_of};
@@ -25,4 +26,7 @@ pub fn one_form_gives_the_same()
     ensures streams { (d : Definitions) → (e : Definitions) → normal d ≡ normal e → length d.schedules ≡ length e.schedules }
     ensures free { (d : Definitions) → (e : Definitions) → normal d ≡ normal e → (n : ℕ) → free_of d n ≡ free_of e n }
     ensures days { (d : Definitions) → (e : Definitions) → normal d ≡ normal e → (n : ℕ) → (day : ℕ) → runs d n day ≡ runs e n day }
+    ensures limit { (d : Definitions) → (e : Definitions) → normal d ≡ normal e → (day : ℕ) → limit_fault d day ≡ limit_fault e day }
+    ensures time { (d : Definitions) → (e : Definitions) → normal d ≡ normal e → (day : ℕ) → time_fault d day ≡ None
+        → time_fault e day ≡ None }
 {}

@@ -100,7 +100,7 @@ unfolding normal_schedule
 stream_kept m again given e f ws name s =
     λ i. is_one_ws ws (home_stays s.item.ws m again given e f i) && bytes_eq name s.item.name
 
-home_kept : (m again given : Option (List ℕ)) → m ≡ given → again ≡ given → (s : Lined ScheduleDef)
+pub home_kept : (m again given : Option (List ℕ)) → m ≡ given → again ≡ given → (s : Lined ScheduleDef)
     → option_or (normal_schedule m s).item.ws again ≡ option_or s.item.ws given
 unfolding normal_schedule
 home_kept m again given e f s = home_stays s.item.ws m again given e f

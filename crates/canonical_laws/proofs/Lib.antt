@@ -16,3 +16,7 @@ pub mod Networks
 pub mod Meanings
 pub mod Runs
 pub mod Plans
+pub mod Chosen
+pub mod Dependencies
+pub mod Priorities
+pub mod Drafts

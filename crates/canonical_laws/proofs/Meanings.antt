@@ -1,11 +1,15 @@
 -- What definitions with one normal form give.
-use Rattle.std.proofs.Common.{◌≡◌, ℕ, length, None, ap, sym, subst, ◌∙◌}
+use Rattle.std.proofs.Common.{◌≡◌, ℕ, List, length, None, ap, sym, subst, ◌∙◌}
 use Rattle.composer_parser.specs.declared.Defs.{Defs}
+use Rattle.composer_laws.specs.Written.{AreDefs}
 use Rattle.composer_print.specs.Normal.{normal}
+use Rattle.model.specs.Types.{StreamDraft}
+use Rattle.plan_builder.specs.Drafts.{AreDrafts}
 use Rattle.plan_builder.specs.Limits.{limit_fault, time_fault}
 use Rattle.run_cycles.specs.Runs.{runs}
 use Rattle.workload_defs.specs.Nets.{net_of, peers_of}
 use Rattle.workload_defs.specs.Days.{free_of}
+use Rattle.canonical_laws.proofs.Drafts.{drafts_both}
 use Rattle.canonical_laws.proofs.Forms.{is_form}
 use Rattle.canonical_laws.proofs.Networks.{nets_same, peers_same, free_same, count_same}
 use Rattle.canonical_laws.proofs.Runs.{runs_same}
@@ -37,3 +41,9 @@ pub timed_together : (d e : Defs) → normal d ≡ normal e → (day : ℕ) → 
 timed_together d e same day none =
     (times_both e (normal e) (is_form e) day).1
     (subst (λ (x : Defs). time_fault x day ≡ None) same ((times_both d (normal d) (is_form d) day).0 none))
+
+pub one_list_of_drafts : (d e : Defs) → AreDefs d → AreDefs e → normal d ≡ normal e → (day : ℕ) (drafts : List StreamDraft)
+    → AreDrafts d day drafts → AreDrafts e day drafts
+one_list_of_drafts d e ds es same day drafts are =
+    (drafts_both e (normal e) (is_form e) es.schedules day drafts).1
+    (subst (λ (x : Defs). AreDrafts x day drafts) same ((drafts_both d (normal d) (is_form d) ds.schedules day drafts).0 are))

@@ -3,7 +3,7 @@ use Rattle.std.proofs.Common.{◌≡◌, ◌+◌, ℕ, Bool, true, false, cond, 
 use Rattle.std.proofs.Common.{Option, Some, None, refl, ap, sym, ◌∙◌, arith, slice_get, option_map, option_and_then, unwrap_or, codes}
 use Rattle.std.proofs.lemmas.List.{length-map}
 use Rattle.std.proofs.lemmas.Option.{slice_get-map}
-use Rattle.std.specs.List.{range_with_len, sum_by}
+use Rattle.std.specs.List.{range_with_len}
 use Rattle.std.specs.Option.{option_map_or}
 use Rattle.std.specs.Prelude.{nat_lt}
 use Rattle.std.specs.Str.{bytes_eq}
@@ -28,7 +28,6 @@ use Rattle.plan_times.specs.Zones.{east_of}
 use Rattle.plan_builder.specs.Limits.{running, entries_of, job_count, lines_in, lines_of_entries, lines_of_stream, timeless_lines, limit_fault, time_fault}
 use Rattle.plan_builder.specs.Times.{plan_day, is_timeless}
 use Rattle.plan_builder.specs.declared.times.PlanDay.{PlanDay}
-use Rattle.plan_builder.specs.declared.PlanFault.{PlanFault}
 use Rattle.plan_builder.specs.declared.PlanFault.TheVariants.{Limit, OutOfRange}
 use Rattle.canonical_laws.proofs.Lists.{Both, append_both, lists_both, moved, at_place}
 use Rattle.canonical_laws.proofs.Weights.{Weights, weight, total, weighed}
@@ -147,8 +146,7 @@ lines_both plan names home own cs =
     let same : total (weight (time_weights plan)) (items (all_unlined all)) ≡ total (weight (time_weights plan)) (items cs) =
     ap (λ xs. total (weight (time_weights plan)) xs) (items_unlined all)
     ∙ weighed (λ c. bit (is_timeless plan c)) (λ p. 0) (λ p. 0) (λ x. 0) (λ x. 0) (λ p. 0) (λ p. 0) (λ f. 0) names home own refl
-    (λ p. refl) (λ x. refl) (λ p. refl) (items cs) in
-    (
+    (λ p. refl) (λ x. refl) (λ p. refl) (items cs) in (
       λ none. (lines_counted plan (all_unlined all)).1 (same ∙ (lines_counted plan cs).0 none),
       λ none. (lines_counted plan cs).1 (sym same ∙ (lines_counted plan (all_unlined all)).0 none),
     )

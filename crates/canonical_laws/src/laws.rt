@@ -1,9 +1,12 @@
 //! What holds of all definitions with one normal form.
-ghost use Rattle.std.specs.Prelude.{◌≡◌, ℕ, None, length};
+ghost use Rattle.std.specs.Prelude.{◌≡◌, ℕ, List, None, length};
 ghost use Rattle.composer_parser.specs.declared.Defs.{Defs as Definitions};
 ghost use Rattle.composer_print.specs.Normal.{normal};
 ghost use Rattle.composer_laws.specs.Lines.{without_lines};
+ghost use Rattle.composer_laws.specs.Written.{AreDefs};
 ghost use Rattle.definition_faults.specs.Faults.{IsFaultless};
+ghost use Rattle.model.specs.Types.{StreamDraft};
+ghost use Rattle.plan_builder.specs.Drafts.{AreDrafts};
 ghost use Rattle.plan_builder.specs.Limits.{limit_fault, time_fault};
 ghost use Rattle.run_cycles.specs.Runs.{runs};
 ghost use Rattle.workload_defs.specs.Days.{free_of};
@@ -19,7 +22,8 @@ pub fn one_form_is_faultless()
 {}
 
 /// Definitions with one normal form give the same network, the same addresses, as many streams, and for each stream
-/// the same free days and the same days on which it runs.
+/// the same free days and the same days on which it runs. A day is refused for the same limit, and has a time without a
+/// moment in both or in none.
 pub fn one_form_gives_the_same()
     ensures net { (d : Definitions) → (e : Definitions) → normal d ≡ normal e → net_of d ≡ net_of e }
     ensures peers { (d : Definitions) → (e : Definitions) → normal d ≡ normal e → peers_of d ≡ peers_of e }
@@ -29,4 +33,10 @@ pub fn one_form_gives_the_same()
     ensures limit { (d : Definitions) → (e : Definitions) → normal d ≡ normal e → (day : ℕ) → limit_fault d day ≡ limit_fault e day }
     ensures time { (d : Definitions) → (e : Definitions) → normal d ≡ normal e → (day : ℕ) → time_fault d day ≡ None
         → time_fault e day ≡ None }
+{}
+
+/// Definitions that were read, with one normal form, have the same drafts on each day.
+pub fn one_form_has_the_same_drafts()
+    ensures { (d : Definitions) → (e : Definitions) → AreDefs d → AreDefs e → normal d ≡ normal e → (day : ℕ)
+        → (drafts : List StreamDraft) → AreDrafts d day drafts → AreDrafts e day drafts }
 {}

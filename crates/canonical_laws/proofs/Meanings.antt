@@ -3,6 +3,7 @@ use Rattle.std.proofs.Common.{◌≡◌, ℕ, List, length, None, ap, sym, subst
 use Rattle.composer_parser.specs.declared.Defs.{Defs}
 use Rattle.composer_laws.specs.Written.{AreDefs}
 use Rattle.composer_print.specs.Normal.{normal}
+use Rattle.composer_print.specs.Printed.{text_of, printed}
 use Rattle.model.specs.Types.{StreamDraft}
 use Rattle.plan_builder.specs.Drafts.{AreDrafts}
 use Rattle.plan_builder.specs.Limits.{limit_fault, time_fault}
@@ -47,3 +48,7 @@ pub one_list_of_drafts : (d e : Defs) → AreDefs d → AreDefs e → normal d �
 one_list_of_drafts d e ds es same day drafts are =
     (drafts_both e (normal e) (is_form e) es.schedules day drafts).1
     (subst (λ (x : Defs). AreDrafts x day drafts) same ((drafts_both d (normal d) (is_form d) ds.schedules day drafts).0 are))
+
+pub one_text : (d e : Defs) → normal d ≡ normal e → printed d ≡ printed e
+unfolding printed
+one_text d e same = ap text_of same

@@ -2,6 +2,7 @@
 ghost use Rattle.std.specs.Prelude.{◌≡◌, ℕ, List, None, length};
 ghost use Rattle.composer_parser.specs.declared.Defs.{Defs as Definitions};
 ghost use Rattle.composer_print.specs.Normal.{normal};
+ghost use Rattle.composer_print.specs.Printed.{printed};
 ghost use Rattle.composer_laws.specs.Lines.{without_lines};
 ghost use Rattle.composer_laws.specs.Written.{AreDefs};
 ghost use Rattle.definition_faults.specs.Faults.{IsFaultless};
@@ -21,10 +22,11 @@ pub fn one_form_is_faultless()
     ensures back { (d : Definitions) → (e : Definitions) → without_lines e ≡ normal d → IsFaultless d → IsFaultless e }
 {}
 
-/// Definitions with one normal form give the same network, the same addresses, as many streams, and for each stream
-/// the same free days and the same days on which it runs. A day is refused for the same limit, and has a time without a
-/// moment in both or in none.
+/// Definitions with one normal form have one canonical text, and give the same network, the same addresses, as many
+/// streams, and for each stream the same free days and the same days on which it runs. A day is refused for the same
+/// limit, and has a time without a moment in both or in none.
 pub fn one_form_gives_the_same()
+    ensures text { (d : Definitions) → (e : Definitions) → normal d ≡ normal e → printed d ≡ printed e }
     ensures net { (d : Definitions) → (e : Definitions) → normal d ≡ normal e → net_of d ≡ net_of e }
     ensures peers { (d : Definitions) → (e : Definitions) → normal d ≡ normal e → peers_of d ≡ peers_of e }
     ensures streams { (d : Definitions) → (e : Definitions) → normal d ≡ normal e → length d.schedules ≡ length e.schedules }

@@ -1,4 +1,4 @@
-use Rattle.canonical_laws.proofs.Meanings.{one_net, one_list_of_peers, one_count, one_free, one_run, one_limit, timed_together}
+use Rattle.canonical_laws.proofs.Meanings.{one_net, one_list_of_peers, one_count, one_free, one_run, one_limit, timed_together, one_text}
 use Rattle.canonical_laws.proofs.laws.one_form_gives_the_same.Goals as goal
 
 pub returns-clause-net : goal.returns-clause-net
@@ -21,3 +21,6 @@ returns-clause-limit c = λ d e same day. one_limit d e same day
 
 pub returns-clause-time : goal.returns-clause-time
 returns-clause-time c = λ d e same day none. timed_together d e same day none
+
+pub returns-clause-text : goal.returns-clause-text
+returns-clause-text c = λ d e same. one_text d e same

@@ -1,0 +1,4 @@
+pub mod Forms
+pub mod Readings
+pub mod Unread
+pub mod Dues

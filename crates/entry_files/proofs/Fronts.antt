@@ -1,5 +1,5 @@
 -- Entries at the front of others, by their bodies.
-use Rattle.std.proofs.Common.{◌≡◌, ◌∙◌, ◌++◌, ◌∷◌, [], List, None, Ok, Option, Result, Some, IfSome, ap, inr, map, refl, subst, sym, ℕ}
+use Rattle.std.proofs.Common.{◌≡◌, ◌∙◌, ◌++◌, ◌∷◌, [], Err, List, None, Ok, Option, Result, Some, IfOk, IfSome, ap, inr, map, refl, sym, ℕ}
 use Rattle.std.proofs.lemmas.List.{map-append}
 use Rattle.lemmas.proofs.Lists.{same_head, same_tail}
 use Rattle.model.specs.Restore.{restore_fault}
@@ -15,7 +15,10 @@ use Rattle.entry_files.specs.Entries.{GoOn, IsRefused, IsWrongAt, KeepsEntries}
 abbrev Read : Type 0
 Read = Result Entry EntryFault
 
-same_ok : (a b : Entry) → Ok {E = EntryFault} a ≡ Ok b → a ≡ b
+abbrev ok : Entry → Read
+ok e = Ok e
+
+same_ok : (a b : Entry) → ok a ≡ ok b → a ≡ b
 same_ok a b e = cc
 
 no_more : (x : Read) (xs : List Read) → [] ≡ x ∷ xs → ⊥
@@ -48,6 +51,23 @@ pub kept_entries : (net : Net) (owner : ℕ) (bodies : Bodies) (entries : List E
 kept_entries net owner bodies entries None read restores keeps = tt
 kept_entries net owner bodies entries (Some file) read restores keeps =
     record { bodies = bodies; kept = keeps; read = read; restores = restores }
+
+-- what was read of a file
+pub kept_result : (net : Net) (owner : ℕ) (bodies slice : Bodies) (new : Option (List ℕ)) (r : Result (List Entry) FileFault)
+    → slice ≡ bodies → IfOk r (λ entries. map entry_in slice ≡ map Ok entries)
+    → IfOk r (λ entries. restore_fault net owner entries ≡ None) → IfSome new (λ file. Keeps owner file bodies)
+    → IfOk r (λ entries. IfSome new (λ file. KeepsEntries net owner file entries))
+kept_result net owner bodies slice new (Ok entries) same read restores keeps =
+    kept_entries net owner bodies entries new (ap (map entry_in) (sym same) ∙ read) restores keeps
+kept_result net owner bodies slice new (Err fault) same read restores keeps = tt
+
+pub front_result : (net : Net) (owner : ℕ) (bodies slice : Bodies) (old : Option (List ℕ)) (r : Result (List Entry) FileFault)
+    → slice ≡ bodies → IfOk r (λ entries. map entry_in slice ≡ map Ok entries)
+    → IfSome old (λ file. (kept : Bodies) → Keeps owner file kept → GoesOn kept bodies)
+    → IfOk r (λ entries. IfSome old (λ file. (kept : List Entry) → KeepsEntries net owner file kept → GoOn kept entries))
+front_result net owner bodies slice old (Ok entries) same read front =
+    fronts_go_on net owner bodies entries old (ap (map entry_in) (sym same) ∙ read) front
+front_result net owner bodies slice old (Err fault) same read front = tt
 
 -- a body that is wrong
 pub wrong_refused : (net : Net) (owner : ℕ) (bodies : Bodies) (fault : FileFault) (new : Option (List ℕ))

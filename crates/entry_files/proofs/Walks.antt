@@ -1,17 +1,18 @@
 -- A walk over bodies that are read as entries.
-use Rattle.std.proofs.Common.{◌≡◌, ◌∙◌, ◌+◌, ◌<◌, ◌≤◌, ◌++◌, ◌∷◌, [], ℕ, List, Ok, None, Option, Result, Some, ap, arith, false, get_or}
+use Rattle.std.proofs.Common.{◌≡◌, ◌∙◌, ◌+◌, ◌<◌, ◌≤◌, ◌++◌, ◌∷◌, [], ℕ, List, Ok, None, Result, Some, ap, arith}
 use Rattle.std.proofs.Common.{drop, length, length-append, map, refl, slice_get, subst, sym, take, take-append-drop, true}
 use Rattle.std.proofs.lemmas.Bool.{lt-ltb}
 use Rattle.std.proofs.lemmas.Grind.{flat_map-append}
 use Rattle.std.proofs.lemmas.List.{map-append}
 use Rattle.std.proofs.lemmas.List.Elements.{All-push}
-use Rattle.lemmas.proofs.Lists.{get_there, take_further, take_whole}
+use Rattle.lemmas.proofs.Lists.{take_further, take_whole}
 use Rattle.model.specs.Fit.{AreFitEntries, IsFit}
 use Rattle.model.specs.Network.{node_count}
 use Rattle.model.specs.Restore.{first_wrong, follows_on, restore_fault}
 use Rattle.model.specs.Types.{Entry, Net}
 use Rattle.model_laws.proofs.Restored.{IsRestored, means_restored, one_more}
 use Rattle.outside.specs.Kept.{Bodies}
+use Rattle.outside.specs.Records.{longest_file}
 use Rattle.message_file.specs.Files.{place_behind, record_of, records}
 use Rattle.message_file.proofs.Putting.{place_with}
 use Rattle.entry_codec.specs.declared.EntryFault.{EntryFault}
@@ -34,12 +35,12 @@ pub record IsTaken (net : Net) (owner : ℕ) (bodies : Bodies) (i place : ℕ) (
 
 pub begins : (net : Net) (owner : ℕ) (bodies : Bodies) → owner < node_count net → IsTaken net owner bodies 0 8 []
 begins net owner bodies h =
-    record { counted = refl; read = refl; restored = none_taken net owner h; fit = tt; gate = refl }
+    record { counted = refl; read = refl; restored = none_taken net owner h; fit = λ k d low. absurd (omega (arith, low)); gate = refl }
 
 -- one body further
 pub further : (net : Net) (owner : ℕ) (bodies : Bodies) (i place next : ℕ) (taken now : List Entry) (body : List ℕ) (e : Entry)
     → IsTaken net owner bodies i place taken → slice_get bodies i ≡ Some body → IsNextOf net taken body (Some e)
-    → now ≡ taken ++ e ∷ [] → next ≡ place + 5 + length body → IsTaken net owner bodies (i + 1) next now
+    → now ≡ taken ++ e ∷ [] → next ≡ place + (5 + length body) → IsTaken net owner bodies (i + 1) next now
 further net owner bodies i place next taken now body e so_far stands is put sum =
     subst (λ (l : List Entry). IsTaken net owner bodies (i + 1) next l) (sym put)
     (record {
@@ -63,11 +64,21 @@ further net owner bodies i place next taken now body e so_far stands is put sum 
 pub front_within : (bodies : Bodies) (i : ℕ) (body : List ℕ) → slice_get bodies i ≡ Some body
     → place_behind (take i bodies) + 5 + length body ≤ place_behind bodies
 front_within bodies i body stands =
-    omega
-    (arith, ap place_behind (take_further bodies i body stands), place_with (take i bodies) body,
-    ap length (ap records (sym (take-append-drop (i + 1) bodies))
-    ∙ flat_map-append record_of (take (i + 1) bodies) (drop (i + 1) bodies)),
-    length-append (records (take (i + 1) bodies)) (records (drop (i + 1) bodies)))
+    omega (
+      arith,
+      ap place_behind (take_further bodies i body stands),
+      place_with (take i bodies) body,
+      ap length (ap records (sym (take-append-drop (i + 1) bodies))
+          ∙ flat_map-append record_of (take (i + 1) bodies) (drop (i + 1) bodies)),
+      length-append (records (take (i + 1) bodies)) (records (drop (i + 1) bodies)),
+    )
+
+-- so the sum of its place, five and its length stays low
+pub low_sum : (net : Net) (owner : ℕ) (bodies : Bodies) (i place size : ℕ) (taken : List Entry) (body : List ℕ)
+    → IsTaken net owner bodies i place taken → slice_get bodies i ≡ Some body → size ≡ length body
+    → place_behind bodies < longest_file → place + (5 + size) < longest_file
+low_sum net owner bodies i place size taken body so_far stands is low =
+    omega (arith, so_far.gate, front_within bodies i body stands, is, low)
 
 -- a body that does not follow on
 pub stops : (net : Net) (owner : ℕ) (bodies : Bodies) (i place : ℕ) (taken : List Entry) (body : List ℕ)

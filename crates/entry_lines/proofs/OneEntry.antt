@@ -1,6 +1,6 @@
 -- The report of one entry alone, and where the entry's line stands in it.
 use Rattle.std.proofs.Common.{◌≡◌, ◌∙◌, ◌+◌, ◌-◌, ◌≤◌, ◌++◌, ◌∷◌, [], ℕ, List, IfOk, Result, Ok, Err, ap, arith, codes, decimal, drop, length}
-use Rattle.std.proofs.Common.{length-append, refl, subst, sym, take}
+use Rattle.std.proofs.Common.{length-append, refl, take}
 use Rattle.std.specs.Prelude.{slice_range}
 use Rattle.std.proofs.lemmas.Fmt.{decimal_digit}
 use Rattle.std.proofs.lemmas.List.{append-nil, drop_at, take_at}

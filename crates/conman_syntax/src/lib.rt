@@ -21,3 +21,4 @@ mod values;
 pub use faults::CommandFault;
 pub use lines::{DepRef, JobRef, Line, ObjRef, StreamRef};
 pub use rows::parse_command;
+pub use values::passed;

@@ -52,7 +52,7 @@ pub fn yes(word: &str) -> Option<bool>
     }
 }
 
-/// What comes when the time of an UNTIL has passed.
+/// What comes when the time of an UNTIL has passed, by its word: `suppr`, `cont` or `canc`. None for every other word.
 #[tactic(auto, unfolding(crate::specs::Values::passed_of))]
 pub fn passed(word: &str) -> Option<OnUntil>
     ensures { result ≡ spec.passed_of word.now }

@@ -1,4 +1,3 @@
-mod Bridges
 mod OneRun
 mod Tellings
 mod Calling

@@ -10,8 +10,9 @@ use Rattle.syntax.specs.Splits.{after_word, first_word}
 use Rattle.model.specs.Fit.{IsFitText}
 use Rattle.conman_syntax.specs.Fit.{IsFitName}
 use Rattle.conman_syntax.proofs.PartFits.{found, name_fits}
+use Rattle.conman_syntax.specs.Values.{passed_of}
 use Rattle.record_rows.specs.Plans.{after_byte, ask_of, before_byte, carry_of, dep_of, follows_of, follows_on, job_of, limit_of}
-use Rattle.record_rows.specs.Plans.{needs_of, part_of, passed_of, priority_of, recovery_of, stream_of, until_of}
+use Rattle.record_rows.specs.Plans.{needs_of, part_of, priority_of, recovery_of, stream_of, until_of}
 use Rattle.record_rows.specs.Words.{◌is◌, limited, sized, text_of, up_to}
 use Rattle.record_rows.specs.declared.rows.Ranged.TheVariants.{Within, OutOfRange}
 use Rattle.record_rows.specs.declared.rows.StreamRow.{StreamRow}

@@ -4,10 +4,9 @@ use Rattle.std.specs.Prelude.{option_map, slice_index, if◌then◌else◌}
 use Rattle.std.specs.List.{before_first, after_first}
 use Rattle.syntax.specs.Names.{name_of}
 use Rattle.syntax.specs.Splits.{first_word, after_word}
-use Rattle.base_types.specs.declared.documents.OnUntil.{OnUntil}
-use Rattle.base_types.specs.declared.documents.OnUntil.TheVariants.{Suppr, Cont, Canc}
 use Rattle.base_types.specs.declared.documents.Recovery.{Recovery}
 use Rattle.base_types.specs.declared.documents.Recovery.TheVariants.{Continue, Rerun}
+use Rattle.conman_syntax.specs.Values.{passed_of}
 use Rattle.record_rows.specs.Words.{◌>>=◌, ◌is◌, sized, up_to, text_of}
 use Rattle.record_rows.specs.declared.rows.Ranged.{Ranged}
 use Rattle.record_rows.specs.declared.rows.Ranged.TheVariants.{Within, OutOfRange}
@@ -70,13 +69,6 @@ part_of word rest =
     if word is codes "logon" then option_map part.Logon (text_of rest) else
     if word is codes "succ" then option_map part.Cond (text_of rest) else
     if word is codes "recovery" then option_map part.Recovery (recovery_of rest) else None
-
--- `suppr`, `cont`, `canc`
-abbrev pub passed_of : List ℕ → Option OnUntil
-passed_of word =
-    if word is codes "suppr" then Some Suppr else
-    if word is codes "cont" then Some Cont else
-    if word is codes "canc" then Some Canc else None
 
 -- `until T suppr`, `until T cont`, `until T canc`
 unfoldable pub until_of : List ℕ → Option DepRow

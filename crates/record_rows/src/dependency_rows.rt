@@ -8,24 +8,10 @@ ghost use Rattle.record_rows.specs.declared.rows.DepRow.TheVariants as dep;
 use crate::quotes::text;
 use crate::rows::DepRow;
 use crate::words::{moment, number_up_to};
-use base_types::{NoMemory, OnUntil, Text};
+use base_types::{NoMemory, Text};
+use conman_syntax::passed;
 use std::alloc::Global;
 use syntax::{first_word, is, name};
-
-/// `suppr`, `cont`, `canc`
-fn passed(word: &str) -> Option<OnUntil>
-    ensures { result ≡ spec.passed_of word.now }
-{
-    if is(word, "suppr") {
-        Some(OnUntil::Suppr)
-    } else if is(word, "cont") {
-        Some(OnUntil::Cont)
-    } else if is(word, "canc") {
-        Some(OnUntil::Canc)
-    } else {
-        None
-    }
-}
 
 /// `until T suppr`, `until T cont`, `until T canc`
 #[tactic(auto, unfolding(crate::specs::Plans::until_of))]

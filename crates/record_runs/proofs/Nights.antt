@@ -14,9 +14,10 @@ use Rattle.network_world.specs.Standing.{StandsFor}
 use Rattle.record_script.specs.declared.Script.{Script}
 use Rattle.record_script.specs.declared.ScriptStep.{ScriptStep}
 use Rattle.record_runs.specs.Causes.{Cause, told}
-use Rattle.record_runs.specs.Lines.{Day, are_inside, asks_day, left_after, ws_in_form}
+use Rattle.record_runs.specs.Lines.{Day, are_inside, asks_day, left_after}
+use Rattle.record_script.specs.Inside.{is_inside, ws_in}
 use Rattle.record_runs.specs.Runs.{run_lines, run_of, stopped, take_line, went_on}
-use Rattle.record_runs.specs.Ends.{AreLinesInside, AskNoDay, IsDone, IsStopped, asks_no_day, is_line_inside}
+use Rattle.record_runs.specs.Ends.{AreLinesInside, AskNoDay, IsDone, IsStopped, asks_no_day}
 use Rattle.record_runs.specs.Taken.{HaltsFor, IsStopIn, Leads, LeadsAll, StopsAt, StopsIn}
 use Rattle.base_types.specs.declared.NoMemory.{NoMemory}
 use Rattle.record_runs.specs.declared.stops.Halt.{Halt}
@@ -120,9 +121,9 @@ passes p lines i s h lt is =
 
 pub line_inside : (net : Net) (now : WorldState) (lines : List ScriptStep) (i : ℕ) (s : ScriptStep)
     → AreLinesInside net lines → now.net ≡ net → i < length lines → s ≡ get_or lines i s
-    → IsTrue (are_inside now.net (ws_in_form s.form))
+    → IsTrue (are_inside now.net (ws_in s.form))
 line_inside net now lines i s h same lt is =
-    subst (λ (n : Net). are_inside n (ws_in_form s.form) ≡ true) (sym same) (passes (is_line_inside net) lines i s h lt is)
+    subst (λ (n : Net). are_inside n (ws_in s.form) ≡ true) (sym same) (passes (is_inside net) lines i s h lt is)
 
 pub no_day_here : (lines : List ScriptStep) (i : ℕ) (s : ScriptStep) → AskNoDay lines → i < length lines
     → s ≡ get_or lines i s → asks_day s.form ≡ false

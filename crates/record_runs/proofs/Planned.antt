@@ -9,7 +9,8 @@ use Rattle.record_script.specs.declared.StepForm.{StepForm}
 use Rattle.record_script.specs.declared.StepForm.TheVariants as form
 use Rattle.record_runs.specs.Causes.{Cause, full_day, no_moment}
 use Rattle.record_runs.specs.Days.{GivesFault, IsPlanOf, asked_day, take_planned}
-use Rattle.record_runs.specs.Lines.{Day, act, are_inside, asks_day, left_after, line_steps, only, whole, cut_short, ws_in_form}
+use Rattle.record_runs.specs.Lines.{Day, act, are_inside, asks_day, left_after, line_steps, only, whole, cut_short}
+use Rattle.record_script.specs.Inside.{ws_in}
 use Rattle.record_runs.specs.Runs.{and_then, take_line, take_steps}
 use Rattle.record_runs.specs.Taken.{HaltsFor, Leads, halts_day}
 use Rattle.record_runs.specs.declared.acts.Act.{Act}
@@ -57,11 +58,11 @@ asked_next (form.CrashIn w kept (one.NextDay d)) n next is =
 asked_next _ n next is = cc
 
 pub asked_inside : (net : Net) (f : StepForm) (n : ℕ) (next : StepForm) → Some (n, next) ≡ asked_day f
-    → IsTrue (are_inside net (ws_in_form f)) → IsTrue (are_inside net (ws_in_form next))
+    → IsTrue (are_inside net (ws_in f)) → IsTrue (are_inside net (ws_in next))
 asked_inside net (form.One (one.NextDay d)) n next is h =
-    let next_ : form.One one.Next ≡ next = sym (parts is).1 in ap (λ g. are_inside net (ws_in_form g)) (sym next_) ∙ h
+    let next_ : form.One one.Next ≡ next = sym (parts is).1 in ap (λ g. are_inside net (ws_in g)) (sym next_) ∙ h
 asked_inside net (form.CrashIn w kept (one.NextDay d)) n next is h =
-    let next_ : form.CrashIn w kept one.Next ≡ next = sym (parts is).1 in ap (λ g. are_inside net (ws_in_form g)) (sym next_) ∙ h
+    let next_ : form.CrashIn w kept one.Next ≡ next = sym (parts is).1 in ap (λ g. are_inside net (ws_in g)) (sym next_) ∙ h
 asked_inside net _ n next is h = cc
 
 pub asked_left : (f : StepForm) (n : ℕ) (next : StepForm) (left : List (List StreamDraft)) → Some (n, next) ≡ asked_day f

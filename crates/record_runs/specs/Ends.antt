@@ -8,7 +8,8 @@ use Rattle.network_world.specs.Standing.{StandsFor}
 use Rattle.record_script.specs.declared.Script.{Script}
 use Rattle.record_script.specs.declared.ScriptStep.{ScriptStep}
 use Rattle.record_runs.specs.Causes.{Cause, told}
-use Rattle.record_runs.specs.Lines.{Day, are_inside, asks_day, ws_in_form}
+use Rattle.record_runs.specs.Lines.{Day, asks_day}
+use Rattle.record_script.specs.Inside.{is_inside}
 use Rattle.record_runs.specs.Runs.{End, done, run_of, stopped}
 use Rattle.record_runs.specs.declared.stops.Stop.{Stop}
 use Rattle.record_runs.specs.declared.runs.RunEnd.{RunEnd}
@@ -19,11 +20,8 @@ abbrev pub run_of_script : Day → Script → End
 run_of_script day script = run_of day script.net script.plans script.steps
 
 -- each workstation that a line names by its number is one of the network
-abbrev pub is_line_inside : Net → ScriptStep → Bool
-is_line_inside net s = are_inside net (ws_in_form s.form)
-
 abbrev pub AreLinesInside : Net → List ScriptStep → Type 0
-AreLinesInside net lines = IsTrue (list_all (is_line_inside net) lines)
+AreLinesInside net lines = IsTrue (list_all (is_inside net) lines)
 
 -- no line asks for the drafts of a day
 abbrev pub asks_no_day : ScriptStep → Bool

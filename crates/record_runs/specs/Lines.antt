@@ -115,29 +115,6 @@ asks_day (form.One o) = asks_day_in o
 asks_day (form.CrashIn w kept o) = asks_day_in o
 asks_day _ = false
 
--- the workstations that a step names by their numbers
-abbrev pub ws_in_one : OneStep → List ℕ
-ws_in_one one.Next = []
-ws_in_one (one.NextDay d) = []
-ws_in_one (one.Turn w t) = w ∷ []
-ws_in_one (one.Link a b) = a ∷ b ∷ []
-ws_in_one (one.Unlink a b) = a ∷ b ∷ []
-ws_in_one (one.Deliver a b k) = a ∷ b ∷ []
-ws_in_one (one.Started w j) = w ∷ []
-ws_in_one (one.Failed w j) = w ∷ []
-ws_in_one (one.Ended w j rc) = w ∷ []
-ws_in_one (one.Typed w line) = w ∷ []
-ws_in_one (one.Fulfil w o i) = w ∷ []
-
--- the same of a line
-abbrev pub ws_in_form : StepForm → List ℕ
-ws_in_form (form.One o) = ws_in_one o
-ws_in_form (form.Flow a b) = a ∷ b ∷ []
-ws_in_form (form.Reap w rc) = w ∷ []
-ws_in_form (form.Crash w) = w ∷ []
-ws_in_form (form.CrashIn w kept o) = w ∷ ws_in_one o
-ws_in_form (form.Recover w) = w ∷ []
-
 -- workstations of the network
 abbrev pub are_inside : Net → List ℕ → Bool
 are_inside net ws = list_all (λ w. nat_lt w (node_count net)) ws

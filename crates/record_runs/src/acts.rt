@@ -5,7 +5,8 @@ ghost use Rattle.model.specs.Network.{node_count};
 ghost use Rattle.model.specs.World as model;
 ghost use Rattle.network_world.specs.Standing.{ws_in_step};
 ghost use Rattle.record_runs.specs.Lines as spec;
-ghost use Rattle.record_runs.specs.Lines.{Day, are_inside, asks_day_in, takes_plan_in, ws_in_one};
+ghost use Rattle.record_runs.specs.Lines.{Day, are_inside, asks_day_in, takes_plan_in};
+ghost use Rattle.record_script.specs.Inside.{ws_in_one};
 ghost use Rattle.record_runs.specs.declared.acts.Act.TheVariants.{Own as Owned};
 ghost use Rattle.record_runs.specs.Taken.{IsMade, IsNotMade, ws_in_act};
 

@@ -4,7 +4,8 @@ ghost use Rattle.model.specs.Types.{StreamDraft};
 ghost use Rattle.record_runs.specs.Causes.{Cause};
 ghost use Rattle.record_runs.specs.Days as spec;
 ghost use Rattle.record_runs.specs.Days.{GivesFault, IsPlanOf};
-ghost use Rattle.record_runs.specs.Lines.{Day, are_inside, asks_day, left_after, ws_in_form};
+ghost use Rattle.record_runs.specs.Lines.{Day, are_inside, asks_day, left_after};
+ghost use Rattle.record_script.specs.Inside.{ws_in};
 ghost use Rattle.record_runs.specs.Runs as runs;
 ghost use Rattle.record_runs.specs.Taken.{HaltsFor, Leads};
 
@@ -80,7 +81,7 @@ fn take_day<D: DayPlans>(
     day: u32,
     next: &StepForm,
 ) -> Result<(), Halt>
-    requires inside { IsTrue (are_inside world.old.net (ws_in_form next.now)) }
+    requires inside { IsTrue (are_inside world.old.net (ws_in next.now)) }
     requires no_day { asks_day next.now ≡ false }
     ensures taken { (plan : Day) → IsPlanOf (D.gives days.now) plan → OnOk result (Leads world.old
         (spec.take_planned plan world.old.net day next.now) world.new) }
@@ -105,7 +106,7 @@ pub(crate) fn take_any_line<D: DayPlans>(
     days: &D,
     form: &StepForm,
 ) -> Result<(), Halt>
-    requires { IsTrue (are_inside world.old.net (ws_in_form form.now)) }
+    requires { IsTrue (are_inside world.old.net (ws_in form.now)) }
     ensures taken { (plan : Day) → IsPlanOf (D.gives days.now) plan → OnOk result (Leads world.old
         (runs.take_line plan world.old.net plans.old form.now) world.new) }
     ensures stopped { (plan : Day) → IsPlanOf (D.gives days.now) plan → IfErr result (HaltsFor world.old

@@ -9,7 +9,8 @@ ghost use Rattle.model.specs.World.{view_at};
 ghost use Rattle.network_world.specs.Standing.{StandsFor, ws_in_step};
 ghost use Rattle.recovery_watch.specs.Advice as advices;
 ghost use Rattle.record_runs.specs.Lines as spec;
-ghost use Rattle.record_runs.specs.Lines.{Day, are_inside, asks_day, asks_day_in, left_after, takes_plan_in, ws_in_form, ws_in_one};
+ghost use Rattle.record_runs.specs.Lines.{Day, are_inside, asks_day, asks_day_in, left_after, takes_plan_in};
+ghost use Rattle.record_script.specs.Inside.{ws_in, ws_in_one};
 ghost use Rattle.record_runs.specs.Runs as runs;
 ghost use Rattle.record_runs.specs.Runs.{take_steps};
 ghost use Rattle.record_runs.specs.Taken.{HaltsFor, Leads};
@@ -182,7 +183,7 @@ pub(crate) fn take_line(
     plans: &mut PlansLeft,
     form: &StepForm,
 ) -> Result<(), Halt>
-    requires inside { IsTrue (are_inside world.old.net (ws_in_form form.now)) }
+    requires inside { IsTrue (are_inside world.old.net (ws_in form.now)) }
     requires no_day { asks_day form.now ≡ false }
     ensures taken { (day : Day) → OnOk result (Leads world.old
         (runs.take_line day world.old.net plans.old form.now) world.new) }

@@ -3,14 +3,9 @@ use Rattle.std.specs.Result.{IfOk}
 use Rattle.record_faults.specs.declared.kinds.ScriptKind.{ScriptKind}
 use Rattle.input_commands.specs.declared.unsaid_replies.Reply.{Reply}
 use Rattle.input_commands.specs.Lines.{refused_line, kind_word}
-use Rattle.input_commands.proofs.Bridges.{lines_inside}
 use Rattle.input_commands.proofs.Calling.{bad_line_result, by_two, run_result}
 use Rattle.input_commands.proofs.SoundTexts.{has_printable, reaches_fit}
 use Rattle.input_commands.proofs.records.reply_to_record.Goals as goal
-
-pub reply_to_run-requires-clause-inside : goal.reply_to_run-requires-clause-inside
-reply_to_run-requires-clause-inside c =
-    lines_inside c.in-Ok.recorded.script.net c.in-Ok.recorded.script.steps c.in-Ok.ensures.inside
 
 pub reply_to_run-requires-clause-fit : goal.reply_to_run-requires-clause-fit
 reply_to_run-requires-clause-fit c = reaches_fit c.args.bytes.now c.in-Ok.recorded c.requires c.in-Ok.ensures.read

@@ -1,4 +1,0 @@
-pub mod Forms
-pub mod Readings
-pub mod Unread
-pub mod Dues

@@ -1,0 +1,7 @@
+use Rattle.std.proofs.Common.{◌≡◌, ℕ, ◌<◌, ◌≤◌, get_or}
+use Rattle.keyed_hash.proofs.are_same.Given as goal
+
+abbrev pub invariant-loop-i : goal.invariant-loop-i
+invariant-loop-i l = (l.different ≤ l.i)
+    × (l.different ≡ 0 → (k : ℕ) → k < l.i → get_or l.one k 0 ≡ get_or l.other k 0)
+    × (l.one ≡ l.other → l.different ≡ 0)

@@ -3,10 +3,13 @@
 form of those in must-fail, which it does try.
 
 An edit is refused for the function that it changes, by the contracts and the definitions of its crate. So it stands on
-its own text, on that function, and on what else the crate says outside of the bodies of its functions: contracts, types
-and definitions, which may grow but not change. Constants, imports, attributes and comments do not count.
+its own text, on that function, on all definitions of any crate that the function's contract cites, and on what else the
+crate says outside of the bodies of its functions: contracts, types and definitions, which may grow but not change.
+Constants, imports, attributes and comments do not count. An edit of a definition stands on what all contracts of its
+crate cite.
 crates/NAME/edits/seen has in its first line short sums of what the crate said when its edits were last seen refused, and
-a line for each edit with the sum of its text and its function.
+a line for each edit with two sums: of its text and its function, and of what that cites. A line of before has the first
+alone; it counts, and is told.
 
 trials/untried.txt lists the edits that wait to be tried again after a large change, a line each: a crate and an edit.
 
@@ -21,15 +24,11 @@ import re
 import sys
 
 sys.dont_write_bytecode = True
+from cited import definitions_of, text_of
 from kit import begun_of, check, crates_here, libraries_that_lack, rt_of_kit
 
 TOP = os.path.dirname(os.path.dirname(os.path.abspath(__file__)))
 HEAD = re.compile(r"(\s*)(pub(\([a-z]+\))? )?(const )?(unsafe )?fn ")
-
-
-def text_of(path):
-    with open(path, encoding="utf-8") as file:
-        return file.read()
 
 
 def short_sum(text):
@@ -103,15 +102,28 @@ def changed_by(crate, edit):
     return found
 
 
-def sum_of(crate, edit):
-    """The sum of an edit's text and of the functions that it changes, of the whole file where it changes anything else."""
-    parts = [text_of(edit)]
+def contracts_of(source):
+    return ["\n".join(signature) for signature, _ in parts_of(bare(source))[0]]
+
+
+def cited_in(crate):
+    """What all contracts of a crate cite."""
+    sources = [text_of(path) for path in files_below(f"{crate}/src", ".rt")]
+    return sorted({it for source in sources for it in definitions_of(contracts_of(source), source)})
+
+
+def sums_of(crate, edit):
+    """The sums of an edit: of its text and of the functions that it changes, and of what their contracts cite. Where it
+    changes anything else, the whole file and what all contracts of the crate cite count."""
+    parts, cited = [text_of(edit)], []
     for file, old in changed_by(crate, edit):
         source = text_of(file)
         functions, _ = parts_of(bare(source))
-        bodies = ["\n".join([*signature, *body]) for signature, body in functions]
-        parts += [it for it in bodies if old in it] or [source]
-    return short_sum("\0".join(parts))
+        changed = [it for it in functions if old in "\n".join([*it[0], *it[1]])]
+        parts += ["\n".join([*signature, *body]) for signature, body in changed] or [source]
+        contracts = ["\n".join(signature) for signature, _ in changed]
+        cited += definitions_of(contracts, source) if changed else cited_in(crate)
+    return f"{short_sum(chr(0).join(parts))} {short_sum(chr(0).join(cited))}"
 
 
 def seen_of(crate):
@@ -120,7 +132,7 @@ def seen_of(crate):
     if not os.path.exists(path):
         return set(), {}
     first, *rows = text_of(path).splitlines()
-    return set(first.split(" ")), dict(row.split(" ") for row in rows)
+    return set(first.split(" ")), dict(row.split(" ", 1) for row in rows)
 
 
 def write_seen(crate, sums):
@@ -133,8 +145,8 @@ def tried_and_untried(crate):
     """The sums of the edits of a crate by their names: of those that were tried on what they stand on, and the others."""
     said, seen = seen_of(crate)
     stands = said <= said_by(crate)
-    sums = {os.path.basename(path): sum_of(crate, path) for path in files_below(f"{crate}/edits", ".edit")}
-    tried = {name: made for name, made in sums.items() if stands and seen.get(name) == made}
+    sums = {os.path.basename(path): sums_of(crate, path) for path in files_below(f"{crate}/edits", ".edit")}
+    tried = {name: made for name, made in sums.items() if stands and seen.get(name) in (made, made.split(" ")[0])}
     return tried, {name: made for name, made in sums.items() if name not in tried}
 
 
@@ -147,13 +159,14 @@ def waiting():
 
 
 def look():
-    status, edits, crates, listed = 0, 0, 0, waiting()
+    status, edits, crates, before, listed = 0, 0, 0, 0, waiting()
     for name in sorted(os.listdir(f"{TOP}/crates")):
         crate = f"{TOP}/crates/{name}"
         if not os.path.isdir(f"{crate}/edits"):
             continue
         tried, untried = tried_and_untried(crate)
         crates, edits = crates + 1, edits + len(tried) + len(untried)
+        before += sum(" " not in row for row in seen_of(crate)[1].values())
         for edit in sorted(untried):
             if (name, edit) in listed:
                 listed.remove((name, edit))
@@ -164,7 +177,7 @@ def look():
     for name, edit in sorted(listed):
         print(f"{name}: {edit} is listed as waiting, and does not wait", file=sys.stderr)
         status = 1
-    print(f"edits: {edits} of {crates} crates looked at, {left} wait to be tried again")
+    print(f"edits: {edits} of {crates} crates looked at, {left} wait to be tried again, {before} lack the sum of what they cite")
     return status
 
 

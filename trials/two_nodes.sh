@@ -2,12 +2,13 @@
 # A day of a real network on this machine: a master MDM and two agents A1 and A2 on loopback ports run 40 jobs, and A1 is
 # killed at random moments and started again from its file. It does what an operator does about a job that was lost:
 # where the job has done its work it is confirmed, and else it is rerun. At the end all streams have ended well, each job
-# ran once, all three show the same, and each node ends with a shutdown. It prints what it saw, and ends with 0, or with 1
-# where something of this is not so.
+# ran once, all three show the same, each node ends with a shutdown, and the entries of all three files are a sound history,
+# causes first. It prints what it saw, and ends with 0, or with 1 where something of this is not so.
 # Usage: trials/two_nodes.sh [SEED]. TWS may name another program, from the top folder on, and KILLS how often A1 is
 # killed, 6 without it. It is run by hand and takes about a minute; the gate does not run it. It needs the folder /proc.
 set -u
 cd "$(dirname "$0")/.." || exit 1
+causes=$PWD/trials/causes.py
 tws=${TWS:-crates/tws_program/out/tws_program}
 if [ ! -x "$tws" ]; then
   echo "there is no program $tws" >&2
@@ -239,26 +240,15 @@ shut_down() {
   fi
 }
 
-# entries NAME: the entries that its file keeps, as lines of a history. Behind a head of eight bytes each stands behind a
-# byte 1 and its length in four bytes.
-entries() {
-  local hex at=16 length
-  hex=$(od -An -v -tx1 "$1/$1.msg" | tr -d ' \n')
-  while [ "${hex:at:2}" = 01 ]; do
-    length=$((16#${hex:at + 2:8} * 2))
-    echo "entry ${hex:at + 10:length}"
-    at=$((at + 10 + length))
-  done
-}
-
-# what the master keeps of a day is a sound history: each launch stood on what its workstation held
+# what all three keep of a day is a sound history, causes first: each launch stood on what its workstation held
 is_sound() {
-  local judged
-  judged=$( { printf '$NETWORK\nws MDM\nws A1 MDM\nws A2 MDM\n$HISTORY\n' && entries MDM; } | "$tws" audit)
-  echo "the history that the master keeps: $judged"
+  local entries judged
+  entries=$("$causes" MDM/MDM.msg A1/A1.msg A2/A2.msg) || fail "the files are of no one history"
+  judged=$(printf '$NETWORK\nws MDM\nws A1 MDM\nws A2 MDM\n$HISTORY\n%s\n' "$entries" | "$tws" audit)
+  echo "the history of all three files: $judged"
   case "$judged" in
     "sound "*) ;;
-    *) fail "the history that the master keeps is not sound" ;;
+    *) fail "the history of all three files is not sound" ;;
   esac
 }
 

@@ -1,5 +1,5 @@
 -- When what a node keeps beside its entries stands for them.
-use Rattle.std.specs.Prelude.{ℕ, ◌<◌, ◌≡◌, IfSome, List, None, Option, false}
+use Rattle.std.specs.Prelude.{ℕ, ◌<◌, ◌≡◌, IfSome, IsSomeAnd, List, None, Option, false}
 use Rattle.model.specs.Types.{Entry, LiveJob, Net}
 use Rattle.model.specs.Network.{node_count}
 use Rattle.model.specs.History.{view_of}
@@ -11,6 +11,10 @@ use Rattle.ready_index.specs.declared.index.Index.{Index}
 -- the index, where there is one, stands for these entries at this workstation
 abbrev pub Tracks : Option Index → List Entry → ℕ → Type 0
 Tracks index kept me = IfSome index (λ i. IsIndexOf (view_of kept) me i)
+
+-- there is an index, and it stands for these entries at this workstation
+abbrev pub IsIndexed : Option Index → List Entry → ℕ → Type 0
+IsIndexed index kept me = IsSomeAnd index (λ i. IsIndexOf (view_of kept) me i)
 
 -- no time has come by this reading, and a turn keeps nothing where none has come by its reading
 pub record Idles (net : Net) (me : ℕ) (kept : List Entry) (live : List LiveJob) (t : ℕ) : Type 0 where

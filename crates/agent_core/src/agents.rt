@@ -114,15 +114,12 @@ impl Agent {
         self.idle_until = None;
     }
 
-    /// Makes the index of the best job anew where it was given up. Where memory runs out all stays.
+    /// Makes the index of the best job anew where it was given up, so that a turn has one. Where memory runs out all
+    /// stays.
     pub(crate) fn renew(&mut self) -> Result<(), NoMemory>
         ensures { self.new ≡ self.old }
     {
-        if !self.tracker.is_missing() {
-            return Ok(());
-        }
-        let tracker = Tracker::of(self.alloc, &self.net, &self.owners, self.me)?;
-        self.tracker = tracker;
-        Ok(())
+        self.tracker
+            .renew(self.alloc, &self.net, &self.owners, self.me)
     }
 }

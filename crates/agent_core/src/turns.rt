@@ -8,6 +8,7 @@ ghost use Rattle.model.specs.Network.{node_count};
 ghost use Rattle.model.specs.Catalogue.{StreamJob, job};
 ghost use Rattle.model.specs.Facts.{open_launch};
 ghost use Rattle.model.specs.Turn as spec;
+ghost use Rattle.ready_index.specs.Standing.{IsIndexOf};
 ghost use Rattle.agent_core.specs.Nodes.{present_in, view_in};
 ghost use Rattle.agent_core.specs.Sending.{is_reached, kill_by, launch_by, live_with, sends_among, sends_to};
 ghost use Rattle.agent_core.specs.Steps.{IsKept, IsStep, IsTurnBody, Keeps};
@@ -18,6 +19,7 @@ use base_types::{
     Body, Cmd, Copied, Entry, Growing, JobNo, Live, LiveJob, Moment, NoMemory, Out, Ws,
 };
 use batchman_core::{is_clock_due, turn_body};
+use ready_index::Index;
 
 /// Puts what is there at the end of a list with room for it.
 fn put(outs: &mut Growing<Out>, out: Option<Out>)
@@ -51,18 +53,30 @@ impl Agent {
         self.idle_until = Some(t);
     }
 
-    /// The body of a turn's entry, if it keeps one.
+    /// The body of a turn's entry, if it keeps one. The best job is found by the index, which is missing only where memory
+    /// ran out.
     fn due_body(&self, t: Moment) -> Result<Option<Body>, StepFault>
         ensures { IsTurnBody self.now t result }
     {
         if self.is_idle(t) {
             return Ok(None);
         }
+        match &self.tracker.index {
+            None => Err(StepFault::NoMemory),
+            Some(index) => self.body_by(index, t),
+        }
+    }
+
+    /// The body of a turn's entry by an index that stands for what is held.
+    fn body_by(&self, index: &Index, t: Moment) -> Result<Option<Body>, StepFault>
+        requires { IsIndexOf (view_in self.now) self.now.me index.now }
+        ensures { IsTurnBody self.now t result }
+    {
         match turn_body(
             self.alloc,
             &self.present,
             &self.owners,
-            &self.tracker,
+            index,
             self.me,
             &self.live,
             t,

@@ -9,3 +9,4 @@ pub mod Members
 pub mod Owned
 pub mod Timed
 pub mod Reruns
+mod Passed

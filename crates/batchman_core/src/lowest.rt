@@ -1,5 +1,6 @@
 //! The lowest own members that may be released or may end.
-ghost use Rattle.std.specs.Prelude.{◌≡◌, filter};
+ghost use Rattle.std.specs.Prelude.{◌≡◌, filter, nat_lt, true};
+ghost use Rattle.std.specs.Option.{option_map_or};
 ghost use Rattle.model.specs.Words.{least, lesser};
 ghost use Rattle.model.specs.History.{view_of};
 ghost use Rattle.model.specs.OwnMembers as spec;
@@ -15,6 +16,9 @@ pub(crate) fn lowest_to_release(net: &Network, o: &Owners, w: Ws) -> Option<Stre
 {
     let mut lowest = None;
     for doc in o.streams_waiting(w) {
+        if !is_below(lowest, doc.no.0) {
+            continue;
+        }
         if may_release_in(net, o, w, doc) {
             lowest = Some(lower(lowest, doc.no.0));
         }
@@ -31,6 +35,9 @@ pub(crate) fn lowest_to_end(o: &Owners, w: Ws) -> Option<StreamNo>
 {
     let mut lowest = None;
     for doc in o.streams_under_way(w) {
+        if !is_below(lowest, doc.no.0) {
+            continue;
+        }
         if may_end_in(o, w, doc) {
             lowest = Some(lower(lowest, doc.no.0));
         }
@@ -48,5 +55,15 @@ pub(crate) fn lower(lowest: Option<u32>, number: u32) -> u32
     match lowest {
         None => number,
         Some(before) => before.min(number),
+    }
+}
+
+/// Whether a number is lower than one that may be there. So what is no lower is not asked further.
+fn is_below(lowest: Option<u32>, number: u32) -> bool
+    ensures { result ≡ option_map_or (nat_lt number) lowest true }
+{
+    match lowest {
+        None => true,
+        Some(before) => number < before,
     }
 }

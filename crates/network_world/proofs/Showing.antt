@@ -12,7 +12,7 @@ use Rattle.base_types.specs.declared.FeedCount.{FeedCount}
 use Rattle.base_types.specs.declared.NodePart.{NodePart}
 use Rattle.base_types.specs.declared.PairCount.{PairCount}
 use Rattle.base_types.specs.declared.ReportParts.{ReportParts}
-use Rattle.model.specs.Types.{Entry, Events, Feed, Net, Orders, Start, WorldStep}
+use Rattle.model.specs.Types.{Body, Entry, Events, Feed, Net, Orders, Start, WorldStep}
 use Rattle.model.specs.Words.{below}
 use Rattle.model.specs.Network.{node_count}
 use Rattle.model.specs.History.{list_of}
@@ -134,6 +134,17 @@ feed_none node f count is none =
 
 one_feed : (c : FeedCount) → 0 < c.count → filter (λ (d : FeedCount). nat_lt 0 d.count) (c ∷ []) ≡ c ∷ []
 one_feed c h = rw (lt-ltb 0 c.count h) refl
+
+-- of orders that nobody typed at a none are held
+pub orders_none : (node : NodeState) (a : ℕ) → ((w : ℕ) → list_of node.kept (Orders a w) ≡ []) → (ws : List ℕ)
+    → held_by node (map (Orders a) ws) ≡ []
+orders_none node a nothing [] = refl
+orders_none node a nothing (w ∷ ws) =
+    ap
+    (λ (l : List Body). filter (λ (c : FeedCount). nat_lt 0 c.count)
+    (feed_with (Orders a w) (length l) ∷ map (λ f. feed_with f (length (list_of node.kept f))) (map (Orders a) ws)))
+    (nothing w)
+    ∙ orders_none node a nothing ws
 
 pub feed_some : (node : NodeState) (f : Feed) (count : ℕ) → count ≡ length (list_of node.kept f) → count ≢ 0
     → held_by node (f ∷ []) ≡ feed_with f count ∷ []

@@ -38,6 +38,9 @@ fn add_orders_at(counts: &mut FeedCounts, node: &Agent, a: Ws) -> Result<(), NoM
     ensures { OnOk result (counts.new
         ≡ counts.old ++ held_by node.now (map (Orders a) (below (node_count node.now.net)))) }
 {
+    if !node.owners().has_issued(a) {
+        return Ok(());
+    }
     for w in 0..node.defined().count() {
         let feed = Feed::Orders(a, Ws(w));
         add_feed(counts, node, &feed)?;

@@ -1,5 +1,6 @@
 //! The composer text of a record.
-ghost use Rattle.std.specs.Prelude.{◌≡◌, ◌+◌, ◌<◌, ◌++◌, ◌∷◌, ◌^◌, [], IfOk, OnOk, drop, length, map};
+ghost use Rattle.std.specs.Prelude.{◌≡◌, ◌==◌, ◌++◌, IfOk, OnOk, map};
+ghost use Rattle.std.specs.List.{slice_split};
 ghost use Rattle.std.specs.String.{string_bytes};
 ghost use Rattle.night_records.specs.Composers as spec;
 
@@ -14,30 +15,38 @@ fn is_skipped(line: &str) -> bool
     line.is_empty() || line.as_bytes()[0] == b'#'
 }
 
-/// The place of the first line that is not skipped, where it is `$DEFINITIONS`.
-fn place_among(texts: &[&str]) -> Option<usize>
-    ensures { result ≡ spec.definitions_from 0 (map (λ x. x.now) texts.now) }
+/// The place, among the lines that line feeds separate, of the first that is not skipped, where it is `$DEFINITIONS`. No
+/// line behind it is looked at.
+fn place_between_feeds(text: &str) -> Option<usize>
+    ensures { result ≡ spec.definitions_from 0 (slice_split (λ b. b == 10) text.now) }
 {
-    for (i, line) in texts.iter().enumerate() {
+    let mut place = 0;
+    for line in text.split('\n') {
         if !is_skipped(line) {
-            return if *line == "$DEFINITIONS" {
-                Some(i)
+            return if line == "$DEFINITIONS" {
+                Some(place)
             } else {
                 None
             };
         }
+        place += 1;
     }
     None
 }
 
 /// The place of the line `$DEFINITIONS` among the lines of a text, from 0, where the text begins with it but for empty
-/// lines and comments.
-#[tactic(auto, unfolding(crate::specs::Composers::definitions_place))]
-pub(crate) fn find_definitions(alloc: Global, text: &str) -> Result<Option<usize>, NoMemory>
-    ensures { IfOk result (λ o. o ≡ spec.definitions_place text.now) }
+/// lines and comments. It takes no memory.
+#[tactic(auto, unfolding(crate::specs::Composers::definitions_place, syntax::specs::Splits::lines_of))]
+pub(crate) fn find_definitions(text: &str) -> Option<usize>
+    ensures { result ≡ spec.definitions_place text.now }
 {
-    let texts = lines(alloc, text)?;
-    Ok(place_among(&texts))
+    if text.is_empty() {
+        return None;
+    }
+    match text.strip_suffix('\n') {
+        Some(body) => place_between_feeds(body),
+        None => place_between_feeds(text),
+    }
 }
 
 /// Puts a line with its line feed behind others.

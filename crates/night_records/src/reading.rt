@@ -211,7 +211,7 @@ pub fn read_record(alloc: Global, text: &str) -> Result<Record, ScriptFault>
     ensures days { IfOk result (λ r. r.workload ≡ None → list_any takes_day r.script.steps ≡ false) }
     ensures at { (n : ℕ) → (k : kinds.ScriptKind) → result ≡ Err (Told n k) → IsRead text.now (Err (n, k)) }
 {
-    match find_definitions(alloc, text)? {
+    match find_definitions(text) {
         Some(place) => read_defined(alloc, text, place),
         None => read_plain(alloc, text),
     }

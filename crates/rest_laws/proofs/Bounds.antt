@@ -15,6 +15,7 @@ use Rattle.rest_laws.specs.Rounds.{AreBusyRounds, IsBusyRound, is_linking}
 use Rattle.rest_laws.proofs.Busy.{few_busy}
 use Rattle.rest_laws.proofs.Gains.{kept_run}
 use Rattle.rest_laws.proofs.Lefts.{Keeps, steps_keep}
+use Rattle.rest_laws.proofs.Rounds.{open_taken}
 
 sum_over_sum : {X : Type 0} (f g : X → ℕ) (xs : List X) → sum_over (λ x. f x + g x) xs ≡ sum_over f xs + sum_over g xs
 sum_over_sum f g [] = refl
@@ -82,7 +83,7 @@ round_keeps net caps readings x y inv covers r each =
     steps_keep net caps readings r.links x r.begin inv covers (all_linking readings r.links r.linking) r.come_up in
     keeps_on net caps readings x r.begin y first
     (steps_keep net caps readings r.steps r.begin y (kept_run net r.links x r.begin inv r.come_up) first.covers each
-    r.round.taken)
+    (open_taken net r.readings r.begin y r.steps r.round))
 
 rounds_keep : (net : Net) (caps : ℕ → Caps) (readings : ℕ → List ℕ) (k : ℕ) (x z : World) → Invariant net x → Covers net caps x
     → AreBusyRoundsAt net readings k x z → AreBusyRounds net k x z × Keeps net caps readings x z
@@ -91,7 +92,8 @@ rounds_keep net caps readings zero x z inv covers r =
 rounds_keep net caps readings (suc k) x z inv covers r =
     let one : Keeps net caps readings x r.0 = round_keeps net caps readings x r.0 inv covers r.1 r.2 in
     let here : Invariant net r.0 =
-    kept_run net r.1.steps r.1.begin r.0 (kept_run net r.1.links x r.1.begin inv r.1.come_up) r.1.round.taken in
+    kept_run net r.1.steps r.1.begin r.0 (kept_run net r.1.links x r.1.begin inv r.1.come_up)
+    (open_taken net r.1.readings r.1.begin r.0 r.1.steps r.1.round) in
     let rest : AreBusyRounds net k r.0 z × Keeps net caps readings r.0 z =
     rounds_keep net caps readings k r.0 z here one.covers r.3 in
     ((r.0, r.1, rest.0), keeps_on net caps readings x r.0 z one rest.1)

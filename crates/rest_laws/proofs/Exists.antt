@@ -14,14 +14,14 @@ use Rattle.model.specs.Invariant.{Invariant}
 use Rattle.model_laws.proofs.FreeRuns.{free_kept}
 use Rattle.model_laws.proofs.Lists.{each_such}
 use Rattle.rest_laws.specs.Leads.{next_packet}
-use Rattle.rest_laws.specs.Left.{keeps_to, only}
+use Rattle.rest_laws.specs.Left.{keeps_to}
 use Rattle.rest_laws.specs.Rounds.{AreTaken, IsAmong, IsRound, is_of_round}
-use Rattle.rest_laws.specs.ToRest.{AlwaysHasRoom, names_inside}
+use Rattle.rest_laws.specs.ToRest.{AlwaysHasRoom, AreAmong, names_inside}
 use Rattle.rest_laws.proofs.Ahead.{flat_all}
 use Rattle.rest_laws.proofs.Gains.{either}
 use Rattle.rest_laws.proofs.Lefts.{delivered_same, linked_same}
 use Rattle.rest_laws.proofs.Sending.{IsAck, IsMail, IsNone, Near, Sends, Sent}
-use Rattle.rest_laws.proofs.ToRest.{taken_append}
+use Rattle.rest_laws.proofs.Rounds.{taken_append}
 use Rattle.rest_laws.proofs.Phases.{names_same, turn_named, Done, mail_done, ack_done, Phase, phase_none, phase_on}
 use Rattle.rest_laws.proofs.Phases.{turn_of, phase_turns}
 
@@ -59,7 +59,7 @@ still_due net P Q y z sends (d ∷ ds) h = (
   still_due net P Q y z sends ds h.1,
 )
 
-phase_deliveries : (net : Net) (readings : ℕ → ℕ) (P Q : Packet → Type 0) → ((y : World) (a b k : ℕ) (p : Packet) → Invariant net y
+phase_deliveries : (net : Net) (readings : ℕ → List ℕ) (P Q : Packet → Type 0) → ((y : World) (a b k : ℕ) (p : Packet) → Invariant net y
     → names_inside net y ≡ true → Near net a b → nth (y.packets a b) k ≡ Some p → P p → Done net Q y (Deliver a b k))
     → (y : World) (ds : List (ℕ × (ℕ × ℕ))) → Invariant net y → names_inside net y ≡ true → AllByRecursion (IsDue net P y) ds
     → Phase net readings Q y (map delivery_of ds)
@@ -217,19 +217,19 @@ none_sent net x y a b sends = go (sends a b).rest (sends a b).each (sends a b).m
     go (p ∷ ps) h e = absurd h.0
 
 -- the round
-pub record RoundHere (net : Net) (readings : ℕ → ℕ) (x : World) : Type 0 where
+pub record RoundHere (net : Net) (readings : ℕ → List ℕ) (reads : ℕ → ℕ) (x : World) : Type 0 where
   pub end_ : World
   pub steps : List WorldStep
-  pub keep : AllByRecursion (λ s. keeps_to (only readings) s ≡ true) steps
-  pub round : IsRound net readings x steps end_
+  pub keep : AllByRecursion (λ s. keeps_to readings s ≡ true) steps
+  pub round : IsRound net reads x steps end_
 
 -- three phases make a round
-module _ (net : Net) (readings : ℕ → ℕ) (x : World)
-    (turns : Phase net readings IsMail x (map (turn_of readings) (below (node_count net))))
+module _ (net : Net) (readings : ℕ → List ℕ) (reads : ℕ → ℕ) (x : World)
+    (turns : Phase net readings IsMail x (map (turn_of reads) (below (node_count net))))
     (mails : Phase net readings (IsAck net) turns.end_ (map delivery_of (all_sent net x turns.end_)))
     (acks : Phase net readings IsNone mails.end_ (map delivery_of (all_sent net turns.end_ mails.end_))) where
   S1 : List WorldStep
-  S1 = map (turn_of readings) (below (node_count net))
+  S1 = map (turn_of reads) (below (node_count net))
 
   S2 : List WorldStep
   S2 = map delivery_of (all_sent net x turns.end_)
@@ -249,18 +249,18 @@ module _ (net : Net) (readings : ℕ → ℕ) (x : World)
       all_append (λ s. is_of_round s ≡ true) S1 (S2 ++ S3) turns.each
       (all_append (λ s. is_of_round s ≡ true) S2 S3 mails.each acks.each)
 
-  round_keep : AllByRecursion (λ s. keeps_to (only readings) s ≡ true) (S1 ++ (S2 ++ S3))
+  round_keep : AllByRecursion (λ s. keeps_to readings s ≡ true) (S1 ++ (S2 ++ S3))
   unfolding S1 S2 S3
   round_keep =
-      all_append (λ s. keeps_to (only readings) s ≡ true) S1 (S2 ++ S3) turns.keep
-      (all_append (λ s. keeps_to (only readings) s ≡ true) S2 S3 mails.keep acks.keep)
+      all_append (λ s. keeps_to readings s ≡ true) S1 (S2 ++ S3) turns.keep
+      (all_append (λ s. keeps_to readings s ≡ true) S2 S3 mails.keep acks.keep)
 
-  round_turns : (n : ℕ) → n < node_count net → IsAmong (Take n (Turn (readings n))) (S1 ++ (S2 ++ S3))
+  round_turns : (n : ℕ) → n < node_count net → IsAmong (Take n (Turn (reads n))) (S1 ++ (S2 ++ S3))
   unfolding S1 S2 S3 turn_of
   round_turns n low =
-      among_left (Take n (Turn (readings n))) S1 (S2 ++ S3)
-      (among_has (Take n (Turn (readings n))) S1
-      (has_map (turn_of readings) n (below (node_count net)) (has_number 0 (node_count net) n (omega arith) (omega (arith, low)))))
+      among_left (Take n (Turn (reads n))) S1 (S2 ++ S3)
+      (among_has (Take n (Turn (reads n))) S1
+      (has_map (turn_of reads) n (below (node_count net)) (has_number 0 (node_count net) n (omega arith) (omega (arith, low)))))
 
   round_deliveries : (a b k : ℕ) → next_packet x a b ≤ k → k < next_packet acks.end_ a b
       → IsAmong (Deliver a b k) (S1 ++ (S2 ++ S3))
@@ -274,7 +274,7 @@ module _ (net : Net) (readings : ℕ → ℕ) (x : World)
             (subst (λ (m : ℕ). k < m) (none_sent net mails.end_ acks.end_ a b acks.sends) high))
       ])
 
-  round_by : RoundHere net readings x
+  round_by : RoundHere net readings reads x
   round_by =
       record {
         end_ = acks.end_;
@@ -283,35 +283,36 @@ module _ (net : Net) (readings : ℕ → ℕ) (x : World)
         round = record { taken = round_taken; each = round_each; turns = round_turns; deliveries = round_deliveries };
       }
 
-pub round_exists : (net : Net) (readings : ℕ → ℕ) (x : World) → IsTree net → Invariant net x
-    → names_inside net x ≡ true → AlwaysHasRoom net readings x → RoundHere net readings x
-round_exists net readings x tree inv names room =
-    with_turns (phase_turns net readings x (below (node_count net)) tree inv names
-    (numbers_all (λ w. w < node_count net) 0 (node_count net) (λ k low high. omega (arith, high))) room)
+pub round_exists : (net : Net) (readings : ℕ → List ℕ) (reads : ℕ → ℕ) (x : World) → IsTree net → Invariant net x
+    → names_inside net x ≡ true → AlwaysHasRoom net readings x → AreAmong readings reads → RoundHere net readings reads x
+round_exists net readings reads x tree inv names room among =
+    with_turns (phase_turns net readings reads x (below (node_count net)) tree inv names
+    (numbers_all (λ w. w < node_count net) 0 (node_count net) (λ k low high. omega (arith, high))) room among)
   where
-    with_mails : (turns : Phase net readings IsMail x (map (turn_of readings) (below (node_count net))))
-        → Phase net readings (IsAck net) turns.end_ (map delivery_of (all_sent net x turns.end_)) → RoundHere net readings x
+    with_mails : (turns : Phase net readings IsMail x (map (turn_of reads) (below (node_count net))))
+        → Phase net readings (IsAck net) turns.end_ (map delivery_of (all_sent net x turns.end_))
+        → RoundHere net readings reads x
     with_mails turns mails =
-        round_by net readings x turns mails
+        round_by net readings reads x turns mails
         (phase_deliveries net readings (IsAck net) IsNone (ack_done net) mails.end_ (all_sent net turns.end_ mails.end_) mails.inv
         mails.names (sent_due net (IsAck net) turns.end_ mails.end_ mails.sends))
 
-    with_turns : Phase net readings IsMail x (map (turn_of readings) (below (node_count net))) → RoundHere net readings x
+    with_turns : Phase net readings IsMail x (map (turn_of reads) (below (node_count net))) → RoundHere net readings reads x
     with_turns turns =
         with_mails turns
         (phase_deliveries net readings IsMail (IsAck net) (mail_done net) turns.end_ (all_sent net x turns.end_) turns.inv
         turns.names (sent_due net IsMail x turns.end_ turns.sends))
 
 -- turns, deliveries and links keep names inside
-step_named : (net : Net) (readings : ℕ → ℕ) (x z : World) (s : WorldStep) → names_inside net x ≡ true
-    → keeps_to (only readings) s ≡ true → free_step net x s ≡ Ok z → names_inside net z ≡ true
+step_named : (net : Net) (readings : ℕ → List ℕ) (x z : World) (s : WorldStep) → names_inside net x ≡ true
+    → keeps_to readings s ≡ true → free_step net x s ≡ Ok z → names_inside net z ≡ true
 step_named net readings x z (Take w (Turn t)) names h e = turn_named net x z w t names e
 step_named net readings x z (Take w (Linked v)) names h e = names_same net x z (linked_same net x z w v e) names
 step_named net readings x z (Deliver a b k) names h e = names_same net x z (delivered_same net x z a b k e) names
 step_named net readings x z _ names h e = cc
 
-pub steps_named : (net : Net) (readings : ℕ → ℕ) (steps : List WorldStep) (x y : World) → names_inside net x ≡ true
-    → AllByRecursion (λ s. keeps_to (only readings) s ≡ true) steps → AreTaken net x steps y → names_inside net y ≡ true
+pub steps_named : (net : Net) (readings : ℕ → List ℕ) (steps : List WorldStep) (x y : World) → names_inside net x ≡ true
+    → AllByRecursion (λ s. keeps_to readings s ≡ true) steps → AreTaken net x steps y → names_inside net y ≡ true
 steps_named net readings [] x y names each taken = subst (λ (y : World). names_inside net y ≡ true) taken names
 steps_named net readings (s ∷ steps) x y names each taken =
     steps_named net readings steps taken.0 y (step_named net readings x taken.0 s names each.0 taken.1) each.1 taken.2

@@ -27,9 +27,9 @@ use Rattle.model_laws.proofs.PresentNets.{by_one, one_count}
 use Rattle.model_laws.proofs.Steps.{step_of}
 use Rattle.rest_laws.specs.Gains.{gained, gained_at, most, sum_over}
 use Rattle.rest_laws.specs.Rest.{IsAtRest, count_of, net_at}
-use Rattle.rest_laws.specs.Rounds.{AreLinked, AreTaken, BringsNoMore, IsRound, is_of_round}
+use Rattle.rest_laws.specs.Rounds.{AreLinked, AreTaken, BringsNoMore, IsOpenRound, is_of_round}
 use Rattle.rest_laws.proofs.Quiets.{IsFeed, below_holds, feeds_hold}
-use Rattle.rest_laws.proofs.Rounds.{found_rest}
+use Rattle.rest_laws.proofs.Rounds.{found_rest, open_taken}
 use Rattle.rest_laws.proofs.Rises.{Rises, run_rises}
 use Rattle.rest_laws.proofs.Shown.{in_feed, length_none}
 
@@ -312,17 +312,20 @@ module _ (net : Net) where
               (λ m. rises.acked w m f) (omega (arith, of_feed f k w h, rises.held w f))) l
 
   pub gains : (readings : ℕ → ℕ) (x y : World) (steps : List WorldStep) → IsTree net → Invariant net x
-      → AreLinked net x → IsRound net readings x steps y
+      → AreLinked net x → IsOpenRound net readings x steps y
       → (gained net x < gained net y) ⊎ IsAtRest net readings x
   gains readings x y steps tree inv linked round = go (either (gained net x) (gained net y))
     where
+      taken : AreTaken net x steps y
+      taken = open_taken net readings x y steps round
+
       go : ((gained net x < gained net y) ⊎ (gained net y ≤ gained net x))
           → (gained net x < gained net y) ⊎ IsAtRest net readings x
       go (inl h) = inl h
       go (inr h) =
           inr (found_rest net readings x y steps tree inv linked round
-          (no_gain x y (kept_run steps x y inv round.taken) (run_rises net steps x y round.each round.taken)
-          (outside_run steps x y round.each round.taken) h))
+          (no_gain x y (kept_run steps x y inv taken) (run_rises net steps x y round.each taken)
+          (outside_run steps x y round.each taken) h))
 
   pub at_most : (x : World) → Invariant net x → gained net x ≤ most net x
   unfolding gained most

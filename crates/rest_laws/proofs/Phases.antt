@@ -1,12 +1,11 @@
 -- Steps of one kind, one after another, all taken, and what they send.
-use Rattle.std.proofs.Common.{◌≡◌, ℕ, ◌+◌, ◌-◌, ◌<◌, Bool, true, ◌⊎◌, inl, inr}
+use Rattle.std.proofs.Common.{◌≡◌, ℕ, ◌<◌, Bool, true, ◌⊎◌, inl, inr}
 use Rattle.std.proofs.Common.{List, [], ◌∷◌, ◌++◌, map, refl, sym, subst, arith, Some}
-use Rattle.std.proofs.lemmas.Bool.{eq-eqb}
 use Rattle.std.specs.List.{AllByRecursion, list_all}
 use Rattle.std.specs.Prelude.{Ok, nat_lt}
 use Rattle.lemmas.proofs.Booleans.{and_left, and_right}
 use Rattle.model.specs.Types.{Ack, Body, Deliver, Entry, Events, Input, Mail, Net, Packet, Take, Turn, WorldStep}
-use Rattle.model.specs.Words.{has, nth}
+use Rattle.model.specs.Words.{nth}
 use Rattle.model.specs.Network.{IsTree, node_count}
 use Rattle.model.specs.History.{list_of}
 use Rattle.model.specs.FreeSteps.{free_step, recounted}
@@ -21,10 +20,10 @@ use Rattle.model_laws.proofs.Options.{there_if}
 use Rattle.model_laws.proofs.Steps.{step_of}
 use Rattle.model_laws.proofs.Turns.{TurnGives, Writes, turn_gives}
 use Rattle.model_laws.proofs.Packets.{all_take}
-use Rattle.rest_laws.specs.Left.{keeps_to, only}
+use Rattle.rest_laws.specs.Left.{keeps_to}
 use Rattle.rest_laws.specs.Rest.{net_at}
 use Rattle.rest_laws.specs.Rounds.{AreTaken, is_of_round}
-use Rattle.rest_laws.specs.ToRest.{AlwaysHasRoom, HasRoom, Reaches, names_inside}
+use Rattle.rest_laws.specs.ToRest.{AlwaysHasRoom, AreAmong, HasRoom, Reaches, names_inside}
 use Rattle.rest_laws.proofs.Entered.{Made, turn_makes}
 use Rattle.rest_laws.proofs.Lefts.{delivered_same}
 use Rattle.rest_laws.proofs.Sending.{IsAck, IsMail, IsNone, Near, Sends, Sent, ack_sends, mail_sends, sends_after, sends_counted}
@@ -164,22 +163,22 @@ ack_done net x a b k (Ack f n) inv names near there is =
     }
 
 -- some steps, one after another, and what they sent
-pub record Phase (net : Net) (readings : ℕ → ℕ) (P : Packet → Type 0) (x : World) (steps : List WorldStep) : Type 0 where
+pub record Phase (net : Net) (readings : ℕ → List ℕ) (P : Packet → Type 0) (x : World) (steps : List WorldStep) : Type 0 where
   pub end_ : World
   pub taken : AreTaken net x steps end_
   pub sends : Sends net P x end_
   pub names : names_inside net end_ ≡ true
   pub inv : Invariant net end_
-  pub keep : AllByRecursion (λ s. keeps_to (only readings) s ≡ true) steps
+  pub keep : AllByRecursion (λ s. keeps_to readings s ≡ true) steps
   pub each : AllByRecursion (λ s. is_of_round s ≡ true) steps
 
-pub phase_none : (net : Net) (readings : ℕ → ℕ) (P : Packet → Type 0) (x : World) → Invariant net x
+pub phase_none : (net : Net) (readings : ℕ → List ℕ) (P : Packet → Type 0) (x : World) → Invariant net x
     → names_inside net x ≡ true → Phase net readings P x []
 phase_none net readings P x inv names =
     record { end_ = x; taken = refl; sends = sends_self net P x x refl; names = names; inv = inv; keep = tt; each = tt }
 
-pub phase_on : (net : Net) (readings : ℕ → ℕ) (P : Packet → Type 0) (x : World) (s : WorldStep) (steps : List WorldStep)
-    → keeps_to (only readings) s ≡ true → is_of_round s ≡ true → (d : Done net P x s) → Phase net readings P d.end_ steps
+pub phase_on : (net : Net) (readings : ℕ → List ℕ) (P : Packet → Type 0) (x : World) (s : WorldStep) (steps : List WorldStep)
+    → keeps_to readings s ≡ true → is_of_round s ≡ true → (d : Done net P x s) → Phase net readings P d.end_ steps
     → Phase net readings P x (s ∷ steps)
 phase_on net readings P x s steps keep of d p =
     record {
@@ -193,24 +192,20 @@ phase_on net readings P x s steps keep of d p =
     }
 
 -- the turns
-one_of : (t : ℕ) → has (t ∷ []) t ≡ true
-one_of t = rw (eq-eqb t t refl) refl
-
 unfoldable pub turn_of : (ℕ → ℕ) → ℕ → WorldStep
-turn_of readings w = Take w (Turn (readings w))
+turn_of reads w = Take w (Turn (reads w))
 
-pub phase_turns : (net : Net) (readings : ℕ → ℕ) (x : World) (ws : List ℕ) → IsTree net → Invariant net x
-    → names_inside net x ≡ true → AllByRecursion (λ w. w < node_count net) ws → AlwaysHasRoom net readings x
-    → Phase net readings IsMail x (map (turn_of readings) ws)
+pub phase_turns : (net : Net) (readings : ℕ → List ℕ) (reads : ℕ → ℕ) (x : World) (ws : List ℕ) → IsTree net
+    → Invariant net x → names_inside net x ≡ true → AllByRecursion (λ w. w < node_count net) ws
+    → AlwaysHasRoom net readings x → AreAmong readings reads → Phase net readings IsMail x (map (turn_of reads) ws)
 unfolding turn_of
-phase_turns net readings x [] tree inv names low room = phase_none net readings IsMail x inv names
-phase_turns net readings x (w ∷ ws) tree inv names low room =
+phase_turns net readings reads x [] tree inv names low room among = phase_none net readings IsMail x inv names
+phase_turns net readings reads x (w ∷ ws) tree inv names low room among =
     let self : Reaches net readings x x = record { steps = []; keep = tt; taken = refl } in
-    let d : Done net IsMail x (Take w (Turn (readings w))) =
-    turn_done net x w (readings w) tree names low.0 (room x self w low.0) in
+    let d : Done net IsMail x (Take w (Turn (reads w))) =
+    turn_done net x w (reads w) tree names low.0 (room x self w (reads w) low.0 (among w)) in
     let one : Reaches net readings x d.end_ =
-    record { steps = Take w (Turn (readings w)) ∷ []; keep = (one_of (readings w), tt); taken = (d.end_, d.taken, refl) } in
-    phase_on net readings IsMail x (Take w (Turn (readings w))) (map (turn_of readings) ws)
-    (one_of (readings w)) refl d
-    (phase_turns net readings d.end_ ws tree (free_kept net x d.end_ (Take w (Turn (readings w))) inv d.taken) d.names low.1
-    (λ y h. room y (reaches_on net readings x d.end_ y one h)))
+    record { steps = Take w (Turn (reads w)) ∷ []; keep = (among w, tt); taken = (d.end_, d.taken, refl) } in
+    phase_on net readings IsMail x (Take w (Turn (reads w))) (map (turn_of reads) ws) (among w) refl d
+    (phase_turns net readings reads d.end_ ws tree (free_kept net x d.end_ (Take w (Turn (reads w))) inv d.taken) d.names
+    low.1 (λ y h. room y (reaches_on net readings x d.end_ y one h)) among)

@@ -1,12 +1,12 @@
 -- Each step of a round loses nothing, and brings more or leaves all as it was.
-use Rattle.std.proofs.Common.{◌≡◌, ◌≢◌, ℕ, suc, ◌+◌, ◌<◌, ◌≤◌, max, min, Bool, true, false, ◌⊎◌, inl, inr}
+use Rattle.std.proofs.Common.{◌≡◌, ◌≢◌, ℕ, suc, ◌<◌, ◌≤◌, max, min, Bool, true, false, ◌⊎◌, inl, inr}
 use Rattle.std.proofs.Common.{List, [], ◌∷◌, ◌++◌, length, refl, ap, sym, subst, ◌∙◌, arith, Option, Some, None, cond}
 use Rattle.std.proofs.Common.{MatchOption, append-nil, append_assoc}
 use Rattle.std.proofs.lemmas.Bool.{eq-eqb}
 use Rattle.std.proofs.lemmas.Bool.Decides.{eqb_tells}
 use Rattle.std.specs.List.{AllByRecursion}
 use Rattle.std.specs.Prelude.{Ok}
-use Rattle.model.specs.Types.{Ack, Deliver, Entry, Feed, Input, Mail, Net}
+use Rattle.model.specs.Types.{Deliver, Entry, Feed, Input, Net}
 use Rattle.model.specs.Types.{Packet, Take, Turn, WorldStep}
 use Rattle.model.specs.Words.{with_at}
 use Rattle.model.specs.Equalities.{feed_eq}

@@ -5,6 +5,8 @@ use Rattle.std.proofs.Common.{length-append}
 use Rattle.std.specs.List.{AllByRecursion}
 use Rattle.std.specs.Option.{option_map_or}
 use Rattle.std.specs.Prelude.{Ok, slice_get}
+use Rattle.std.proofs.lemmas.List.{append-nil}
+use Rattle.lemmas.proofs.Lists.{all_append, all_left, all_right}
 use Rattle.model.specs.Types.{Ack, Deliver, Entry, Events, Feed, Input, Mail, Net}
 use Rattle.model.specs.Types.{Out, Packet, Take, Turn, WorldStep}
 use Rattle.model.specs.Words.{nth}
@@ -22,10 +24,10 @@ use Rattle.model_laws.proofs.FreeRuns.{free_kept, recount}
 use Rattle.model_laws.proofs.Steps.{step_of}
 use Rattle.rest_laws.specs.Leads.{HasMore, IsLinkedBack, next_packet}
 use Rattle.rest_laws.specs.Rest.{IsAtRest, IsQuiet, leaves, net_at}
-use Rattle.rest_laws.specs.Rounds.{AreLinked, AreTaken, BringsNoMore, IsAmong, IsRound, is_of_round}
+use Rattle.rest_laws.specs.Rounds.{AreLinked, AreTaken, BringsNoMore, IsAmong, IsOpenRound, IsRound, is_of_round}
 use Rattle.rest_laws.proofs.Leads.{Answers, FirstSent, IsNear, Stays, answer_brings, both_parts, came, not_itself}
 use Rattle.rest_laws.proofs.Leads.{after, packet_brings, raised_here, sends_first, sent_first, took, turn, turn_stays, view_stays}
-use Rattle.rest_laws.proofs.Rises.{Rises, Same, same_on, same_self, Moves, rises_recounted, same_recounted}
+use Rattle.rest_laws.proofs.Rises.{Rises, Same, same_on, same_self, Moves, rises_on, rises_recounted, same_recounted}
 use Rattle.rest_laws.proofs.Rises.{stays_recounted, step_moves, run_rises}
 
 -- packets that are there stay at their numbers, and none is delivered before it is there
@@ -89,6 +91,11 @@ delivered_later net x z y s steps e rises all a b k low high =
           length_more x z rises a b,
         ))
 
+pub taken_append : (net : Net) (ss ts : List WorldStep) (x y z : World) → AreTaken net x ss y → AreTaken net y ts z
+    → AreTaken net x (ss ++ ts) z
+taken_append net [] ts x y z h k = subst (λ (y : World). AreTaken net y ts z) (sym h) k
+taken_append net (s ∷ ss) ts x y z h k = (h.0, h.1, taken_append net ss ts h.0 y z h.2 k)
+
 -- where the end has no more, no step has
 no_more : (x z y : World) → BringsNoMore x y → Rises z y → HasMore x z → ⊥
 no_more x z y none rises (HasMore.held w f h) = omega (arith, h, none.held w f, rises.held w f)
@@ -134,21 +141,26 @@ module _ (net : Net) (x y : World) (n m : ℕ) (inv : Invariant net x) (none : B
       (stays_then net x z taken.0 y s same none (run_rises net steps taken.0 y each.1 taken.2) moves) each.1 taken.2
       q len (there_then z taken.0 moves.rises m n q (Ack f len) there) more later
 
-  -- a packet that is not known to be held would bring more, or such an answer
-  no_packet : (x.sessions m).links n ≡ true → m ≢ n → (steps : List WorldStep) (z : World) → Stays x z
-      → AllByRecursion (λ s. is_of_round s ≡ true) steps → AreTaken net z steps y → AreDelivered z steps y → (p : ℕ)
-      → nth (z.packets n m) p ≡ Some (Mail f (1 + (x.sessions n).acked m f)) → IsAmong (Deliver n m p) steps → ⊥
+  -- a packet that is not known to be held would bring more, or such an answer: it comes in the first steps, which lead
+  -- to u, and what was sent by then is delivered
+  no_packet : (u : World) (last : List WorldStep) → AllByRecursion (λ s. is_of_round s ≡ true) last → AreTaken net u last y
+      → (x.sessions m).links n ≡ true → m ≢ n → (first : List WorldStep) (z : World) → Stays x z
+      → AllByRecursion (λ s. is_of_round s ≡ true) first → AreTaken net z first u → AreDelivered z (first ++ last) u
+      → (p : ℕ) → nth (z.packets n m) p ≡ Some (Mail f (1 + (x.sessions n).acked m f)) → IsAmong (Deliver n m p) first → ⊥
   unfolding free_step
-  no_packet up differ [] z same each taken all p there among = among
-  no_packet up differ (s ∷ steps) z same each taken all p there (inl e) =
+  no_packet u last each_last to_end up differ [] z same each taken all p there among = among
+  no_packet u last each_last to_end up differ (s ∷ first) z same each taken all p there (inl e) =
       go (packet_brings net x n m inv (recounted z) (stays_recounted x z same) up p f there here taken.0
       (subst (λ s. free_step net z s ≡ Ok taken.0) e taken.1))
     where
-      ends : Rises taken.0 y
-      ends = run_rises net steps taken.0 y each.1 taken.2
+      to_u : Rises taken.0 u
+      to_u = run_rises net first taken.0 u each.1 taken.2
 
-      other : IsAmong (Deliver m n (next_packet z m n)) (s ∷ steps)
-          → IsAmong (Deliver m n (next_packet z m n)) steps
+      ends : Rises taken.0 y
+      ends = rises_on taken.0 u y to_u (run_rises net last u y each_last to_end)
+
+      other : IsAmong (Deliver m n (next_packet z m n)) (s ∷ (first ++ last))
+          → IsAmong (Deliver m n (next_packet z m n)) (first ++ last)
       other (inr h) = h
       other (inl h) = absurd (differ (ends_of (sym e ∙ h)))
         where
@@ -158,21 +170,31 @@ module _ (net : Net) (x y : World) (n m : ℕ) (inv : Invariant net x) (none : B
       go : (HasMore x taken.0 ⊎ Answers net x n m inv (recounted z) taken.0 f) → ⊥
       go (inl h) = no_more x taken.0 y none ends h
       go (inr a) =
-          no_answer steps taken.0 a.stays each.1 taken.2 (next_packet z m n) a.len a.there a.more
+          no_answer (first ++ last) taken.0 a.stays (all_append (λ s. is_of_round s ≡ true) first last each.1 each_last)
+          (taken_append net first last taken.0 u y taken.2 to_end) (next_packet z m n) a.len a.there a.more
           (other (all m n (next_packet z m n) (omega arith)
           (let l : next_packet z m n ≤ length (taken.0.packets m n) =
           nth_within (taken.0.packets m n) (next_packet z m n) (Ack f a.len) a.there in
-          omega (arith, l, length_more taken.0 y ends m n))))
-  no_packet up differ (s ∷ steps) z same each taken all p there (inr later) =
+          omega (arith, l, length_more taken.0 u to_u m n))))
+  no_packet u last each_last to_end up differ (s ∷ first) z same each taken all p there (inr later) =
       let moves : Moves z taken.0 = step_moves net z taken.0 s each.0 taken.1 in
-      no_packet up differ steps taken.0
-      (stays_then net x z taken.0 y s same none (run_rises net steps taken.0 y each.1 taken.2) moves) each.1 taken.2
-      (delivered_later net z taken.0 y s steps taken.1 moves.rises all) p
+      let ends : Rises taken.0 y =
+      rises_on taken.0 u y (run_rises net first taken.0 u each.1 taken.2) (run_rises net last u y each_last to_end) in
+      no_packet u last each_last to_end up differ first taken.0 (stays_then net x z taken.0 y s same none ends moves)
+      each.1 taken.2 (delivered_later net z taken.0 u s (first ++ last) taken.1 moves.rises all) p
       (there_then z taken.0 moves.rises n m p (Mail f (1 + (x.sessions n).acked m f)) there) later
 
 -- the turns of a round
 module _ (net : Net) (x0 y : World) (tree : IsTree net) (linked : AreLinked net x0) (none : BringsNoMore x0 y)
-    (n : ℕ) (n_in : n < node_count net) (t : ℕ) where
+    (n : ℕ) (n_in : n < node_count net) (t : ℕ) (turned arrived : World) (middle last : List WorldStep)
+    (each_middle : AllByRecursion (λ s. is_of_round s ≡ true) middle)
+    (each_last : AllByRecursion (λ s. is_of_round s ≡ true) last)
+    (to_arrived : AreTaken net turned middle arrived) (to_end : AreTaken net arrived last y) where
+  after_turned : Rises turned y
+  after_turned =
+      rises_on turned arrived y (run_rises net middle turned arrived each_middle to_arrived)
+      (run_rises net last arrived y each_last to_end)
+
   back_at : (x : World) → Same x0 x → IsLinkedBack net x n
   back_at x same m near up =
       let e : net_at net x n ≡ net_at net x0 n = ap (net_by net) (view_stays x0 x same.stays n (Events 0)) in
@@ -204,11 +226,16 @@ module _ (net : Net) (x0 y : World) (tree : IsTree net) (linked : AreLinked net 
           }
 
   module _ (x z : World) (inv : Invariant net x) (back : IsLinkedBack net x n) (less : BringsNoMore x y)
-      (steps : List WorldStep) (each : AllByRecursion (λ s. is_of_round s ≡ true) steps)
-      (taken : AreTaken net z steps y) (is : after net x n t tree inv back ≡ z) (rises : Rises x z)
-      (e : free_step net x (Take n (Turn t)) ≡ Ok z) (all : AreDelivered x (Take n (Turn t) ∷ steps) y) where
+      (first : List WorldStep) (each : AllByRecursion (λ s. is_of_round s ≡ true) first)
+      (taken : AreTaken net z first turned) (is : after net x n t tree inv back ≡ z) (rises : Rises x z)
+      (e : free_step net x (Take n (Turn t)) ≡ Ok z)
+      (sent : AreDelivered x (Take n (Turn t) ∷ (first ++ middle)) turned)
+      (answers : AreDelivered x (Take n (Turn t) ∷ ((first ++ middle) ++ last)) arrived) where
+    to_turned : Rises z turned
+    to_turned = run_rises net first z turned each taken
+
     ends : Rises z y
-    ends = run_rises net steps z y each taken
+    ends = rises_on z turned y to_turned after_turned
 
     not_kept : (g : Entry) → (turn net x n t tree inv back).made ≡ Some g → ⊥
     unfolding after turn
@@ -237,17 +264,20 @@ module _ (net : Net) (x0 y : World) (tree : IsTree net) (linked : AreLinked net 
         (sent_first x n Origin.Own (turn net x n t tree inv back) s.to
         (Mail s.feed (1 + (x.sessions n).acked s.to s.feed)) os (outs ∙ ap (λ p. p ∷ os) s.is)) in
         let same : Stays x z = subst (Stays x) is (turn_stays net x n t tree inv back nothing) in
-        no_packet net x y n s.to inv less s.feed s.more (back s.to near.0 near.1)
-        (not_itself net x n t tree inv back s.to s.near) steps z same each taken
-        (delivered_later net x z y (Take n (Turn t)) steps e rises all) (next_packet x n s.to) there
-        (later s.to (all n s.to (next_packet x n s.to) (omega arith)
+        no_packet net x y n s.to inv less s.feed s.more arrived last each_last to_end (back s.to near.0 near.1)
+        (not_itself net x n t tree inv back s.to s.near) (first ++ middle) z same
+        (all_append (λ s. is_of_round s ≡ true) first middle each each_middle)
+        (taken_append net first middle z turned arrived taken to_arrived)
+        (delivered_later net x z arrived (Take n (Turn t)) ((first ++ middle) ++ last) e rises answers)
+        (next_packet x n s.to) there
+        (later s.to (sent n s.to (next_packet x n s.to) (omega arith)
         (let l : next_packet x n s.to ≤ length (z.packets n s.to) =
         nth_within (z.packets n s.to) (next_packet x n s.to) (Mail s.feed (1 + (x.sessions n).acked s.to s.feed))
         there in
-        omega (arith, l, length_more z y ends n s.to))))
+        omega (arith, l, length_more z turned to_turned n s.to))))
       where
-        later : (m : ℕ) → IsAmong (Deliver n m (next_packet x n m)) (Take n (Turn t) ∷ steps)
-            → IsAmong (Deliver n m (next_packet x n m)) steps
+        later : (m : ℕ) → IsAmong (Deliver n m (next_packet x n m)) (Take n (Turn t) ∷ (first ++ middle))
+            → IsAmong (Deliver n m (next_packet x n m)) (first ++ middle)
         later m (inr h) = h
         later m (inl h) = cc
 
@@ -268,12 +298,13 @@ module _ (net : Net) (x0 y : World) (tree : IsTree net) (linked : AreLinked net 
         go None h [] k = quiet_then h k
         go None h (o ∷ os) k = absurd (not_sent o os h k)
 
-  turn_found : (steps : List WorldStep) (x : World) → Same x0 x → Invariant net x
-      → AllByRecursion (λ s. is_of_round s ≡ true) steps → AreTaken net x steps y → AreDelivered x steps y
-      → IsAmong (Take n (Turn t)) steps → IsQuiet net x0 n t
+  turn_found : (first : List WorldStep) (x : World) → Same x0 x → Invariant net x
+      → AllByRecursion (λ s. is_of_round s ≡ true) first → AreTaken net x first turned
+      → AreDelivered x (first ++ middle) turned → AreDelivered x ((first ++ middle) ++ last) arrived
+      → IsAmong (Take n (Turn t)) first → IsQuiet net x0 n t
   unfolding after turn free_step
-  turn_found [] x same inv each taken all among = absurd among
-  turn_found (s ∷ steps) x same inv each taken all (inl e) =
+  turn_found [] x same inv each taken sent answers among = absurd among
+  turn_found (s ∷ first) x same inv each taken sent answers (inl e) =
       let here : free_step net x (Take n (Turn t)) ≡ Ok taken.0 =
       subst (λ (s : WorldStep). free_step net x s ≡ Ok taken.0) e taken.1 in
       let p : (step_fault (net_at net x n) n (view_at x n) (x.sessions n) (Input.Local (Turn t)) ≡ None)
@@ -282,27 +313,69 @@ module _ (net : Net) (x0 y : World) (tree : IsTree net) (linked : AreLinked net 
       let again : Same x0 (recounted x) = same_recounted x0 x same in
       quiet_before x same
       (turn_quiet (recounted x) taken.0 (recount net x inv) (back_at (recounted x) again)
-      (none_since (recounted x) again) steps each.1 taken.2 p.1
+      (none_since (recounted x) again) first each.1 taken.2 p.1
       (rises_recounted x taken.0 (step_moves net x taken.0 s each.0 taken.1).rises) here
-      (subst (λ (s : WorldStep). AreDelivered x (s ∷ steps) y) e all) p.0)
-  turn_found (s ∷ steps) x same inv each taken all (inr later) =
+      (subst (λ (s : WorldStep). AreDelivered x (s ∷ (first ++ middle)) turned) e sent)
+      (subst (λ (s : WorldStep). AreDelivered x (s ∷ ((first ++ middle) ++ last)) arrived) e answers) p.0)
+  turn_found (s ∷ first) x same inv each taken sent answers (inr later) =
       let moves : Moves x taken.0 = step_moves net x taken.0 s each.0 taken.1 in
       go moves.change
-      (λ same. turn_found steps taken.0 same (free_kept net x taken.0 s inv taken.1) each.1 taken.2
-      (delivered_later net x taken.0 y s steps taken.1 moves.rises all) later)
+      (λ same. turn_found first taken.0 same (free_kept net x taken.0 s inv taken.1) each.1 taken.2
+      (delivered_later net x taken.0 turned s (first ++ middle) taken.1 moves.rises sent)
+      (delivered_later net x taken.0 arrived s ((first ++ middle) ++ last) taken.1 moves.rises answers) later)
     where
       go : (HasMore x taken.0 ⊎ Same x taken.0) → (Same x0 taken.0 → IsQuiet net x0 n t) → IsQuiet net x0 n t
       go (inl h) more =
-          absurd (no_more x taken.0 y (none_since x same) (run_rises net steps taken.0 y each.1 taken.2) h)
+          absurd (no_more x taken.0 y (none_since x same)
+          (rises_on taken.0 turned y (run_rises net first taken.0 turned each.1 taken.2) after_turned) h)
       go (inr h) more = more (same_on x0 x taken.0 same h)
 
+-- the steps of an open round, taken one after another
+pub open_taken : (net : Net) (readings : ℕ → ℕ) (x y : World) (steps : List WorldStep)
+    → IsOpenRound net readings x steps y → AreTaken net x steps y
+open_taken net readings x y steps r =
+    subst (λ (ss : List WorldStep). AreTaken net x ss y) (sym r.split)
+    (taken_append net (r.turning ++ r.arriving) r.answering x r.arrived y
+    (taken_append net r.turning r.arriving x r.turned r.arrived r.to_turned r.to_arrived) r.to_end)
+
 pub found_rest : (net : Net) (readings : ℕ → ℕ) (x y : World) (steps : List WorldStep) → IsTree net
-    → Invariant net x → AreLinked net x → IsRound net readings x steps y → BringsNoMore x y
+    → Invariant net x → AreLinked net x → IsOpenRound net readings x steps y → BringsNoMore x y
     → IsAtRest net readings x
-found_rest net readings x y steps tree inv linked round none =
+found_rest net readings x y steps tree inv linked r none =
     record {
       linked = λ n m n_in m_in near. (linked n m n_in near).0;
       quiet =
-          λ n n_in. turn_found net x y tree linked none n n_in (readings n) steps x (same_self x) inv round.each
-          round.taken round.deliveries (round.turns n n_in);
+          λ n n_in. turn_found net x y tree linked none n n_in (readings n) r.turned r.arrived r.arriving r.answering
+          (all_right IsOf r.turning r.arriving both) (all_right IsOf (r.turning ++ r.arriving) r.answering each)
+          r.to_arrived r.to_end r.turning x (same_self x) inv (all_left IsOf r.turning r.arriving both) r.to_turned r.sent
+          (subst (λ (ss : List WorldStep). AreDelivered x ss r.arrived) r.split r.answers) (r.turns n n_in);
+    }
+  where
+    IsOf : WorldStep → Type 0
+    IsOf s = is_of_round s ≡ true
+
+    each : AllByRecursion IsOf ((r.turning ++ r.arriving) ++ r.answering)
+    each = subst (λ (ss : List WorldStep). AllByRecursion IsOf ss) r.split r.each
+
+    both : AllByRecursion IsOf (r.turning ++ r.arriving)
+    both = all_left IsOf (r.turning ++ r.arriving) r.answering each
+
+-- a round is an open one
+pub opens : (net : Net) (readings : ℕ → ℕ) (x y : World) (steps : List WorldStep) → IsRound net readings x steps y
+    → IsOpenRound net readings x steps y
+opens net readings x y steps r =
+    record {
+      turning = steps;
+      turned = y;
+      arriving = [];
+      arrived = y;
+      answering = [];
+      split = sym (append-nil (steps ++ []) ∙ append-nil steps);
+      to_turned = r.taken;
+      to_arrived = refl;
+      to_end = refl;
+      each = r.each;
+      turns = r.turns;
+      sent = λ a b k low high. subst (IsAmong (Deliver a b k)) (sym (append-nil steps)) (r.deliveries a b k low high);
+      answers = r.deliveries;
     }

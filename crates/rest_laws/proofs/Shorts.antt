@@ -18,7 +18,7 @@ use Rattle.model.specs.World.{World, view_at}
 use Rattle.model_laws.proofs.Formed.{entry_formed}
 use Rattle.model_laws.proofs.Options.{slice_get_all, there_if}
 use Rattle.model_laws.proofs.Turns.{TurnGives, Writes, turn_gives}
-use Rattle.rest_laws.specs.Left.{keeps_to, only}
+use Rattle.rest_laws.specs.Left.{keeps_to}
 use Rattle.rest_laws.specs.Rest.{net_at}
 use Rattle.rest_laws.specs.Rounds.{AreTaken}
 use Rattle.rest_laws.specs.Short.{answer_size, are_answers_short, has_short_answer}
@@ -33,7 +33,7 @@ use Rattle.rest_laws.proofs.Sizes.{event_short}
 use Rattle.rest_laws.proofs.Taken.{count_at}
 
 -- what a turn makes is no order
-event_answered : (N : Net) (V : View) (w : ℕ) (live : List LiveJob) (t : ℕ) (b : Body) → TurnGives N V w live t b
+pub event_answered : (N : Net) (V : View) (w : ℕ) (live : List LiveJob) (t : ℕ) (b : Body) → TurnGives N V w live t b
     → has_short_answer b ≡ true
 event_answered N V w live t b (TurnGives.clocked due) = refl
 event_answered N V w live t b (TurnGives.lost j n e dead) = refl
@@ -64,8 +64,8 @@ short_made net x z w t b made h =
     (there_if (TurnGives (net_at net x w) (view_at x w) w (x.sessions w).live t) _ b
     (turn_gives (net_at net x w) (view_at x w) w (x.sessions w).live t) made.body))))
 
-step_short : (net : Net) (readings : ℕ → ℕ) (x z : World) (s : WorldStep) → are_answers_short net x ≡ true
-    → keeps_to (only readings) s ≡ true → free_step net x s ≡ Ok z → are_answers_short net z ≡ true
+step_short : (net : Net) (readings : ℕ → List ℕ) (x z : World) (s : WorldStep) → are_answers_short net x ≡ true
+    → keeps_to readings s ≡ true → free_step net x s ≡ Ok z → are_answers_short net z ≡ true
 step_short net readings x z (Take w (Turn t)) h keep e = go (turn_makes net x z w t e).1
   where
     go : ((z.history ≡ x.history) ⊎ ((b : Body) × Made net x z w t b)) → are_answers_short net z ≡ true
@@ -75,8 +75,8 @@ step_short net readings x z (Take w (Linked v)) h keep e = short_same net x z (l
 step_short net readings x z (Deliver a b k) h keep e = short_same net x z (delivered_same net x z a b k e) h
 step_short net readings x z _ h keep e = cc
 
-steps_short : (net : Net) (readings : ℕ → ℕ) (steps : List WorldStep) (x y : World) → are_answers_short net x ≡ true
-    → AllByRecursion (λ s. keeps_to (only readings) s ≡ true) steps → AreTaken net x steps y → are_answers_short net y ≡ true
+steps_short : (net : Net) (readings : ℕ → List ℕ) (steps : List WorldStep) (x y : World) → are_answers_short net x ≡ true
+    → AllByRecursion (λ s. keeps_to readings s ≡ true) steps → AreTaken net x steps y → are_answers_short net y ≡ true
 steps_short net readings [] x y h keep taken = subst (λ (y : World). are_answers_short net y ≡ true) taken h
 steps_short net readings (s ∷ steps) x y h keep taken =
     steps_short net readings steps taken.0 y (step_short net readings x taken.0 s h keep.0 taken.1) keep.1 taken.2
@@ -137,9 +137,9 @@ module _ (net : Net) (x : World) (w t : ℕ) (inv : Invariant net x) (names : na
       go None h = refl
       go (Some b) h = not_long (entry_size (next_entry (view_at x w) (Events w) b)) (h b refl)
 
-pub always_short : (net : Net) (readings : ℕ → ℕ) (x : World) → Invariant net x → names_inside net x ≡ true
+pub always_short : (net : Net) (readings : ℕ → List ℕ) (x : World) → Invariant net x → names_inside net x ≡ true
     → are_answers_short net x ≡ true → AlwaysShort net readings x
-always_short net readings x inv names short y h w w_in =
-    turn_short net y w (readings w) (kept_run net h.steps x y inv h.taken)
+always_short net readings x inv names short y h w t w_in among =
+    turn_short net y w t (kept_run net h.steps x y inv h.taken)
     (steps_named net readings h.steps x y names h.keep h.taken)
     (steps_short net readings h.steps x y short h.keep h.taken) w_in

@@ -9,12 +9,13 @@ use Rattle.model.specs.Network.{IsTree, are_neighbours, chain, hop, is_manager}
 use Rattle.model.specs.Everything.{everything}
 use Rattle.model.specs.History.{list_of}
 use Rattle.model_laws.proofs.Keeps.{always_invariant}
-use Rattle.rest_laws.specs.Left.{caps_of, deps_ahead, entries, job_left, jobs_ahead, left, left_of, only, orders_left}
+use Rattle.rest_laws.specs.Left.{caps_of, deps_ahead, entries, job_left, jobs_ahead, left, left_of, orders_left}
 use Rattle.rest_laws.specs.Left.{records_left, stream_left, streams_ahead}
 use Rattle.rest_laws.specs.Rest.{HasDoneItsWork, IsAtRest, IsQuiet, net_at}
 use Rattle.rest_laws.specs.Short.{answer_size, are_answers_short}
-use Rattle.rest_laws.specs.ToRest.{ComesToRest, names_inside}
-use Rattle.rest_laws.specs.Trio.{trio, trio_begun, trio_later, trio_launched, trio_linked, trio_orders, trio_told}
+use Rattle.rest_laws.specs.ToRest.{AreAmong, ComesToRest, names_inside}
+use Rattle.rest_laws.specs.Trio.{trio, trio_begun, trio_clocks, trio_later, trio_launched, trio_linked, trio_orders, trio_readings}
+use Rattle.rest_laws.specs.Trio.{trio_told}
 use Rattle.rest_laws.proofs.Done.{done}
 use Rattle.rest_laws.proofs.Told.{told}
 
@@ -41,7 +42,7 @@ pub trio_short : are_answers_short trio trio_begun ≡ true
 unfolding everything trio_begun are_answers_short answer_size
 trio_short = refl
 
-pub trio_few : entries trio trio_begun + left trio (caps_of trio trio_begun) (only (λ w. 1)) trio_begun < 4294967295
+pub trio_few : entries trio trio_begun + left trio (caps_of trio trio_begun) trio_readings trio_begun < 4294967295
 unfolding everything trio_begun caps_of deps_ahead streams_ahead jobs_ahead entries left left_of stream_left job_left
     orders_left records_left
 trio_few = omega arith
@@ -102,10 +103,15 @@ pub trio_known : trio_later.holdings 0 (Events 2) ≡ 5
 unfolding everything trio_later
 trio_known = refl
 
-pub trio_comes : ComesToRest trio (λ w. 1) trio_begun
+trio_among : (k : ℕ) → AreAmong trio_readings (trio_clocks k)
+trio_among zero w = refl
+trio_among (suc k) w = refl
+
+pub trio_comes : ComesToRest trio trio_readings trio_clocks trio_begun
 unfolding trio_begun
 trio_comes =
-    told trio (λ w. 1) trio_begun trio_tree (always_invariant trio trio_orders) trio_names trio_short trio_few
+    told trio trio_readings trio_clocks trio_begun trio_tree (always_invariant trio trio_orders) trio_names trio_short
+    trio_few trio_among
 
 pub trio_work : HasDoneItsWork trio (λ w. 1) trio_later
 unfolding trio_later

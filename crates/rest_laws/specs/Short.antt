@@ -1,7 +1,7 @@
 -- How long the answers to orders are, told by the orders alone.
 use Rattle.std.specs.List.{AllByRecursion, list_all}
 use Rattle.std.specs.Prelude.{[], ℕ, ◌&&◌, ◌*◌, ◌+◌, ◌≡◌, ◌≤◌, Bool, length, nat_le, true}
-use Rattle.model.specs.Types.{Body, Cmd, Entry, JobDraft, Net, Order, Submit}
+use Rattle.model.specs.Types.{Body, Cmd, CrashTake, Entry, JobDraft, Local, Net, Order, Submit, Take, Typed, WorldStep}
 use Rattle.model.specs.Network.{node_count}
 use Rattle.model.specs.Sizes.{cmd_size, stream_draft_size}
 use Rattle.model.specs.World.{World}
@@ -15,6 +15,16 @@ answer_size c = 15 + cmd_size c
 abbrev pub has_short_answer : Body → Bool
 has_short_answer (Order c) = nat_le (answer_size c) 4194304
 has_short_answer _ = true
+
+-- where it is given at a workstation, or in a step of a world
+abbrev pub gives_short : Local → Bool
+gives_short (Typed to c) = has_short_answer (Order c)
+gives_short _ = true
+
+abbrev pub orders_short : WorldStep → Bool
+orders_short (Take w l) = gives_short l
+orders_short (CrashTake w l kept) = gives_short l
+orders_short _ = true
 
 -- an entry that counts so many workstations is no longer than a record may be
 abbrev pub can_count : ℕ → Bool

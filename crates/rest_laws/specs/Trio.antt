@@ -1,6 +1,6 @@
 -- A master, a manager below it and an agent below that one: one job on the agent, and an order from the agent to the
 -- master.
-use Rattle.std.specs.Prelude.{[], ℕ, ◌++◌, ◌∷◌, List, None, Some, codes, false, map, pos, true}
+use Rattle.std.specs.Prelude.{[], ℕ, ◌++◌, ◌∷◌, List, None, Some, codes, false, map, pos, suc, true, zero}
 use Rattle.model.specs.Types.{Carry, Command, Deliver, Limit, Linked, Local, Net, Next, Recovery, StreamDraft, Take}
 use Rattle.model.specs.Types.{Turn, Typed, WorldStep}
 use Rattle.model.specs.Words.{numbers_from}
@@ -74,6 +74,14 @@ trio_told =
     ++ flow 1 0 2 6
     ++ flow 0 1 2 6
     ++ (Take 0 (Turn 1) ∷ Deliver 0 1 8 ∷ Deliver 1 0 8 ∷ Take 1 (Turn 1) ∷ Deliver 1 2 8 ∷ Deliver 2 1 13 ∷ [])
+
+-- clocks read 1 in the first round, and 2 from then on
+abbrev pub trio_readings : ℕ → List ℕ
+trio_readings w = 1 ∷ 2 ∷ []
+
+abbrev pub trio_clocks : ℕ → ℕ → ℕ
+trio_clocks zero w = 1
+trio_clocks (suc k) w = 2
 
 -- where all this leads
 unfoldable pub trio_later : World

@@ -11,7 +11,7 @@ ghost use Rattle.model.specs.Invariant.{Invariant};
 ghost use Rattle.rest_laws.specs.Gains.{gained, most};
 ghost use Rattle.rest_laws.specs.Left.{AreBusyRoundsAt, Caps, Covers, bound_of, caps_of, entries, keeps_to, left};
 ghost use Rattle.rest_laws.specs.Leads.{IsLinkedBack, LeadsOn};
-ghost use Rattle.rest_laws.specs.Rounds.{AreBusyRounds, AreLinked, AreTaken, BringsNoMore, IsRound};
+ghost use Rattle.rest_laws.specs.Rounds.{AreBusyRounds, AreLinked, AreTaken, BringsNoMore, IsOpenRound, IsRound};
 ghost use Rattle.rest_laws.specs.Rest.{IsAtRest, IsQuiet};
 
 /// A turn that is not quiet leads on, where the other end of each link that is up is up too: at once there is more,
@@ -23,17 +23,20 @@ pub fn a_turn_leads_on()
 {}
 
 /// A round that brings no more finds the network at rest: so a network whose links are up does not stand still before
-/// its work is done.
+/// its work is done. It may be open: what is sent late in it may come after it.
 pub fn a_round_brings_more_or_finds_rest()
-    ensures { (net : Net) (readings : ℕ → ℕ) (x y : World) (steps : List WorldStep) → IsTree net → Invariant net x
-        → AreLinked net x → IsRound net readings x steps y → BringsNoMore x y → IsAtRest net readings x }
+    ensures rest { (net : Net) (readings : ℕ → ℕ) (x y : World) (steps : List WorldStep) → IsTree net
+        → Invariant net x → AreLinked net x → IsOpenRound net readings x steps y → BringsNoMore x y
+        → IsAtRest net readings x }
+    ensures open_ { (net : Net) (readings : ℕ → ℕ) (x y : World) (steps : List WorldStep)
+        → IsRound net readings x steps y → IsOpenRound net readings x steps y }
 {}
 
 /// A round gains, or finds the network at rest; and what was gained is at most so much. So rounds in which no entry is
 /// made come to rest after at most as many as are left to gain.
 pub fn a_round_gains_or_finds_rest()
     ensures gains { (net : Net) (readings : ℕ → ℕ) (x y : World) (steps : List WorldStep) → IsTree net
-        → Invariant net x → AreLinked net x → IsRound net readings x steps y
+        → Invariant net x → AreLinked net x → IsOpenRound net readings x steps y
         → (gained net x < gained net y) ⊎ IsAtRest net readings x }
     ensures most { (net : Net) (x : World) → Invariant net x → gained net x ≤ most net x }
     ensures same_most { (net : Net) (x y : World) → x.history ≡ y.history → most net x ≡ most net y }

@@ -4,12 +4,12 @@ ghost use Rattle.model.specs.Types.{Ended, Events, Launched, Limit, Mail, Obeyed
 ghost use Rattle.model.specs.Network.{IsTree};
 ghost use Rattle.model.specs.History.{list_of};
 ghost use Rattle.rest_laws.specs.AtRest.{pair, pair_apart, pair_begun, pair_later, pair_one_end, pair_round, pair_round_end};
-ghost use Rattle.rest_laws.specs.Left.{caps_of, entries, left, only};
+ghost use Rattle.rest_laws.specs.Left.{caps_of, entries, left};
 ghost use Rattle.rest_laws.specs.Rounds.{AreLinked, IsRound};
 ghost use Rattle.rest_laws.specs.Rest.{HasDoneItsWork, IsAtRest, IsQuiet, count_of};
 ghost use Rattle.rest_laws.specs.Short.{are_answers_short};
 ghost use Rattle.rest_laws.specs.ToRest.{ComesToRest, names_inside};
-ghost use Rattle.rest_laws.specs.Trio.{trio, trio_begun, trio_later};
+ghost use Rattle.rest_laws.specs.Trio.{trio, trio_begun, trio_clocks, trio_later, trio_readings};
 
 /// A network can come to rest: two workstations did, with an order given and answered. The first round of the pair
 /// shows that there are rounds.
@@ -34,14 +34,14 @@ pub fn pairs_without_links_come_to_no_rest()
 {}
 
 /// All that is asked of a network so that it comes to rest can be met, with something left to do: three workstations, one
-/// behind the other, a plan and an order, and no link up yet. Where they have come to later the agent has launched its
+/// behind the other, a plan and an order, no link up yet, and clocks that go on after the first round. Where they have come to later the agent has launched its
 /// job, its process has ended, and the order is answered.
 pub fn three_workstations_come_to_rest()
     ensures tree { IsTree trio }
     ensures names { IsTrue (names_inside trio trio_begun) }
     ensures short { IsTrue (are_answers_short trio trio_begun) }
-    ensures few { entries trio trio_begun + left trio (caps_of trio trio_begun) (only (λ w. 1)) trio_begun < 4294967295 }
-    ensures comes { ComesToRest trio (λ w. 1) trio_begun }
+    ensures few { entries trio trio_begun + left trio (caps_of trio trio_begun) trio_readings trio_begun < 4294967295 }
+    ensures comes { ComesToRest trio trio_readings trio_clocks trio_begun }
     ensures busy { IsAtRest trio (λ w. 1) trio_begun → ⊥ }
     ensures rest { IsAtRest trio (λ w. 1) trio_later }
     ensures work { HasDoneItsWork trio (λ w. 1) trio_later }

@@ -115,10 +115,13 @@ class Case:
         return node.wait()
 
     def plan(self):
-        """Asks for a plan, where there is none: a second order would be a second plan."""
-        if self.jobs():
+        """Asks for a plan, where the node says that there is none: a second order would be a second plan."""
+        jobs = self.jobs()
+        if jobs is None:
+            return False
+        if jobs:
             return True
-        status, text = self.ask("jnextplan 12/26/2003", 5)
+        status, text = self.ask("jnextplan 12/26/2003")
         return status == 0 and text.startswith("plan")
 
     def first_run(self):

@@ -1,20 +1,88 @@
 -- What is taken is a front of what was put; an honest wire brings what was made.
-use Rattle.std.proofs.Common.{Bool, true, false, if◌then◌else◌, ◌≡◌, ℕ, ◌+◌, ◌≤◌, List, [], ◌∷◌, ◌++◌, length, take, drop, refl, sym, ◌∙◌, ap, subst, append_assoc, arith, length-append, length-drop}
+use Rattle.std.proofs.Common.{Bool, true, false, if◌then◌else◌, ◌≡◌, ℕ, suc, ◌+◌, ◌≤◌, ◌<◌, ◌⊎◌, inl, inr, List, [], ◌∷◌, ◌++◌, Some, Result, Ok, Err, OnErr, length, take, drop, slice_get, refl, sym, ◌∙◌, ap, subst, append_assoc, arith, length-append, length-drop}
 use Rattle.std.proofs.Math.Seq.{take-append_seam, drop-append_seam, drop-append-add}
 use Rattle.std.proofs.lemmas.List.{take-append-drop, take-append-le}
 use Rattle.std.proofs.lemmas.Nat.{from_be_bytes-to_be_bytes_2}
 use Rattle.std.specs.Int.{w16, to_be_bytes, from_be_bytes}
-use Rattle.sealed_records.specs.Records.{Direction, AreMade, Accepts, AreShort, IsAccepted, code_of_record, next, record_of, wire}
+use Rattle.sealed_records.specs.Records.{Direction, AreMade, AreMadeAnywhere, Accepts, AreShort, HasOtherCode, IsAccepted, IsNext, IsSpent, IsUnfinished, IsWrong, behind, code_of_record, next, record_of, told_of, wire}
 
-pub in_order : (from : Direction) (put taken : List (List ℕ)) (come rest : List ℕ)
+-- a direction behind some records, one further
+abbrev numbered : List ℕ → ℕ → Direction
+numbered key number = record { key = key; number = number }
+
+shifted : (n : ℕ) (d : Direction) → behind (suc n) d ≡ behind n (next d)
+shifted n d = ap (numbered d.key) (omega arith)
+
+unmoved : (d : Direction) → behind 0 d ≡ d
+unmoved d = ap (numbered d.key) (omega arith)
+
+-- what is accepted is accepted with more behind it
+further : (d : Direction) (come bytes rest later : List ℕ) → IsAccepted d come bytes rest → IsAccepted d (come ++ later) bytes (rest ++ later)
+further d come bytes rest later is = record {
+  head = is.head;
+  code = is.code;
+  two = is.two;
+  told = is.told;
+  short = is.short;
+  size = is.size;
+  own = is.own;
+  whole = ap (λ l. l ++ later) is.whole ∙ append_assoc ((is.head ++ bytes) ++ is.code) rest later;
+}
+
+all_further : (from : Direction) (taken : List (List ℕ)) (come rest later : List ℕ) → Accepts from come taken rest
+    → Accepts from (come ++ later) taken (rest ++ later)
+all_further from [] come rest later takes = ap (λ l. l ++ later) takes
+all_further from (bytes ∷ more) come rest later takes = (
+  takes.0 ++ later,
+  further from come bytes takes.0 later takes.1,
+  all_further (next from) more takes.0 rest later takes.2,
+)
+
+-- what holds of the whole wire holds behind its first record
+made_behind : (from : Direction) (first : List ℕ) (put : List (List ℕ)) (come bytes rest : List ℕ)
+    → IsAccepted from come bytes rest → AreMade from (first ∷ put) come → AreMade (next from) put rest
+made_behind from first put come bytes rest is made = λ before here takes b r it.
+    made (bytes ∷ before) here (rest, is, takes) b r (subst (λ d. IsAccepted d here b r) (sym (shifted (length before) from)) it)
+
+none_there : (bytes : List ℕ) → slice_get {X = List ℕ} [] 0 ≡ Some bytes → ⊥
+none_there bytes same = cc
+
+first_there : (first bytes : List ℕ) (put : List (List ℕ)) → slice_get (first ∷ put) 0 ≡ Some bytes → first ≡ bytes
+first_there first bytes put same = cc
+
+all_in_order : (from : Direction) (put taken : List (List ℕ)) (come rest : List ℕ)
     → AreMade from put come → Accepts from come taken rest
-    → (later : List (List ℕ)) × (put ≡ taken ++ later)
-in_order from put [] come rest made takes = (put, refl)
-in_order from [] (bytes ∷ more) come rest made takes = absurd (made bytes takes.0 takes.1)
-in_order from (first ∷ put) (bytes ∷ more) come rest made takes =
-    let it = made bytes takes.0 takes.1 in
-    let behind = in_order (next from) put more takes.0 rest it.1 takes.2 in
-    (behind.0, ap (λ x. x ∷ put) (sym it.0) ∙ ap (λ l. bytes ∷ l) behind.1)
+    → (more : List (List ℕ)) × (put ≡ taken ++ more)
+all_in_order from put [] come rest made takes = (put, refl)
+all_in_order from [] (bytes ∷ more) come rest made takes = absurd (none_there bytes
+    (made [] come refl bytes takes.0 (subst (λ d. IsAccepted d come bytes takes.0) (sym (unmoved from)) takes.1)))
+all_in_order from (first ∷ put) (bytes ∷ more) come rest made takes =
+    let it : first ≡ bytes = first_there first bytes put
+    (made [] come refl bytes takes.0 (subst (λ d. IsAccepted d come bytes takes.0) (sym (unmoved from)) takes.1)) in
+    let later = all_in_order (next from) put more takes.0 rest
+    (made_behind from first put come bytes takes.0 takes.1 made) takes.2 in
+    (later.0, ap (λ x. x ∷ put) it ∙ ap (λ l. bytes ∷ l) later.1)
+
+pub in_order : (from : Direction) (put taken : List (List ℕ)) (come later rest : List ℕ)
+    → AreMade from put (come ++ later) → Accepts from come taken rest
+    → (more : List (List ℕ)) × (put ≡ taken ++ more)
+in_order from put taken come later rest made takes =
+    all_in_order from put taken (come ++ later) (rest ++ later) made (all_further from taken come rest later takes)
+
+-- where records end is a place
+place_of : (from : Direction) (before : List (List ℕ)) (come here : List ℕ) → Accepts from come before here
+    → (front : List ℕ) × (come ≡ front ++ here)
+place_of from [] come here takes = ([], takes)
+place_of from (bytes ∷ more) come here takes =
+    let is = takes.1 in
+    let own : List ℕ = (is.head ++ bytes) ++ is.code in
+    let it = place_of (next from) more takes.0 here takes.2 in
+    (own ++ it.0, is.whole ∙ ap (λ l. own ++ l) it.1 ∙ sym (append_assoc own it.0 here))
+
+pub made_at_ends : (from : Direction) (put : List (List ℕ)) (come : List ℕ) → AreMadeAnywhere from put come → AreMade from put come
+made_at_ends from put come made = λ before here takes bytes rest is.
+    let it = place_of from before come here takes in
+    made (length before) it.0 here it.1 bytes rest is
 
 -- two fronts of one length are the same, and so is what stands behind them
 pub same_front : (a b c d : List ℕ) → length a ≡ length c → a ++ b ≡ c ++ d → a ≡ c
@@ -51,11 +119,34 @@ none_of_nothing : (bytes code rest head : List ℕ) → length head ≡ 2 → []
 none_of_nothing bytes code rest [] two same = cc
 none_of_nothing bytes code rest (x ∷ head) two same = cc
 
-pub honest : (from : Direction) (put : List (List ℕ)) → AreShort put → AreMade from put (wire from put)
-honest from [] short = λ bytes rest is. none_of_nothing bytes is.code rest is.head is.two is.whole
-honest from (made ∷ more) short = λ bytes rest is.
-    let one = only_one from made (wire (next from) more) bytes rest short.0 is in
-    (one.0, subst (AreMade (next from) more) (sym one.1) (honest (next from) more short.1))
+-- what is accepted of a front of nothing
+none_of_front : (d : Direction) (come later bytes rest : List ℕ) → [] ≡ come ++ later → IsAccepted d come bytes rest → ⊥
+unfolding further
+none_of_front d come later bytes rest same is =
+    none_of_nothing bytes is.code (rest ++ later) is.head is.two (same ∙ (further d come bytes rest later is).whole)
+
+-- what is accepted of a front that begins with this record
+one_of_front : (d : Direction) (made more come later bytes rest : List ℕ) → length made ≤ 16384
+    → record_of d made ++ more ≡ come ++ later → IsAccepted d come bytes rest → (bytes ≡ made) × (rest ++ later ≡ more)
+one_of_front d made more come later bytes rest short same is = only_one d made more bytes (rest ++ later) short
+    (subst (λ l. IsAccepted d l bytes (rest ++ later)) (sym same) (further d come bytes rest later is))
+
+-- what is accepted of any front of an honest wire was made
+pub honest : (from : Direction) (put : List (List ℕ)) (come later : List ℕ) → AreShort put → wire from put ≡ come ++ later
+    → AreMade from put come
+honest from [] come later short same [] here takes bytes rest is =
+    absurd (none_of_front (behind 0 from) here later bytes rest (same ∙ ap (λ l. l ++ later) takes) is)
+honest from [] come later short same (first ∷ before) here takes bytes rest is =
+    absurd (none_of_front from come later first takes.0 same takes.1)
+honest from (made ∷ more) come later short same [] here takes bytes rest is =
+    let own = subst (λ d. IsAccepted d here bytes rest) (unmoved from) is in
+    let one = one_of_front from made (wire (next from) more) here later bytes rest short.0
+    (same ∙ ap (λ l. l ++ later) takes) own in
+    ap Some (sym one.0)
+honest from (made ∷ more) come later short same (first ∷ before) here takes bytes rest is =
+    let one = one_of_front from made (wire (next from) more) come later first takes.0 short.0 same takes.1 in
+    honest (next from) more takes.0 later short.1 (sym one.1) before here takes.2 bytes rest
+    (subst (λ d. IsAccepted d here bytes rest) (shifted (length before) from) is)
 
 -- the first two bytes tell the same as all
 pub told_first : (come : List ℕ) → 2 ≤ length come → from_be_bytes w16 come ≡ from_be_bytes w16 (take 2 come)
@@ -116,7 +207,72 @@ taken_record d come told behind count cut long tells low enough is =
           ∙ ap (λ l. (l ++ code) ++ drop 32 behind) (sym whole) ∙ ap (λ l. ((head ++ bytes) ++ code) ++ l) (sym left);
     }
 
+-- both parts of what has come, by the length of the first
+pub cut_at : (n : ℕ) (come told behind : List ℕ) → come ≡ told ++ behind → length told ≡ n → (take n come ≡ told) × (drop n come ≡ behind)
+cut_at n come told behind cut long = (
+  ap (λ k. take k come) (sym long) ∙ ap (take (length told)) cut ∙ take-append_seam told behind,
+  ap (λ k. drop k come) (sym long) ∙ ap (drop (length told)) cut ∙ drop-append_seam told behind,
+)
+
+-- where the length alone was put, a front of the record was
+pub front_put : {T E : Type 0} (r : Result T E) (d : Direction) (bytes old between new : List ℕ)
+    → between ≡ old ++ to_be_bytes w16 (length bytes) → new ≡ between
+    → OnErr r ((more rest : List ℕ) × (new ≡ old ++ more) × (record_of d bytes ≡ more ++ rest))
+front_put (Ok x) d bytes old between new first same = tt
+front_put (Err y) d bytes old between new first same =
+    let told : List ℕ = to_be_bytes w16 (length bytes) in
+    let code : List ℕ = code_of_record d (told ++ bytes) in
+    (told, bytes ++ code, same ∙ first, append_assoc told bytes code)
+
+-- how long it is what begins with an accepted record
+long_enough : (d : Direction) (come bytes rest : List ℕ) → IsAccepted d come bytes rest
+    → length come ≡ 34 + told_of come + length rest
+long_enough d come bytes rest is =
+    let own : List ℕ = is.head ++ bytes in
+    omega (
+      arith,
+      told_length d come bytes rest is,
+      is.two,
+      is.size,
+      ap length is.whole ∙ length-append (own ++ is.code) rest,
+      length-append own is.code,
+      length-append is.head bytes,
+    )
+
+pub whole_one : (d : Direction) (come bytes rest : List ℕ) → IsNext d come bytes rest → IsUnfinished d come → ⊥
+whole_one d come bytes rest is (inl low) = omega (arith, low, long_enough d come bytes rest is.0)
+whole_one d come bytes rest is (inr more) = omega (arith, more.2, long_enough d come bytes rest is.0)
+
+-- both parts of what has come, behind the bytes that the head tells
+cut_length : (n : ℕ) (come : List ℕ) → n ≤ length come → length (take n come) ≡ n
+cut_length n come low = omega (
+  arith,
+  low,
+  length-drop n come,
+  ap length (take-append-drop n come),
+  length-append (take n come) (drop n come),
+)
+
+pub right_one : (d : Direction) (come bytes rest : List ℕ) → IsNext d come bytes rest → IsWrong d come → ⊥
+right_one d come bytes rest is (two, inl long) = omega (arith, long, is.0.short, told_length d come bytes rest is.0)
+right_one d come bytes rest is (two, inr (inl spent)) = omega (arith, spent, is.1)
+right_one d come bytes rest is (two, inr (inr other)) =
+    let n : ℕ = 2 + told_of come in
+    other.1 (told_code d come bytes rest (take n come) (drop n come) is.0 (sym (take-append-drop n come))
+    (cut_length n come (omega (arith, other.0))))
+
+pub apart : (d : Direction) (come : List ℕ) → IsUnfinished d come → IsWrong d come → ⊥
+apart d come (inl low) wrong = omega (arith, low, wrong.0)
+apart d come (inr more) (two, inl long) = omega (arith, long, more.0)
+apart d come (inr more) (two, inr (inl spent)) = omega (arith, spent, more.1)
+apart d come (inr more) (two, inr (inr other)) = omega (arith, other.0, more.2)
+
 -- what a call that succeeded has appended
 pub grown : (b : Bool) (new old more : List ℕ) → new ≡ (if b then old ++ more else old) → b ≡ true → new ≡ old ++ more
 grown true new old more is done = is
 grown false new old more is done = cc
+
+-- what a call that failed has left
+pub left : (b : Bool) (new old more : List ℕ) → new ≡ (if b then old ++ more else old) → b ≡ false → new ≡ old
+left true new old more is done = cc
+left false new old more is done = is

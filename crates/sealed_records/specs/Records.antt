@@ -1,5 +1,5 @@
 -- The records of one direction of a connection under a key.
-use Rattle.std.specs.Prelude.{◌≡◌, ℕ, ◌+◌, ◌≤◌, ◌<◌, ◌⊎◌, ◌^◌, List, [], ◌∷◌, ◌++◌, length, take}
+use Rattle.std.specs.Prelude.{◌≡◌, ◌≢◌, ℕ, ◌+◌, ◌≤◌, ◌<◌, ◌⊎◌, ◌^◌, List, [], ◌∷◌, ◌++◌, length, take, drop, slice_get, Some}
 use Rattle.std.specs.Int.{w16, w64, to_be_bytes, from_be_bytes}
 use Rattle.keyed_hash.specs.Hmac.{hmac_sha256}
 use Rattle.sealed_records.specs.declared.seals.Taken.{Taken}
@@ -17,6 +17,14 @@ begun key = record { key = key; number = 0 }
 -- the direction behind one record more
 abbrev pub next : Direction → Direction
 next d = record { key = d.key; number = d.number + 1 }
+
+-- the direction behind this many records
+abbrev pub behind : ℕ → Direction → Direction
+behind count d = record { key = d.key; number = d.number + count }
+
+-- The number of the next record is the last that eight bytes tell. No record goes with it.
+abbrev pub IsSpent : Direction → Type 0
+IsSpent d = 2 ^ 64 ≤ d.number + 1
 
 -- the code of the next record: over its number in eight bytes, and over what it tells, its length and its bytes
 abbrev pub code_of_record : Direction → List ℕ → List ℕ
@@ -39,6 +47,10 @@ abbrev pub AreShort : List (List ℕ) → Type 0
 AreShort [] = Unit {0}
 AreShort (bytes ∷ more) = (length bytes ≤ 16384) × AreShort more
 
+-- these bytes are too many for a record, or the direction is spent
+abbrev pub IsTooMany : Direction → List ℕ → Type 0
+IsTooMany d bytes = (16384 < length bytes) ⊎ IsSpent d
+
 -- What has come begins with a record that is accepted as the next one, with these bytes, and this is left: the head tells
 -- how many bytes there are, and the code is that of the next record.
 pub record IsAccepted (d : Direction) (come bytes rest : List ℕ) : Type 0 where
@@ -56,21 +68,44 @@ abbrev pub Accepts : Direction → List ℕ → List (List ℕ) → List ℕ →
 Accepts d come [] rest = come ≡ rest
 Accepts d come (bytes ∷ more) rest = (between : List ℕ) × IsAccepted d come bytes between × Accepts (next d) between more rest
 
--- Whatever is accepted as the next record is the one that the other end put with this number, and so on behind it.
+-- Wherever records end that were accepted in turn, the record that is accepted with the next number is the one that the other
+-- end put with it.
 abbrev pub AreMade : Direction → List (List ℕ) → List ℕ → Type 0
-AreMade d [] come = (bytes rest : List ℕ) → IsAccepted d come bytes rest → ⊥
-AreMade d (made ∷ more) come = (bytes rest : List ℕ) → IsAccepted d come bytes rest → (bytes ≡ made) × AreMade (next d) more rest
+AreMade from put come = (before : List (List ℕ)) (here : List ℕ) → Accepts from come before here
+    → (bytes rest : List ℕ) → IsAccepted (behind (length before) from) here bytes rest → slice_get put (length before) ≡ Some bytes
 
--- the next record is not there whole
-abbrev pub IsShort : List ℕ → Type 0
-IsShort come = (length come < 2) ⊎ (length come < 34 + from_be_bytes w16 (take 2 come))
+-- At any place whatever, what is accepted with a number is the record that the other end put with it.
+abbrev pub AreMadeAnywhere : Direction → List (List ℕ) → List ℕ → Type 0
+AreMadeAnywhere from put come = (count : ℕ) (before here : List ℕ) → come ≡ before ++ here
+    → (bytes rest : List ℕ) → IsAccepted (behind count from) here bytes rest → slice_get put count ≡ Some bytes
 
--- What one call takes of what has come, with what was taken before and is after. A wrong one is too long, is the last that
--- can be counted, or has another code.
+-- how many bytes of the next record the first two of these tell
+abbrev pub told_of : List ℕ → ℕ
+told_of come = from_be_bytes w16 (take 2 come)
+
+-- the next record is there whole, and may be taken
+abbrev pub IsNext : Direction → List ℕ → List ℕ → List ℕ → Type 0
+IsNext d come bytes rest = IsAccepted d come bytes rest × (d.number + 1 < 2 ^ 64)
+
+-- the next record is not there whole, and what is there of it is not wrong
+abbrev pub IsUnfinished : Direction → List ℕ → Type 0
+IsUnfinished d come =
+    (length come < 2) ⊎ ((told_of come ≤ 16384) × (d.number + 1 < 2 ^ 64) × (length come < 34 + told_of come))
+
+-- the next record is there whole with another code
+abbrev pub HasOtherCode : Direction → List ℕ → Type 0
+HasOtherCode d come = (34 + told_of come ≤ length come)
+    × (code_of_record d (take (2 + told_of come) come) ≢ take 32 (drop (2 + told_of come) come))
+
+-- The head of the next record is there, and it is too long, or the direction is spent, or the code is another.
+abbrev pub IsWrong : Direction → List ℕ → Type 0
+IsWrong d come = (2 ≤ length come) × ((16384 < told_of come) ⊎ (IsSpent d ⊎ HasOtherCode d come))
+
+-- what one call takes of what has come, with what was taken before and is after
 abbrev pub Takes : Direction → List ℕ → List ℕ → Taken → Direction → List ℕ → List ℕ → Type 0
 Takes d come taken Record d' come' taken' =
-    (bytes : List ℕ) × IsAccepted d come bytes come' × (taken' ≡ taken ++ bytes) × (d' ≡ next d)
-Takes d come taken Nothing d' come' taken' = IsShort come × (d' ≡ d) × (come' ≡ come) × (taken' ≡ taken)
-Takes d come taken Wrong d' come' taken' =
-    ((bytes rest : List ℕ) → IsAccepted d come bytes rest → d.number + 1 ≡ 2 ^ 64) × (d' ≡ d) × (come' ≡ come) × (taken' ≡ taken)
-Takes d come taken NoMemory d' come' taken' = (d' ≡ d) × (come' ≡ come) × (taken' ≡ taken)
+    (bytes : List ℕ) × IsNext d come bytes come' × (taken' ≡ taken ++ bytes) × (d' ≡ next d)
+Takes d come taken Nothing d' come' taken' = IsUnfinished d come × (d' ≡ d) × (come' ≡ come) × (taken' ≡ taken)
+Takes d come taken Wrong d' come' taken' = IsWrong d come × (d' ≡ d) × (come' ≡ come) × (taken' ≡ taken)
+Takes d come taken NoMemory d' come' taken' =
+    ((bytes rest : List ℕ) × IsNext d come bytes rest) × (d' ≡ d) × (come' ≡ come) × (taken' ≡ taken)

@@ -6,7 +6,8 @@ use std::marker::Model;
 
 /// Bytes that wait: those that were put first go first. Contracts see those that are there.
 ///
-/// Where more of them have gone than are there, a further piece takes their room, so it holds at most twice what waits.
+/// Those that have gone keep their room until all have gone, until `settle`, or until a further piece comes while fewer are
+/// there than have gone. No memory is given back.
 #[derive(Drop)]
 pub struct Queue {
     bytes: Vec<u8>,
@@ -65,7 +66,7 @@ impl Queue {
         }
     }
 
-    /// Gives the room back that the bytes had which have gone.
+    /// Moves the bytes to the front, so that further ones take the room of those that have gone.
     pub fn settle(&mut self)
         ensures { self.new ≡ self.old }
     {

@@ -1,6 +1,8 @@
 //! The records of one direction.
-ghost use Rattle.std.specs.Prelude.{◌≡◌, ◌++◌, ◌<◌, ◌^◌, [], OnOk};
-ghost use Rattle.sealed_records.specs.Records.{Takes, begun, code_of_record, next, record_of};
+ghost use Rattle.std.specs.Prelude.{◌≡◌, ◌++◌, ◌+◌, ◌<◌, ◌≤◌, ◌^◌, ◌↔◌, List, ℕ, [], length, OnErr, OnOk};
+ghost use Rattle.std.specs.Result.{IsErrOf};
+ghost use Rattle.sealed_records.specs.Records.{IsTooMany, Takes, begun, code_of_record, next, record_of};
+ghost use Rattle.sealed_records.specs.declared.seals.Unput.TheVariants.{TooMany, NoMemory as NoRoom};
 
 use crate::queues::Queue;
 use keyed_hash::{CODE, are_same, code_of};
@@ -28,15 +30,18 @@ impl Model for Seal {
     ghost view = { λ s. record { key = s.key; number = s.count } };
 }
 
-/// Why a record could not be put. The direction is then spent.
+/// Why a record could not be put. It was not counted.
 #[derive(Drop)]
 pub enum Unput {
-    /// It has too many bytes, or there were 2^64 - 1 records before.
+    /// It has more than 16,384 bytes, or there were 2^64 - 1 records before. What waits is as it was.
     TooMany,
+    /// There was no memory for it. A front of it may wait, behind which no other record is accepted.
     NoMemory,
 }
 
 impl From<AllocError> for Unput {
+    ghost from_gives = { λ _ why. why ≡ NoRoom };
+
     fn from(_: AllocError) -> Self {
         Unput::NoMemory
     }
@@ -46,9 +51,9 @@ impl From<AllocError> for Unput {
 #[derive(Drop)]
 pub enum Taken {
     Record,
-    /// The next record is not there whole.
+    /// The next record is not there whole, and what is there of it is not wrong.
     Nothing,
-    /// What comes next is no record with the next number under the key.
+    /// What comes next has more than 16,384 bytes, or another code, or there were 2^64 - 1 records before.
     Wrong,
     /// There was no memory for it; it is still to be taken.
     NoMemory,
@@ -73,6 +78,12 @@ impl Seal {
     pub fn put(&mut self, bytes: &[u8], out: &mut Queue) -> Result<(), Unput>
         ensures put { OnOk result (out.new ≡ out.old ++ record_of self.old bytes.now) }
         ensures counted { OnOk result (self.new ≡ next self.old) }
+        ensures short { OnOk result (length bytes.now ≤ 16384) }
+        ensures refused { IsErrOf result TooMany ↔ IsTooMany self.old bytes.now }
+        ensures untouched { IsErrOf result TooMany → out.new ≡ out.old }
+        ensures same { OnErr result (self.new ≡ self.old) }
+        ensures front { OnErr result ((more rest : List ℕ) × (out.new ≡ out.old ++ more)
+            × (record_of self.old bytes.now ≡ more ++ rest)) }
     {
         if bytes.len() > MOST_IN_RECORD || self.count == u64::MAX {
             return Err(Unput::TooMany);

@@ -1,10 +1,10 @@
 -- What is taken is a front of what was put; an honest wire brings what was made.
-use Rattle.std.proofs.Common.{Bool, true, false, if◌then◌else◌, ◌≡◌, ℕ, suc, ◌+◌, ◌≤◌, ◌<◌, ◌⊎◌, inl, inr, List, [], ◌∷◌, ◌++◌, Some, Result, Ok, Err, OnErr, length, take, drop, slice_get, refl, sym, ◌∙◌, ap, subst, append_assoc, arith, length-append, length-drop}
+use Rattle.std.proofs.Common.{Bool, true, false, if◌then◌else◌, ◌≡◌, ℕ, suc, ◌+◌, ◌≤◌, inl, inr, List, [], ◌∷◌, ◌++◌, Some, Result, Ok, Err, OnErr, length, take, drop, slice_get, refl, sym, ◌∙◌, ap, subst, append_assoc, arith, length-append, length-drop}
 use Rattle.std.proofs.Math.Seq.{take-append_seam, drop-append_seam, drop-append-add}
 use Rattle.std.proofs.lemmas.List.{take-append-drop, take-append-le}
 use Rattle.std.proofs.lemmas.Nat.{from_be_bytes-to_be_bytes_2}
 use Rattle.std.specs.Int.{w16, to_be_bytes, from_be_bytes}
-use Rattle.sealed_records.specs.Records.{Direction, AreMade, AreMadeAnywhere, Accepts, AreShort, HasOtherCode, IsAccepted, IsNext, IsSpent, IsUnfinished, IsWrong, behind, code_of_record, next, record_of, told_of, wire}
+use Rattle.sealed_records.specs.Records.{Direction, AreMade, AreMadeAnywhere, Accepts, AreShort, IsAccepted, IsNext, IsUnfinished, IsWrong, behind, code_of_record, next, record_of, told_of, wire}
 
 -- a direction behind some records, one further
 abbrev numbered : List ℕ → ℕ → Direction

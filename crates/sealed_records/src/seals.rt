@@ -35,7 +35,7 @@ impl Model for Seal {
 pub enum Unput {
     /// It has more than 16,384 bytes, or there were 2^64 - 1 records before. What waits is as it was.
     TooMany,
-    /// There was no memory for it. A front of it may wait, behind which no other record is accepted.
+    /// There was no memory for it. A front of it may wait: put nothing behind it.
     NoMemory,
 }
 

@@ -93,7 +93,7 @@ all_chosen h q none (c ∷ cs) = go (q c) refl (all_chosen h q none cs)
     go false is more = more ∙ sym (ap (λ l. l ++ flat_map h cs) (none c is))
 
 module _ {B : Type 0} (h : Clause → List B) (k : ℕ) (only : IsOnly h k) where
-  pub apart : (q : Clause → Bool) (j : ℕ) → ((c : Clause) → q c ≡ true → kind c ≡ j) → eqb j k ≡ false → (cs : List Clause)
+  apart : (q : Clause → Bool) (j : ℕ) → ((c : Clause) → q c ≡ true → kind c ≡ j) → eqb j k ≡ false → (cs : List Clause)
       → flat_map h (filter q cs) ≡ []
   apart q j yes_ off cs = none_chosen h q (λ c t. only c (ap (λ n. eqb n k) (yes_ c t) ∙ off)) cs
 
@@ -143,7 +143,7 @@ module _ {B : Type 0} (h : Clause → List B) (k : ℕ) (only : IsOnly h k) wher
       (opens_none nine (flat_map files_in cs))
 
   -- of what stands in lists
-  pub of_lists : eqb 0 k ≡ false → eqb 1 k ≡ false → eqb 2 k ≡ false → eqb 3 k ≡ false → eqb 4 k ≡ false → eqb 5 k ≡ false
+  of_lists : eqb 0 k ≡ false → eqb 1 k ≡ false → eqb 2 k ≡ false → eqb 3 k ≡ false → eqb 4 k ≡ false → eqb 5 k ≡ false
       → (names : List (List ℕ)) (home own : Option (List ℕ)) (cs : List Clause) (G H I J : List B)
       → flat_map h (follows_of (map (normal_pred names home) (flat_map preds_in cs))) ≡ G
       → flat_map h (needs_of (map (normal_need own) (flat_map needs_in cs))) ≡ H

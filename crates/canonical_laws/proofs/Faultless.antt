@@ -92,7 +92,7 @@ faultless_of d sound f (inl there_) = no_item f (subst (λ (l : List Fault). Con
 faultless_of d sound f (inr (inl bad)) = sound.conditions f.line bad.1
 faultless_of d sound f (inr (inr on)) = sound.circles on.1.0 on.1.1
 
-pub faultless_both : (d e : Defs) → IsForm d e → Both (IsFaultless d) (IsFaultless e)
+faultless_both : (d e : Defs) → IsForm d e → Both (IsFaultless d) (IsFaultless e)
 faultless_both d e form =
     let tested = tested_both d e form in
     let conditions = conditions_both d e form in (

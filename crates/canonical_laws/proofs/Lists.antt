@@ -43,7 +43,7 @@ no_position t i (x ∷ xs) e =
     ap (λ b. cond b (Some i) (position_from t (i + 1) xs)) t2.0 ∙ no_position t (i + 1) xs t2.1
 
 -- what is left begins with the item at its place
-pub left_at : {A : Type 0} (all : List A) (k : ℕ) (x : A) (xs : List A) → drop k all ≡ x ∷ xs
+left_at : {A : Type 0} (all : List A) (k : ℕ) (x : A) (xs : List A) → drop k all ≡ x ∷ xs
     → (slice_get all k ≡ Some x) × (drop (k + 1) all ≡ xs)
 left_at [] zero x xs e = cc
 left_at [] (suc k) x xs e = cc

@@ -17,7 +17,7 @@ use Rattle.canonical_laws.proofs.Runs.{runs_same}
 use Rattle.canonical_laws.proofs.Plans.{limits_same, times_both}
 
 -- what is that of the normal form is the same of both
-pub through : {A : Type 0} (f : Defs → A) → ((d : Defs) → f (normal d) ≡ f d) → (d e : Defs) → normal d ≡ normal e → f d ≡ f e
+through : {A : Type 0} (f : Defs → A) → ((d : Defs) → f (normal d) ≡ f d) → (d e : Defs) → normal d ≡ normal e → f d ≡ f e
 through f h d e same = sym (h d) ∙ ap f same ∙ h e
 
 pub one_net : (d e : Defs) → normal d ≡ normal e → net_of d ≡ net_of e

@@ -93,7 +93,7 @@ module _ (d e : Defs) (form : IsForm d e) where
       ap (filter (is_that e b)) cpus_are
       ∙ filter_mapped (is_that e b) (is_that d b) normal_cpu (that_same b) (map (λ (c : Lined CpuDef). c.item) d.cpus)
 
-  pub stations_same : stations e ≡ map normal_cpu (stations d)
+  stations_same : stations e ≡ map normal_cpu (stations d)
   unfolding stations
   stations_same =
       (λ i. those_same true i ++ those_same false i) ∙ sym (map-append normal_cpu (those d true d.cpus) (those d false d.cpus))

@@ -17,7 +17,7 @@ part_alike d e a part.Plain m = refl
 part_alike d e a part.All m = refl
 part_alike d e a (part.Job name) m = ap (option_map (Job m)) (a.entries m name)
 
-pub target_alike : (d e : Defs) → Alike d e → (n : ℕ) (inside : Bool) (p : Pred) → target_of e n inside p ≡ target_of d n inside p
+target_alike : (d e : Defs) → Alike d e → (n : ℕ) (inside : Bool) (p : Pred) → target_of e n inside p ≡ target_of d n inside p
 target_alike d e a n inside p =
     let found : stream_at e (ws_of_pred e n p) p.name ≡ stream_at d (ws_of_pred d n p) p.name =
     a.streams (ws_of_pred e n p) p.name ∙ ap (λ h. stream_at d (option_or p.ws h) p.name) (a.homes n) in
@@ -61,7 +61,7 @@ by_parts d n inside names k (Some w) name part.Plain h eh = refl
 by_parts d n inside names k (Some w) name part.All h eh = refl
 by_parts d n inside names k (Some w) name (part.Job j) h eh = refl
 
-pub pred_means : (d : Defs) (n : ℕ) (inside : Bool) (names : List (List ℕ)) (home : Option (List ℕ)) → AreEntries d n inside names
+pred_means : (d : Defs) (n : ℕ) (inside : Bool) (names : List (List ℕ)) (home : Option (List ℕ)) → AreEntries d n inside names
     → home_of d n ≡ home → (p : Pred) → target_of d n inside (normal_pred names home p) ≡ target_of d n inside p
 pred_means d n inside names home k eh p = by_parts d n inside names k p.ws p.name p.part home eh
 

@@ -13,7 +13,7 @@ abbrev pub total : {X : Type 0} → (X → ℕ) → List X → ℕ
 total g [] = 0
 total g (x ∷ xs) = g x + total g xs
 
-pub total_append : {X : Type 0} (g : X → ℕ) (xs ys : List X) → total g (xs ++ ys) ≡ total g xs + total g ys
+total_append : {X : Type 0} (g : X → ℕ) (xs ys : List X) → total g (xs ++ ys) ≡ total g xs + total g ys
 total_append g [] ys = omega arith
 total_append g (x ∷ xs) ys = omega (arith, total_append g xs ys)
 
@@ -22,7 +22,7 @@ pub total_mapped : {X Y : Type 0} (more : Y → ℕ) (g : X → ℕ) (f : X → 
 total_mapped more g f h [] = refl
 total_mapped more g f h (x ∷ xs) = λ i. h x i + total_mapped more g f h xs i
 
-pub total_agrees : {X : Type 0} (more g : X → ℕ) → ((x : X) → more x ≡ g x) → (xs : List X) → total more xs ≡ total g xs
+total_agrees : {X : Type 0} (more g : X → ℕ) → ((x : X) → more x ≡ g x) → (xs : List X) → total more xs ≡ total g xs
 total_agrees more g h [] = refl
 total_agrees more g h (x ∷ xs) = λ i. h x i + total_agrees more g h xs i
 

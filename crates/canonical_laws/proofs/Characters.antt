@@ -1,6 +1,7 @@
--- The canonical text is UTF-8.
-use Rattle.std.proofs.Common.{◌≡◌, ◌<◌, ◌≤◌, ◌+◌, ◌/◌, ◌%◌, ◌^◌, ℕ, zero, suc, Bool, true, false, ltb, leb, eqb, if◌then◌else◌, List}
-use Rattle.std.proofs.Common.{[], ◌∷◌, ◌++◌, get_or, map, flat_map, codes, decimal, Option, Some, None, IsUtf8, refl, arith}
+-- Pieces of a canonical text that are UTF-8.
+use Rattle.std.proofs.Common.{◌≡◌, ◌<◌, ◌≤◌, ◌+◌, ◌/◌, ◌%◌, ℕ, zero, suc, Bool, true, false, ltb, leb}
+use Rattle.std.proofs.Common.{if◌then◌else◌, List, [], ◌∷◌, ◌++◌, get_or, map, flat_map, codes, decimal, Some}
+use Rattle.std.proofs.Common.{IsUtf8, refl, arith}
 use Rattle.std.specs.List.{list_all}
 use Rattle.std.proofs.lemmas.Bool.{ltb-true, and_parts}
 use Rattle.std.proofs.lemmas.Bool.Decides.{nat_tests}
@@ -17,10 +18,11 @@ use Rattle.composer_print.specs.Streams.{items}
 use Rattle.composer_print.specs.Texts.{lead, texts_from}
 use Rattle.composer_print.proofs.Dates.{after_stands, late_year}
 use Rattle.composer_print.proofs.Spelling.{short_month}
-use Rattle.composer_laws.specs.Written.{Each, IsList, WhenGiven, IsWord, IsText, IsName, IsNumber, IsTime}
+use Rattle.composer_laws.specs.Written.{Each, IsList, IsWord, IsText, IsName, IsNumber, IsTime}
 use Rattle.composer_laws.proofs.Cuts.{ascii_word}
 use Rattle.composer_laws.proofs.Words.{all_follow, name_byte, free_parts}
 
+-- bytes that are characters
 pub record AreChars (w : List ℕ) : Type 0 where
   pub utf8 : IsUtf8 w
 
@@ -91,7 +93,8 @@ date_chars day h =
     let stands = after_stands day in
     let late = late_year day h in
     let days : days_in_month d.0 d.1 ≤ 31 = short_month d.0 d.1 in
-    rw early (written_chars d.0 d.1 d.2 (omega (arith, late)) (omega (arith, stands.0.2)) (omega (arith, stands.0.4, days)))
+    rw early (written_chars d.0 d.1 d.2 (omega (arith, late)) (omega (arith, stands.0.2))
+    (omega (arith, stands.0.4, days)))
 
 -- lists
 pub each_chars : {A : Type 0} (P : A → Type 0) (f : A → List ℕ) → ((x : A) → P x → AreChars (f x)) → (xs : List A)
@@ -99,12 +102,14 @@ pub each_chars : {A : Type 0} (P : A → Type 0) (f : A → List ℕ) → ((x : 
 each_chars P f one [] h = no_chars
 each_chars P f one (x ∷ xs) h = join (one x h.0) (each_chars P f one xs h.1)
 
-pub lined_chars : {A : Type 0} (P : A → Type 0) (f : A → List ℕ) → ((x : A) → P x → AreChars (f x)) → (xs : List (Lined A))
+pub lined_chars : {A : Type 0} (P : A → Type 0) (f : A → List ℕ) → ((x : A) → P x → AreChars (f x))
+    → (xs : List (Lined A))
     → Each P (items xs) → AreChars (flat_map (λ x. f x.item) xs)
 lined_chars P f one [] h = no_chars
 lined_chars P f one (x ∷ xs) h = join (one x.item h.0) (lined_chars P f one xs h.1)
 
-pub texts_chars : (separator beginning : List ℕ) → AreChars separator → AreChars beginning → (begun : Bool) (xs : List (List ℕ))
+pub texts_chars : (separator beginning : List ℕ) → AreChars separator → AreChars beginning
+    → (begun : Bool) (xs : List (List ℕ))
     → Each AreChars xs → AreChars (texts_from separator beginning begun xs)
 texts_chars s b us ub begun [] h = no_chars
 texts_chars s b us ub begun (x ∷ xs) h =
@@ -119,7 +124,8 @@ mapped_chars : {A : Type 0} (P : A → Type 0) (f : A → List ℕ) → ((x : A)
 mapped_chars P f one [] h = tt
 mapped_chars P f one (x ∷ xs) h = (one x h.0, mapped_chars P f one xs h.1)
 
-pub list_chars : {A : Type 0} (P : A → Type 0) (f : A → List ℕ) → ((x : A) → P x → AreChars (f x)) → (beginning : List ℕ)
+pub list_chars : {A : Type 0} (P : A → Type 0) (f : A → List ℕ) → ((x : A) → P x → AreChars (f x))
+    → (beginning : List ℕ)
     → AreChars beginning → (xs : List A) → IsList P xs → AreChars (texts_from (codes ", ") beginning false (map f xs))
 list_chars P f one b ub [] h = no_chars
 list_chars P f one b ub (x ∷ xs) h =

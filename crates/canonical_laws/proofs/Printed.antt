@@ -1,5 +1,6 @@
 -- The canonical text of definitions that were read is UTF-8, line by line.
-use Rattle.std.proofs.Common.{◌≡◌, ℕ, Bool, true, false, eqb, List, [], ◌∷◌, ◌++◌, map, flat_map, codes, Option, Some, None, refl, IsUtf8}
+use Rattle.std.proofs.Common.{ℕ, Bool, true, false, eqb, List, [], ◌∷◌, ◌++◌, codes, Option, Some}
+use Rattle.std.proofs.Common.{None, refl, IsUtf8}
 use Rattle.base_types.specs.declared.Carry.{Carry}
 use Rattle.base_types.specs.declared.Carry.TheVariants as carry
 use Rattle.base_types.specs.declared.OnUntil.{OnUntil}
@@ -12,7 +13,8 @@ use Rattle.base_types.specs.declared.Work.TheVariants.{Command, Script}
 use Rattle.calendars.specs.Dates.{IsDay}
 use Rattle.composer_parser.specs.declared.CalendarDef.{CalendarDef}
 use Rattle.composer_parser.specs.declared.Clause.{Clause}
-use Rattle.composer_parser.specs.declared.Clause.TheVariants.{At, Until, Deadline, Priority, Limit, CarryForward, Follows, Needs, Prompt, Opens}
+use Rattle.composer_parser.specs.declared.Clause.TheVariants.{At, Until, Deadline, Priority, Limit, CarryForward}
+use Rattle.composer_parser.specs.declared.Clause.TheVariants.{Follows, Needs, Prompt, Opens}
 use Rattle.composer_parser.specs.declared.CpuDef.{CpuDef}
 use Rattle.composer_parser.specs.declared.CycleDef.{CycleDef}
 use Rattle.composer_parser.specs.declared.Defs.{Defs}
@@ -20,14 +22,14 @@ use Rattle.composer_parser.specs.declared.DomainDef.{DomainDef}
 use Rattle.composer_parser.specs.declared.EntryDef.{EntryDef}
 use Rattle.composer_parser.specs.declared.FreeDef.{FreeDef}
 use Rattle.composer_parser.specs.declared.JobDef.{JobDef}
-use Rattle.composer_parser.specs.declared.Lined.{Lined}
 use Rattle.composer_parser.specs.declared.Need.{Need}
 use Rattle.composer_parser.specs.declared.Offset.{Offset}
 use Rattle.composer_parser.specs.declared.OffsetUnit.{OffsetUnit}
 use Rattle.composer_parser.specs.declared.OffsetUnit.TheVariants as unit
 use Rattle.composer_parser.specs.declared.OnDef.{OnDef}
 use Rattle.composer_parser.specs.declared.OnItem.{OnItem}
-use Rattle.composer_parser.specs.declared.OnItem.TheVariants.{Weekday, EveryDay, Weekdays, Workdays, FreeDays, Request, Date, Rule, Calendar}
+use Rattle.composer_parser.specs.declared.OnItem.TheVariants.{Weekday, EveryDay, Weekdays, Workdays, FreeDays, Request}
+use Rattle.composer_parser.specs.declared.OnItem.TheVariants.{Date, Rule, Calendar}
 use Rattle.composer_parser.specs.declared.Pred.{Pred}
 use Rattle.composer_parser.specs.declared.PredPart.{PredPart}
 use Rattle.composer_parser.specs.declared.PredPart.TheVariants as part
@@ -38,17 +40,28 @@ use Rattle.composer_parser.specs.declared.ScheduleDef.{ScheduleDef}
 use Rattle.composer_parser.specs.declared.Shift.{Shift}
 use Rattle.composer_parser.specs.declared.Shift.TheVariants as shift
 use Rattle.composer_parser.specs.declared.WorkDef.{WorkDef}
-use Rattle.composer_print.specs.Clauses.{name_text, plus_text, until_text, priority_text, part_text, pred_text, units_text, need_text, prompt_text, moment_text, clause_text, clauses_text}
-use Rattle.composer_print.specs.Groups.{note_text, day_text, calendar_line, prompt_line, resource_line, job_line, header}
+use Rattle.composer_print.specs.Clauses.{name_text, plus_text, until_text, priority_text, part_text, pred_text}
+use Rattle.composer_print.specs.Clauses.{units_text, need_text, prompt_text, moment_text, clause_text, clauses_text}
+use Rattle.composer_print.specs.Groups.{note_text, day_text, calendar_line, prompt_line, resource_line, job_line}
+use Rattle.composer_print.specs.Groups.{header}
 use Rattle.composer_print.specs.Printed.{network_text, groups_text, text_of}
-use Rattle.composer_print.specs.Stations.{start_texts, zone_texts, carry_texts, carry_word, ended, options_of, options_text, on_or_off, type_word, port_text, link_text, full_text, machine_text, place_text, cpu_line, parent_text, domain_line}
-use Rattle.composer_print.specs.Streams.{weekday_text, sign_text, unit_text, offset_text, item_text, from_text, to_text, cycle_text, shift_text, on_word, on_text, flag_text, free_text, own_work_text, items, entry_line, header_line, entry_lines, schedule_lines}
+use Rattle.composer_print.specs.Stations.{start_texts, zone_texts, carry_texts, carry_word, ended, options_of}
+use Rattle.composer_print.specs.Stations.{options_text, on_or_off, type_word, port_text, link_text, full_text}
+use Rattle.composer_print.specs.Stations.{machine_text, place_text, cpu_line, parent_text, domain_line}
+use Rattle.composer_print.specs.Streams.{weekday_text, sign_text, unit_text, offset_text, item_text, from_text, to_text}
+use Rattle.composer_print.specs.Streams.{cycle_text, shift_text, on_word, on_text, flag_text, free_text, own_work_text}
+use Rattle.composer_print.specs.Streams.{items, entry_line, header_line, entry_lines, schedule_lines}
 use Rattle.composer_print.specs.Texts.{begun_after, item_of}
 use Rattle.composer_print.specs.Works.{command_text, logon_text, cond_text, recovery_text, work_text}
 use Rattle.syntax.specs.Quotes.{quoted_text}
-use Rattle.composer_laws.specs.Written.{Each, WhenGiven, IsText, IsName, IsNumber, IsTime, IsCpu, IsDomain, IsCalendar, IsPrompt, IsResource, IsCommand, IsWork, IsJob, IsPart, IsPred, IsNeed, IsPromptItem, IsClause, AreClauses, IsCycle, IsOffset, IsItem, IsOn, IsFree, IsEntry, IsSchedule, AreDefs}
+use Rattle.composer_laws.specs.Written.{Each, WhenGiven, IsText, IsName, IsNumber, IsTime, IsCpu, IsDomain, IsCalendar}
+use Rattle.composer_laws.specs.Written.{IsPrompt, IsResource, IsCommand, IsWork, IsJob, IsPart, IsPred, IsNeed}
+use Rattle.composer_laws.specs.Written.{IsPromptItem, IsClause, AreClauses, IsCycle, IsOffset, IsItem, IsOn, IsFree}
+use Rattle.composer_laws.specs.Written.{IsEntry, IsSchedule, AreDefs}
 use Rattle.composer_laws.proofs.Normals.{each_both}
-use Rattle.canonical_laws.proofs.Characters.{AreChars, no_chars, join, choose, plain, word_chars, name_chars, quoted_chars, number_chars, time_chars, date_chars, each_chars, lined_chars, texts_chars, list_chars}
+use Rattle.canonical_laws.proofs.Characters.{AreChars, no_chars, join, choose, plain, word_chars, name_chars}
+use Rattle.canonical_laws.proofs.Characters.{quoted_chars, number_chars, time_chars, date_chars, each_chars}
+use Rattle.canonical_laws.proofs.Characters.{lined_chars, texts_chars, list_chars}
 
 -- clauses
 scope_chars : (ws : Option (List ℕ)) (n : List ℕ) → WhenGiven IsName ws → IsName n → AreChars (name_text ws n)
@@ -107,10 +120,13 @@ clause_chars (Deadline t d) h = join (plain (codes " DEADLINE ") refl) (moment_c
 clause_chars (Priority n) h = join (plain (codes " PRIORITY ") refl) (priority_chars n h)
 clause_chars (Limit n) h = join (plain (codes " LIMIT ") refl) (number_chars n h)
 clause_chars CarryForward h = plain (codes " CARRYFORWARD") refl
-clause_chars (Follows ps) h = list_chars IsPred pred_text pred_chars (codes " FOLLOWS ") (plain (codes " FOLLOWS ") refl) ps h
+clause_chars (Follows ps) h =
+    list_chars IsPred pred_text pred_chars (codes " FOLLOWS ") (plain (codes " FOLLOWS ") refl) ps h
 clause_chars (Needs ns) h = list_chars IsNeed need_text need_chars (codes " NEEDS ") (plain (codes " NEEDS ") refl) ns h
-clause_chars (Prompt ps) h = list_chars IsPromptItem prompt_text ask_chars (codes " PROMPT ") (plain (codes " PROMPT ") refl) ps h
-clause_chars (Opens fs) h = list_chars (λ f. IsText f) quoted_text quoted_chars (codes " OPENS ") (plain (codes " OPENS ") refl) fs h
+clause_chars (Prompt ps) h =
+    list_chars IsPromptItem prompt_text ask_chars (codes " PROMPT ") (plain (codes " PROMPT ") refl) ps h
+clause_chars (Opens fs) h =
+    list_chars (λ f. IsText f) quoted_text quoted_chars (codes " OPENS ") (plain (codes " OPENS ") refl) fs h
 
 clauses_chars : (stream : Bool) (done cs : List Clause) → AreClauses stream done cs → AreChars (clauses_text cs)
 unfolding clauses_text
@@ -250,7 +266,8 @@ schedule_chars s h =
     join
     (join
     (join
-    (join (join (join (plain (codes "SCHEDULE ") refl) (scope_chars s.ws s.name h.ws h.name)) (free_chars s.free h.free))
+    (join (join (join (plain (codes "SCHEDULE ") refl) (scope_chars s.ws s.name h.ws h.name))
+    (free_chars s.free h.free))
     (each_chars (λ o. IsOn o) on_text on_chars (items s.ons) h.ons))
     (clauses_chars true [] (items s.clauses) h.clauses))
     (plain (codes " :\n") refl))
@@ -276,7 +293,8 @@ calendar_chars c h =
 prompt_chars : (p : PromptDef) → IsPrompt p → AreChars (prompt_line p)
 unfolding prompt_line
 prompt_chars p h =
-    join (join (join (name_chars p.name h.name) (plain (codes " ") refl)) (quoted_chars p.text h.text)) (plain (codes "\n") refl)
+    join (join (join (name_chars p.name h.name) (plain (codes " ") refl)) (quoted_chars p.text h.text))
+    (plain (codes "\n") refl)
 
 resource_chars : (r : ResourceDef) → IsResource r → AreChars (resource_line r)
 unfolding resource_line
@@ -284,7 +302,8 @@ resource_chars r h =
     join
     (join
     (join
-    (join (join (join (name_chars r.ws h.ws) (plain (codes "#") refl)) (name_chars r.name h.name)) (plain (codes " ") refl))
+    (join (join (join (name_chars r.ws h.ws) (plain (codes "#") refl)) (name_chars r.name h.name))
+    (plain (codes " ") refl))
     (number_chars r.total h.total))
     (note_chars r.text h.text))
     (plain (codes "\n") refl)
@@ -293,7 +312,8 @@ job_chars : (j : JobDef) → IsJob j → AreChars (job_line j)
 unfolding job_line
 job_chars j h =
     join
-    (join (join (join (name_chars j.ws h.ws) (plain (codes "#") refl)) (name_chars j.name h.name)) (work_chars j.work h.work))
+    (join (join (join (name_chars j.ws h.ws) (plain (codes "#") refl)) (name_chars j.name h.name))
+    (work_chars j.work h.work))
     (plain (codes "\n") refl)
 
 header_chars : {A : Type 0} (w : List ℕ) (xs : List A) → AreChars w → AreChars (header w xs)
@@ -342,7 +362,8 @@ place_chars c h =
     join
     (join
     (join
-    (join (join (join (plain (codes " DOMAIN ") refl) (name_chars c.domain h.domain)) (plain (codes " FOR MAESTRO TYPE ") refl))
+    (join (join (join (plain (codes " DOMAIN ") refl) (name_chars c.domain h.domain))
+    (plain (codes " FOR MAESTRO TYPE ") refl))
     (type_chars c.manager))
     (link_chars c.autolink))
     (full_chars c.full))
@@ -401,7 +422,8 @@ options_chars s z c hs hz =
     each_both (λ w. AreChars w) (start_texts s) (zone_texts z ++ carry_texts c) (start_chars s hs)
     (each_both (λ w. AreChars w) (zone_texts z) (carry_texts c) (zone_chars z hz) (carry_chars c)) in
     join
-    (texts_chars (codes " ") (codes "$OPTIONS\n") (plain (codes " ") refl) (plain (codes "$OPTIONS\n") refl) false all each)
+    (texts_chars (codes " ") (codes "$OPTIONS\n") (plain (codes " ") refl)
+    (plain (codes "$OPTIONS\n") refl) false all each)
     (ended_chars (begun_after false all))
 
 -- definitions

@@ -1,5 +1,5 @@
 -- What is read from a text, and from its canonical text.
-use Rattle.std.proofs.Common.{◌≡◌, ℕ, List, None, ap, sym, subst, ◌∙◌}
+use Rattle.std.proofs.Common.{◌≡◌, ℕ, List, None, sym, subst}
 use Rattle.std.specs.Prelude.{Ok}
 use Rattle.base_types.specs.declared.Token.{Token}
 use Rattle.model.specs.Types.{StreamDraft}
@@ -31,12 +31,13 @@ use Rattle.canonical_laws.proofs.Meanings.{timed_together, one_list_of_drafts}
 use Rattle.canonical_laws.proofs.Printed.{text_utf8}
 
 -- definitions that were read are as a reader gives them
-are_read : (text : List ℕ) (d : Defs) → AreDefinitions text d → AreDefs d
+pub are_read : (text : List ℕ) (d : Defs) → AreDefinitions text d → AreDefs d
 are_read text d a = read_defs text a.tokens (last_line_of text) d a.has.are a.spelled
 
 -- what is read from bytes is read from them in one way
 one_reading : (bytes : List ℕ) (ts us : List Token) (d e : Defs) → tokens_of bytes ≡ Ok ts → tokens_of bytes ≡ Ok us
-    → Spells (defs (last_line_of bytes)) (all_spelled bytes ts) d → Spells (defs (last_line_of bytes)) (all_spelled bytes us) e → d ≡ e
+    → Spells (defs (last_line_of bytes)) (all_spelled bytes ts) d
+    → Spells (defs (last_line_of bytes)) (all_spelled bytes us) e → d ≡ e
 one_reading bytes ts us d e left right one other =
     let same : ts ≡ us = cc in
     let last : ℕ = last_line_of bytes in
@@ -45,7 +46,8 @@ one_reading bytes ts us d e left right one other =
     one_value (defs last) (all_spelled bytes us) (defs_sound last) d e there_ other
 
 -- what is read from the canonical text has the normal form of what was read
-pub form_of_read : (text : List ℕ) (d e : Defs) → AreDefinitions text d → AreDefinitions (printed d) e → normal d ≡ normal e
+pub form_of_read : (text : List ℕ) (d e : Defs) → AreDefinitions text d → AreDefinitions (printed d) e
+    → normal d ≡ normal e
 form_of_read text d e a b =
     let back : IsReadBack d = read_back d (defs_normal d (are_read text d a)) in
     let same : back.2.0 ≡ e =
@@ -55,7 +57,8 @@ form_of_read text d e a b =
 pub faultless_read : (d e : Defs) → normal d ≡ normal e → Both (IsFaultless d) (IsFaultless e)
 faultless_read d e same = (λ none. one_form d e same none, λ none. one_form e d (sym same) none)
 
-pub timed_read : (d e : Defs) → normal d ≡ normal e → (day : ℕ) → Both (time_fault d day ≡ None) (time_fault e day ≡ None)
+pub timed_read : (d e : Defs) → normal d ≡ normal e → (day : ℕ)
+    → Both (time_fault d day ≡ None) (time_fault e day ≡ None)
 timed_read d e same day = (λ none. timed_together d e same day none, λ none. timed_together e d (sym same) day none)
 
 pub drafted_read : (text : List ℕ) (d e : Defs) → AreDefinitions text d → AreDefinitions (printed d) e → (day : ℕ)

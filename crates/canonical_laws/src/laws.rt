@@ -48,14 +48,17 @@ pub fn one_form_has_the_same_drafts()
         → (drafts : List StreamDraft) → AreDrafts d day drafts → AreDrafts e day drafts }
 {}
 
-/// The canonical text of definitions that were read from a text is read too. What is read from it has the same normal form,
-/// and so the same canonical text, and has a fault where they have one. It gives the same network, addresses, streams, free
-/// days, run dates and limits. A day has a time without a moment in both or in none, and has the same drafts.
+/// Definitions that were read from a text are as a reader gives them, and their canonical text is read too. What is
+/// read from it has the same normal form, as have definitions that differ in their lines alone. So it has the same
+/// canonical text, and a fault where they have one, and gives the same network, addresses, streams, free days, run
+/// dates and limits. A day has a time without a moment in both or in none, and has the same drafts.
 pub fn canonical_texts_mean_the_same()
+    ensures written { (text : List ℕ) → (d : Definitions) → AreDefinitions text d → AreDefs d }
     ensures read { (text : List ℕ) → (d : Definitions) → AreDefinitions text d
         → (e : Definitions) × AreDefinitions (printed d) e }
-    ensures form { (text : List ℕ) → (d : Definitions) → (e : Definitions) → AreDefinitions text d
+    ensures back { (text : List ℕ) → (d : Definitions) → (e : Definitions) → AreDefinitions text d
         → AreDefinitions (printed d) e → normal d ≡ normal e }
+    ensures lines { (d : Definitions) → (e : Definitions) → without_lines d ≡ without_lines e → normal d ≡ normal e }
     ensures text { (text : List ℕ) → (d : Definitions) → (e : Definitions) → AreDefinitions text d
         → AreDefinitions (printed d) e → printed d ≡ printed e }
     ensures faultless { (text : List ℕ) → (d : Definitions) → (e : Definitions) → AreDefinitions text d

@@ -1,12 +1,20 @@
-use Rattle.canonical_laws.proofs.Texts.{form_of_read, faultless_read, timed_read, drafted_read, text_read}
-use Rattle.canonical_laws.proofs.Meanings.{one_net, one_list_of_peers, one_count, one_free, one_run, one_limit, one_text}
+use Rattle.canonical_laws.proofs.Texts.{are_read, form_of_read, faultless_read, timed_read, drafted_read, text_read}
+use Rattle.canonical_laws.proofs.Lines.{lines_alone}
+use Rattle.canonical_laws.proofs.Meanings.{one_net, one_list_of_peers, one_count, one_free, one_run, one_limit}
+use Rattle.canonical_laws.proofs.Meanings.{one_text}
 use Rattle.canonical_laws.proofs.laws.canonical_texts_mean_the_same.Goals as goal
 
 pub returns-clause-read : goal.returns-clause-read
 returns-clause-read c = λ text d a. text_read text d a
 
-pub returns-clause-form : goal.returns-clause-form
-returns-clause-form c = λ text d e a b. form_of_read text d e a b
+pub returns-clause-back : goal.returns-clause-back
+returns-clause-back c = λ text d e a b. form_of_read text d e a b
+
+pub returns-clause-written : goal.returns-clause-written
+returns-clause-written c = λ text d a. are_read text d a
+
+pub returns-clause-lines : goal.returns-clause-lines
+returns-clause-lines c = λ d e same. lines_alone d e same
 
 pub returns-clause-text : goal.returns-clause-text
 returns-clause-text c = λ text d e a b. one_text d e (form_of_read text d e a b)

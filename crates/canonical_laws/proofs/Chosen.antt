@@ -1,15 +1,20 @@
 -- What is made of the clauses of one kind is made of those of the normal form.
-use Rattle.std.proofs.Common.{◌≡◌, ℕ, Bool, true, false, cond, eqb, List, [], ◌∷◌, ◌++◌, map, filter, flat_map, Option, refl, ap, sym, ◌∙◌, append-nil}
+use Rattle.std.proofs.Common.{◌≡◌, ℕ, Bool, true, false, cond, eqb, List, [], ◌∷◌, ◌++◌, map, filter, flat_map, Option}
+use Rattle.std.proofs.Common.{refl, ap, sym, ◌∙◌, append-nil}
 use Rattle.std.proofs.lemmas.List.Concat.{flat_map-append}
 use Rattle.lemmas.proofs.Numbers.{number_tells}
 use Rattle.composer_parser.specs.declared.Clause.{Clause}
-use Rattle.composer_parser.specs.declared.Clause.TheVariants.{At, Until, Deadline, Priority, Limit, CarryForward, Follows, Needs, Prompt, Opens}
+use Rattle.composer_parser.specs.declared.Clause.TheVariants.{At, Until, Deadline, Priority, Limit, CarryForward}
+use Rattle.composer_parser.specs.declared.Clause.TheVariants.{Follows, Needs, Prompt, Opens}
 use Rattle.composer_parser.specs.declared.Need.{Need}
 use Rattle.composer_parser.specs.declared.Pred.{Pred}
 use Rattle.composer_parser.specs.declared.PromptItem.{PromptItem}
 use Rattle.composer_parser.specs.Clauses.{is_at, is_until, is_deadline, is_limit, is_carry}
-use Rattle.composer_print.specs.Scopes.{is_of, is_own_priority, preds_in, needs_in, prompts_in, files_in, follows_of, needs_of, prompt_of, opens_of, normal_pred, normal_need, normal_clauses}
-use Rattle.composer_print.proofs.Chosen.{ten_parts, needs_follows, needs_needs, needs_prompts, needs_opens, prompts_follows, prompts_needs, prompts_prompts, prompts_opens, files_follows, files_needs, files_prompts, files_opens}
+use Rattle.composer_print.specs.Scopes.{is_of, is_own_priority, preds_in, needs_in, prompts_in, files_in, follows_of}
+use Rattle.composer_print.specs.Scopes.{needs_of, prompt_of, opens_of, normal_pred, normal_need, normal_clauses}
+use Rattle.composer_print.proofs.Chosen.{ten_parts, needs_follows, needs_needs, needs_prompts, needs_opens}
+use Rattle.composer_print.proofs.Chosen.{prompts_follows, prompts_needs, prompts_prompts, prompts_opens, files_follows}
+use Rattle.composer_print.proofs.Chosen.{files_needs, files_prompts, files_opens}
 
 -- the kinds by numbers
 abbrev pub kind : Clause → ℕ
@@ -73,7 +78,8 @@ carry_no c h = refl
 abbrev pub IsOnly : {B : Type 0} → (Clause → List B) → ℕ → Type 0
 IsOnly h k = (c : Clause) → eqb (kind c) k ≡ false → h c ≡ []
 
-none_chosen : {B : Type 0} (h : Clause → List B) (q : Clause → Bool) → ((c : Clause) → q c ≡ true → h c ≡ []) → (cs : List Clause)
+none_chosen : {B : Type 0} (h : Clause → List B) (q : Clause → Bool) → ((c : Clause) → q c ≡ true → h c ≡ [])
+    → (cs : List Clause)
     → flat_map h (filter q cs) ≡ []
 none_chosen h q none [] = refl
 none_chosen h q none (c ∷ cs) = go (q c) refl (none_chosen h q none cs)
@@ -82,7 +88,8 @@ none_chosen h q none (c ∷ cs) = go (q c) refl (none_chosen h q none cs)
     go true is more = λ i. none c is i ++ more i
     go false is more = more
 
-all_chosen : {B : Type 0} (h : Clause → List B) (q : Clause → Bool) → ((c : Clause) → q c ≡ false → h c ≡ []) → (cs : List Clause)
+all_chosen : {B : Type 0} (h : Clause → List B) (q : Clause → Bool) → ((c : Clause) → q c ≡ false → h c ≡ [])
+    → (cs : List Clause)
     → flat_map h (filter q cs) ≡ flat_map h cs
 all_chosen h q none [] = refl
 all_chosen h q none (c ∷ cs) = go (q c) refl (all_chosen h q none cs)
@@ -93,7 +100,7 @@ all_chosen h q none (c ∷ cs) = go (q c) refl (all_chosen h q none cs)
     go false is more = more ∙ sym (ap (λ l. l ++ flat_map h cs) (none c is))
 
 module _ {B : Type 0} (h : Clause → List B) (k : ℕ) (only : IsOnly h k) where
-  pub apart : (q : Clause → Bool) (j : ℕ) → ((c : Clause) → q c ≡ true → kind c ≡ j) → eqb j k ≡ false → (cs : List Clause)
+  apart : (q : Clause → Bool) (j : ℕ) → ((c : Clause) → q c ≡ true → kind c ≡ j) → eqb j k ≡ false → (cs : List Clause)
       → flat_map h (filter q cs) ≡ []
   apart q j yes_ off cs = none_chosen h q (λ c t. only c (ap (λ n. eqb n k) (yes_ c t) ∙ off)) cs
 
@@ -131,11 +138,13 @@ module _ {B : Type 0} (h : Clause → List B) (k : ℕ) (only : IsOnly h k) wher
   of_kind three six seven eight nine names home own cs =
       ten_parts (λ xs. flat_map h xs) (λ xs ys. flat_map-append h xs ys) (filter is_at cs) (filter is_until cs)
       (filter is_deadline cs) (filter is_own_priority cs) (filter is_limit cs) (filter is_carry cs)
-      (follows_of (map (normal_pred names home) (flat_map preds_in cs))) (needs_of (map (normal_need own) (flat_map needs_in cs)))
+      (follows_of (map (normal_pred names home) (flat_map preds_in cs)))
+      (needs_of (map (normal_need own) (flat_map needs_in cs)))
       (prompt_of (flat_map prompts_in cs)) (opens_of (flat_map files_in cs)) (cond (eqb 0 k) (flat_map h cs) [])
       (cond (eqb 1 k) (flat_map h cs) []) (cond (eqb 2 k) (flat_map h cs) []) [] (cond (eqb 4 k) (flat_map h cs) [])
       (cond (eqb 5 k) (flat_map h cs) []) [] [] [] [] (block is_at 0 at_yes at_no cs (eqb 0 k) refl)
-      (block is_until 1 until_yes until_no cs (eqb 1 k) refl) (block is_deadline 2 deadline_yes deadline_no cs (eqb 2 k) refl)
+      (block is_until 1 until_yes until_no cs (eqb 1 k) refl)
+      (block is_deadline 2 deadline_yes deadline_no cs (eqb 2 k) refl)
       (apart is_own_priority 3 priority_yes three cs) (block is_limit 4 limit_yes limit_no cs (eqb 4 k) refl)
       (block is_carry 5 carry_yes carry_no cs (eqb 5 k) refl)
       (follows_none six (map (normal_pred names home) (flat_map preds_in cs)))
@@ -143,7 +152,7 @@ module _ {B : Type 0} (h : Clause → List B) (k : ℕ) (only : IsOnly h k) wher
       (opens_none nine (flat_map files_in cs))
 
   -- of what stands in lists
-  pub of_lists : eqb 0 k ≡ false → eqb 1 k ≡ false → eqb 2 k ≡ false → eqb 3 k ≡ false → eqb 4 k ≡ false → eqb 5 k ≡ false
+  of_lists : eqb 0 k ≡ false → eqb 1 k ≡ false → eqb 2 k ≡ false → eqb 3 k ≡ false → eqb 4 k ≡ false → eqb 5 k ≡ false
       → (names : List (List ℕ)) (home own : Option (List ℕ)) (cs : List Clause) (G H I J : List B)
       → flat_map h (follows_of (map (normal_pred names home) (flat_map preds_in cs))) ≡ G
       → flat_map h (needs_of (map (normal_need own) (flat_map needs_in cs))) ≡ H
@@ -153,24 +162,29 @@ module _ {B : Type 0} (h : Clause → List B) (k : ℕ) (only : IsOnly h k) wher
   of_lists zero_ one two three four five names home own cs G H I J g n p f =
       ten_parts (λ xs. flat_map h xs) (λ xs ys. flat_map-append h xs ys) (filter is_at cs) (filter is_until cs)
       (filter is_deadline cs) (filter is_own_priority cs) (filter is_limit cs) (filter is_carry cs)
-      (follows_of (map (normal_pred names home) (flat_map preds_in cs))) (needs_of (map (normal_need own) (flat_map needs_in cs)))
+      (follows_of (map (normal_pred names home) (flat_map preds_in cs)))
+      (needs_of (map (normal_need own) (flat_map needs_in cs)))
       (prompt_of (flat_map prompts_in cs)) (opens_of (flat_map files_in cs)) [] [] [] [] [] [] G H I J
       (apart is_at 0 at_yes zero_ cs) (apart is_until 1 until_yes one cs) (apart is_deadline 2 deadline_yes two cs)
-      (apart is_own_priority 3 priority_yes three cs) (apart is_limit 4 limit_yes four cs) (apart is_carry 5 carry_yes five cs)
+      (apart is_own_priority 3 priority_yes three cs) (apart is_limit 4 limit_yes four cs)
+      (apart is_carry 5 carry_yes five cs)
       g n p f
 
   -- of priorities
-  pub of_priority : eqb 0 k ≡ false → eqb 1 k ≡ false → eqb 2 k ≡ false → eqb 4 k ≡ false → eqb 5 k ≡ false → eqb 6 k ≡ false
+  pub of_priority : eqb 0 k ≡ false → eqb 1 k ≡ false → eqb 2 k ≡ false → eqb 4 k ≡ false → eqb 5 k ≡ false
+      → eqb 6 k ≡ false
       → eqb 7 k ≡ false → eqb 8 k ≡ false → eqb 9 k ≡ false → (names : List (List ℕ)) (home own : Option (List ℕ))
       (cs : List Clause) → flat_map h (normal_clauses names home own cs) ≡ flat_map h (filter is_own_priority cs)
   unfolding normal_clauses is_of
   of_priority zero_ one two four five six seven eight nine names home own cs =
       ten_parts (λ xs. flat_map h xs) (λ xs ys. flat_map-append h xs ys) (filter is_at cs) (filter is_until cs)
       (filter is_deadline cs) (filter is_own_priority cs) (filter is_limit cs) (filter is_carry cs)
-      (follows_of (map (normal_pred names home) (flat_map preds_in cs))) (needs_of (map (normal_need own) (flat_map needs_in cs)))
+      (follows_of (map (normal_pred names home) (flat_map preds_in cs)))
+      (needs_of (map (normal_need own) (flat_map needs_in cs)))
       (prompt_of (flat_map prompts_in cs)) (opens_of (flat_map files_in cs)) [] [] []
       (flat_map h (filter is_own_priority cs)) [] [] [] [] [] [] (apart is_at 0 at_yes zero_ cs)
-      (apart is_until 1 until_yes one cs) (apart is_deadline 2 deadline_yes two cs) refl (apart is_limit 4 limit_yes four cs)
+      (apart is_until 1 until_yes one cs) (apart is_deadline 2 deadline_yes two cs) refl
+      (apart is_limit 4 limit_yes four cs)
       (apart is_carry 5 carry_yes five cs) (follows_none six (map (normal_pred names home) (flat_map preds_in cs)))
       (needs_none seven (map (normal_need own) (flat_map needs_in cs))) (prompts_none eight (flat_map prompts_in cs))
       (opens_none nine (flat_map files_in cs))

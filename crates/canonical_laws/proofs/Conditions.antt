@@ -1,5 +1,6 @@
 -- The conditions of definitions, as they are written and in normal form.
-use Rattle.std.proofs.Common.{◌≡◌, ℕ, zero, suc, List, [], ◌∷◌, ◌++◌, map, filter_map, flat_map, Contains, Option, Some, None, refl, ap, sym, subst, ◌∙◌, arith, option_map}
+use Rattle.std.proofs.Common.{◌≡◌, ℕ, zero, suc, List, [], ◌∷◌, ◌++◌, map, filter_map, flat_map, Contains, Option, Some}
+use Rattle.std.proofs.Common.{None, refl, ap, sym, subst, ◌∙◌, arith, option_map}
 use Rattle.std.proofs.lemmas.List.{map-append}
 use Rattle.std.specs.List.{cons_option}
 use Rattle.composer_parser.specs.declared.Lined.{Lined}
@@ -9,7 +10,8 @@ use Rattle.composer_parser.specs.declared.ScheduleDef.{ScheduleDef}
 use Rattle.composer_print.specs.Normal as forms
 use Rattle.composer_print.specs.Normal.{bare, entry_names, normal_entry, normal_schedule}
 use Rattle.composer_print.specs.Scopes.{or_home}
-use Rattle.definition_faults.specs.Conditions.{cond_of_entry, condition_of_job, condition_of_entry, conditions_of_stream, conditions, HasBad}
+use Rattle.definition_faults.specs.Conditions.{cond_of_entry, condition_of_job, condition_of_entry}
+use Rattle.definition_faults.specs.Conditions.{conditions_of_stream, conditions, HasBad}
 use Rattle.canonical_laws.proofs.Lists.{Both}
 use Rattle.canonical_laws.proofs.Forms.{IsForm}
 
@@ -30,7 +32,8 @@ picks_unplaced {X} {Y} f g m h (x ∷ xs) =
     (λ i. cons_option (h x i) (picks_unplaced f g m h xs i)) ∙ go (f x)
   where
     go : (o : Option (ℕ × List ℕ))
-        → cons_option (option_map unplaced o) (map unplaced (filter_map f xs)) ≡ map unplaced (cons_option o (filter_map f xs))
+        → cons_option (option_map unplaced o) (map unplaced (filter_map f xs)) ≡ map unplaced
+        (cons_option o (filter_map f xs))
     go None = refl
     go (Some p) = refl
 
@@ -49,7 +52,8 @@ stream_unplaced : (m : Option (List ℕ)) (s : Lined ScheduleDef)
     → conditions_of_stream (normal_schedule m s) ≡ map unplaced (conditions_of_stream s)
 unfolding normal_schedule
 stream_unplaced m s =
-    picks_unplaced condition_of_entry condition_of_entry (normal_entry (entry_names s.item.entries) (or_home s.item.ws m))
+    picks_unplaced condition_of_entry condition_of_entry
+    (normal_entry (entry_names s.item.entries) (or_home s.item.ws m))
     (entry_unplaced (entry_names s.item.entries) (or_home s.item.ws m)) s.item.entries
 
 all_unplaced : (d e : Defs) → IsForm d e → conditions e ≡ map unplaced (conditions d)
@@ -70,7 +74,8 @@ from_unplaced (x ∷ xs) line text (suc k, low, at) =
     let less = t.1.1 in
     (t.0, (suc t.1.0, omega (arith, less), t.1.2))
 
-to_unplaced : (all : List (ℕ × List ℕ)) (line : ℕ) (text : List ℕ) → Contains all (line, text) → Contains (map unplaced all) (0, text)
+to_unplaced : (all : List (ℕ × List ℕ)) (line : ℕ) (text : List ℕ) → Contains all (line, text)
+    → Contains (map unplaced all) (0, text)
 to_unplaced [] line text (k, low, at) = absurd (omega (arith, low))
 to_unplaced (x ∷ xs) line text (zero, low, at) = (0, omega arith, λ i. (0, ap (λ (p : ℕ × List ℕ). p.1) at i))
 to_unplaced (x ∷ xs) line text (suc k, low, at) =
@@ -92,7 +97,8 @@ conditions_both d e form =
       λ good line bad.
           good 0 (
             bad.0,
-            subst (λ (l : List (ℕ × List ℕ)). Contains l (0, bad.0)) (sym same) (to_unplaced (conditions d) line bad.0 bad.1),
+            subst (λ (l : List (ℕ × List ℕ)). Contains l (0, bad.0)) (sym same)
+                (to_unplaced (conditions d) line bad.0 bad.1),
             bad.2,
           ),
     )

@@ -1,5 +1,6 @@
 -- The faults of clauses as counts: of unknown names, of numbers out of range, of foreign resources and of dependencies.
-use Rattle.std.proofs.Common.{◌≡◌, ◌≤◌, ℕ, zero, suc, ◌+◌, ◌&&◌, ◌||◌, Bool, true, false, eqb, List, [], ◌∷◌, ◌++◌, length, take, flat_map}
+use Rattle.std.proofs.Common.{◌≡◌, ◌≤◌, ℕ, zero, suc, ◌+◌, ◌&&◌, ◌||◌, Bool, true, false, eqb, List, [], ◌∷◌, ◌++◌}
+use Rattle.std.proofs.Common.{length, take, flat_map}
 use Rattle.std.proofs.Common.{Option, Some, refl, ap, sym, subst, ◌∙◌, add-one, arith, slice_get}
 use Rattle.std.proofs.lemmas.Bool.Decides.{nat_tests}
 use Rattle.std.proofs.lemmas.List.Sums.{sum_by-cons, sum_by-take-le}
@@ -104,7 +105,8 @@ range_zero (Prompt ps) = neither_way ps
 range_zero (Opens fs) = any_zero (λ f. eqb (length f) 0) fs
 range_zero c = bit_zero (is_out_of_range c)
 
-foreign_zero : (own : Option (List ℕ)) (c : Clause) → Both (has_foreign own c ≡ false) (weight (foreign_weights own) c ≡ 0)
+foreign_zero : (own : Option (List ℕ)) (c : Clause)
+    → Both (has_foreign own c ≡ false) (weight (foreign_weights own) c ≡ 0)
 foreign_zero own (Follows ps) = neither_way ps
 foreign_zero own (Needs ns) = any_zero (is_foreign own) ns
 foreign_zero own (Prompt ps) = neither_way ps
@@ -125,7 +127,8 @@ dependencies_are (c ∷ cs) =
     ∙ (λ i. all_is c.item i + dependencies_are cs i)
 
 -- at each place, and all together
-none_in_all : {X : Type 0} (g : X → ℕ) (xs : List X) → ((k : ℕ) (x : X) → slice_get xs k ≡ Some x → g x ≡ 0) → total g xs ≡ 0
+none_in_all : {X : Type 0} (g : X → ℕ) (xs : List X) → ((k : ℕ) (x : X) → slice_get xs k ≡ Some x → g x ≡ 0)
+    → total g xs ≡ 0
 none_in_all g [] h = refl
 none_in_all g (x ∷ xs) h =
     let first = h 0 x refl in
@@ -172,7 +175,8 @@ few_all : (cs : List (Lined Clause)) → ((k : ℕ) (c : Lined Clause) → slice
 few_all cs h =
     let few = few_before cs h (length cs) (omega arith) in
     let whole : dependencies (take (length cs) cs) ≡ total (weight all_weights) (items cs) =
-    ap (λ (xs : List (Lined Clause)). dependencies xs) (take_whole cs (length cs) (omega arith)) ∙ dependencies_are cs in
+    ap (λ (xs : List (Lined Clause)). dependencies xs) (take_whole cs (length cs) (omega arith))
+    ∙ dependencies_are cs in
     omega (arith, few, whole)
 
 passes_none : (cs : List (Lined Clause)) → total (weight all_weights) (items cs) ≤ 64 → (k : ℕ) → passes cs k ≡ false
@@ -196,7 +200,8 @@ pub good_of : (d : Defs) (n : ℕ) (inside : Bool) (own : Option (List ℕ)) (cs
 unfolding clause_faults
 good_of d n inside own cs e =
     let at_each : (k : ℕ) (c : Lined Clause) → slice_get cs k ≡ Some c → NoneHolds (rows_at d n inside own cs (k, c)) =
-    λ k c at. rows_none (rows_at d n inside own cs) (λ (p : ℕ × Lined Clause). p.1.line) 0 cs e k k c (omega arith) at in
+    λ k c at. rows_none (rows_at d n inside own cs) (λ (p : ℕ × Lined Clause). p.1.line) 0 cs e k k c
+    (omega arith) at in
     record {
       unknown =
           none_in_items (unknown_weights d n inside own) cs

@@ -1,5 +1,6 @@
 -- The dependencies of an object are those of its normal form.
-use Rattle.std.proofs.Common.{◌≡◌, ℕ, Bool, true, false, cond, eqb, List, [], ◌∷◌, ◌++◌, map, filter_map, flat_map, Option, Some, None, refl, ap, sym, ◌∙◌}
+use Rattle.std.proofs.Common.{◌≡◌, ℕ, Bool, true, false, cond, eqb, List, [], ◌∷◌, ◌++◌, map, filter_map, flat_map}
+use Rattle.std.proofs.Common.{Option, Some, None, refl, ap, sym, ◌∙◌}
 use Rattle.std.proofs.Common.{append-nil, option_map, option_and_then, slice_get, unwrap_or}
 use Rattle.std.proofs.lemmas.List.{map-append}
 use Rattle.std.proofs.lemmas.List.Elements.{filter_map-append}
@@ -18,7 +19,8 @@ use Rattle.composer_parser.specs.declared.PromptItem.TheVariants as ask
 use Rattle.composer_parser.specs.declared.ScheduleDef.{ScheduleDef}
 use Rattle.composer_print.specs.Normal as forms
 use Rattle.composer_print.specs.Normal.{all_unlined, entry_names, normal_entry, normal_schedule}
-use Rattle.composer_print.specs.Scopes.{or_home, preds_in, needs_in, prompts_in, files_in, normal_pred, normal_need, normal_clauses}
+use Rattle.composer_print.specs.Scopes.{or_home, preds_in, needs_in, prompts_in, files_in, normal_pred, normal_need}
+use Rattle.composer_print.specs.Scopes.{normal_clauses}
 use Rattle.composer_print.specs.Streams.{items}
 use Rattle.composer_print.specs.Texts.{unless}
 use Rattle.composer_print.proofs.Joins.{items_unlined}
@@ -31,7 +33,9 @@ use Rattle.base_types.specs.declared.DraftDep.{DraftDep}
 use Rattle.base_types.specs.declared.DraftDep.TheVariants as draft
 use Rattle.base_types.specs.declared.PromptRef.TheVariants as ref
 use Rattle.plan_builder.specs.Dependencies as deps
-use Rattle.plan_builder.specs.Dependencies.{number_or_master, at_of, until_of, deadline_of, at_in, until_in, deadline_in, follows_stream, follows_job, follows_at, follows_of, number_from_one, resource_of, need_of, prompt_of, file_of, dependencies_of}
+use Rattle.plan_builder.specs.Dependencies.{number_or_master, at_of, until_of, deadline_of, at_in, until_in}
+use Rattle.plan_builder.specs.Dependencies.{deadline_in, follows_stream, follows_job, follows_at, follows_of}
+use Rattle.plan_builder.specs.Dependencies.{number_from_one, resource_of, need_of, prompt_of, file_of, dependencies_of}
 use Rattle.plan_builder.specs.declared.times.PlanDay.{PlanDay}
 use Rattle.canonical_laws.proofs.Lists.{kept, picks_same, at_place}
 use Rattle.canonical_laws.proofs.Homes.{home_of, master_same, home_kept}
@@ -47,7 +51,8 @@ pub items_flat : {B : Type 0} (h : Clause → List B) (cs : List (Lined Clause))
 items_flat h [] = refl
 items_flat h (c ∷ cs) = ap (λ l. h c.item ++ l) (items_flat h cs)
 
-pub flat_kept : {B : Type 0} (h : Clause → List B) (names : List (List ℕ)) (home own : Option (List ℕ)) (cs : List (Lined Clause))
+pub flat_kept : {B : Type 0} (h : Clause → List B) (names : List (List ℕ)) (home own : Option (List ℕ))
+    (cs : List (Lined Clause))
     → flat_map h (normal_clauses names home own (items cs)) ≡ flat_map h (items cs)
     → flat_map (λ (c : Lined Clause). h c.item) (all_unlined (normal_clauses names home own (items cs)))
     ≡ flat_map (λ (c : Lined Clause). h c.item) cs
@@ -91,16 +96,19 @@ files_are c = refl
 
 -- what stands in lists
 follows_flat : (f : Pred → Option DraftDep) (cs : List (Lined Clause))
-    → flat_map (λ (c : Lined Clause). filter_map f (deps.preds_of c.item)) cs ≡ filter_map f (flat_map preds_in (items cs))
+    → flat_map (λ (c : Lined Clause). filter_map f (deps.preds_of c.item)) cs ≡ filter_map f
+    (flat_map preds_in (items cs))
 follows_flat f [] = refl
 follows_flat f (c ∷ cs) =
-    (λ i. filter_map f (preds_are c.item i) ++ follows_flat f cs i) ∙ sym (filter_map-append f (preds_in c.item) (flat_map preds_in (items cs)))
+    (λ i. filter_map f (preds_are c.item i) ++ follows_flat f cs i)
+    ∙ sym (filter_map-append f (preds_in c.item) (flat_map preds_in (items cs)))
 
 needs_flat : (f : Need → DraftDep) (cs : List (Lined Clause))
     → flat_map (λ (c : Lined Clause). map f (deps.needs_of c.item)) cs ≡ map f (flat_map needs_in (items cs))
 needs_flat f [] = refl
 needs_flat f (c ∷ cs) =
-    (λ i. map f (needs_are c.item i) ++ needs_flat f cs i) ∙ sym (map-append f (needs_in c.item) (flat_map needs_in (items cs)))
+    (λ i. map f (needs_are c.item i) ++ needs_flat f cs i)
+    ∙ sym (map-append f (needs_in c.item) (flat_map needs_in (items cs)))
 
 prompts_flat : (f : PromptItem → DraftDep) (cs : List (Lined Clause))
     → flat_map (λ (c : Lined Clause). map f (deps.prompts_of c.item)) cs ≡ map f (flat_map prompts_in (items cs))
@@ -113,7 +121,8 @@ files_flat : (f : List ℕ → DraftDep) (cs : List (Lined Clause))
     → flat_map (λ (c : Lined Clause). map f (deps.paths_of c.item)) cs ≡ map f (flat_map files_in (items cs))
 files_flat f [] = refl
 files_flat f (c ∷ cs) =
-    (λ i. map f (files_are c.item i) ++ files_flat f cs i) ∙ sym (map-append f (files_in c.item) (flat_map files_in (items cs)))
+    (λ i. map f (files_are c.item i) ++ files_flat f cs i)
+    ∙ sym (map-append f (files_in c.item) (flat_map files_in (items cs)))
 
 units_test : (n : ℕ) (b : Bool) → eqb n 1 ≡ b → unwrap_or (cond b None (Some n)) 1 ≡ n
 units_test n true e = sym (number_tells n 1 e)
@@ -138,7 +147,8 @@ module _ (d e : Defs) (form : IsForm d e) where
   stream_dep s =
       λ i. draft.Follows
       (number_kept (ws_of_stream e (normal_schedule (forms.master_of d.domains) s).item) (ws_of_stream d s.item)
-      (home_kept (forms.master_of d.domains) (master_of e) (master_of d) (master_same d.domains) form.names.master s) i) s.item.name
+      (home_kept (forms.master_of d.domains) (master_of e) (master_of d) (master_same d.domains) form.names.master s) i)
+      s.item.name
       None
 
   job_dep : (s : Lined ScheduleDef) (names : List (List ℕ)) (home : Option (List ℕ)) (x : Lined EntryDef)
@@ -148,7 +158,8 @@ module _ (d e : Defs) (form : IsForm d e) where
   job_dep s names home x =
       λ i. draft.Follows
       (number_kept (ws_of_stream e (normal_schedule (forms.master_of d.domains) s).item) (ws_of_stream d s.item)
-      (home_kept (forms.master_of d.domains) (master_of e) (master_of d) (master_same d.domains) form.names.master s) i) s.item.name
+      (home_kept (forms.master_of d.domains) (master_of e) (master_of d) (master_same d.domains) form.names.master s) i)
+      s.item.name
       (Some x.item.name)
 
   job_at_place : (k : ℕ) (s : Lined ScheduleDef)
@@ -159,27 +170,33 @@ module _ (d e : Defs) (form : IsForm d e) where
   job_at_place k s =
       let home : Option (List ℕ) = or_home s.item.ws (forms.master_of d.domains) in
       at_place (normal_entry (entry_names s.item.entries) home)
-      (λ o. option_map (λ (x : Lined EntryDef). follows_job e (normal_schedule (forms.master_of d.domains) s).item x.item) o)
+      (λ o. option_map
+      (λ (x : Lined EntryDef). follows_job e (normal_schedule (forms.master_of d.domains) s).item x.item) o)
       (λ o. option_map (λ (x : Lined EntryDef). follows_job d s.item x.item) o) refl
       (λ x. ap Some (job_dep s (entry_names s.item.entries) home x)) s.item.entries k
 
   target_dep : (t : Target) → follows_at e t ≡ follows_at d t
   target_dep (Stream n) =
-      ap (λ (ss : List (Lined ScheduleDef)). option_map (λ (s : Lined ScheduleDef). follows_stream e s.item) (slice_get ss n))
+      ap (λ (ss : List (Lined ScheduleDef)). option_map (λ (s : Lined ScheduleDef). follows_stream e s.item)
+      (slice_get ss n))
       form.schedules
       ∙ at_place (normal_schedule (forms.master_of d.domains))
       (λ o. option_map (λ (s : Lined ScheduleDef). follows_stream e s.item) o)
-      (λ o. option_map (λ (s : Lined ScheduleDef). follows_stream d s.item) o) refl (λ s. ap Some (stream_dep s)) d.schedules n
+      (λ o. option_map (λ (s : Lined ScheduleDef). follows_stream d s.item) o) refl
+      (λ s. ap Some (stream_dep s)) d.schedules n
   target_dep (Job n k) =
       ap (λ (ss : List (Lined ScheduleDef)).
       option_and_then
-      (λ (s : Lined ScheduleDef). option_map (λ (x : Lined EntryDef). follows_job e s.item x.item) (slice_get s.item.entries k))
+      (λ (s : Lined ScheduleDef). option_map (λ (x : Lined EntryDef). follows_job e s.item x.item)
+      (slice_get s.item.entries k))
       (slice_get ss n)) form.schedules
       ∙ at_place (normal_schedule (forms.master_of d.domains))
       (λ o. option_and_then
-      (λ (s : Lined ScheduleDef). option_map (λ (x : Lined EntryDef). follows_job e s.item x.item) (slice_get s.item.entries k)) o)
+      (λ (s : Lined ScheduleDef). option_map (λ (x : Lined EntryDef). follows_job e s.item x.item)
+      (slice_get s.item.entries k)) o)
       (λ o. option_and_then
-      (λ (s : Lined ScheduleDef). option_map (λ (x : Lined EntryDef). follows_job d s.item x.item) (slice_get s.item.entries k)) o)
+      (λ (s : Lined ScheduleDef). option_map (λ (x : Lined EntryDef). follows_job d s.item x.item)
+      (slice_get s.item.entries k)) o)
       refl (job_at_place k) d.schedules n
 
   need_kept : (own : Option (List ℕ)) (x : Need) → need_of e own (normal_need own x) ≡ need_of d own x
@@ -190,7 +207,8 @@ module _ (d e : Defs) (form : IsForm d e) where
       (min (units_kept x.units i) 1024))
 
   prompt_kept : (p : PromptItem) → prompt_of e p ≡ prompt_of d p
-  prompt_kept (ask.Name name) = λ i. draft.Plain (dep.Prompt (ref.Global (number_from_one (first_of (form.names.prompts i) name))))
+  prompt_kept (ask.Name name) =
+      λ i. draft.Plain (dep.Prompt (ref.Global (number_from_one (first_of (form.names.prompts i) name))))
   prompt_kept (ask.Own text) = refl
 
   pub dependencies_same : (plan : PlanDay) (n : ℕ) (inside : Bool) (names : List (List ℕ)) (home own : Option (List ℕ))
@@ -219,7 +237,8 @@ module _ (d e : Defs) (form : IsForm d e) where
       let follows =
       follows_flat (follows_of e n inside) all
       ∙ ap (filter_map (follows_of e n inside)) (ap (flat_map preds_in) back ∙ preds_named names home own (items cs))
-      ∙ picks_same (follows_of d n inside) (follows_of e n inside) (normal_pred names home) one (flat_map preds_in (items cs))
+      ∙ picks_same (follows_of d n inside) (follows_of e n inside) (normal_pred names home) one
+      (flat_map preds_in (items cs))
       ∙ sym (follows_flat (follows_of d n inside) cs) in
       let needs =
       needs_flat (need_of e own) all

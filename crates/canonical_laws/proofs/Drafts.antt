@@ -1,5 +1,6 @@
 -- The drafts of a day are those of the normal form.
-use Rattle.std.proofs.Common.{◌≡◌, ℕ, zero, suc, true, false, List, [], ◌∷◌, map, Option, Some, None, refl, ap, sym, subst, ◌∙◌, slice_get, option_map, option_and_then}
+use Rattle.std.proofs.Common.{◌≡◌, ℕ, zero, suc, true, false, List, [], ◌∷◌, map, Option, Some, None, refl, ap, sym}
+use Rattle.std.proofs.Common.{subst, ◌∙◌, slice_get, option_map, option_and_then}
 use Rattle.std.proofs.lemmas.Option.{slice_get-map}
 use Rattle.std.specs.Option.{option_or}
 use Rattle.composer_parser.specs.declared.Lined.{Lined}
@@ -18,7 +19,8 @@ use Rattle.definition_names.specs.Stations.{ws_of_stream, ws_of_entry}
 use Rattle.model.specs.Types.{JobDraft, StreamDraft}
 use Rattle.plan_builder.specs.Clauses.{priority_of, limit_of, is_carried}
 use Rattle.plan_builder.specs.Dependencies.{dependencies_of}
-use Rattle.plan_builder.specs.Drafts.{number_or_master, run_in, IsJobDraft, AreJobDrafts, IsStreamDraft, IsDraftAt, AreDraftsOf, AreDrafts}
+use Rattle.plan_builder.specs.Drafts.{number_or_master, run_in, IsJobDraft, AreJobDrafts, IsStreamDraft, IsDraftAt}
+use Rattle.plan_builder.specs.Drafts.{AreDraftsOf, AreDrafts}
 use Rattle.plan_builder.specs.Limits.{running}
 use Rattle.plan_builder.specs.Times.{plan_day}
 use Rattle.plan_builder.specs.Works.{job_on, work_of, IsRunOf}
@@ -43,7 +45,8 @@ record IsSameJob (d e : Defs) (plan : PlanDay) (n : ℕ) (s t : ScheduleDef) (x 
   name : y.name ≡ x.name
   priority : priority_of y.clauses ≡ priority_of x.clauses
   work : work_of e t y ≡ work_of d s x
-  deps : dependencies_of e plan n true (ws_of_entry e t y) y.clauses ≡ dependencies_of d plan n true (ws_of_entry d s x) x.clauses
+  deps : dependencies_of e plan n true (ws_of_entry e t y) y.clauses ≡ dependencies_of d plan n true
+      (ws_of_entry d s x) x.clauses
 
 job_both : (d e : Defs) (plan : PlanDay) (n : ℕ) (s t : ScheduleDef) (x y : EntryDef) (draft : JobDraft)
     → IsSameJob d e plan n s t x y → Both (IsJobDraft d plan n s x draft) (IsJobDraft e plan n t y draft)
@@ -77,7 +80,8 @@ module _ (d e : Defs) (form : IsForm d e) where
           ≡ option_map (λ (j : Lined JobDef). j.item.work) (option_and_then (slice_get d.jobs) o)
       go None = refl
       go (Some k) =
-          at_place bare (λ o. option_map (λ (j : Lined JobDef). j.item.work) o) (λ o. option_map (λ (j : Lined JobDef). j.item.work) o)
+          at_place bare (λ o. option_map (λ (j : Lined JobDef). j.item.work) o)
+          (λ o. option_map (λ (j : Lined JobDef). j.item.work) o)
           refl (λ j. refl) d.jobs k
 
   module _ (plan : PlanDay) (n : ℕ) (s : Lined ScheduleDef) (here : IsPlaced d e n (forms.master_of d.domains) s) where
@@ -95,7 +99,8 @@ module _ (d e : Defs) (form : IsForm d e) where
         let before : ws_of_entry d s.item x.item ≡ own = own_before d e form.names n m s here x in
         let after : option_or own (ws_of_stream e t) ≡ own = own_after d e form.names n m s here names x in
         record {
-          ws = number_kept d e form (option_or own (ws_of_stream e t)) (ws_of_entry d s.item x.item) (after ∙ sym before);
+          ws = number_kept d e form (option_or own (ws_of_stream e t)) (ws_of_entry d s.item x.item)
+              (after ∙ sym before);
           name = refl;
           priority = priority_kept false names home own x.item.clauses is.clauses;
           work = λ i. option_or x.item.work (option_and_then (λ w. job_same x.item.name w i) ((after ∙ sym before) i));
@@ -116,12 +121,14 @@ module _ (d e : Defs) (form : IsForm d e) where
     jobs_both (x ∷ xs) (j ∷ js) all =
         let one =
         job_both d e plan n s.item (normal_schedule (forms.master_of d.domains) s).item x.item
-        (normal_entry (entry_names s.item.entries) (or_home s.item.ws (forms.master_of d.domains)) x).item j (entry_same x all.0) in
+        (normal_entry (entry_names s.item.entries) (or_home s.item.ws (forms.master_of d.domains)) x).item j
+        (entry_same x all.0) in
         let more = jobs_both xs js all.1 in
         (λ h. (one.0 h.0, more.0 h.1), λ h. (one.1 h.0, more.1 h.1))
 
     stream_both : IsSchedule s.item → (draft : StreamDraft)
-        → Both (IsStreamDraft d plan n s.item draft) (IsStreamDraft e plan n (normal_schedule (forms.master_of d.domains) s).item draft)
+        → Both (IsStreamDraft d plan n s.item draft)
+        (IsStreamDraft e plan n (normal_schedule (forms.master_of d.domains) s).item draft)
     unfolding normal_schedule
     stream_both is draft =
         let m : Option (List ℕ) = forms.master_of d.domains in
@@ -130,10 +137,12 @@ module _ (d e : Defs) (form : IsForm d e) where
         let all : List (Lined Clause) = all_unlined (normal_clauses [] home home (items s.item.clauses)) in
         let ws : number_or_master e (ws_of_stream e t) ≡ number_or_master d (ws_of_stream d s.item) =
         number_kept d e form (ws_of_stream e t) (ws_of_stream d s.item) (here.after ∙ sym here.before) in
-        let priority : priority_of all ≡ priority_of s.item.clauses = priority_kept true [] home home s.item.clauses is.clauses in
+        let priority : priority_of all ≡ priority_of s.item.clauses =
+        priority_kept true [] home home s.item.clauses is.clauses in
         let limit : limit_of all ≡ limit_of s.item.clauses = limit_kept [] home home s.item.clauses in
         let carry : is_carried all ≡ is_carried s.item.clauses = carry_kept [] home home s.item.clauses in
-        let deps : dependencies_of e plan n false (ws_of_stream e t) all ≡ dependencies_of d plan n false (ws_of_stream d s.item) s.item.clauses =
+        let deps : dependencies_of e plan n false (ws_of_stream e t) all ≡ dependencies_of d plan n false
+        (ws_of_stream d s.item) s.item.clauses =
         ap (λ o. dependencies_of e plan n false o all) here.after
         ∙ dependencies_same d e form plan n false [] home home (no_header d e form.names n m s here)
         (home_at d e form.names n m s here) s.item.clauses
@@ -160,9 +169,11 @@ module _ (d e : Defs) (form : IsForm d e) where
         )
 
   -- the streams of a day
-  at_both : (plan : PlanDay) (n : ℕ) (draft : StreamDraft) → Each IsSchedule (items d.schedules) → (o : Option (Lined ScheduleDef))
+  at_both : (plan : PlanDay) (n : ℕ) (draft : StreamDraft) → Each IsSchedule (items d.schedules)
+      → (o : Option (Lined ScheduleDef))
       → slice_get d.schedules n ≡ o
-      → Both (IsDraftAt d plan n o draft) (IsDraftAt e plan n (option_map (normal_schedule (forms.master_of d.domains)) o) draft)
+      → Both (IsDraftAt d plan n o draft)
+      (IsDraftAt e plan n (option_map (normal_schedule (forms.master_of d.domains)) o) draft)
   at_both plan n draft all None at = (λ h. h, λ h. h)
   at_both plan n draft all (Some s) at =
       stream_both plan n s (placed d e form.names n (forms.master_of d.domains) (master_same d.domains) s at)
@@ -173,7 +184,8 @@ module _ (d e : Defs) (form : IsForm d e) where
   draft_both plan n draft all =
       let m : Option (List ℕ) = forms.master_of d.domains in
       let there_ : slice_get e.schedules n ≡ option_map (normal_schedule m) (slice_get d.schedules n) =
-      ap (λ (ss : List (Lined ScheduleDef)). slice_get ss n) form.schedules ∙ slice_get-map (normal_schedule m) d.schedules n in
+      ap (λ (ss : List (Lined ScheduleDef)). slice_get ss n) form.schedules
+      ∙ slice_get-map (normal_schedule m) d.schedules n in
       let t = at_both plan n draft all (slice_get d.schedules n) refl in (
         λ h. subst (λ o. IsDraftAt e plan n o draft) (sym there_) (t.0 h),
         λ h. t.1 (subst (λ o. IsDraftAt e plan n o draft) there_ h),

@@ -1,5 +1,6 @@
 -- Definitions and their normal form are faultless together.
-use Rattle.std.proofs.Common.{◌≡◌, ℕ, false, List, [], ◌∷◌, ◌++◌, Contains, inl, inr, refl, ap, subst, ◌∙◌, arith, slice_get, is_none}
+use Rattle.std.proofs.Common.{◌≡◌, ℕ, false, List, [], ◌∷◌, ◌++◌, Contains, inl, inr, refl, ap, subst, ◌∙◌, arith}
+use Rattle.std.proofs.Common.{slice_get, is_none}
 use Rattle.lemmas.proofs.Booleans.{neither}
 use Rattle.composer_parser.specs.declared.Lined.{Lined}
 use Rattle.composer_parser.specs.declared.Defs.{Defs}
@@ -10,7 +11,8 @@ use Rattle.definition_names.specs.Names.{cpu_at}
 use Rattle.definition_names.specs.Stations.{top_domains, only_manager}
 use Rattle.definition_faults.specs.Faults.{tested_faults, IsFaultless}
 use Rattle.definition_faults.specs.Graphs.{graph_of}
-use Rattle.definition_faults.specs.Items.{cpu_faults, domain_faults, domain_rows, strays, lacks_parent, calendar_faults, prompt_faults, resource_faults, job_faults}
+use Rattle.definition_faults.specs.Items.{cpu_faults, domain_faults, domain_rows, strays, lacks_parent, calendar_faults}
+use Rattle.definition_faults.specs.Items.{prompt_faults, resource_faults, job_faults}
 use Rattle.definition_faults.specs.Masters.{manager_faults, master_faults}
 use Rattle.definition_faults.specs.Orders.{fault}
 use Rattle.definition_faults.specs.Ranges.{zone_faults}
@@ -24,7 +26,8 @@ use Rattle.workload_defs.proofs.Lists.{both_empty, from_filtered, nothing}
 use Rattle.canonical_laws.proofs.Lists.{Both, append_then, append_both}
 use Rattle.canonical_laws.proofs.Homes.{master_same}
 use Rattle.canonical_laws.proofs.Forms.{IsForm, is_form}
-use Rattle.canonical_laws.proofs.Items.{zones_both, cpus_both, domains_both, managers_both, masters_both, calendars_both, prompts_both, resources_both, jobs_both}
+use Rattle.canonical_laws.proofs.Items.{zones_both, cpus_both, domains_both, managers_both, masters_both}
+use Rattle.canonical_laws.proofs.Items.{calendars_both, prompts_both, resources_both, jobs_both}
 use Rattle.canonical_laws.proofs.Streams.{streams_both}
 use Rattle.canonical_laws.proofs.Conditions.{AreConditions, conditions_both}
 use Rattle.canonical_laws.proofs.Circles.{circles_both}
@@ -36,9 +39,11 @@ unfolding domain_faults
 known_by d none [] e = refl
 known_by d none (x ∷ []) e =
     let there_ =
-    from_filtered (λ (y : Lined DomainDef). is_none y.item.parent) d.domains 0 x (ap (λ (l : List (Lined DomainDef)). slice_get l 0) e) in
+    from_filtered (λ (y : Lined DomainDef). is_none y.item.parent) d.domains 0 x
+    (ap (λ (l : List (Lined DomainDef)). slice_get l 0) e) in
     let all =
-    rows_none (λ (p : ℕ × Lined DomainDef). domain_rows d p.0 (strays d p.0) p.1.item) (λ p. p.1.line) 0 d.domains none there_.0
+    rows_none (λ (p : ℕ × Lined DomainDef). domain_rows d p.0 (strays d p.0) p.1.item)
+    (λ p. p.1.line) 0 d.domains none there_.0
     there_.0 x (omega arith) there_.1 in
     (neither (is_none (cpu_at d x.item.manager)) (lacks_parent d x.item) all.1.0).0
 known_by d none (x ∷ y ∷ l) e = refl
@@ -52,7 +57,8 @@ tested_both : (d e : Defs) → IsForm d e → Both (tested_faults d ≡ []) (tes
 unfolding tested_faults
 tested_both d e form =
     let two : Both (zone_faults d ++ cpu_faults d ≡ []) (zone_faults e ++ cpu_faults e ≡ []) =
-    append_both (zone_faults d) (cpu_faults d) (zone_faults e) (cpu_faults e) (zones_both d e form) (cpus_both d e form) in
+    append_both (zone_faults d) (cpu_faults d) (zone_faults e) (cpu_faults e) (zones_both d e form)
+    (cpus_both d e form) in
     let three = append_both _ (domain_faults d) _ (domain_faults e) two (domains_both d e form) in
     let four = append_both _ (manager_faults d) _ (manager_faults e) three (managers_both d e form) in
     let five = append_both _ (master_faults d) _ (master_faults e) four (masters_both d e form) in
@@ -92,7 +98,7 @@ faultless_of d sound f (inl there_) = no_item f (subst (λ (l : List Fault). Con
 faultless_of d sound f (inr (inl bad)) = sound.conditions f.line bad.1
 faultless_of d sound f (inr (inr on)) = sound.circles on.1.0 on.1.1
 
-pub faultless_both : (d e : Defs) → IsForm d e → Both (IsFaultless d) (IsFaultless e)
+faultless_both : (d e : Defs) → IsForm d e → Both (IsFaultless d) (IsFaultless e)
 faultless_both d e form =
     let tested = tested_both d e form in
     let conditions = conditions_both d e form in (

@@ -1,5 +1,6 @@
 -- The workstations of streams and entries, and what names stand for, in definitions and in their normal form.
-use Rattle.std.proofs.Common.{◌≡◌, ℕ, ◌&&◌, List, [], ◌∷◌, map, filter_map, cond, Option, Some, None, refl, ap, sym, ◌∙◌, slice_get, option_and_then, is_none}
+use Rattle.std.proofs.Common.{◌≡◌, ℕ, ◌&&◌, List, [], ◌∷◌, map, filter_map, cond, Option, Some, None, refl, ap, sym}
+use Rattle.std.proofs.Common.{◌∙◌, slice_get, option_and_then, is_none}
 use Rattle.std.specs.List.{cons_option}
 use Rattle.std.specs.Option.{option_or, option_map_or}
 use Rattle.std.specs.Str.{bytes_eq}
@@ -16,7 +17,8 @@ use Rattle.composer_parser.specs.declared.ScheduleDef.{ScheduleDef}
 use Rattle.composer_print.specs.Scopes.{or_home}
 use Rattle.composer_print.specs.Normal as form
 use Rattle.composer_print.specs.Normal.{bare, bare_cpu, unless_under, only, normal_entry, normal_schedule, normal}
-use Rattle.definition_names.specs.Names.{first_of, cpu_names, domain_names, calendar_names, prompt_names, resource_names, job_names}
+use Rattle.definition_names.specs.Names.{first_of, cpu_names, domain_names, calendar_names, prompt_names}
+use Rattle.definition_names.specs.Names.{resource_names, job_names}
 use Rattle.definition_names.specs.Stations.{top_domains, only_manager, master_among, master_of, ws_of_stream}
 use Rattle.definition_names.specs.Streams.{is_one_ws, is_stream, stream_at, entry_at, entry_of}
 use Rattle.canonical_laws.proofs.Lists.{kept, at_place, position_same}
@@ -25,7 +27,8 @@ use Rattle.canonical_laws.proofs.Lists.{kept, at_place, position_same}
 abbrev manager : Lined DomainDef → List ℕ
 manager x = x.item.manager
 
-top_step : (x : Lined DomainDef) (o : Option (List ℕ)) (ms : List (List ℕ)) (xs : List (Lined DomainDef)) → ms ≡ map manager xs
+top_step : (x : Lined DomainDef) (o : Option (List ℕ)) (ms : List (List ℕ)) (xs : List (Lined DomainDef))
+    → ms ≡ map manager xs
     → cons_option (unless_under o x.item.manager) ms ≡ map manager (cond (is_none o) (x ∷ xs) xs)
 top_step x None ms xs e = ap (λ l. x.item.manager ∷ l) e
 top_step x (Some p) ms xs e = e
@@ -64,7 +67,8 @@ or_itself None = refl
 or_itself (Some x) = refl
 
 -- what was given is not given again
-pub home_stays : (w m again given : Option (List ℕ)) → m ≡ given → again ≡ given → option_or (or_home w m) again ≡ option_or w given
+pub home_stays : (w m again given : Option (List ℕ)) → m ≡ given → again ≡ given
+    → option_or (or_home w m) again ≡ option_or w given
 home_stays (Some x) m again given e f = refl
 home_stays None m again given e f = (λ i. option_or (e i) (f i)) ∙ or_itself given
 
@@ -116,15 +120,20 @@ alike d =
     record {
       master = stays;
       cpus = kept (λ (c : Lined CpuDef). c.item.name) (λ (c : Lined CpuDef). c.item.name) bare_cpu (λ c. refl) d.cpus;
-      domains = kept (λ (x : Lined DomainDef). x.item.name) (λ (x : Lined DomainDef). x.item.name) bare (λ x. refl) d.domains;
+      domains =
+          kept (λ (x : Lined DomainDef). x.item.name) (λ (x : Lined DomainDef). x.item.name) bare (λ x. refl) d.domains;
       calendars =
-          kept (λ (c : Lined CalendarDef). c.item.name) (λ (c : Lined CalendarDef). c.item.name) bare (λ c. refl) d.calendars;
-      prompts = kept (λ (p : Lined PromptDef). p.item.name) (λ (p : Lined PromptDef). p.item.name) bare (λ p. refl) d.prompts;
+          kept (λ (c : Lined CalendarDef). c.item.name) (λ (c : Lined CalendarDef). c.item.name) bare
+          (λ c. refl) d.calendars;
+      prompts =
+          kept (λ (p : Lined PromptDef). p.item.name) (λ (p : Lined PromptDef). p.item.name) bare (λ p. refl) d.prompts;
       resources =
-          kept (λ (r : Lined ResourceDef). (r.item.ws, r.item.name)) (λ (r : Lined ResourceDef). (r.item.ws, r.item.name)) bare
+          kept (λ (r : Lined ResourceDef). (r.item.ws, r.item.name))
+          (λ (r : Lined ResourceDef). (r.item.ws, r.item.name)) bare
           (λ r. refl) d.resources;
       jobs =
-          kept (λ (j : Lined JobDef). (j.item.ws, j.item.name)) (λ (j : Lined JobDef). (j.item.ws, j.item.name)) bare (λ j. refl)
+          kept (λ (j : Lined JobDef). (j.item.ws, j.item.name)) (λ (j : Lined JobDef). (j.item.ws, j.item.name)) bare
+          (λ j. refl)
           d.jobs;
       streams =
           λ ws name.

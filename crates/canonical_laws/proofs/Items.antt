@@ -1,7 +1,10 @@
--- The faults of options, workstations, domains, calendars, prompts, resources and jobs, as they are written and in normal
+-- The faults of options, workstations, domains, calendars, prompts, resources and jobs, as they are written and in
+-- normal
 -- form.
-use Rattle.std.proofs.Common.{◌≡◌, ℕ, zero, suc, ◌&&◌, ◌||◌, not, Bool, true, false, cond, eqb, List, [], ◌∷◌, map, flat_map, filter_map, length}
-use Rattle.std.proofs.Common.{Option, Some, None, refl, ap, sym, ◌∙◌, slice_get, is_none, option_map, option_and_then, unwrap_or, codes}
+use Rattle.std.proofs.Common.{◌≡◌, ℕ, zero, suc, ◌&&◌, ◌||◌, not, Bool, true, false, cond, eqb, List, [], ◌∷◌, map}
+use Rattle.std.proofs.Common.{flat_map, filter_map, length}
+use Rattle.std.proofs.Common.{Option, Some, None, refl, ap, sym, ◌∙◌, slice_get, is_none, option_map, option_and_then}
+use Rattle.std.proofs.Common.{unwrap_or, codes}
 use Rattle.std.proofs.lemmas.List.{length-map}
 use Rattle.std.proofs.lemmas.Option.{slice_get-map}
 use Rattle.std.specs.List.{cons_option, enumerate_from, list_any}
@@ -21,9 +24,12 @@ use Rattle.plan_times.specs.Zones.{east_of}
 use Rattle.definition_names.specs.Names.{first_of, first_on, cpu_at, domain_at}
 use Rattle.definition_names.specs.Stations.{top_domains}
 use Rattle.definition_faults.specs.Chains.{parent_of, climb, is_top, ends}
-use Rattle.definition_faults.specs.Items.{is_later, is_bad_port, cpu_rows, cpu_faults, has_top, strays, domain_rows, domain_faults}
-use Rattle.definition_faults.specs.Items.{calendar_rows, calendar_faults, prompt_rows, prompt_faults, resource_rows, resource_faults, job_rows, job_faults}
-use Rattle.definition_faults.specs.Masters.{tree_at, top_faults, master_faults, line_where_other, stray_fault, manager_faults}
+use Rattle.definition_faults.specs.Items.{is_later, is_bad_port, cpu_rows, cpu_faults, has_top, strays, domain_rows}
+use Rattle.definition_faults.specs.Items.{domain_faults}
+use Rattle.definition_faults.specs.Items.{calendar_rows, calendar_faults, prompt_rows, prompt_faults, resource_rows}
+use Rattle.definition_faults.specs.Items.{resource_faults, job_rows, job_faults}
+use Rattle.definition_faults.specs.Masters.{tree_at, top_faults, master_faults, line_where_other, stray_fault}
+use Rattle.definition_faults.specs.Masters.{manager_faults}
 use Rattle.definition_faults.specs.Orders.{fault, faults_at}
 use Rattle.definition_faults.specs.Ranges.{faults_of_zone, zone_faults}
 use Rattle.definition_faults.specs.declared.Fault.{Fault}
@@ -39,7 +45,8 @@ table_both : {X : Type 0} (rows more : ℕ → X → List (Bool × Kind)) (f : L
     → ((k : ℕ) (x : Lined X) → more k (f x).item ≡ rows k x.item) → (xs ys : List (Lined X)) → ys ≡ map f xs
     → Both (table rows xs ≡ []) (table more ys ≡ [])
 table_both {X = X} rows more f h xs ys are =
-    moved (table rows xs) (table rows xs) (table more (map f xs)) (table more ys) refl (ap (λ (l : List (Lined X)). table more l) are)
+    moved (table rows xs) (table rows xs) (table more (map f xs)) (table more ys) refl
+    (ap (λ (l : List (Lined X)). table more l) are)
     (pieces_both (λ (p : ℕ × Lined X). faults_at p.1.line (rows p.0 p.1.item))
     (λ (p : ℕ × Lined X). faults_at p.1.line (more p.0 p.1.item)) f xs
     (λ k x at. tables_both x.line (f x).line (rows k x.item) (more k (f x).item) (h k x)) 0 xs refl)
@@ -73,7 +80,8 @@ zone_test z true e = (
 )
 zone_test z false e = told_both (is_none (east_of z.item)) (fault z.line OutOfRange) (fault 0 OutOfRange)
 
-zone_by : (z : Option (Lined (List ℕ))) → Both (faults_of_zone z ≡ []) (faults_of_zone (option_map unlined (unless_utc (item_of z))) ≡ [])
+zone_by : (z : Option (Lined (List ℕ)))
+    → Both (faults_of_zone z ≡ []) (faults_of_zone (option_map unlined (unless_utc (item_of z))) ≡ [])
 zone_by None = (λ h. refl, λ h. refl)
 zone_by (Some z) = zone_test z (bytes_eq z.item (codes "UTC")) refl
 
@@ -82,7 +90,8 @@ cons_none : {X : Type 0} (o : Option X) (xs : List X) → cons_option o xs ≡ [
 cons_none None xs e = (refl, e)
 cons_none (Some x) xs e = cc
 
-picks_both : {X Y Z : Type 0} (f : X → Option Z) (g : Y → Option Z) (m : X → Y) → ((x : X) → Both (f x ≡ None) (g (m x) ≡ None))
+picks_both : {X Y Z : Type 0} (f : X → Option Z) (g : Y → Option Z) (m : X → Y)
+    → ((x : X) → Both (f x ≡ None) (g (m x) ≡ None))
     → (xs : List X) → Both (filter_map f xs ≡ []) (filter_map g (map m xs) ≡ [])
 picks_both f g m h [] = (λ e. refl, λ e. refl)
 picks_both f g m h (x ∷ xs) =
@@ -93,7 +102,8 @@ picks_both f g m h (x ∷ xs) =
 
 -- managers
 stray_test : (x : Lined DomainDef) (c : Lined CpuDef) (b : Bool)
-    → Both (option_map tree_at (cond b None (Some (min x.line c.line))) ≡ None) (option_map tree_at (cond b None (Some (min 0 0))) ≡ None)
+    → Both (option_map tree_at (cond b None (Some (min x.line c.line))) ≡ None)
+    (option_map tree_at (cond b None (Some (min 0 0))) ≡ None)
 stray_test x c true = (λ e. refl, λ e. refl)
 stray_test x c false = (λ e. cc, λ e. cc)
 
@@ -108,7 +118,8 @@ at_found : (cs : List (Lined CpuDef)) (o : Option ℕ)
 at_found cs None = refl
 at_found cs (Some k) = slice_get-map bare_cpu cs k
 
-stray_both : (d e : Defs) → IsForm d e → (x : Lined DomainDef) → Both (stray_fault d x ≡ None) (stray_fault e (bare x) ≡ None)
+stray_both : (d e : Defs) → IsForm d e → (x : Lined DomainDef)
+    → Both (stray_fault d x ≡ None) (stray_fault e (bare x) ≡ None)
 stray_both d e form x =
     let found : option_and_then (slice_get e.cpus) (cpu_at e x.item.manager)
     ≡ option_map bare_cpu (option_and_then (slice_get d.cpus) (cpu_at d x.item.manager)) =
@@ -116,7 +127,8 @@ stray_both d e form x =
     ∙ at_found d.cpus (cpu_at d x.item.manager) in
     let path : stray_fault e (bare x)
     ≡ option_map tree_at
-    (option_and_then (line_where_other (bare x)) (option_map bare_cpu (option_and_then (slice_get d.cpus) (cpu_at d x.item.manager)))) =
+    (option_and_then (line_where_other (bare x))
+    (option_map bare_cpu (option_and_then (slice_get d.cpus) (cpu_at d x.item.manager)))) =
     ap (λ o. option_map tree_at (option_and_then (line_where_other (bare x)) o)) found in
     let t = stray_by x (option_and_then (slice_get d.cpus) (cpu_at d x.item.manager)) in
     (λ none. path ∙ t.0 none, λ none. t.1 (sym path ∙ none))
@@ -144,10 +156,14 @@ module _ (d e : Defs) (form : IsForm d e) where
   parent_same : (i : ℕ) → parent_of e i ≡ parent_of d i
   parent_same i =
       ap (λ (xs : List (Lined DomainDef)).
-      unwrap_or (option_and_then (λ (x : Lined DomainDef). option_and_then (domain_at e) x.item.parent) (slice_get xs i)) i)
+      unwrap_or
+      (option_and_then (λ (x : Lined DomainDef). option_and_then (domain_at e) x.item.parent) (slice_get xs i)) i)
       form.domains
-      ∙ at_place bare (λ (o : Option (Lined DomainDef)). unwrap_or (option_and_then (λ x. option_and_then (domain_at e) x.item.parent) o) i)
-      (λ (o : Option (Lined DomainDef)). unwrap_or (option_and_then (λ x. option_and_then (domain_at d) x.item.parent) o) i) refl
+      ∙ at_place bare
+      (λ (o : Option (Lined DomainDef)). unwrap_or
+      (option_and_then (λ x. option_and_then (domain_at e) x.item.parent) o) i)
+      (λ (o : Option (Lined DomainDef)). unwrap_or
+      (option_and_then (λ x. option_and_then (domain_at d) x.item.parent) o) i) refl
       (λ x. λ j. unwrap_or (option_and_then (first_of (form.names.domains j)) x.item.parent) i) d.domains i
 
   climb_same : (n i : ℕ) → climb e n i ≡ climb d n i
@@ -156,13 +172,16 @@ module _ (d e : Defs) (form : IsForm d e) where
 
   top_same : (i : ℕ) → is_top e i ≡ is_top d i
   top_same i =
-      ap (λ (xs : List (Lined DomainDef)). option_map_or (λ (x : Lined DomainDef). is_none x.item.parent) (slice_get xs i) false)
+      ap (λ (xs : List (Lined DomainDef)). option_map_or (λ (x : Lined DomainDef). is_none x.item.parent)
+      (slice_get xs i) false)
       form.domains
       ∙ at_place bare (λ (o : Option (Lined DomainDef)). option_map_or (λ x. is_none x.item.parent) o false)
-      (λ (o : Option (Lined DomainDef)). option_map_or (λ x. is_none x.item.parent) o false) refl (λ x. refl) d.domains i
+      (λ (o : Option (Lined DomainDef)). option_map_or (λ x. is_none x.item.parent) o false) refl
+      (λ x. refl) d.domains i
 
   ends_same : (i : ℕ) → ends e i ≡ ends d i
-  ends_same i = top_same (climb e (length e.domains) i) ∙ ap (is_top d) (climb_same (length e.domains) i ∙ ap (λ n. climb d n i) lengths)
+  ends_same i = top_same (climb e (length e.domains) i)
+      ∙ ap (is_top d) (climb_same (length e.domains) i ∙ ap (λ n. climb d n i) lengths)
 
   tops_there : has_top e ≡ has_top d
   tops_there =
@@ -177,7 +196,8 @@ module _ (d e : Defs) (form : IsForm d e) where
   pub zones_both : Both (zone_faults d ≡ []) (zone_faults e ≡ [])
   unfolding zone_faults
   zones_both =
-      moved (faults_of_zone d.zone) (faults_of_zone d.zone) (faults_of_zone (option_map unlined (unless_utc (item_of d.zone))))
+      moved (faults_of_zone d.zone) (faults_of_zone d.zone)
+      (faults_of_zone (option_map unlined (unless_utc (item_of d.zone))))
       (faults_of_zone e.zone) refl (ap faults_of_zone form.zone) (zone_by d.zone)
 
   pub cpus_both : Both (cpu_faults d ≡ []) (cpu_faults e ≡ [])
@@ -230,7 +250,8 @@ module _ (d e : Defs) (form : IsForm d e) where
   unfolding prompt_faults
   prompts_both =
       table_both (prompt_rows d) (prompt_rows e) bare
-      (λ k x. λ i. (is_later (first_of (form.names.prompts i) x.item.name) k, Duplicate) ∷ (eqb k 65535, OutOfRange) ∷ [])
+      (λ k x. λ i. (is_later (first_of (form.names.prompts i) x.item.name) k, Duplicate) ∷
+      (eqb k 65535, OutOfRange) ∷ [])
       d.prompts e.prompts form.prompts
 
   pub resources_both : Both (resource_faults d ≡ []) (resource_faults e ≡ [])

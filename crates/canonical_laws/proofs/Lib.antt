@@ -14,6 +14,9 @@ pub mod Faultless
 pub mod Lines
 pub mod Networks
 pub mod Meanings
+pub mod Characters
+pub mod Printed
+pub mod Texts
 pub mod Runs
 pub mod Plans
 pub mod Chosen

@@ -5,7 +5,8 @@ use Rattle.composer_parser.specs.declared.Defs.{Defs}
 use Rattle.composer_parser.specs.declared.Clause.{Clause}
 use Rattle.composer_parser.specs.declared.EntryDef.{EntryDef}
 use Rattle.composer_parser.specs.declared.ScheduleDef.{ScheduleDef}
-use Rattle.composer_print.specs.Normal.{unlined, all_unlined, bare, bare_cpu, master_of, entry_names, normal_entry, normal_schedule, normal}
+use Rattle.composer_print.specs.Normal.{unlined, all_unlined, bare, bare_cpu, master_of, entry_names, normal_entry}
+use Rattle.composer_print.specs.Normal.{normal_schedule, normal}
 use Rattle.composer_print.specs.Scopes.{or_home, normal_clauses}
 use Rattle.composer_print.specs.Stations.{unless_utc, unless_yes}
 use Rattle.composer_print.specs.Streams.{items}
@@ -42,7 +43,8 @@ unfolding normal_schedule
 schedule_bare m s =
     let home : Option (List ℕ) = or_home s.item.ws m in
     let names : entry_names (map entry_line s.item.entries) ≡ entry_names s.item.entries =
-    kept (λ (e : Lined EntryDef). e.item.name) (λ (e : Lined EntryDef). e.item.name) entry_line (λ e. refl) s.item.entries in
+    kept (λ (e : Lined EntryDef). e.item.name) (λ (e : Lined EntryDef). e.item.name) entry_line
+    (λ e. refl) s.item.entries in
     let entries : map (normal_entry (entry_names (map entry_line s.item.entries)) home) (map entry_line s.item.entries)
     ≡ map (normal_entry (entry_names s.item.entries) home) s.item.entries =
     ap (λ ns. map (normal_entry ns home) (map entry_line s.item.entries)) names
@@ -60,7 +62,8 @@ schedule_bare m s =
 lines_dropped : (d : Defs) → normal (without_lines d) ≡ normal d
 unfolding normal without_lines
 lines_dropped d =
-    let schedules : map (normal_schedule (master_of (map bare d.domains))) (map (λ s. unlined (bare_schedule s.item)) d.schedules)
+    let schedules : map (normal_schedule (master_of (map bare d.domains)))
+    (map (λ s. unlined (bare_schedule s.item)) d.schedules)
     ≡ map (normal_schedule (master_of d.domains)) d.schedules =
     ap (λ m. map (normal_schedule m) (map (λ s. unlined (bare_schedule s.item)) d.schedules)) (form_bare d.domains)
     ∙ kept (normal_schedule (master_of d.domains)) (normal_schedule (master_of d.domains))

@@ -1,5 +1,6 @@
 -- What holds of lists of faults, and of lists that are made of others item by item.
-use Rattle.std.proofs.Common.{◌≡◌, ℕ, zero, suc, ◌+◌, ◌||◌, Bool, true, false, cond, List, [], ◌∷◌, ◌++◌, map, drop, flat_map, filter_map, Option, Some, None}
+use Rattle.std.proofs.Common.{◌≡◌, ℕ, zero, suc, ◌+◌, ◌||◌, Bool, true, false, cond, List, [], ◌∷◌, ◌++◌, map, drop}
+use Rattle.std.proofs.Common.{flat_map, filter_map, Option, Some, None}
 use Rattle.std.proofs.Common.{refl, ap, sym, ◌∙◌, add-one, slice_get}
 use Rattle.std.proofs.lemmas.List.{map-append}
 use Rattle.std.specs.List.{cons_option, enumerate_from, position_from, list_any}
@@ -20,12 +21,14 @@ kept f f0 g h [] = refl
 kept f f0 g h (x ∷ xs) = λ i. h x i ∷ kept f f0 g h xs i
 
 pub at_place : {A C B : Type 0} (f : A → C) (F' : Option C → B) (F : Option A → B) → F' None ≡ F None
-    → ((x : A) → F' (Some (f x)) ≡ F (Some x)) → (xs : List A) (n : ℕ) → F' (slice_get (map f xs) n) ≡ F (slice_get xs n)
+    → ((x : A) → F' (Some (f x)) ≡ F (Some x)) → (xs : List A) (n : ℕ)
+    → F' (slice_get (map f xs) n) ≡ F (slice_get xs n)
 at_place f F' F none some [] n = none
 at_place f F' F none some (x ∷ xs) zero = some x
 at_place f F' F none some (x ∷ xs) (suc n) = at_place f F' F none some xs n
 
-pub position_same : {A B : Type 0} (t' : B → Bool) (t : A → Bool) (f : A → B) → ((x : A) → t' (f x) ≡ t x) → (i : ℕ) (xs : List A)
+pub position_same : {A B : Type 0} (t' : B → Bool) (t : A → Bool) (f : A → B) → ((x : A) → t' (f x) ≡ t x)
+    → (i : ℕ) (xs : List A)
     → position_from t' i (map f xs) ≡ position_from t i xs
 position_same t' t f h i [] = refl
 position_same t' t f h i (x ∷ xs) = λ j. cond (h x j) (Some i) (position_same t' t f h (i + 1) xs j)
@@ -36,14 +39,15 @@ any_same t' t f h [] = refl
 any_same t' t f h (x ∷ xs) = λ j. h x j || any_same t' t f h xs j
 
 -- what passes no test has no first place
-pub no_position : {A : Type 0} (t : A → Bool) (i : ℕ) (xs : List A) → list_any t xs ≡ false → position_from t i xs ≡ None
+pub no_position : {A : Type 0} (t : A → Bool) (i : ℕ) (xs : List A) → list_any t xs ≡ false
+    → position_from t i xs ≡ None
 no_position t i [] e = refl
 no_position t i (x ∷ xs) e =
     let t2 = neither (t x) (list_any t xs) e in
     ap (λ b. cond b (Some i) (position_from t (i + 1) xs)) t2.0 ∙ no_position t (i + 1) xs t2.1
 
 -- what is left begins with the item at its place
-pub left_at : {A : Type 0} (all : List A) (k : ℕ) (x : A) (xs : List A) → drop k all ≡ x ∷ xs
+left_at : {A : Type 0} (all : List A) (k : ℕ) (x : A) (xs : List A) → drop k all ≡ x ∷ xs
     → (slice_get all k ≡ Some x) × (drop (k + 1) all ≡ xs)
 left_at [] zero x xs e = cc
 left_at [] (suc k) x xs e = cc
@@ -57,7 +61,8 @@ left_at (y ∷ ys) (suc k) x xs e =
 
 -- Lists without an item.
 
-pub append_then : {A B : Type 0} (a b : List A) (c d : List B) → Both (a ≡ []) (c ≡ []) → (a ≡ [] → Both (b ≡ []) (d ≡ []))
+pub append_then : {A B : Type 0} (a b : List A) (c d : List B) → Both (a ≡ []) (c ≡ [])
+    → (a ≡ [] → Both (b ≡ []) (d ≡ []))
     → Both (a ++ b ≡ []) (c ++ d ≡ [])
 append_then a b c d p q = (
   λ e. let t = both_empty a b e in λ i. p.0 t.0 i ++ (q t.0).0 t.1 i,
@@ -78,11 +83,13 @@ pub pieces_both : {X Y C : Type 0} (f : ℕ × X → List C) (g : ℕ × Y → L
 pieces_both f g m all h k [] at = (λ e. refl, λ e. refl)
 pieces_both f g m all h k (x ∷ xs) at =
     let t = left_at all k x xs at in
-    append_both (f (k, x)) (flat_map f (enumerate_from (k + 1) xs)) (g (k, m x)) (flat_map g (enumerate_from (k + 1) (map m xs)))
+    append_both (f (k, x)) (flat_map f (enumerate_from (k + 1) xs)) (g (k, m x))
+    (flat_map g (enumerate_from (k + 1) (map m xs)))
     (h k x t.0) (pieces_both f g m all h (k + 1) xs t.1)
 
 -- items without places
-pub lists_both : {X Y C : Type 0} (f : X → List C) (g : Y → List C) (m : X → Y) → ((x : X) → Both (f x ≡ []) (g (m x) ≡ []))
+pub lists_both : {X Y C : Type 0} (f : X → List C) (g : Y → List C) (m : X → Y)
+    → ((x : X) → Both (f x ≡ []) (g (m x) ≡ []))
     → (xs : List X) → Both (flat_map f xs ≡ []) (flat_map g (map m xs) ≡ [])
 lists_both f g m h [] = (λ e. refl, λ e. refl)
 lists_both f g m h (x ∷ xs) =
@@ -102,11 +109,13 @@ tables_both l m rows other same = (
 )
 
 -- the same of lists that are these
-pub moved : {X Y : Type 0} (a b : List X) (c d : List Y) → b ≡ a → d ≡ c → Both (a ≡ []) (c ≡ []) → Both (b ≡ []) (d ≡ [])
+pub moved : {X Y : Type 0} (a b : List X) (c d : List Y) → b ≡ a → d ≡ c → Both (a ≡ []) (c ≡ [])
+    → Both (b ≡ []) (d ≡ [])
 moved a b c d p q t = (λ e. q ∙ t.0 (sym p ∙ e), λ e. p ∙ t.1 (sym q ∙ e))
 
 -- what items give
-pub picks_same : {X Y Z : Type 0} (f : X → Option Z) (g : Y → Option Z) (m : X → Y) → ((x : X) → g (m x) ≡ f x) → (xs : List X)
+pub picks_same : {X Y Z : Type 0} (f : X → Option Z) (g : Y → Option Z) (m : X → Y) → ((x : X) → g (m x) ≡ f x)
+    → (xs : List X)
     → filter_map g (map m xs) ≡ filter_map f xs
 picks_same f g m h [] = refl
 picks_same f g m h (x ∷ xs) = λ i. cons_option (h x i) (picks_same f g m h xs i)

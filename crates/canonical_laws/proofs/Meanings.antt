@@ -17,7 +17,8 @@ use Rattle.canonical_laws.proofs.Runs.{runs_same}
 use Rattle.canonical_laws.proofs.Plans.{limits_same, times_both}
 
 -- what is that of the normal form is the same of both
-pub through : {A : Type 0} (f : Defs → A) → ((d : Defs) → f (normal d) ≡ f d) → (d e : Defs) → normal d ≡ normal e → f d ≡ f e
+through : {A : Type 0} (f : Defs → A) → ((d : Defs) → f (normal d) ≡ f d) → (d e : Defs) → normal d ≡ normal e
+    → f d ≡ f e
 through f h d e same = sym (h d) ∙ ap f same ∙ h e
 
 pub one_net : (d e : Defs) → normal d ≡ normal e → net_of d ≡ net_of e
@@ -43,11 +44,13 @@ timed_together d e same day none =
     (times_both e (normal e) (is_form e) day).1
     (subst (λ (x : Defs). time_fault x day ≡ None) same ((times_both d (normal d) (is_form d) day).0 none))
 
-pub one_list_of_drafts : (d e : Defs) → AreDefs d → AreDefs e → normal d ≡ normal e → (day : ℕ) (drafts : List StreamDraft)
+pub one_list_of_drafts : (d e : Defs) → AreDefs d → AreDefs e → normal d ≡ normal e
+    → (day : ℕ) (drafts : List StreamDraft)
     → AreDrafts d day drafts → AreDrafts e day drafts
 one_list_of_drafts d e ds es same day drafts are =
     (drafts_both e (normal e) (is_form e) es.schedules day drafts).1
-    (subst (λ (x : Defs). AreDrafts x day drafts) same ((drafts_both d (normal d) (is_form d) ds.schedules day drafts).0 are))
+    (subst (λ (x : Defs). AreDrafts x day drafts) same
+    ((drafts_both d (normal d) (is_form d) ds.schedules day drafts).0 are))
 
 pub one_text : (d e : Defs) → normal d ≡ normal e → printed d ≡ printed e
 unfolding printed

@@ -23,7 +23,8 @@ use Rattle.definition_names.specs.Names.{first_of, domain_at, calendar_names}
 use Rattle.definition_names.specs.Streams.{is_one_ws}
 use Rattle.model.specs.Words.{ascending}
 use Rattle.workload_defs.specs.Stations.{is_that, those, stations, number_among, number_of}
-use Rattle.workload_defs.specs.Nets.{manager_of, parent_of, manages, hop_of, node_of, resource_among, carry_of, net_of, peer_of, peers_of}
+use Rattle.workload_defs.specs.Nets.{manager_of, parent_of, manages, hop_of, node_of, resource_among, carry_of, net_of}
+use Rattle.workload_defs.specs.Nets.{peer_of, peers_of}
 use Rattle.workload_defs.specs.Days.{days_of, free_calendar, has_free_sa, has_free_su, free_of_stream, free_of}
 use Rattle.canonical_laws.proofs.Lists.{kept, at_place, position_same, any_same}
 use Rattle.canonical_laws.proofs.Forms.{IsForm}
@@ -31,9 +32,11 @@ use Rattle.canonical_laws.proofs.Forms.{IsForm}
 filter_mapped : {A B : Type 0} (q : B → Bool) (p : A → Bool) (f : A → B) → ((x : A) → q (f x) ≡ p x) → (xs : List A)
     → filter q (map f xs) ≡ map f (filter p xs)
 filter_mapped q p f h [] = refl
-filter_mapped q p f h (x ∷ xs) = (λ i. cond (h x i) (f x ∷ filter_mapped q p f h xs i) (filter_mapped q p f h xs i)) ∙ go (p x)
+filter_mapped q p f h (x ∷ xs) = (λ i. cond (h x i) (f x ∷ filter_mapped q p f h xs i) (filter_mapped q p f h xs i))
+    ∙ go (p x)
   where
-    go : (b : Bool) → cond b (f x ∷ map f (filter p xs)) (map f (filter p xs)) ≡ map f (cond b (x ∷ filter p xs) (filter p xs))
+    go : (b : Bool)
+        → cond b (f x ∷ map f (filter p xs)) (map f (filter p xs)) ≡ map f (cond b (x ∷ filter p xs) (filter p xs))
     go true = refl
     go false = refl
 
@@ -63,8 +66,10 @@ carry_by (Some c) = go c.item
     go All = refl
 
 -- a domain that a name stands for
-domain_by : {B : Type 0} (k : Lined DomainDef → B) → ((x : Lined DomainDef) → k (bare x) ≡ k x) → (ds : List (Lined DomainDef))
-    (o : Option ℕ) → option_map k (option_and_then (slice_get (map bare ds)) o) ≡ option_map k (option_and_then (slice_get ds) o)
+domain_by : {B : Type 0} (k : Lined DomainDef → B) → ((x : Lined DomainDef) → k (bare x) ≡ k x)
+    → (ds : List (Lined DomainDef))
+    (o : Option ℕ)
+    → option_map k (option_and_then (slice_get (map bare ds)) o) ≡ option_map k (option_and_then (slice_get ds) o)
 domain_by k h ds None = refl
 domain_by k h ds (Some n) = at_place bare (λ o. option_map k o) (λ o. option_map k o) refl (λ x. ap Some (h x)) ds n
 
@@ -82,7 +87,8 @@ module _ (d e : Defs) (form : IsForm d e) where
   cpus_are =
       ap (λ (cs : List (Lined CpuDef)). map (λ (c : Lined CpuDef). c.item) cs) form.cpus
       ∙ kept (λ (c : Lined CpuDef). c.item) (λ (c : Lined CpuDef). normal_cpu c.item) bare_cpu (λ c. refl) d.cpus
-      ∙ sym (kept normal_cpu (λ (c : Lined CpuDef). normal_cpu c.item) (λ (c : Lined CpuDef). c.item) (λ c. refl) d.cpus)
+      ∙ sym (kept normal_cpu (λ (c : Lined CpuDef). normal_cpu c.item) (λ (c : Lined CpuDef). c.item)
+      (λ c. refl) d.cpus)
 
   that_same : (b : Bool) (c : CpuDef) → is_that e b (normal_cpu c) ≡ is_that d b c
   that_same true c = ap (λ m. is_one_ws m (Some c.name)) form.names.master
@@ -93,21 +99,24 @@ module _ (d e : Defs) (form : IsForm d e) where
       ap (filter (is_that e b)) cpus_are
       ∙ filter_mapped (is_that e b) (is_that d b) normal_cpu (that_same b) (map (λ (c : Lined CpuDef). c.item) d.cpus)
 
-  pub stations_same : stations e ≡ map normal_cpu (stations d)
+  stations_same : stations e ≡ map normal_cpu (stations d)
   unfolding stations
   stations_same =
-      (λ i. those_same true i ++ those_same false i) ∙ sym (map-append normal_cpu (those d true d.cpus) (those d false d.cpus))
+      (λ i. those_same true i ++ those_same false i)
+      ∙ sym (map-append normal_cpu (those d true d.cpus) (those d false d.cpus))
 
   pub number_same : (name : List ℕ) → number_of e name ≡ number_of d name
   number_same name =
       ap (λ cs. number_among cs name) stations_same
-      ∙ position_same (λ (c : CpuDef). bytes_eq name c.name) (λ (c : CpuDef). bytes_eq name c.name) normal_cpu (λ c. refl) 0
+      ∙ position_same (λ (c : CpuDef). bytes_eq name c.name) (λ (c : CpuDef). bytes_eq name c.name) normal_cpu
+      (λ c. refl) 0
       (stations d)
 
   -- the network
   manages_same : (c : CpuDef) → manages e (normal_cpu c) ≡ manages d c
   manages_same c =
-      ap (λ (xs : List (Lined DomainDef)). list_any (λ (x : Lined DomainDef). bytes_eq x.item.manager c.name) xs) form.domains
+      ap (λ (xs : List (Lined DomainDef)). list_any (λ (x : Lined DomainDef). bytes_eq x.item.manager c.name) xs)
+      form.domains
       ∙ any_same (λ (x : Lined DomainDef). bytes_eq x.item.manager c.name)
       (λ (x : Lined DomainDef). bytes_eq x.item.manager c.name) bare (λ x. refl) d.domains
 
@@ -126,7 +135,8 @@ module _ (d e : Defs) (form : IsForm d e) where
   hop_same : (c : CpuDef) → hop_of e (normal_cpu c) ≡ hop_of d c
   hop_same c =
       λ i. option_and_then (λ name. number_same name i)
-      (cond (manages_same c i) (option_and_then (λ name. manager_same name i) (parent_same c.domain i)) (manager_same c.domain i))
+      (cond (manages_same c i) (option_and_then (λ name. manager_same name i) (parent_same c.domain i))
+      (manager_same c.domain i))
 
   node_same : (c : CpuDef) → node_of e (normal_cpu c) ≡ node_of d c
   node_same c = λ i. record { name = c.name; hop = hop_same c i; manager = manages_same c i; full = full_kept c.full i }
@@ -139,16 +149,19 @@ module _ (d e : Defs) (form : IsForm d e) where
       let resources : map (resource_among (stations e)) e.resources ≡ map (resource_among (stations d)) d.resources =
       ap (map (resource_among (stations e))) form.resources
       ∙ kept (resource_among (stations e)) (resource_among (stations d)) bare
-      (λ r. λ i. record { ws = unwrap_or (number_same r.item.ws i) 0; name = r.item.name; total = r.item.total }) d.resources in
+      (λ r. λ i. record { ws = unwrap_or (number_same r.item.ws i) 0; name = r.item.name; total = r.item.total })
+      d.resources in
       let prompts : map (λ (p : Lined PromptDef). p.item) e.prompts ≡ map (λ (p : Lined PromptDef). p.item) d.prompts =
       ap (map (λ (p : Lined PromptDef). p.item)) form.prompts
       ∙ kept (λ (p : Lined PromptDef). p.item) (λ (p : Lined PromptDef). p.item) bare (λ p. refl) d.prompts in
       let carry : carry_of e ≡ carry_of d =
-      ap (λ (c : Option (Lined Carry)). option_map_or (λ (l : Lined Carry). l.item) c Yes) form.carry ∙ carry_by d.carry in
+      ap (λ (c : Option (Lined Carry)). option_map_or (λ (l : Lined Carry). l.item) c Yes) form.carry
+      ∙ carry_by d.carry in
       λ i. record { nodes = nodes i; resources = resources i; prompts = prompts i; carry = carry i }
 
   -- the addresses
-  peers_by : (k : ℕ) (cs : List CpuDef) → map peer_of (enumerate_from k (map normal_cpu cs)) ≡ map peer_of (enumerate_from k cs)
+  peers_by : (k : ℕ) (cs : List CpuDef)
+      → map peer_of (enumerate_from k (map normal_cpu cs)) ≡ map peer_of (enumerate_from k cs)
   peers_by k [] = refl
   peers_by k (c ∷ cs) = λ i. record { ws = k; host = c.host; port = port_kept c.port i } ∷ peers_by (k + 1) cs i
 
@@ -163,7 +176,8 @@ module _ (d e : Defs) (form : IsForm d e) where
       ∙ go (first_of (calendar_names d) name)
     where
       go : (o : Option ℕ)
-          → option_map_or (λ (c : Lined CalendarDef). c.item.days) (option_and_then (slice_get (map bare d.calendars)) o) []
+          → option_map_or (λ (c : Lined CalendarDef). c.item.days)
+          (option_and_then (slice_get (map bare d.calendars)) o) []
           ≡ option_map_or (λ (c : Lined CalendarDef). c.item.days) (option_and_then (slice_get d.calendars) o) []
       go None = refl
       go (Some n) =
@@ -182,7 +196,8 @@ module _ (d e : Defs) (form : IsForm d e) where
 
   pub free_same : (n : ℕ) → free_of e n ≡ free_of d n
   free_same n =
-      ap (λ (ss : List (Lined ScheduleDef)). option_map (λ (s : Lined ScheduleDef). free_of_stream e s.item) (slice_get ss n))
+      ap (λ (ss : List (Lined ScheduleDef)). option_map (λ (s : Lined ScheduleDef). free_of_stream e s.item)
+      (slice_get ss n))
       form.schedules
       ∙ at_place (normal_schedule (forms.master_of d.domains))
       (λ o. option_map (λ (s : Lined ScheduleDef). free_of_stream e s.item) o)

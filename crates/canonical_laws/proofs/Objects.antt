@@ -1,5 +1,6 @@
 -- The faults of the clauses of a stream or of an entry, as they are written and in normal form.
-use Rattle.std.proofs.Common.{◌≡◌, ◌≤◌, ℕ, eqb, nat_lt, ◌||◌, not, Bool, true, false, cond, List, [], Option, Some, None, refl, ap, sym, subst, ◌∙◌, is_none}
+use Rattle.std.proofs.Common.{◌≡◌, ◌≤◌, ℕ, eqb, nat_lt, ◌||◌, not, Bool, true, false, cond, List, [], Option, Some}
+use Rattle.std.proofs.Common.{None, refl, ap, sym, subst, ◌∙◌, is_none}
 use Rattle.std.specs.Option.{option_map_or}
 use Rattle.lemmas.proofs.Numbers.{number_tells}
 use Rattle.lemmas.proofs.Texts.{text_itself}
@@ -22,7 +23,8 @@ use Rattle.canonical_laws.proofs.Lists.{Both}
 use Rattle.canonical_laws.proofs.Homes.{home_of, Alike}
 use Rattle.canonical_laws.proofs.Targets.{AreEntries, target_kept}
 use Rattle.canonical_laws.proofs.Weights.{weight, total, weighed}
-use Rattle.canonical_laws.proofs.Counts.{bit, unknown_weights, range_weights, foreign_weights, all_weights, AreGood, good_of, faults_of}
+use Rattle.canonical_laws.proofs.Counts.{bit, unknown_weights, range_weights, foreign_weights, all_weights, AreGood}
+use Rattle.canonical_laws.proofs.Counts.{good_of, faults_of}
 
 -- workstations
 pub ws_alike : (d e : Defs) → Alike d e → (ws : Option (List ℕ)) → is_unknown_ws e ws ≡ is_unknown_ws d ws
@@ -41,7 +43,8 @@ put_unless d true ws home known = refl
 put_unless d false ws home known = ws_put d ws home known
 
 -- what is followed
-pred_ws_kept : (d e : Defs) → Alike d e → (names : List (List ℕ)) (home : Option (List ℕ)) → is_unknown_ws d home ≡ false → (p : Pred)
+pred_ws_kept : (d e : Defs) → Alike d e → (names : List (List ℕ)) (home : Option (List ℕ))
+    → is_unknown_ws d home ≡ false → (p : Pred)
     → is_unknown_ws e (normal_pred names home p).ws ≡ is_unknown_ws d p.ws
 unfolding normal_pred
 pred_ws_kept d e a names home known p =
@@ -54,7 +57,8 @@ pred_kept d e a n inside names home k eh known p =
     λ i. pred_ws_kept d e a names home known p i || is_none (target_kept d e a n inside names home k eh p i)
 
 -- what is needed
-need_by : (d e : Defs) → Alike d e → (own : Option (List ℕ)) → is_unknown_ws d own ≡ false → (units : Option ℕ) (ws : Option (List ℕ))
+need_by : (d e : Defs) → Alike d e → (own : Option (List ℕ)) → is_unknown_ws d own ≡ false
+    → (units : Option ℕ) (ws : Option (List ℕ))
     (name : List ℕ)
     → is_unknown_need e own (normal_need own (record { units = units; ws = ws; name = name }))
     ≡ is_unknown_need d own (record { units = units; ws = ws; name = name })
@@ -111,23 +115,31 @@ module _ (d e : Defs) (a : Alike d e) (n : ℕ) (inside : Bool) (names : List (L
       (λ p. ap bit (pred_kept d e a n inside names home k eh hk p)) (λ x. ap bit (need_kept d e a own ok x))
       (λ p. ap bit (prompt_kept d e a p)) cs
 
-  range_same : (cs : List Clause) → total (weight range_weights) (normal_clauses names home own cs) ≡ total (weight range_weights) cs
+  range_same : (cs : List Clause)
+      → total (weight range_weights) (normal_clauses names home own cs) ≡ total (weight range_weights) cs
   range_same cs =
-      weighed (λ c. bit (is_out_of_range c)) (λ p. 0) (λ p. 0) (λ x. bit (needs_too_many x)) (λ x. bit (needs_too_many x))
-      (λ p. 0) (λ p. 0) range_weights.file names home own refl (λ p. refl) (λ x. ap bit (units_kept own x)) (λ p. refl) cs
+      weighed (λ c. bit (is_out_of_range c)) (λ p. 0) (λ p. 0) (λ x. bit (needs_too_many x))
+      (λ x. bit (needs_too_many x))
+      (λ p. 0) (λ p. 0) range_weights.file names home own refl (λ p. refl) (λ x. ap bit (units_kept own x))
+      (λ p. refl) cs
 
   foreign_same : (cs : List Clause)
-      → total (weight (foreign_weights own)) (normal_clauses names home own cs) ≡ total (weight (foreign_weights own)) cs
+      → total (weight (foreign_weights own)) (normal_clauses names home own cs) ≡ total
+      (weight (foreign_weights own)) cs
   foreign_same cs =
-      weighed (λ c. 0) (λ p. 0) (λ p. 0) (λ x. bit (is_foreign own x)) (λ x. bit (is_foreign own x)) (λ p. 0) (λ p. 0) (λ f. 0)
+      weighed (λ c. 0) (λ p. 0) (λ p. 0) (λ x. bit (is_foreign own x)) (λ x. bit (is_foreign own x)) (λ p. 0) (λ p. 0)
+      (λ f. 0)
       names home own refl (λ p. refl) (λ x. ap bit (foreign_kept own x)) (λ p. refl) cs
 
-  all_same : (cs : List Clause) → total (weight all_weights) (normal_clauses names home own cs) ≡ total (weight all_weights) cs
+  all_same : (cs : List Clause)
+      → total (weight all_weights) (normal_clauses names home own cs) ≡ total (weight all_weights) cs
   all_same cs =
-      weighed (λ c. dependency_count c) (λ p. 1) (λ p. 1) (λ x. 1) (λ x. 1) (λ p. 1) (λ p. 1) (λ f. 1) names home own refl
+      weighed (λ c. dependency_count c) (λ p. 1) (λ p. 1) (λ x. 1) (λ x. 1) (λ p. 1) (λ p. 1)
+      (λ f. 1) names home own refl
       (λ p. refl) (λ x. refl) (λ p. refl) cs
 
-  good_kept : (cs : List Clause) → Both (AreGood d n inside own cs) (AreGood e n inside own (normal_clauses names home own cs))
+  good_kept : (cs : List Clause)
+      → Both (AreGood d n inside own cs) (AreGood e n inside own (normal_clauses names home own cs))
   good_kept cs = (
     λ g. record {
       unknown = unknown_same cs ∙ g.unknown;
@@ -154,5 +166,6 @@ module _ (d e : Defs) (a : Alike d e) (n : ℕ) (inside : Bool) (names : List (L
             (subst (AreGood e n inside own) (sym same) ((good_kept (items cs)).0 (good_of d n inside own cs none))),
         λ none.
             faults_of d n inside own cs
-            ((good_kept (items cs)).1 (subst (AreGood e n inside own) same (good_of e n inside own (all_unlined forms) none))),
+            ((good_kept (items cs)).1
+            (subst (AreGood e n inside own) same (good_of e n inside own (all_unlined forms) none))),
       )

@@ -1,6 +1,8 @@
 -- The limits and the times of the plan of a day are those of the normal form.
-use Rattle.std.proofs.Common.{◌≡◌, ◌+◌, ℕ, Bool, true, false, cond, eqb, List, [], ◌∷◌, ◌++◌, map, filter, flat_map, length, fold, pos}
-use Rattle.std.proofs.Common.{Option, Some, None, refl, ap, sym, ◌∙◌, arith, slice_get, option_map, option_and_then, unwrap_or, codes}
+use Rattle.std.proofs.Common.{◌≡◌, ◌+◌, ℕ, Bool, true, false, cond, eqb, List, [], ◌∷◌, ◌++◌, map, filter, flat_map}
+use Rattle.std.proofs.Common.{length, fold, pos}
+use Rattle.std.proofs.Common.{Option, Some, None, refl, ap, sym, ◌∙◌, arith, slice_get, option_map, option_and_then}
+use Rattle.std.proofs.Common.{unwrap_or, codes}
 use Rattle.std.proofs.lemmas.List.{length-map}
 use Rattle.std.proofs.lemmas.Option.{slice_get-map}
 use Rattle.std.specs.List.{range_with_len}
@@ -25,7 +27,8 @@ use Rattle.composer_print.specs.Texts.{unless, item_of}
 use Rattle.composer_print.proofs.Joins.{items_unlined}
 use Rattle.model.specs.Words.{first_of_these, least}
 use Rattle.plan_times.specs.Zones.{east_of}
-use Rattle.plan_builder.specs.Limits.{running, entries_of, job_count, lines_in, lines_of_entries, lines_of_stream, timeless_lines, limit_fault, time_fault}
+use Rattle.plan_builder.specs.Limits.{running, entries_of, job_count, lines_in, lines_of_entries, lines_of_stream}
+use Rattle.plan_builder.specs.Limits.{timeless_lines, limit_fault, time_fault}
 use Rattle.plan_builder.specs.Times.{plan_day, is_timeless}
 use Rattle.plan_builder.specs.declared.times.PlanDay.{PlanDay}
 use Rattle.plan_builder.specs.declared.PlanFault.TheVariants.{Limit, OutOfRange}
@@ -60,16 +63,19 @@ zone_test zone true e = sym (ap (λ t. unwrap_or (east_of t) (pos 0)) (text_tell
 zone_test zone false e = refl
 
 zone_by : (o : Option (Lined (List ℕ)))
-    → unwrap_or (option_and_then (λ (z : Lined (List ℕ)). east_of z.item) (option_map unlined (unless_utc (item_of o)))) (pos 0)
+    → unwrap_or (option_and_then (λ (z : Lined (List ℕ)). east_of z.item) (option_map unlined (unless_utc (item_of o))))
+    (pos 0)
     ≡ unwrap_or (option_and_then (λ (z : Lined (List ℕ)). east_of z.item) o) (pos 0)
 zone_by None = refl
 zone_by (Some z) = zone_test z.item (bytes_eq z.item (codes "UTC")) refl
 
 pub plan_same : (d e : Defs) → IsForm d e → (day : ℕ) → plan_day e day ≡ plan_day d day
 plan_same d e form day =
-    let start = ap (λ (o : Option (Lined ℕ)). option_map_or (λ (s : Lined ℕ). s.item) o 360) form.start ∙ start_by d.start in
+    let start = ap (λ (o : Option (Lined ℕ)). option_map_or (λ (s : Lined ℕ). s.item) o 360) form.start
+    ∙ start_by d.start in
     let east =
-    ap (λ (o : Option (Lined (List ℕ))). unwrap_or (option_and_then (λ (z : Lined (List ℕ)). east_of z.item) o) (pos 0)) form.zone
+    ap (λ (o : Option (Lined (List ℕ))). unwrap_or (option_and_then (λ (z : Lined (List ℕ)). east_of z.item) o) (pos 0))
+    form.zone
     ∙ zone_by d.zone in
     λ i. record { day = day; start = start i; east = east i }
 
@@ -143,9 +149,11 @@ lines_both : (plan : PlanDay) (names : List (List ℕ)) (home own : Option (List
     → Both (lines_in plan cs ≡ []) (lines_in plan (all_unlined (normal_clauses names home own (items cs))) ≡ [])
 lines_both plan names home own cs =
     let all : List Clause = normal_clauses names home own (items cs) in
-    let same : total (weight (time_weights plan)) (items (all_unlined all)) ≡ total (weight (time_weights plan)) (items cs) =
+    let same : total (weight (time_weights plan)) (items (all_unlined all)) ≡ total (weight (time_weights plan))
+    (items cs) =
     ap (λ xs. total (weight (time_weights plan)) xs) (items_unlined all)
-    ∙ weighed (λ c. bit (is_timeless plan c)) (λ p. 0) (λ p. 0) (λ x. 0) (λ x. 0) (λ p. 0) (λ p. 0) (λ f. 0) names home own refl
+    ∙ weighed (λ c. bit (is_timeless plan c)) (λ p. 0) (λ p. 0) (λ x. 0) (λ x. 0) (λ p. 0) (λ p. 0)
+    (λ f. 0) names home own refl
     (λ p. refl) (λ x. refl) (λ p. refl) (items cs) in (
       λ none. (lines_counted plan (all_unlined all)).1 (same ∙ (lines_counted plan cs).0 none),
       λ none. (lines_counted plan cs).1 (sym same ∙ (lines_counted plan (all_unlined all)).0 none),
@@ -171,7 +179,8 @@ stream_both plan m (Some s) =
     append_both (lines_in plan s.item.clauses) (lines_of_entries plan s.item.entries)
     (lines_in plan (all_unlined (normal_clauses [] home home (items s.item.clauses))))
     (lines_of_entries plan (map (normal_entry names home) s.item.entries)) (lines_both plan [] home home s.item.clauses)
-    (lists_both (λ (x : Lined EntryDef). lines_in plan x.item.clauses) (λ (x : Lined EntryDef). lines_in plan x.item.clauses)
+    (lists_both (λ (x : Lined EntryDef). lines_in plan x.item.clauses)
+    (λ (x : Lined EntryDef). lines_in plan x.item.clauses)
     (normal_entry names home) (entry_lines plan names home) s.item.entries)
 
 each_both : {A B C : Type 0} (f : A → List B) (g : A → List C) → ((x : A) → Both (f x ≡ []) (g x ≡ [])) → (xs : List A)
@@ -184,9 +193,11 @@ lines_at : (d e : Defs) → IsForm d e → (plan : PlanDay) (n : ℕ)
 lines_at d e form plan n =
     let m : Option (List ℕ) = forms.master_of d.domains in
     moved (stream_lines plan (slice_get d.schedules n)) (stream_lines plan (slice_get d.schedules n))
-    (stream_lines plan (option_map (normal_schedule m) (slice_get d.schedules n))) (stream_lines plan (slice_get e.schedules n)) refl
+    (stream_lines plan (option_map (normal_schedule m) (slice_get d.schedules n)))
+    (stream_lines plan (slice_get e.schedules n)) refl
     (ap (λ (ss : List (Lined ScheduleDef)). stream_lines plan (slice_get ss n)) form.schedules
-    ∙ ap (stream_lines plan) (slice_get-map (normal_schedule m) d.schedules n)) (stream_both plan m (slice_get d.schedules n))
+    ∙ ap (stream_lines plan) (slice_get-map (normal_schedule m) d.schedules n))
+    (stream_both plan m (slice_get d.schedules n))
 
 timeless_both : (d e : Defs) → IsForm d e → (plan : PlanDay) (streams : List ℕ)
     → Both (timeless_lines d plan streams ≡ []) (timeless_lines e plan streams ≡ [])

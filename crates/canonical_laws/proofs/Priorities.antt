@@ -1,5 +1,6 @@
 -- The priority, the limit and the mark of CARRYFORWARD of an object are those of its normal form.
-use Rattle.std.proofs.Common.{◌≡◌, ◌||◌, ℕ, not, Bool, true, false, cond, eqb, List, [], ◌∷◌, ◌++◌, filter, filter_map, flat_map, Option, refl, ap, sym, ◌∙◌}
+use Rattle.std.proofs.Common.{◌≡◌, ◌||◌, ℕ, not, Bool, true, false, cond, eqb, List, [], ◌∷◌, ◌++◌, filter, filter_map}
+use Rattle.std.proofs.Common.{flat_map, Option, refl, ap, sym, ◌∙◌}
 use Rattle.std.proofs.Common.{append-nil, option_map, slice_get, unwrap_or}
 use Rattle.std.specs.List.{list_any}
 use Rattle.std.specs.Option.{option_to_list}
@@ -22,7 +23,8 @@ use Rattle.canonical_laws.proofs.Chosen.{IsOnly, of_kind, of_priority}
 use Rattle.canonical_laws.proofs.Dependencies.{items_flat, flat_kept}
 
 first_flat : (number_in : Clause → Option ℕ) (cs : List (Lined Clause))
-    → filter_map (λ (c : Lined Clause). number_in c.item) cs ≡ flat_map (λ (c : Lined Clause). option_to_list (number_in c.item)) cs
+    → filter_map (λ (c : Lined Clause). number_in c.item) cs ≡ flat_map
+    (λ (c : Lined Clause). option_to_list (number_in c.item)) cs
 first_flat number_in [] = refl
 first_flat number_in (c ∷ cs) =
     cons_is (number_in c.item) (filter_map (λ (x : Lined Clause). number_in x.item) cs)
@@ -42,7 +44,8 @@ limit_kept names home own cs =
     ap (λ (l : List ℕ). option_map (λ n. min n 1024) (slice_get l 0))
     (first_flat limit_in (all_unlined (normal_clauses names home own (items cs)))
     ∙ flat_kept limits names home own cs
-    (of_kind limits 4 limit_only refl refl refl refl refl names home own (items cs) ∙ append-nil (flat_map limits (items cs)))
+    (of_kind limits 4 limit_only refl refl refl refl refl names home own (items cs)
+    ∙ append-nil (flat_map limits (items cs)))
     ∙ sym (first_flat limit_in cs))
 
 -- CARRYFORWARD
@@ -72,7 +75,8 @@ carry_kept names home own cs =
     marked (all_unlined (normal_clauses names home own (items cs)))
     ∙ ap has_some
     (flat_kept marks names home own cs
-    (of_kind marks 5 mark_only refl refl refl refl refl names home own (items cs) ∙ append-nil (flat_map marks (items cs))))
+    (of_kind marks 5 mark_only refl refl refl refl refl names home own (items cs)
+    ∙ append-nil (flat_map marks (items cs))))
     ∙ sym (marked cs)
 
 -- PRIORITY, which stands at most once
@@ -103,15 +107,18 @@ one_best : (stream : Bool) (done cs : List Clause) → AreClauses stream done cs
 one_best stream done [] h = refl
 one_best stream done (Priority n ∷ cs) h =
     let none =
-    no_more stream (done ++ Priority n ∷ []) cs h.2 (any_with is_priority done (Priority n) ∙ or_true (list_any is_priority done)) in
+    no_more stream (done ++ Priority n ∷ []) cs h.2
+    (any_with is_priority done (Priority n) ∙ or_true (list_any is_priority done)) in
     best_test n (filter is_own_priority cs) (flat_map ranks cs) (eqb n 10) refl none.1
 one_best stream done (c ∷ cs) h = one_best stream (done ++ c ∷ []) cs h.2
 
 pub priority_kept : (stream : Bool) (names : List (List ℕ)) (home own : Option (List ℕ)) (cs : List (Lined Clause))
-    → AreClauses stream [] (items cs) → priority_of (all_unlined (normal_clauses names home own (items cs))) ≡ priority_of cs
+    → AreClauses stream [] (items cs)
+    → priority_of (all_unlined (normal_clauses names home own (items cs))) ≡ priority_of cs
 priority_kept stream names home own cs h =
     let forms : List Clause = normal_clauses names home own (items cs) in
     ap best
-    (first_flat priority_in (all_unlined forms) ∙ items_flat ranks (all_unlined forms) ∙ ap (flat_map ranks) (items_unlined forms)
+    (first_flat priority_in (all_unlined forms) ∙ items_flat ranks (all_unlined forms)
+    ∙ ap (flat_map ranks) (items_unlined forms)
     ∙ of_priority ranks 3 rank_only refl refl refl refl refl refl refl refl refl names home own (items cs))
     ∙ one_best stream [] (items cs) h ∙ sym (ap best (first_flat priority_in cs ∙ items_flat ranks cs))

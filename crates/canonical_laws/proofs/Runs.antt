@@ -25,7 +25,8 @@ use Rattle.canonical_laws.proofs.Networks.{days_same, free_stream_same}
 module _ (d e : Defs) (form : IsForm d e) where
   item_same : (free : FreeDays) (first : Option ℕ) (day : ℕ) (x : OnItem)
       → dates.gives e free first day x ≡ dates.gives d free first day x
-  item_same free first day (on_item.Calendar name offset) = ap (gives_calendar free offset day) (days_same d e form name)
+  item_same free first day (on_item.Calendar name offset) =
+      ap (gives_calendar free offset day) (days_same d e form name)
   item_same free first day x = refl
 
   dated_same : (free : FreeDays) (on : OnDef) (day : ℕ) → is_dated e free on day ≡ is_dated d free on day
@@ -62,7 +63,9 @@ module _ (d e : Defs) (form : IsForm d e) where
   runs_same n day =
       let m : Option (List ℕ) = forms.master_of d.domains in
       ap (λ b. nat_le day last_day && b)
-      (ap (λ (ss : List (Lined ScheduleDef)). option_map_or (λ (s : Lined ScheduleDef). runs_of e s.item day) (slice_get ss n) false)
+      (ap (λ (ss : List (Lined ScheduleDef)). option_map_or (λ (s : Lined ScheduleDef). runs_of e s.item day)
+      (slice_get ss n) false)
       form.schedules
       ∙ at_place (normal_schedule m) (λ o. option_map_or (λ (s : Lined ScheduleDef). runs_of e s.item day) o false)
-      (λ o. option_map_or (λ (s : Lined ScheduleDef). runs_of d s.item day) o false) refl (stream_runs m day) d.schedules n)
+      (λ o. option_map_or (λ (s : Lined ScheduleDef). runs_of d s.item day) o false) refl
+      (stream_runs m day) d.schedules n)

@@ -30,7 +30,8 @@ use Rattle.definition_faults.specs.Unknown.{is_unknown_ws}
 use Rattle.definition_faults.specs.declared.Kind.TheVariants.{Duplicate, UnknownName, OutOfRange}
 use Rattle.workload_defs.proofs.Clean.{rows_none}
 use Rattle.workload_defs.proofs.Lists.{both_empty}
-use Rattle.canonical_laws.proofs.Lists.{Both, append_then, append_both, pieces_both, lists_both, tables_both, moved, no_position}
+use Rattle.canonical_laws.proofs.Lists.{Both, append_then, append_both, pieces_both, lists_both, tables_both, moved}
+use Rattle.canonical_laws.proofs.Lists.{no_position}
 use Rattle.canonical_laws.proofs.Homes.{home_of, home_or, home_stays, Alike}
 use Rattle.canonical_laws.proofs.Targets.{AreEntries}
 use Rattle.canonical_laws.proofs.Objects.{ws_alike, ws_put, clauses_both}
@@ -47,10 +48,12 @@ on_alike d e a o =
     ∷ (list_any (is_bad_item (has_first o)) o.items, OutOfRange)
     ∷ []
 
-ons_both : (d e : Defs) → Alike d e → (ons : List (Lined OnDef)) → Both (on_faults d ons ≡ []) (on_faults e (map bare ons) ≡ [])
+ons_both : (d e : Defs) → Alike d e → (ons : List (Lined OnDef))
+    → Both (on_faults d ons ≡ []) (on_faults e (map bare ons) ≡ [])
 unfolding on_faults
 ons_both d e a ons =
-    lists_both (λ (o : Lined OnDef). faults_at o.line (on_rows d o.item)) (λ (o : Lined OnDef). faults_at o.line (on_rows e o.item))
+    lists_both (λ (o : Lined OnDef). faults_at o.line (on_rows d o.item))
+    (λ (o : Lined OnDef). faults_at o.line (on_rows e o.item))
     bare (λ o. tables_both o.line 0 (on_rows d o.item) (on_rows e o.item) (on_alike d e a o.item)) ons
 
 -- a stream and what is its workstation in both definitions
@@ -71,10 +74,12 @@ placed d e a n m is s at =
       after = home_stays s.item.ws m (master_of e) (master_of d) is a.master ∙ written;
     }
 
-module _ (d e : Defs) (a : Alike d e) (n : ℕ) (m : Option (List ℕ)) (s : Lined ScheduleDef) (here : IsPlaced d e n m s) where
+module _ (d e : Defs) (a : Alike d e) (n : ℕ) (m : Option (List ℕ)) (s : Lined ScheduleDef)
+    (here : IsPlaced d e n m s) where
   pub home_at : home_of d n ≡ or_home s.item.ws m
   home_at =
-      ap (λ o. option_map_or (λ (x : Lined ScheduleDef). ws_of_stream d x.item) o (master_of d)) here.there_ ∙ here.before
+      ap (λ o. option_map_or (λ (x : Lined ScheduleDef). ws_of_stream d x.item) o (master_of d)) here.there_
+      ∙ here.before
 
   pub no_entry : AreEntries d n true (entry_names s.item.entries)
   no_entry name none inside =
@@ -93,7 +98,8 @@ module _ (d e : Defs) (a : Alike d e) (n : ℕ) (m : Option (List ℕ)) (s : Lin
       ≡ or_home x.item.ws (or_home s.item.ws m)
   unfolding normal_entry
   own_after names x =
-      home_stays x.item.ws (or_home s.item.ws m) (ws_of_stream e (normal_schedule m s).item) (or_home s.item.ws m) refl here.after
+      home_stays x.item.ws (or_home s.item.ws m) (ws_of_stream e (normal_schedule m s).item)
+      (or_home s.item.ws m) refl here.after
       ∙ sym (home_or x.item.ws (or_home s.item.ws m))
 
   -- an entry
@@ -105,7 +111,8 @@ module _ (d e : Defs) (a : Alike d e) (n : ℕ) (m : Option (List ℕ)) (s : Lin
       let home : Option (List ℕ) = or_home s.item.ws m in
       let known : is_unknown_ws e (or_home x.item.ws home) ≡ is_unknown_ws d x.item.ws =
       ws_alike d e a (or_home x.item.ws home) ∙ ws_put d x.item.ws home hk in
-      let own : option_or (or_home x.item.ws home) (ws_of_stream e (normal_schedule m s).item) ≡ ws_of_entry d s.item x.item =
+      let own : option_or (or_home x.item.ws home) (ws_of_stream e (normal_schedule m s).item)
+      ≡ ws_of_entry d s.item x.item =
       own_after names x ∙ sym (own_before x) in
       λ i. (is_later (a.entries n x.item.name i) k, Duplicate)
       ∷ (
@@ -115,10 +122,12 @@ module _ (d e : Defs) (a : Alike d e) (n : ℕ) (m : Option (List ℕ)) (s : Lin
       )
       ∷ []
 
-  entry_clauses : (hk : is_unknown_ws d (or_home s.item.ws m) ≡ false) (x : Lined EntryDef) → is_unknown_ws d x.item.ws ≡ false
+  entry_clauses : (hk : is_unknown_ws d (or_home s.item.ws m) ≡ false) (x : Lined EntryDef)
+      → is_unknown_ws d x.item.ws ≡ false
       → Both (clause_faults d n true (ws_of_entry d s.item x.item) x.item.clauses ≡ [])
       (clause_faults e n true
-      (ws_of_entry e (normal_schedule m s).item (normal_entry (entry_names s.item.entries) (or_home s.item.ws m) x).item)
+      (ws_of_entry e (normal_schedule m s).item
+      (normal_entry (entry_names s.item.entries) (or_home s.item.ws m) x).item)
       (normal_entry (entry_names s.item.entries) (or_home s.item.ws m) x).item.clauses ≡ [])
   unfolding normal_entry
   entry_clauses hk x known =
@@ -127,7 +136,8 @@ module _ (d e : Defs) (a : Alike d e) (n : ℕ) (m : Option (List ℕ)) (s : Lin
       let own : Option (List ℕ) = or_home x.item.ws home in
       let ok : is_unknown_ws d own ≡ false = ws_put d x.item.ws home hk ∙ known in
       let forms : List (Lined Clause) = all_unlined (normal_clauses names home own (items x.item.clauses)) in
-      moved (clause_faults d n true own x.item.clauses) (clause_faults d n true (ws_of_entry d s.item x.item) x.item.clauses)
+      moved (clause_faults d n true own x.item.clauses)
+      (clause_faults d n true (ws_of_entry d s.item x.item) x.item.clauses)
       (clause_faults e n true own forms)
       (clause_faults e n true (option_or own (ws_of_stream e (normal_schedule m s).item)) forms)
       (ap (λ o. clause_faults d n true o x.item.clauses) (own_before x))
@@ -166,14 +176,16 @@ module _ (d e : Defs) (a : Alike d e) (n : ℕ) (m : Option (List ℕ)) (s : Lin
   title_same mk =
       let known : is_unknown_ws e (or_home s.item.ws m) ≡ is_unknown_ws d s.item.ws =
       ws_alike d e a (or_home s.item.ws m) ∙ ws_put d s.item.ws m mk in
-      let found : stream_at e (ws_of_stream e (normal_schedule m s).item) s.item.name ≡ stream_at d (ws_of_stream d s.item) s.item.name =
+      let found : stream_at e (ws_of_stream e (normal_schedule m s).item) s.item.name ≡ stream_at d
+      (ws_of_stream d s.item) s.item.name =
       a.streams (ws_of_stream e (normal_schedule m s).item) s.item.name
       ∙ ap (λ h. stream_at d h s.item.name) (here.after ∙ sym here.before) in
       λ i. (is_later (found i) n, Duplicate)
       ∷ (
         known i
             || option_map_or
-            (λ (f : FreeDef). is_none (first_of (a.calendars i) f.name) && not (bytes_eq f.name (codes "HOLIDAYS"))) s.item.free
+            (λ (f : FreeDef). is_none (first_of (a.calendars i) f.name) && not (bytes_eq f.name (codes "HOLIDAYS")))
+            s.item.free
             false,
         UnknownName,
       )
@@ -186,7 +198,8 @@ module _ (d e : Defs) (a : Alike d e) (n : ℕ) (m : Option (List ℕ)) (s : Lin
   header_both hk =
       let home : Option (List ℕ) = or_home s.item.ws m in
       let forms : List (Lined Clause) = all_unlined (normal_clauses [] home home (items s.item.clauses)) in
-      moved (clause_faults d n false home s.item.clauses) (clause_faults d n false (ws_of_stream d s.item) s.item.clauses)
+      moved (clause_faults d n false home s.item.clauses)
+      (clause_faults d n false (ws_of_stream d s.item) s.item.clauses)
       (clause_faults e n false home forms) (clause_faults e n false (ws_of_stream e (normal_schedule m s).item) forms)
       (ap (λ o. clause_faults d n false o s.item.clauses) here.before)
       (ap (λ o. clause_faults e n false o forms) here.after)
@@ -196,7 +209,8 @@ module _ (d e : Defs) (a : Alike d e) (n : ℕ) (m : Option (List ℕ)) (s : Lin
   unfolding normal_schedule
   bare_ons = refl
 
-  pub stream_both : is_unknown_ws d m ≡ false → Both (stream_faults d n s ≡ []) (stream_faults e n (normal_schedule m s) ≡ [])
+  pub stream_both : is_unknown_ws d m ≡ false
+      → Both (stream_faults d n s ≡ []) (stream_faults e n (normal_schedule m s) ≡ [])
   unfolding stream_faults
   stream_both mk =
       let t : Lined ScheduleDef = normal_schedule m s in
@@ -229,8 +243,11 @@ unfolding all_stream_faults
 streams_both d e a m is mk are =
     moved (flat_map (λ (p : ℕ × Lined ScheduleDef). stream_faults d p.0 p.1) (enumerate_from 0 d.schedules))
     (flat_map (λ (p : ℕ × Lined ScheduleDef). stream_faults d p.0 p.1) (enumerate_from 0 d.schedules))
-    (flat_map (λ (p : ℕ × Lined ScheduleDef). stream_faults e p.0 p.1) (enumerate_from 0 (map (normal_schedule m) d.schedules)))
+    (flat_map (λ (p : ℕ × Lined ScheduleDef). stream_faults e p.0 p.1)
+    (enumerate_from 0 (map (normal_schedule m) d.schedules)))
     (flat_map (λ (p : ℕ × Lined ScheduleDef). stream_faults e p.0 p.1) (enumerate_from 0 e.schedules)) refl
     (ap (λ ss. flat_map (λ (p : ℕ × Lined ScheduleDef). stream_faults e p.0 p.1) (enumerate_from 0 ss)) are)
-    (pieces_both (λ (p : ℕ × Lined ScheduleDef). stream_faults d p.0 p.1) (λ (p : ℕ × Lined ScheduleDef). stream_faults e p.0 p.1)
-    (normal_schedule m) d.schedules (λ n s at. stream_both d e a n m s (placed d e a n m is s at) mk) 0 d.schedules refl)
+    (pieces_both (λ (p : ℕ × Lined ScheduleDef). stream_faults d p.0 p.1)
+    (λ (p : ℕ × Lined ScheduleDef). stream_faults e p.0 p.1)
+    (normal_schedule m) d.schedules
+    (λ n s at. stream_both d e a n m s (placed d e a n m is s at) mk) 0 d.schedules refl)

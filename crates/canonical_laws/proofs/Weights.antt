@@ -1,19 +1,22 @@
 -- What the clauses of an object count together, as they are written and in their normal form.
-use Rattle.std.proofs.Common.{◌≡◌, ℕ, ◌+◌, Bool, true, false, cond, eqb, not, List, [], ◌∷◌, ◌++◌, map, filter, flat_map, Option, refl, ap, sym, ◌∙◌, arith}
+use Rattle.std.proofs.Common.{◌≡◌, ℕ, ◌+◌, Bool, true, false, cond, eqb, not, List, [], ◌∷◌, ◌++◌, map, filter}
+use Rattle.std.proofs.Common.{flat_map, Option, refl, ap, sym, ◌∙◌, arith}
 use Rattle.lemmas.proofs.Numbers.{number_tells}
 use Rattle.composer_parser.specs.declared.Clause.{Clause}
-use Rattle.composer_parser.specs.declared.Clause.TheVariants.{At, Until, Deadline, Priority, Limit, CarryForward, Follows, Needs, Prompt, Opens}
+use Rattle.composer_parser.specs.declared.Clause.TheVariants.{At, Until, Deadline, Priority, Limit, CarryForward}
+use Rattle.composer_parser.specs.declared.Clause.TheVariants.{Follows, Needs, Prompt, Opens}
 use Rattle.composer_parser.specs.declared.Pred.{Pred}
 use Rattle.composer_parser.specs.declared.Need.{Need}
 use Rattle.composer_parser.specs.declared.PromptItem.{PromptItem}
 use Rattle.composer_parser.specs.Clauses.{is_at, is_until, is_deadline, is_limit, is_carry}
-use Rattle.composer_print.specs.Scopes.{is_of, is_own_priority, preds_in, needs_in, prompts_in, files_in, follows_of, needs_of, prompt_of, opens_of, normal_pred, normal_need, normal_clauses}
+use Rattle.composer_print.specs.Scopes.{is_of, is_own_priority, preds_in, needs_in, prompts_in, files_in, follows_of}
+use Rattle.composer_print.specs.Scopes.{needs_of, prompt_of, opens_of, normal_pred, normal_need, normal_clauses}
 
 abbrev pub total : {X : Type 0} → (X → ℕ) → List X → ℕ
 total g [] = 0
 total g (x ∷ xs) = g x + total g xs
 
-pub total_append : {X : Type 0} (g : X → ℕ) (xs ys : List X) → total g (xs ++ ys) ≡ total g xs + total g ys
+total_append : {X : Type 0} (g : X → ℕ) (xs ys : List X) → total g (xs ++ ys) ≡ total g xs + total g ys
 total_append g [] ys = omega arith
 total_append g (x ∷ xs) ys = omega (arith, total_append g xs ys)
 
@@ -22,7 +25,7 @@ pub total_mapped : {X Y : Type 0} (more : Y → ℕ) (g : X → ℕ) (f : X → 
 total_mapped more g f h [] = refl
 total_mapped more g f h (x ∷ xs) = λ i. h x i + total_mapped more g f h xs i
 
-pub total_agrees : {X : Type 0} (more g : X → ℕ) → ((x : X) → more x ≡ g x) → (xs : List X) → total more xs ≡ total g xs
+total_agrees : {X : Type 0} (more g : X → ℕ) → ((x : X) → more x ≡ g x) → (xs : List X) → total more xs ≡ total g xs
 total_agrees more g h [] = refl
 total_agrees more g h (x ∷ xs) = λ i. h x i + total_agrees more g h xs i
 
@@ -116,7 +119,8 @@ single_total w p single [] = refl
 single_total w p single (c ∷ cs) = go (p c) refl (single_total w p single cs)
   where
     go : (b : Bool) → p c ≡ b → total (weight w) (filter p cs) ≡ total w.single (filter p cs)
-        → total (weight w) (cond b (c ∷ filter p cs) (filter p cs)) ≡ total w.single (cond b (c ∷ filter p cs) (filter p cs))
+        → total (weight w) (cond b (c ∷ filter p cs) (filter p cs)) ≡ total w.single
+        (cond b (c ∷ filter p cs) (filter p cs))
     go true is more = λ i. single_weight w p single c is i + more i
     go false is more = more
 
@@ -167,8 +171,10 @@ of_normal w names home own cs =
     (filter is_limit cs) (filter is_carry cs) (follows_of (map (normal_pred names home) (flat_map preds_in cs)))
     (needs_of (map (normal_need own) (flat_map needs_in cs))) (prompt_of (flat_map prompts_in cs))
     (opens_of (flat_map files_in cs))
-    ∙ (λ i. (single_total w is_at at_single cs i + (single_total w is_until until_single cs i + (single_total w is_deadline deadline_single cs i
-    + (single_total w is_own_priority own_priority_single cs i + (single_total w is_limit limit_single cs i + single_total w is_carry carry_single cs i)))))
+    ∙ (λ i. (single_total w is_at at_single cs i +
+    (single_total w is_until until_single cs i + (single_total w is_deadline deadline_single cs i
+    + (single_total w is_own_priority own_priority_single cs i +
+    (single_total w is_limit limit_single cs i + single_total w is_carry carry_single cs i)))))
     + (follows_total w (map (normal_pred names home) (flat_map preds_in cs)) i
     + (needs_total w (map (normal_need own) (flat_map needs_in cs)) i
     + (prompts_total w (flat_map prompts_in cs) i + files_total w (flat_map files_in cs) i))))
@@ -178,7 +184,8 @@ pub weighed : (single : Clause → ℕ) (p p2 : Pred → ℕ) (n n2 : Need → �
     (names : List (List ℕ)) (home own : Option (List ℕ)) → single (Priority 10) ≡ 0
     → ((x : Pred) → p2 (normal_pred names home x) ≡ p x) → ((x : Need) → n2 (normal_need own x) ≡ n x)
     → ((x : PromptItem) → q2 x ≡ q x) → (cs : List Clause)
-    → total (weight (record { single = single; pred = p2; need = n2; prompt = q2; file = file })) (normal_clauses names home own cs)
+    → total (weight (record { single = single; pred = p2; need = n2; prompt = q2; file = file }))
+    (normal_clauses names home own cs)
     ≡ total (weight (record { single = single; pred = p; need = n; prompt = q; file = file })) cs
 weighed single p p2 n n2 q q2 file names home own ten preds needs prompts cs =
     of_normal (record { single = single; pred = p2; need = n2; prompt = q2; file = file }) names home own cs

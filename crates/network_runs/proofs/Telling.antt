@@ -200,6 +200,7 @@ told_came heard (Input.Ack x f n) h = absurd h
 pub rule : (heard : ℕ → List ℕ) → IsRule (CameBy heard) (λ o t e n. TellsIt heard o t e n)
 rule heard = record {
   joined = tells_joined heard;
+  spent = λ s end input due is. record { deaf = tt; story = λ past knows outs. Story.rests past s outs [] end s refl refl };
   asks = λ s call. one_output heard s (Event.Asks call) (λ outs. tt) tt;
   replies = λ s call. one_output heard s (Event.Replies call) (λ outs. tt) tt;
   steps = λ input by. steps_tell heard input by;

@@ -11,7 +11,7 @@ use Rattle.definition_texts.specs.Kinds.{word_of}
 use Rattle.definition_texts.specs.Refusals.{AreChecked, IsRefused}
 use Rattle.definition_texts.specs.declared.refusals.Refusal.{Refusal}
 use Rattle.node_inputs.specs.Tellings.{Told}
-use Rattle.node_service.specs.Serving.{Serves}
+use Rattle.node_service.specs.Serving.{IsUncalled, Serves}
 use Rattle.node_service.specs.declared.services.ServiceEnd.{ServiceEnd}
 use Rattle.outside.specs.Calls.{LinkCalls}
 use Rattle.outside.specs.Causes.{Rose}
@@ -25,14 +25,15 @@ use Rattle.workload_defs.specs.Stations.{number_of}
 use Rattle.node_commands.specs.Ends.{IsTold, answer_status, answer_text, end_status, end_text}
 use Rattle.node_commands.specs.Forms.{AskOf, NodeFor, Request, name_in}
 
--- what serving a workstation came to, from the disk and what the others told before to what they have and tell now
+-- what serving a workstation came to, from the disk and what the others told before to what they have and tell now; where
+-- no node was made the others are as they were
 abbrev pub Serving : Type 1
 Serving = Defs → ℕ → ℕ → ServiceEnd → Type 0
 
 abbrev pub ServedBy : {D : Type 0} → (D → Option (List ℕ)) → (D → ℕ) → (D → ℕ) → (D → List ℕ → Type 0)
-    → (D → ℕ → List ℕ → Type 0) → D → D → Told → Told → Serving
-ServedBy seen faults moment may_leave left_since old new told now defs me turns end =
-    Serves seen faults moment may_leave left_since defs me turns end old new told now
+    → (D → ℕ → List ℕ → Type 0) → D → D → Told → Told → Type 0 → Serving
+ServedBy seen faults moment may_leave left_since old new told now others_same defs me turns end =
+    Serves seen faults moment may_leave left_since defs me turns end old new told now × IsUncalled end others_same
 
 -- what asking one came to, by the calls of the link and the count of its faults
 abbrev pub Asking : Type 1

@@ -51,7 +51,8 @@ pub fn serve<I: Source, O: Sink, D: Disk, L: Link, J: Spawner, C: Clock, F: Prob
     ensures service { (request : Request) → request_of words.now ≡ Some request
         → IsService (ServedBy D.seen D.faults D.moment D.may_leave D.left_since disk result.disk
         (told_by (L.calls link.old) (J.calls jobs.old) (C.readings clock.old) (F.asked files.old))
-        (told_by (L.calls link.new) (J.calls jobs.new) (C.readings clock.new) (F.asked files.new)))
+        (told_by (L.calls link.new) (J.calls jobs.new) (C.readings clock.new) (F.asked files.new))
+        ((link.new ≡ link.old) × (jobs.new ≡ jobs.old) × (clock.new ≡ clock.old) × (files.new ≡ files.old)))
         (AskedBy (L.calls link.old) (L.calls link.new) (L.faults link.old) (L.faults link.new))
         ((result.disk ≡ disk) × (link.new ≡ link.old) × (jobs.new ≡ jobs.old) × (clock.new ≡ clock.old)
         × (files.new ≡ files.old))
@@ -115,7 +116,8 @@ fn at_station<O: Sink, D: Disk, L: Link, J: Spawner, C: Clock, F: Prober>(
     ensures service { (old new : Option Streams) (source source' : ℕ) → ReadsDefs workload.now old new
         → IsService (ServedBy D.seen D.faults D.moment D.may_leave D.left_since disk result.disk
         (told_by (L.calls link.old) (J.calls jobs.old) (C.readings clock.old) (F.asked files.old))
-        (told_by (L.calls link.new) (J.calls jobs.new) (C.readings clock.new) (F.asked files.new)))
+        (told_by (L.calls link.new) (J.calls jobs.new) (C.readings clock.new) (F.asked files.new))
+        ((link.new ≡ link.old) × (jobs.new ≡ jobs.old) × (clock.new ≡ clock.old) × (files.new ≡ files.old)))
         (AskedBy (L.calls link.old) (L.calls link.new) (L.faults link.old) (L.faults link.new))
         ((result.disk ≡ disk) × (link.new ≡ link.old) × (jobs.new ≡ jobs.old) × (clock.new ≡ clock.old)
         × (files.new ≡ files.old))
@@ -161,7 +163,8 @@ fn node<O: Sink, D: Disk, L: Link, J: Spawner, C: Clock, F: Prober>(
     ensures served { (end : ServiceEnds)
         × ServedBy D.seen D.faults D.moment D.may_leave D.left_since disk result.disk
         (told_by (L.calls link.old) (J.calls jobs.old) (C.readings clock.old) (F.asked files.old))
-        (told_by (L.calls link.new) (J.calls jobs.new) (C.readings clock.new) (F.asked files.new)) workload.now me turns end
+        (told_by (L.calls link.new) (J.calls jobs.new) (C.readings clock.new) (F.asked files.new))
+        ((link.new ≡ link.old) × (jobs.new ≡ jobs.old) × (clock.new ≡ clock.old) × (files.new ≡ files.old)) workload.now me turns end
         × IsTold (end_status end) (end_text end) result.status (O.written out.old) (O.written out.new) (O.faults out.old)
         (O.faults out.new) }
     ensures sink_count { result.status ≢ 5 → O.faults out.new ≡ O.faults out.old }

@@ -1,10 +1,13 @@
 -- What stretches of a run keep, and what a stop leaves of them.
-use Rattle.std.proofs.Common.{◌≡◌, ◌⊎◌, inl, inr, ⊎_elim, ℕ, ◌+◌, ◌-◌, ◌^◌, ◌<◌, ◌≤◌, Bool, List, [], ◌∷◌, ◌++◌, length, take, refl, sym, ◌∙◌, ap, subst, arith, append_assoc, length-append, Option, Some, None, option_map}
+use Rattle.std.proofs.Common.{◌≡◌, ◌⊎◌, inl, inr, ⊎_elim, ℕ, zero, suc, ◌+◌, ◌-◌, ◌^◌, ◌<◌, ◌≤◌, Bool, List, [], ◌∷◌, ◌++◌, length, take, refl, sym, ◌∙◌, ap, subst, arith, append_assoc, length-append, Option, Some, None, option_map}
 use Rattle.std.proofs.lemmas.Bool.{cases_lt}
+use Rattle.std.proofs.Common.{drop, take-append-drop}
+use Rattle.std.specs.List.{All}
 use Rattle.std.proofs.lemmas.List.{append-nil, map-append, take-append-le}
-use Rattle.std.proofs.lemmas.List.Elements.{filter_map-append}
+use Rattle.std.proofs.lemmas.List.Elements.{All-from_recursion, filter_map-append, recursion_from_All}
 use Rattle.std.proofs.lemmas.List.Sums.{sum_by-append, sum_by-cons}
 use Rattle.std.specs.Prelude.{sum_by}
+use Rattle.lemmas.proofs.Lists.{all_append}
 use Rattle.base_types.specs.declared.LimitName.TheVariants as limit
 use Rattle.base_types.specs.declared.LimitName.TheVariants.{Bytes, File, Input, Packets, Places, Plan, Steps}
 use Rattle.std.proofs.Math.Nat.{le-min, le_trans, min-le_left, min-le_right}
@@ -17,7 +20,7 @@ use Rattle.outside.specs.Records.{longest_file}
 use Rattle.node_inputs.specs.declared.ends.NodeEnd.{NodeEnd}
 use Rattle.node_inputs.specs.declared.ends.NodeEnd.TheVariants.{DiskFault, Limit, NoMemory, Shutdown, TurnsSpent}
 use Rattle.node_inputs.specs.Traces.{Event, Trace, kept, kept_by, refusals, refused_by, tried, tried_by}
-use Rattle.node_inputs.specs.Keeping.{IsCause, IsLeft, IsLeftAtEnd, IsReady, KeeperTells, Lasts, bodies, kept_size, record_size}
+use Rattle.node_inputs.specs.Keeping.{IsCause, IsLeft, IsLeftAtEnd, IsLeftWith, IsReady, IsWritten, KeeperTells, IsPath, Lasts, LeavesBetween, bodies, kept_size, record_size}
 
 no_change : (told : Option Bodies) → told ≡ option_map (λ (before : Bodies). before ++ []) told
 no_change None = refl
@@ -91,7 +94,7 @@ none_kept (Event.Asks c ∷ rest) h = none_kept rest h
 nothing_is : {X : Type 0} {A : Type 0} (x : X) (xs : List X) → [] ≡ x ∷ xs → A
 nothing_is x xs h = cc
 
-one_is : {X : Type 0} (x y : X) → x ∷ [] ≡ y ∷ [] → x ≡ y
+pub one_is : {X : Type 0} (x y : X) → x ∷ [] ≡ y ∷ [] → x ≡ y
 one_is x y h = cc
 
 -- how much one entry adds
@@ -122,6 +125,54 @@ cause_since size before middle now e (Limit Plan) le h = absurd h
 cause_since size before middle now e (Limit limit.Entry) le h = absurd h
 cause_since size before middle now e (Limit Places) le h = absurd h
 
+-- nothing was kept in a front of what kept nothing
+front_empty : {X : Type 0} (xs ys : List X) → xs ++ ys ≡ [] → xs ≡ []
+front_empty [] ys h = refl
+front_empty (x ∷ xs) ys h = cc
+
+pub front_keeps : (k : ℕ) (trace : Trace) → kept (take k trace) ++ kept (drop k trace) ≡ kept trace
+front_keeps k trace = sym (kept-append (take k trace) (drop k trace)) ∙ ap kept (take-append-drop k trace)
+
+front_none : (k : ℕ) (trace : Trace) → kept trace ≡ [] → kept (take k trace) ≡ []
+front_none k trace none = front_empty (kept (take k trace)) (kept (drop k trace)) (front_keeps k trace ∙ none)
+
+front_fewer : (k : ℕ) (trace : Trace) → length (kept (take k trace)) ≤ length (kept trace)
+front_fewer k trace =
+    omega (arith, ap length (front_keeps k trace), length-append (kept (take k trace)) (kept (drop k trace)))
+
+take_nothing : {X : Type 0} (k : ℕ) → take {A = X} k [] ≡ []
+take_nothing zero = refl
+take_nothing (suc k) = refl
+
+written_none : (trace : Trace) → tried trace ≡ [] → All IsWritten (tried trace)
+written_none trace none = subst (λ (l : List Entry). All IsWritten l) (sym none) (All-from_recursion IsWritten [] tt)
+
+written_one : (e : Entry) → IsWritten e → All IsWritten (e ∷ [])
+written_one e is = All-from_recursion IsWritten (e ∷ []) (is, tt)
+
+pub written_both : (xs ys : List Entry) → All IsWritten xs → All IsWritten ys → All IsWritten (xs ++ ys)
+written_both xs ys a b = All-from_recursion IsWritten (xs ++ ys) (all_append IsWritten xs ys (recursion_from_All IsWritten xs a) (recursion_from_All IsWritten ys b))
+
+tells_none : (told : Option Bodies) (front : Trace) → kept front ≡ [] → KeeperTells front told told
+tells_none told front none = no_change told ∙ ap (λ (l : List Entry). option_map (λ (before : Bodies). before ++ bodies l) told) (sym none)
+
+-- what is kept and nothing else, behind a front that kept nothing
+with_none : (told : Option Bodies) (left : Bodies) (front trace : Trace) → kept front ≡ [] → IsKept told left → IsLeftWith (length (kept front)) trace told left
+with_none None left front trace none is = tt
+with_none (Some before) left front trace none is = (0, omega (arith, ap length none), omega arith, is ∙ sym (append-nil before))
+
+-- what one more entry may leave, behind a front that kept nothing
+with_one : (told : Option Bodies) (e : Entry) (event : Event) (front : Trace) → kept front ≡ [] → tried (event ∷ []) ≡ e ∷ [] → (left : Bodies) → KeptOrWith told (entry_bytes e) left → IsLeftWith (length (kept front)) (event ∷ []) told left
+with_one None e event front none is left may = tt
+with_one (Some before) e event front none is left (inl same) = (0, omega (arith, ap length none), omega arith, same ∙ sym (append-nil before))
+with_one (Some before) e event front none is left (inr more) =
+    (1, omega (arith, ap length none), omega (arith, ap length is), more ∙ ap (λ (l : List Entry). before ++ bodies (take 1 l)) (sym is))
+
+with_kept : (told now : Option Bodies) (e : Entry) (left : Bodies) → now ≡ option_map (with_body (entry_bytes e)) told → IsKept now left → IsLeftWith 1 (Event.Keeps e ∷ []) told left
+with_kept None now e left is same = tt
+with_kept (Some before) now e left is same =
+    (1, omega arith, omega arith, subst (λ (o : Option Bodies). IsKept o left → left ≡ with_body (entry_bytes e) before) (sym is) (λ s. s) same)
+
 module _ {K : Type 0} (kept_in : K → Option Bodies) (size faults moment : K → ℕ) (may_leave : K → Bodies → Type 0) (left_since : K → ℕ → Bodies → Type 0) (opens_since : K → ℕ → ℕ → Type 0) where
   -- a stretch in which nothing was to be kept
   pub nothing_lasts : (spent : K → Bool) (trace : Trace) → tried trace ≡ [] → (keeper : K) → IsReady kept_in spent may_leave keeper
@@ -139,17 +190,93 @@ module _ {K : Type 0} (kept_in : K → Option Bodies) (size faults moment : K �
         any_moment = λ t left le was. inl was;
         at_end = λ left may. kept_left (kept_in keeper) left trace none (ready.rest left may);
         opens = λ owner t le was. was;
+        written = written_none trace h;
+        unfailed = λ is left may. ready.rest left may;
+        at_front = λ k. keeper;
+        path = record {
+          tells = λ k. tells_none (kept_in keeper) (take k trace) (front_none k trace none);
+          since = λ k. omega arith;
+          until = λ k. omega arith;
+          ordered = λ j k le. omega arith;
+          now = λ k left may. kept_left (kept_in keeper) left (take k trace) (front_none k trace none) (ready.rest left may);
+          first = λ k t left le was. inl was;
+          later = λ k t left le was. inl was;
+          between = λ j k less t left le was. inl was;
+        };
       }
 
+  -- one event by which an entry was to be kept
+  at_one : K → K → ℕ → K
+  at_one old new zero = old
+  at_one old new (suc k) = new
+
+  one_path : (old new : K) (e : Entry) (event : Event) → tried (event ∷ []) ≡ e ∷ [] → KeeperTells (event ∷ []) (kept_in old) (kept_in new)
+      → ((left : Bodies) → may_leave old left → IsKept (kept_in old) left)
+      → ((left : Bodies) → may_leave new left → IsLeftAtEnd (event ∷ []) (kept_in old) left) → moment old ≤ moment new
+      → ((t : ℕ) (left : Bodies) → t ≤ moment old → left_since new t left → left_since old t left ⊎ KeptOrWith (kept_in old) (entry_bytes e) left)
+      → IsPath kept_in moment may_leave left_since (event ∷ []) old new (at_one old new)
+  unfolding at_one
+  one_path old new e event is tells before after goes any = record {
+    tells = λ k. tells_at k;
+    since = λ k. since_at k;
+    until = λ k. until_at k;
+    ordered = λ j k le. ordered_at j k le;
+    now = λ k left may. now_at k left may;
+    first = λ k. first_at k;
+    later = λ k. later_at k;
+    between = λ j k le. between_at j k le;
+  }
+    where
+      front_one : (k : ℕ) → take (suc k) (event ∷ []) ≡ event ∷ []
+      front_one k = ap (λ (f : Trace). event ∷ f) (take_nothing k)
+
+      tells_at : (k : ℕ) → KeeperTells (take k (event ∷ [])) (kept_in old) (kept_in (at_one old new k))
+      tells_at zero = tells_none (kept_in old) [] refl
+      tells_at (suc k) = subst (λ (f : Trace). KeeperTells f (kept_in old) (kept_in new)) (sym (front_one k)) tells
+
+      since_at : (k : ℕ) → moment old ≤ moment (at_one old new k)
+      since_at zero = omega arith
+      since_at (suc k) = goes
+
+      until_at : (k : ℕ) → moment (at_one old new k) ≤ moment new
+      until_at zero = goes
+      until_at (suc k) = omega arith
+
+      ordered_at : (j k : ℕ) → j ≤ k → moment (at_one old new j) ≤ moment (at_one old new k)
+      ordered_at zero k le = since_at k
+      ordered_at (suc j) zero le = absurd (omega (arith, le))
+      ordered_at (suc j) (suc k) le = omega arith
+
+      now_at : (k : ℕ) (left : Bodies) → may_leave (at_one old new k) left → IsLeftAtEnd (take k (event ∷ [])) (kept_in old) left
+      now_at zero left may = kept_left (kept_in old) left [] refl (before left may)
+      now_at (suc k) left may = subst (λ (f : Trace). IsLeftAtEnd f (kept_in old) left) (sym (front_one k)) (after left may)
+
+      one_any : LeavesBetween kept_in moment left_since [] (event ∷ []) old old new
+      one_any t left le was = ⊎_elim (λ w. inl w) (λ k. inr (with_one (kept_in old) e event [] refl is left k)) (any t left le was)
+
+      first_at : (k : ℕ) → LeavesBetween kept_in moment left_since [] (take k (event ∷ [])) old old (at_one old new k)
+      first_at zero t left le was = inl was
+      first_at (suc k) t left le was = subst (λ (f : Trace). LeavesBetween kept_in moment left_since [] f old old new) (sym (front_one k)) one_any t left le was
+
+      later_at : (k : ℕ) → LeavesBetween kept_in moment left_since (take k (event ∷ [])) (event ∷ []) old (at_one old new k) new
+      later_at zero t left le was = one_any t left le was
+      later_at (suc k) t left le was = inl was
+
+      between_at : (j k : ℕ) → j ≤ k → LeavesBetween kept_in moment left_since (take j (event ∷ [])) (take k (event ∷ [])) old (at_one old new j) (at_one old new k)
+      between_at zero k le t left in_time was = first_at k t left in_time was
+      between_at (suc j) zero le t left in_time was = absurd (omega (arith, le))
+      between_at (suc j) (suc k) le t left in_time was = inl was
+
   -- an append that went well
-  pub kept_lasts : (old new : K) (e : Entry) → kept_in new ≡ option_map (with_body (entry_bytes e)) (kept_in old)
+  pub kept_lasts : (old new : K) (e : Entry) → IsWritten e → ((left : Bodies) → may_leave old left → IsKept (kept_in old) left)
+      → kept_in new ≡ option_map (with_body (entry_bytes e)) (kept_in old)
       → size new ≡ size old + length (entry_bytes e) + 5 → size old + length (entry_bytes e) + 5 ≤ longest_file
       → faults old ≤ faults new → moment old ≤ moment new
       → ((t : ℕ) (left : Bodies) → t ≤ moment old → left_since new t left → left_since old t left ⊎ KeptOrWith (kept_in old) (entry_bytes e) left)
       → ((left : Bodies) → may_leave new left → IsKept (kept_in new) left)
       → ((owner t : ℕ) → t ≤ moment old → opens_since old owner t → opens_since new owner t)
       → Lasts kept_in size faults moment may_leave left_since opens_since (Event.Keeps e ∷ []) old new
-  kept_lasts old new e is grows room no_less later any rest opens = record {
+  kept_lasts old new e is_written rest_before is grows room no_less later any rest opens = record {
     tells = is ∙ one_added (kept_in old) e;
     grows = omega (arith, grows, one_size e);
     within = λ fits. omega (arith, grows, room);
@@ -159,16 +286,23 @@ module _ {K : Type 0} (kept_in : K → Option Bodies) (size faults moment : K �
     any_moment = λ t left le may. ⊎_elim (λ was. inl was) (λ k. inr (one_left (kept_in old) e (Event.Keeps e) refl left k)) (any t left le may);
     at_end = λ left may. kept_after (kept_in old) (kept_in new) e left is (rest left may);
     opens = opens;
+    written = written_one e is_written;
+    unfailed = λ un left may. rest left may;
+    at_front = at_one old new;
+    path = one_path old new e (Event.Keeps e) refl (is ∙ one_added (kept_in old) e) rest_before (λ left may. kept_after (kept_in old) (kept_in new) e left is (rest left may)) later any;
   }
 
   -- one that was refused
-  pub refused_lasts : (old new : K) (e : Entry) (why : NodeEnd) → kept_in new ≡ kept_in old → size new ≡ size old
+  pub refused_lasts : (old new : K) (e : Entry) (why : NodeEnd) → IsWritten e
+      → ((left : Bodies) → may_leave old left → IsKept (kept_in old) left)
+      → ((why ≡ DiskFault → ⊥) → (left : Bodies) → may_leave new left → IsKept (kept_in new) left)
+      → kept_in new ≡ kept_in old → size new ≡ size old
       → faults old ≤ faults new → IsCause (size new) (faults old) (faults new) e why → moment old ≤ moment new
       → ((t : ℕ) (left : Bodies) → t ≤ moment old → left_since new t left → left_since old t left ⊎ KeptOrWith (kept_in old) (entry_bytes e) left)
       → ((left : Bodies) → may_leave new left → KeptOrWith (kept_in old) (entry_bytes e) left)
       → ((owner t : ℕ) → t ≤ moment old → opens_since old owner t → opens_since new owner t)
       → Lasts kept_in size faults moment may_leave left_since opens_since (Event.Refuses e why ∷ []) old new
-  refused_lasts old new e why is same no_less cause later any rest opens = record {
+  refused_lasts old new e why is_written rest_before full is same no_less cause later any rest opens = record {
     tells = is ∙ no_change (kept_in old);
     grows = omega (arith, same);
     within = λ fits. omega (arith, same, fits);
@@ -179,22 +313,26 @@ module _ {K : Type 0} (kept_in : K → Option Bodies) (size faults moment : K �
     any_moment = λ t left le may. ⊎_elim (λ was. inl was) (λ k. inr (one_left (kept_in old) e (Event.Refuses e why) refl left k)) (any t left le may);
     at_end = λ left may. refused_after (kept_in old) e why left (rest left may);
     opens = opens;
+    written = written_one e is_written;
+    unfailed = λ un left may. full (λ for_disk. un e (ap (λ (w : NodeEnd). (e, w) ∷ []) for_disk)) left may;
+    at_front = at_one old new;
+    path = one_path old new e (Event.Refuses e why) refl (is ∙ no_change (kept_in old)) rest_before (λ left may. refused_after (kept_in old) e why left (rest left may)) later any;
   }
 
 pub kept_or_same : (told now : Option Bodies) → now ≡ told → (l : Bodies) (b : List ℕ) → IsKept now l → KeptOrWith told b l
 kept_or_same None now is l b kept = tt
 kept_or_same (Some before) now is l b kept = inl (subst (λ (o : Option Bodies). IsKept o l → l ≡ before) (sym is) (λ s. s) kept)
 
+told_on : (front back : Trace) (told middle : Option Bodies) → KeeperTells front told middle → (now : Option Bodies) → KeeperTells back middle now → KeeperTells (front ++ back) told now
+told_on front back None middle first now second = second ∙ ap (option_map (λ (before : Bodies). before ++ bodies (kept back))) first
+told_on front back (Some before) middle first now second =
+    second ∙ ap (option_map (λ (b : Bodies). b ++ bodies (kept back))) first
+    ∙ ap Some (append_assoc before (bodies (kept front)) (bodies (kept back)) ∙ ap (λ (l : Bodies). before ++ l) (sym (map-append entry_bytes (kept front) (kept back)) ∙ ap bodies (sym (kept-append front back))))
+
 -- where no entry was refused, all that were tried were kept
 module _ (front back : Trace) (goes_on : refusals front ≡ []) where
   goes : tried front ≡ kept front
   goes = all_kept front goes_on
-
-  tells_both : (told middle : Option Bodies) → KeeperTells front told middle → (now : Option Bodies) → KeeperTells back middle now → KeeperTells (front ++ back) told now
-  tells_both None middle first now second = second ∙ ap (option_map (λ (before : Bodies). before ++ bodies (kept back))) first
-  tells_both (Some before) middle first now second =
-      second ∙ ap (option_map (λ (b : Bodies). b ++ bodies (kept back))) first
-      ∙ ap Some (append_assoc before (bodies (kept front)) (bodies (kept back)) ∙ ap (λ (l : Bodies). before ++ l) (sym (map-append entry_bytes (kept front) (kept back)) ∙ ap bodies (sym (kept-append front back))))
 
   longer : length (tried front) ≤ length (tried (front ++ back))
   longer = omega (arith, ap length (tried-append front back), length-append (tried front) (tried back))
@@ -231,12 +369,145 @@ module _ (front back : Trace) (goes_on : refusals front ≡ []) where
       let m : IsLeftAtEnd back (Some (before ++ bodies (kept front))) left = subst (λ (o : Option Bodies). IsLeftAtEnd back o left) first is in
       (length (kept front) + m.0, omega (arith, m.1, ap length (kept-append front back), length-append (kept front) (kept back)), omega (arith, m.2, sizes), m.3 ∙ joined before m.0)
 
+  with_longer : (least more : ℕ) (told : Option Bodies) (left : Bodies) → more ≤ least → IsLeftWith least front told left → IsLeftWith more (front ++ back) told left
+  unfolding front_left
+  with_longer least more None left le is = tt
+  with_longer least more (Some before) left le is =
+      let l : IsLeft (front ++ back) (Some before) left = front_left (Some before) left (is.0, is.2, is.3) in
+      (is.0, omega (arith, le, is.1), l.1, l.2)
+
+  with_all : (least : ℕ) (told middle : Option Bodies) → least ≤ length (kept front) → KeeperTells front told middle → (left : Bodies) → IsLeft back middle left → IsLeftWith least (front ++ back) told left
+  with_all least None middle le first left is = tt
+  with_all least (Some before) middle le first left is =
+      let m : IsLeft back (Some (before ++ bodies (kept front))) left = subst (λ (o : Option Bodies). IsLeft back o left) first is in
+      (length (kept front) + m.0, omega (arith, le), omega (arith, m.1, sizes), m.2 ∙ joined before m.0)
+
+  with_back : (least : ℕ) (told middle : Option Bodies) → KeeperTells front told middle → (left : Bodies) → IsLeftWith least back middle left → IsLeftWith (length (kept front) + least) (front ++ back) told left
+  with_back least None middle first left is = tt
+  with_back least (Some before) middle first left is =
+      let m : IsLeftWith least back (Some (before ++ bodies (kept front))) left = subst (λ (o : Option Bodies). IsLeftWith least back o left) first is in
+      (length (kept front) + m.0, omega (arith, m.1), omega (arith, m.2, sizes), m.3 ∙ joined before m.0)
+
+  kept_both : (l : Trace) → length (kept (front ++ l)) ≡ length (kept front) + length (kept l)
+  kept_both l = ap length (kept-append front l) ∙ length-append (kept front) (kept l)
+
+  -- a stop within the first stretch or behind it
+  leaves_behind : {K : Type 0} (kept_in : K → Option Bodies) (moment : K → ℕ) (left_since : K → ℕ → Bodies → Type 0) (old one middle another : K) (f : Trace)
+      → length (kept f) ≤ length (kept front) → KeeperTells front (kept_in old) (kept_in middle) → moment one ≤ moment middle
+      → LeavesBetween kept_in moment left_since f front old one middle → LeavesBetween kept_in moment left_since [] back middle middle another
+      → LeavesBetween kept_in moment left_since f (front ++ back) old one another
+  leaves_behind {K} kept_in moment left_since old one middle another f fewer tells goes first second t left le was = ⊎_elim
+      (λ w. ⊎_elim (λ b. inl b) (λ is. inr (with_longer (length (kept f)) (length (kept f)) (kept_in old) left (omega arith) is)) (first t left le w))
+      (λ is. inr (with_all (length (kept f)) (kept_in old) (kept_in middle) fewer tells left (no_least (kept_in middle) left is)))
+      (second t left (omega (arith, le, goes)) was)
+    where
+      no_least : (told : Option Bodies) (left : Bodies) → IsLeftWith 0 back told left → IsLeft back told left
+      no_least None left is = tt
+      no_least (Some before) left is = (is.0, is.2, is.3)
+
+  -- and one within the second
+  leaves_within : {K : Type 0} (kept_in : K → Option Bodies) (moment : K → ℕ) (left_since : K → ℕ → Bodies → Type 0) (old one middle another : K) (f : Trace)
+      → KeeperTells front (kept_in old) (kept_in middle) → LeavesBetween kept_in moment left_since f back middle one another
+      → LeavesBetween kept_in moment left_since (front ++ f) (front ++ back) old one another
+  leaves_within {K} kept_in moment left_since old one middle another f tells second t left le was = ⊎_elim
+      (λ w. inl w)
+      (λ is. inr (subst (λ (n : ℕ). IsLeftWith n (front ++ back) (kept_in old) left) (sym (kept_both f)) (with_back (length (kept f)) (kept_in old) (kept_in middle) tells left is)))
+      (second t left le was)
+
+-- within which of two stretches a front ends
+at_by : {K : Type 0} (front back : Trace) → (ℕ → K) → (ℕ → K) → (k : ℕ) → (length front < k) ⊎ (k ≤ length front) → K
+at_by front back first second k (inl behind) = second (k - length front)
+at_by front back first second k (inr within) = first k
+
+front_by : (front back : Trace) (k : ℕ) → (length front < k) ⊎ (k ≤ length front) → Trace
+front_by front back k (inl behind) = front ++ take (k - length front) back
+front_by front back k (inr within) = take k front
+
+front_is : (front back : Trace) (k : ℕ) (c : (length front < k) ⊎ (k ≤ length front)) → take k (front ++ back) ≡ front_by front back k c
+unfolding front_by
+front_is front back k (inl behind) =
+    let same : k ≡ length front + (k - length front) = omega (arith, behind) in
+    ap (λ (n : ℕ). take n (front ++ back)) same ∙ take-append-add front back (k - length front)
+front_is front back k (inr within) = take-append-le k front back within
+
+module _ (front back : Trace) (goes_on : refusals front ≡ []) {K : Type 0} (kept_in : K → Option Bodies) (moment : K → ℕ) (may_leave : K → Bodies → Type 0) (left_since : K → ℕ → Bodies → Type 0) (old middle new : K) (one two : ℕ → K)
+    (tells : KeeperTells front (kept_in old) (kept_in middle)) (tells_more : KeeperTells back (kept_in middle) (kept_in new))
+    (goes : moment old ≤ moment middle) (goes_more : moment middle ≤ moment new)
+    (any : LeavesBetween kept_in moment left_since [] front old old middle) (any_more : LeavesBetween kept_in moment left_since [] back middle middle new)
+    (first : IsPath kept_in moment may_leave left_since front old middle one) (second : IsPath kept_in moment may_leave left_since back middle new two) where
+  abbrev Side : ℕ → Type 0
+  Side k = (length front < k) ⊎ (k ≤ length front)
+
+  tells_by : (k : ℕ) (c : Side k) → KeeperTells (front_by front back k c) (kept_in old) (kept_in (at_by front back one two k c))
+  unfolding front_by at_by
+  tells_by k (inl behind) = told_on front (take (k - length front) back) (kept_in old) (kept_in middle) tells (kept_in (two (k - length front))) (second.tells (k - length front))
+  tells_by k (inr within) = first.tells k
+
+  since_by : (k : ℕ) (c : Side k) → moment old ≤ moment (at_by front back one two k c)
+  unfolding at_by
+  since_by k (inl behind) = omega (arith, goes, second.since (k - length front))
+  since_by k (inr within) = first.since k
+
+  until_by : (k : ℕ) (c : Side k) → moment (at_by front back one two k c) ≤ moment new
+  unfolding at_by
+  until_by k (inl behind) = second.until (k - length front)
+  until_by k (inr within) = omega (arith, first.until k, goes_more)
+
+  ordered_by : (j k : ℕ) (c : Side j) (d : Side k) → j ≤ k → moment (at_by front back one two j c) ≤ moment (at_by front back one two k d)
+  unfolding at_by
+  ordered_by j k (inl b) (inl d) le = second.ordered (j - length front) (k - length front) (omega (arith, le, b, d))
+  ordered_by j k (inl b) (inr d) le = absurd (omega (arith, le, b, d))
+  ordered_by j k (inr b) (inl d) le = omega (arith, first.until j, second.since (k - length front))
+  ordered_by j k (inr b) (inr d) le = first.ordered j k le
+
+  now_by : (k : ℕ) (c : Side k) (left : Bodies) → may_leave (at_by front back one two k c) left → IsLeftAtEnd (front_by front back k c) (kept_in old) left
+  unfolding front_by at_by
+  now_by k (inl behind) left may = end_left front (take (k - length front) back) goes_on (kept_in old) (kept_in middle) tells left (second.now (k - length front) left may)
+  now_by k (inr within) left may = first.now k left may
+
+  first_by : (k : ℕ) (c : Side k) → LeavesBetween kept_in moment left_since [] (front_by front back k c) old old (at_by front back one two k c)
+  unfolding front_by at_by
+  first_by k (inl behind) = leaves_behind front (take (k - length front) back) goes_on kept_in moment left_since old old middle (two (k - length front)) [] (omega arith) tells goes any (second.first (k - length front))
+  first_by k (inr within) = first.first k
+
+  later_by : (k : ℕ) (c : Side k) → LeavesBetween kept_in moment left_since (front_by front back k c) (front ++ back) old (at_by front back one two k c) new
+  unfolding front_by at_by
+  later_by k (inl behind) = leaves_within front back goes_on kept_in moment left_since old (two (k - length front)) middle new (take (k - length front) back) tells (second.later (k - length front))
+  later_by k (inr within) = leaves_behind front back goes_on kept_in moment left_since old (one k) middle new (take k front) (front_fewer k front) tells (first.until k) (first.later k) any_more
+
+  between_by : (j k : ℕ) (c : Side j) (d : Side k) → j ≤ k → LeavesBetween kept_in moment left_since (front_by front back j c) (front_by front back k d) old (at_by front back one two j c) (at_by front back one two k d)
+  unfolding front_by at_by
+  between_by j k (inl b) (inl d) le =
+      leaves_within front (take (k - length front) back) goes_on kept_in moment left_since old (two (j - length front)) middle (two (k - length front)) (take (j - length front) back) tells
+      (second.between (j - length front) (k - length front) (omega (arith, le, b, d)))
+  between_by j k (inl b) (inr d) le = absurd (omega (arith, le, b, d))
+  between_by j k (inr b) (inl d) le =
+      leaves_behind front (take (k - length front) back) goes_on kept_in moment left_since old (one j) middle (two (k - length front)) (take j front) (front_fewer j front) tells (first.until j) (first.later j)
+      (second.first (k - length front))
+  between_by j k (inr b) (inr d) le = first.between j k le
+
+  both_path : IsPath kept_in moment may_leave left_since (front ++ back) old new (λ k. at_by front back one two k (cases_lt (length front) k))
+  both_path = record {
+    tells = λ k. subst (λ (f : Trace). KeeperTells f (kept_in old) (kept_in (at_by front back one two k (cases_lt (length front) k)))) (sym (front_is front back k (cases_lt (length front) k))) (tells_by k (cases_lt (length front) k));
+    since = λ k. since_by k (cases_lt (length front) k);
+    until = λ k. until_by k (cases_lt (length front) k);
+    ordered = λ j k le. ordered_by j k (cases_lt (length front) j) (cases_lt (length front) k) le;
+    now = λ k left may. subst (λ (f : Trace). IsLeftAtEnd f (kept_in old) left) (sym (front_is front back k (cases_lt (length front) k))) (now_by k (cases_lt (length front) k) left may);
+    first = λ k. subst (λ (f : Trace). LeavesBetween kept_in moment left_since [] f old old (at_by front back one two k (cases_lt (length front) k))) (sym (front_is front back k (cases_lt (length front) k))) (first_by k (cases_lt (length front) k));
+    later = λ k. subst (λ (f : Trace). LeavesBetween kept_in moment left_since f (front ++ back) old (at_by front back one two k (cases_lt (length front) k)) new) (sym (front_is front back k (cases_lt (length front) k))) (later_by k (cases_lt (length front) k));
+    between = λ j k le.
+        subst (λ (f : Trace). LeavesBetween kept_in moment left_since f (take k (front ++ back)) old (at_by front back one two j (cases_lt (length front) j)) (at_by front back one two k (cases_lt (length front) k))) (sym (front_is front back j (cases_lt (length front) j)))
+        (subst (λ (f : Trace). LeavesBetween kept_in moment left_since (front_by front back j (cases_lt (length front) j)) f old (at_by front back one two j (cases_lt (length front) j)) (at_by front back one two k (cases_lt (length front) k))) (sym (front_is front back k (cases_lt (length front) k)))
+        (between_by j k (cases_lt (length front) j) (cases_lt (length front) k) le));
+  }
+
+module _ (front back : Trace) (goes_on : refusals front ≡ []) where
   pub both_last : {K : Type 0} (kept_in : K → Option Bodies) (size faults moment : K → ℕ) (may_leave : K → Bodies → Type 0) (left_since : K → ℕ → Bodies → Type 0) (opens_since : K → ℕ → ℕ → Type 0) (old middle new : K)
       → Lasts kept_in size faults moment may_leave left_since opens_since front old middle
       → Lasts kept_in size faults moment may_leave left_since opens_since back middle new
       → Lasts kept_in size faults moment may_leave left_since opens_since (front ++ back) old new
-  both_last kept_in size faults moment may_leave left_since opens_since old middle new first second = record {
-    tells = tells_both (kept_in old) (kept_in middle) first.tells (kept_in new) second.tells;
+  both_last {K} kept_in size faults moment may_leave left_since opens_since old middle new first second = record {
+    tells = told_on front back (kept_in old) (kept_in middle) first.tells (kept_in new) second.tells;
     grows =
         omega (arith, first.grows, second.grows, ap (λ (l : List Entry). sum_by record_size l) (kept-append front back), sum_by-append record_size (kept front) (kept back));
     within = λ fits. second.within (first.within fits);
@@ -246,9 +517,25 @@ module _ (front back : Trace) (goes_on : refusals front ≡ []) where
         (second.causes e why (ap (λ (l : List (Entry × NodeEnd)). l ++ refusals back) (sym goes_on) ∙ sym (refusals-append front back) ∙ is));
     later = omega (arith, first.later, second.later);
     any_moment = λ t left le may. ⊎_elim
-        (λ was. ⊎_elim (λ before. inl before) (λ is. inr (front_left (kept_in old) left is)) (first.any_moment t left le was))
-        (λ is. inr (back_left (kept_in old) (kept_in middle) first.tells left is))
+        (λ was. ⊎_elim (λ before. inl before) (λ is. inr (front_left front back goes_on (kept_in old) left is)) (first.any_moment t left le was))
+        (λ is. inr (back_left front back goes_on (kept_in old) (kept_in middle) first.tells left is))
         (second.any_moment t left (omega (arith, le, first.later)) may);
-    at_end = λ left may. end_left (kept_in old) (kept_in middle) first.tells left (second.at_end left may);
+    at_end = λ left may. end_left front back goes_on (kept_in old) (kept_in middle) first.tells left (second.at_end left may);
     opens = λ owner t le was. second.opens owner t (omega (arith, le, first.later)) (first.opens owner t le was);
+    written =
+        subst (λ (l : List Entry). All IsWritten l) (sym (tried-append front back)) (written_both (tried front) (tried back) first.written second.written);
+    unfailed = λ un left may.
+        second.unfailed (λ e is. un e (refusals-append front back ∙ ap (λ (l : List (Entry × NodeEnd)). l ++ refusals back) goes_on ∙ is)) left may;
+    at_front = λ k. at_by front back first.at_front second.at_front k (cases_lt (length front) k);
+    path = both_path front back goes_on kept_in moment may_leave left_since old middle new first.at_front second.at_front
+        first.tells second.tells first.later second.later (least_any front old middle first.any_moment) (least_any back middle new second.any_moment)
+        first.path second.path;
   }
+    where
+      least_any : (trace : Trace) (a b : K) → ((t : ℕ) (left : Bodies) → t ≤ moment a → left_since b t left → left_since a t left ⊎ IsLeft trace (kept_in a) left)
+          → LeavesBetween kept_in moment left_since [] trace a a b
+      least_any trace a b any t left le was = ⊎_elim (λ w. inl w) (λ is. inr (with_least (kept_in a) left is)) (any t left le was)
+        where
+          with_least : (told : Option Bodies) (left : Bodies) → IsLeft trace told left → IsLeftWith 0 trace told left
+          with_least None left is = tt
+          with_least (Some before) left is = (is.0, omega arith, is.1, is.2)

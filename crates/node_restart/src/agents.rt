@@ -5,7 +5,7 @@ ghost use Rattle.model.specs.Fit.{AreFitEntries};
 ghost use Rattle.model.specs.Network.{node_count};
 ghost use Rattle.model.specs.Sessions.{restarted};
 ghost use Rattle.outside.specs.Causes.{Rose};
-ghost use Rattle.outside.specs.Kept.{Bodies, IsKept};
+ghost use Rattle.outside.specs.Kept.{Bodies, IsKept, size_of};
 ghost use Rattle.message_file.specs.Files.{HasRoom, place_behind};
 ghost use Rattle.agent_core.specs.Nodes.{session_in};
 ghost use Rattle.node_restart.specs.Reading.{AreShortEntries, OnlyReads};
@@ -61,6 +61,7 @@ pub(crate) fn agent_of<K: Keeper>(
         → IfSome (K.kept keeper.old) (IsWrongAt net place) }
     ensures unspent { OnOk result (K.spent keeper.new ≡ false) }
     ensures rest { OnOk result ((left : Bodies) → K.may_leave keeper.new left → IsKept (K.kept keeper.new) left) }
+    ensures size { OnOk result (IfSome (K.kept keeper.new) (λ bodies. K.size keeper.new ≡ size_of bodies)) }
     ensures reads { OnlyReads K.kept K.number K.may_leave K.moment K.left_since K.opens_since
         keeper.old keeper.new }
     ensures cause { IsErrOf result OfDisk → Rose (K.faults keeper.old) (K.faults keeper.new) }

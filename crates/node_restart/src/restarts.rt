@@ -1,11 +1,11 @@
 //! A node is made anew of a disk.
-ghost use Rattle.std.specs.Prelude.{◌≡◌, ◌⊎◌, ◌<◌, ◌≤◌, ℕ, false, length, map, IfErr, IfOk, IfSome, Some};
+ghost use Rattle.std.specs.Prelude.{◌≡◌, ◌⊎◌, ◌+◌, ◌<◌, ◌≤◌, ℕ, false, length, map, IfErr, IfOk, IfSome, Some};
 ghost use Rattle.model.specs.Fit.{AreFitEntries};
 ghost use Rattle.model.specs.Network.{node_count};
 ghost use Rattle.model.specs.Sessions.{restarted};
 ghost use Rattle.model.specs.Spelling.{entry_bytes};
 ghost use Rattle.outside.specs.Causes.{Rose};
-ghost use Rattle.outside.specs.Kept.{Bodies, IsKept};
+ghost use Rattle.outside.specs.Kept.{Bodies, IsKept, size_of};
 ghost use Rattle.outside.specs.Stops.{LeavesOnly};
 ghost use Rattle.message_file.specs.Attaching.{LeftAttaching};
 ghost use Rattle.message_file.specs.State.{kept_in, KeepsOf, KeptLeft, OwnFiles};
@@ -82,6 +82,8 @@ pub fn restart_node<D: Disk>(
     ensures unspent { IfOk result (λ r. r.file.spent ≡ false) }
     ensures rest { IfOk result (λ r. (left : Bodies) → KeptLeft (D.may_leave r.file.disk) left
         → IsKept (kept_in (D.seen r.file.disk) r.file.count) left) }
+    ensures size { IfOk result (λ r. IfSome (kept_in (D.seen r.file.disk) r.file.count)
+        (λ bodies. r.file.gate + 1 ≡ size_of bodies)) }
     // Why there is none.
     ensures refused { IfErr result (λ e. (place : ℕ) → e.fault ≡ NotThisFile place
         → IfSome (D.seen disk) (IsRefused net me place)) }

@@ -1,1 +1,3 @@
 pub mod Serving
+pub mod Standing
+pub mod Joining

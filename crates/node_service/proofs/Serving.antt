@@ -42,7 +42,7 @@ held_first me None entries held keeps written = tt
 held_first me (Some file) entries None keeps written = absurd keeps
 held_first me (Some file) entries (Some b) keeps written = ap Some written
 
-left_told : (trace : Trace) (told : Option (List ℕ)) (entries : List Entry) (held : Option Bodies) (left : Bodies)
+pub left_told : (trace : Trace) (told : Option (List ℕ)) (entries : List Entry) (held : Option Bodies) (left : Bodies)
     → IfSome told (λ (file : List ℕ). held ≡ Some (bodies entries)) → IsLeft trace held left
     → IsLeft trace (told_kept told entries) left
 left_told trace None entries held left is h = tt
@@ -54,10 +54,10 @@ pub end_told : (trace : Trace) (told : Option (List ℕ)) (entries : List Entry)
 end_told trace None entries held left is h = tt
 end_told trace (Some file) entries held left is h = subst (λ (o : Option Bodies). IsLeftAtEnd trace o left) is h
 
-some_is : {a b : Bodies} → Some a ≡ Some b → a ≡ b
+pub some_is : {a b : Bodies} → Some a ≡ Some b → a ≡ b
 some_is e = cc
 
-none_is : {b : Bodies} → None ≡ Some b → ⊥
+pub none_is : {b : Bodies} → None ≡ Some b → ⊥
 none_is e = cc
 
 -- and what it keeps at the end

@@ -1,2 +1,3 @@
 -- What a service does.
 pub mod Serving
+pub mod Joining

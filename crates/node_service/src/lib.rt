@@ -5,8 +5,10 @@
 //! disk nothing else is called.
 #![tactic(auto)]
 
+mod laws;
 mod services;
 
+pub use laws::services_of_one_disk_join;
 pub use node_inputs::NodeEnd;
 pub use node_restart::RestartFault;
 pub use services::{Served, ServiceEnd, serve_node};

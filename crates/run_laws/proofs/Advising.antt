@@ -103,7 +103,8 @@ step_quiet input old trace end new h = go (step_trace input old trace end new h)
 
 quiet_rule : IsRule (λ i. Unit {0}) Quiet
 quiet_rule = record {
-  joined = record { rests = λ s end free. tt; joins = λ a b c front back end h k. all_append IsQuiet front back h k };
+  joined = record { rests = λ s end rest. tt; joins = λ a b c front back end h k. all_append IsQuiet front back h k };
+  spent = λ s end input due is. tt;
   asks = λ s call. (tt, tt);
   replies = λ s call. (tt, tt);
   steps = λ input q. step_quiet input;

@@ -54,7 +54,7 @@ more_before front back end e (IsInHand.spent is) = IsInHand.spent is
 
 holds_joined : IsJoined (λ o t e n. HoldsWhatItKept o t e n)
 holds_joined = record {
-  rests = λ s end free. nothing_in_hand s s [] end (sym (append-nil s.kept));
+  rests = λ s end rest. nothing_in_hand s s [] end (sym (append-nil s.kept));
   joins = λ a b c front back end h k. record {
     in_hand = k.in_hand;
     holds =
@@ -99,6 +99,7 @@ step_holds input old trace end new h = go (step_trace input old trace end new h)
 pub holds_rule : IsRule (λ i. Unit {0}) (λ o t e n. HoldsWhatItKept o t e n)
 holds_rule = record {
   joined = holds_joined;
+  spent = λ s end input due is. nothing_in_hand s s [] end (sym (append-nil s.kept));
   asks = λ s call. one_holds s (Event.Asks call) refl;
   replies = λ s call. one_holds s (Event.Replies call) refl;
   steps = λ input q. step_holds input;

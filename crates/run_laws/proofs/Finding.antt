@@ -22,14 +22,14 @@ use Rattle.node_inputs.specs.declared.ends.NodeEnd.TheVariants.{Limit, NoMemory}
 use Rattle.node_inputs.specs.Actions.{IfThere, Nothing, Action}
 use Rattle.node_inputs.specs.Inputs.{Take}
 use Rattle.run_laws.specs.Held.{held_after}
-use Rattle.run_laws.specs.Files.{EndsWithItsProbe, FollowsFile, TellsFile}
+use Rattle.run_laws.specs.Files.{EndsWithItsProbe, FollowsFile, IsLookedFor, TellsFile}
 use Rattle.node_loop.specs.Frames.{entry_of, input_of}
 use Rattle.node_loop.specs.Runs.{Advise, Found, Looks, Probing, Run, Running}
 use Rattle.run_laws.proofs.Rules.{Gives, IsJoined, nothing_gives}
 use Rattle.run_laws.proofs.Splits.{IsFurther, IsHere, IsOnly, only_one, split_cons}
 use Rattle.run_laws.proofs.Taking.{IsRule, IsTold, Steps, StepsOrParts, take_gives, takes_parts, telling_gives}
 use Rattle.run_laws.proofs.Tracing.{StepTrace, step_trace}
-use Rattle.run_laws.proofs.Marks.{Follows, IsMark, Mark, Marks, MarksAll, StepEvent, held_first, held_joined, marks_joined, one_marked, step_event, step_marked}
+use Rattle.run_laws.proofs.Marks.{Follows, IsMark, Mark, Marks, MarksAll, StepEvent, held_first, held_joined, marks_joined, marks_rest, one_marked, step_event, step_marked}
 use Rattle.run_laws.proofs.Keeping.{step_made}
 use Rattle.run_laws.proofs.Made.{IsNoFulfil, made_file}
 use Rattle.run_laws.proofs.Faults.{only_places, passes_quietly, told_entry}
@@ -62,17 +62,22 @@ lower a front event rest more end h = tt
 tells_there : (a b : NodeState) (e : Entry) (o : Obj) (i : ℕ) → b.me ≡ a.me → TellsFile a.me e o i → TellsFile b.me e o i
 tells_there a b e o i same h = subst (λ (m : ℕ). TellsFile m e o i) (sym same) h
 
-path_there : (a b : NodeState) (front more : Trace) (o : Obj) (i : ℕ) (path : List ℕ) → Follows a front b
-    → path_at (held_after b more) o i ≡ Some path → path_at (held_after a (front ++ more)) o i ≡ Some path
-path_there a b front more o i path f h =
-    subst (λ (V : View). path_at V o i ≡ Some path) (held_joined a b front more f) h
+looked_there : (a b : NodeState) (front more : Trace) (o : Obj) (i : ℕ) (path : List ℕ) → Follows a front b
+    → IsLookedFor b more o i path → IsLookedFor a (front ++ more) o i path
+looked_there a b front more o i path f h = record {
+  last = h.last;
+  its_turn =
+      subst (λ (m : ℕ). next_probe (held_after a (front ++ more)) m h.last ≡ Some (o, i)) f.me_
+      (subst (λ (V : View). next_probe V b.me h.last ≡ Some (o, i)) (held_joined a b front more f) h.its_turn);
+  its_path = subst (λ (V : View). path_at V o i ≡ Some path) (held_joined a b front more f) h.its_path;
+}
 
 follows_there : (a b : NodeState) (front more : Trace) (path : List ℕ) (back : Trace) (end : Option NodeEnd) → Follows a front b
     → FollowsFile b more path back end → FollowsFile a (front ++ more) path back end
 follows_there a b front more path back end f (FollowsFile.told o i e rest at tells split) =
-    FollowsFile.told o i e rest (path_there a b front more o i path f at) (tells_there b a e o i (sym f.me_) tells) split
+    FollowsFile.told o i e rest (looked_there a b front more o i path f at) (tells_there b a e o i (sym f.me_) tells) split
 follows_there a b front more path back end f (FollowsFile.refused o i e why at tells split is) =
-    FollowsFile.refused o i e why (path_there a b front more o i path f at) (tells_there b a e o i (sym f.me_) tells) split is
+    FollowsFile.refused o i e why (looked_there a b front more o i path f at) (tells_there b a e o i (sym f.me_) tells) split is
 follows_there a b front more path back end f (FollowsFile.stopped_at_once nothing is) = FollowsFile.stopped_at_once nothing is
 
 upper : (a b : NodeState) (front more : Trace) (event : Event) (back : Trace) (end : Option NodeEnd) → Follows a front b
@@ -84,7 +89,7 @@ upper a b front more (Event.Keeps e) back end f h = λ o i tells.
       path = it.path;
       probed =
           ap (λ (t : Trace). front ++ t) it.probed ∙ sym (append_assoc front it.before (Event.Looks it.path (Ok true) ∷ []));
-      its_path = path_there a b front it.before o i it.path f it.its_path;
+      looked_for = looked_there a b front it.before o i it.path f it.looked_for;
     }
 upper a b front more (Event.Looks path (Ok true)) back end f h = λ inside.
     follows_there a b front more path back end f
@@ -133,6 +138,7 @@ brought_are_none x (frame.Reply text) input is = cc
 files_rule : IsRule IsNoFulfil (MarksAll OfFiles)
 files_rule = record {
   joined = marks_joined OfFiles files_mark;
+  spent = λ s end input due is. marks_rest OfFiles files_mark s end;
   asks = λ s call. one_marked OfFiles s (Event.Asks call) refl tt;
   replies = λ s call. one_marked OfFiles s (Event.Replies call) refl tt;
   steps = step_files;
@@ -140,15 +146,20 @@ files_rule = record {
 }
 
 -- a probe that found a file, and the step that tells of it
-module _ (old : NodeState) (o : Obj) (i : ℕ) (path : List ℕ) (its_path : path_at (view_in old) o i ≡ Some path) where
+module _ (old : NodeState) (o : Obj) (i : ℕ) (path : List ℕ) (its_path : path_at (view_in old) o i ≡ Some path)
+    (last : Option DepPlace) (next : next_probe (view_in old) old.me last ≡ Some (o, i)) where
   found : Event
   found = Event.Looks path (Ok true)
 
   its_entry : Entry
   its_entry = next_entry (view_in old) (Events old.me) (Fulfilled o i)
 
-  path_before : path_at (held_after old []) o i ≡ Some path
-  path_before = subst (λ (V : View). path_at V o i ≡ Some path) (held_first old) its_path
+  looked_before : IsLookedFor old [] o i path
+  looked_before = record {
+    last = last;
+    its_turn = subst (λ (V : View). next_probe V old.me last ≡ Some (o, i)) (held_first old) next;
+    its_path = subst (λ (V : View). path_at V o i ≡ Some path) (held_first old) its_path;
+  }
 
   tells_it : TellsFile old.me its_entry o i
   unfolding its_entry
@@ -177,9 +188,9 @@ module _ (old : NodeState) (o : Obj) (i : ℕ) (path : List ℕ) (its_path : pat
           clash : Some its_entry ≡ None → ⊥
           clash q = cc
       go (StepTrace.one e rest is split done) =
-          FollowsFile.told o i e rest path_before (tells_as e (entry_is new trace end h ∙ is)) split
+          FollowsFile.told o i e rest looked_before (tells_as e (entry_is new trace end h ∙ is)) split
       go (StepTrace.refused e why is r split ends) =
-          FollowsFile.refused o i e why path_before (tells_as e (entry_is new trace end h ∙ is)) split ends
+          FollowsFile.refused o i e why looked_before (tells_as e (entry_is new trace end h ∙ is)) split ends
       go (StepTrace.spent e is split ends) = FollowsFile.stopped_at_once split (inl ends)
 
   place_is : (e : Entry) (p : Obj) (k : ℕ) → TellsFile old.me e o i → TellsFile old.me e p k → (o ≡ p) × (i ≡ k)
@@ -198,8 +209,8 @@ module _ (old : NodeState) (o : Obj) (i : ℕ) (path : List ℕ) (its_path : pat
     before = [];
     path = path;
     probed = refl;
-    its_path = subst (λ (q : Obj). path_at (held_after old []) q k ≡ Some path) same.0
-        (subst (λ (n : ℕ). path_at (held_after old []) o n ≡ Some path) same.1 path_before);
+    looked_for = subst (λ (q : Obj). IsLookedFor old [] q k path) same.0
+        (subst (λ (n : ℕ). IsLookedFor old [] o n path) same.1 looked_before);
   }
 
   file_step : (new : NodeState) (trace : Trace) (end : Option NodeEnd) → Steps (Input.Local (Fulfil o i)) old trace end new
@@ -259,9 +270,9 @@ module _ (old : NodeState) (o : Obj) (i : ℕ) (path : List ℕ) (its_path : pat
           (subst (λ (x : Event). OfFiles old [] x back end) only.is
           (λ inside. FollowsFile.stopped_at_once only.none_behind (ends inside)))
 
-  pub file_marked : (last : Option DepPlace) → next_probe (view_in old) old.me last ≡ Some (o, i) → (trace : Trace) (end : Option NodeEnd) (new : NodeState)
+  pub file_marked : (trace : Trace) (end : Option NodeEnd) (new : NodeState)
       → Take (Input.Local (Fulfil o i)) old trace end new → Marks OfFiles old (Event.Looks path (Ok true) ∷ trace) end new
-  file_marked last next trace end new (inl (inl h)) = go (takes_parts (Input.Local (Fulfil o i)) old trace end new h)
+  file_marked trace end new (inl (inl h)) = go (takes_parts (Input.Local (Fulfil o i)) old trace end new h)
     where
       go : StepsOrParts (Input.Local (Fulfil o i)) old trace end new → Marks OfFiles old (Event.Looks path (Ok true) ∷ trace) end new
       go (inl p) =
@@ -270,11 +281,11 @@ module _ (old : NodeState) (o : Obj) (i : ℕ) (path : List ℕ) (its_path : pat
           (file_step p.middle p.front None p.begins)
           (telling_gives IsNoFulfil (MarksAll OfFiles) files_rule p.became p.middle p.back end new p.goes_on))
       go (inr s) = file_step new trace end s
-  file_marked last next trace end new (inl (inr h)) =
+  file_marked trace end new (inl (inr h)) =
       let rest : (trace ≡ []) × (new ≡ old) = passes_quietly h.0 old trace end new h.3 in
       at_once new trace end rest.0 rest.1
       (λ inside. inr (only_places old new o i inside (probe_may_be_told (view_in old) old.me last o i next) h.0 trace end h.1 h.2 h.3).its_end)
-  file_marked last next trace end new (inr h) = at_once new trace end h.0 h.2 (λ inside. inl h.1)
+  file_marked trace end new (inr h) = at_once new trace end h.0 h.2 (λ inside. inl h.1)
 
 -- what is looked for
 looking : (place : DepPlace) (old : Running) → next_probe (view_in old.node) old.node.me old.asked ≡ Some place

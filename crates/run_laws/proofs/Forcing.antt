@@ -1,6 +1,7 @@
 -- An end for a refusal comes with an entry that was refused, and with one alone.
 use Rattle.std.proofs.Common.{[], ◌++◌, ◌≡◌, ◌∙◌, ◌∷◌, ℕ, List, None, Option, Some, ap, inl, inr, refl, subst, sym}
 use Rattle.std.specs.List.{AllByRecursion}
+use Rattle.base_types.specs.declared.LimitName.TheVariants.{Places}
 use Rattle.node_inputs.proofs.Lasting.{refusals-append}
 use Rattle.model.specs.Types.{Entry, Input, Launch, Out, Send, Work}
 use Rattle.agent_core.specs.Nodes.{NodeState}
@@ -8,11 +9,11 @@ use Rattle.mail_frames.specs.declared.frames.Frame.{Frame}
 use Rattle.node_inputs.specs.Keeping.{IsRefusal}
 use Rattle.node_inputs.specs.Traces.{Event, Trace, refusals}
 use Rattle.node_inputs.specs.declared.ends.NodeEnd.{NodeEnd}
-use Rattle.node_inputs.specs.declared.ends.NodeEnd.TheVariants.{NoMemory}
+use Rattle.node_inputs.specs.declared.ends.NodeEnd.TheVariants.{Limit, NoMemory}
 use Rattle.node_inputs.specs.Actions.{Action, Then}
 use Rattle.node_inputs.specs.Inputs.{Carried, Carry, CarryOut, IsKeeping, Keep, SendFrame, StartIt}
 use Rattle.run_laws.proofs.Given.{send_gives}
-use Rattle.run_laws.proofs.Rules.{EndsFree, Gives, IsJoined, call_gives, each_gives, free_memory, free_none}
+use Rattle.run_laws.proofs.Rules.{EndsFree, Gives, IsJoined, IsRest, call_gives, each_gives, free_end, free_memory, free_none, free_places, rest_none}
 use Rattle.run_laws.proofs.Taking.{GivesOut, IsRule, Steps}
 use Rattle.run_laws.proofs.Tracing.{IsDone, all_done}
 
@@ -32,7 +33,7 @@ unforced old new trace end none free =
 
 forced_joined : IsJoined (λ o t e n. IsForced o t e n)
 forced_joined = record {
-  rests = λ s end free. unforced s s [] end refl free;
+  rests = λ s end rest. unforced s s [] end refl rest.free;
   joins = λ a b c front back end h k. record {
     quiet = λ free. front_quiet front back (h.quiet (free_none None refl)) ∙ k.quiet free;
     forced = λ why is r.
@@ -43,25 +44,25 @@ forced_joined = record {
 pub one_unforced : (s : NodeState) (event : Event) → refusals (event ∷ []) ≡ [] → IsForced s (event ∷ []) None s
 one_unforced s event none = unforced s s (event ∷ []) None none (free_none None refl)
 
--- outputs end a run for want of memory alone
+-- outputs end a run for no refusal and for no limit
 abbrev FreeEnd : Action Carried
-FreeEnd old trace end new = EndsFree end
+FreeEnd old trace end new = IsRest end
 
 free_joined : IsJoined FreeEnd
-free_joined = record { rests = λ s end free. free; joins = λ a b c front back end h k. k }
+free_joined = record { rests = λ s end rest. rest; joins = λ a b c front back end h k. k }
 
 start_free : (j n : ℕ) (work : Work) → Gives (StartIt j n work) FreeEnd
-start_free j n work old trace end new h = free_none end h.2
+start_free j n work old trace end new h = rest_none end h.2
 
 frame_free : (x : ℕ) (f : Frame) → Gives (SendFrame x f) FreeEnd
-frame_free x f old trace end new h = free_none end h.2
+frame_free x f old trace end new h = rest_none end h.2
 
 out_free : (node : NodeState) (out : Out) → Gives (CarryOut node out) FreeEnd
 out_free node (Launch j n work) = start_free j n work
-out_free node (Out.Kill j n) = call_gives FreeEnd free_joined (Event.Kills j n) (λ s. free_none None refl)
+out_free node (Out.Kill j n) = call_gives FreeEnd free_joined (Event.Kills j n) (λ s. rest_none None refl)
 out_free node (Send x p) = send_gives FreeEnd free_joined frame_free node x p
 
-carry_free : (node : NodeState) (outs : List Out) → Gives (Carry node outs) FreeEnd
+pub carry_free : (node : NodeState) (outs : List Out) → Gives (Carry node outs) FreeEnd
 carry_free node outs = each_gives FreeEnd free_joined (CarryOut node) (out_free node) outs
 
 done_refuses_none : (trace : Trace) → AllByRecursion IsDone trace → refusals trace ≡ []
@@ -111,12 +112,13 @@ step_forced input old trace end new h = go h.acts
         ap refusals g.split ∙ done_refuses_none (g.asks ++ g.carried) (all_done h.step.outs b.middle b.back end new g) in
         unforced old new trace end
         (ap refusals b.split ∙ front_quiet b.front b.back (kept_refuses_none h.step.kept b.front b.begins.0) ∙ behind)
-        (carry_free b.middle h.step.outs _ g.carried end g.so_far g.carries)
+        (carry_free b.middle h.step.outs _ g.carried end g.so_far g.carries).free
     go (inr e) = keeping_forced h.step.kept old new trace end e.why e.for_that_cause e.ends.0
 
 pub forced_rule : IsRule (λ i. Unit {0}) (λ o t e n. IsForced o t e n)
 forced_rule = record {
   joined = forced_joined;
+  spent = λ s end input due is. unforced s s [] end refl (free_end end (Limit Places) is free_places);
   asks = λ s call. one_unforced s (Event.Asks call) refl;
   replies = λ s call. one_unforced s (Event.Replies call) refl;
   steps = λ input q. step_forced input;

@@ -9,6 +9,7 @@ use Rattle.run_laws.proofs.Marks.{MarksAll, one_marked}
 use Rattle.run_laws.proofs.Keeping.{Fact, IsMade, OfKept, keeping_rule}
 use Rattle.run_laws.proofs.Refusing.{EndsThere, refusal_rule}
 use Rattle.run_laws.proofs.Forcing.{IsForced, forced_rule, one_unforced}
+use Rattle.run_laws.proofs.Limiting.{MeetsIt, goes_on, meets_rule}
 use Rattle.run_laws.proofs.Ending.{HoldsWhatItKept, holds_rule, one_holds}
 use Rattle.run_laws.proofs.Outgoing.{GoesOutHeld, out_rule}
 use Rattle.run_laws.proofs.Turning.{HoldsOfAll, Lifted, every_run_gives}
@@ -72,6 +73,18 @@ forced_hold = record {
 
 pub run_forced : (defs : Defs) (turns : ℕ) → Gives (Run defs turns) (Lifted (λ o t e n. IsForced o t e n))
 run_forced defs turns = every_run_gives (λ o t e n. IsForced o t e n) forced_hold defs turns
+
+meets_hold : HoldsOfAll MeetsIt
+meets_hold = record {
+  rule = meets_rule;
+  reads = λ s t name is. goes_on is;
+  comes = λ s a name is. goes_on is;
+  reports = λ s answer name is. goes_on is;
+  looks = λ s path answer name is. goes_on is;
+}
+
+pub run_meets : (defs : Defs) (turns : ℕ) → Gives (Run defs turns) (Lifted MeetsIt)
+run_meets defs turns = every_run_gives MeetsIt meets_hold defs turns
 
 -- what holds of each entry that is made
 pub run_keeps : (F : Fact) → IsMade F (λ i. Unit {0}) → (defs : Defs) (turns : ℕ)

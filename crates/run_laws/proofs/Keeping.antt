@@ -14,9 +14,9 @@ use Rattle.node_inputs.specs.declared.ends.NodeEnd.{NodeEnd}
 use Rattle.node_inputs.specs.declared.ends.NodeEnd.TheVariants.{NoMemory}
 use Rattle.node_inputs.specs.Inputs.{Take}
 use Rattle.run_laws.specs.Held.{held_after}
-use Rattle.run_laws.proofs.Rules.{free_memory, stop_gives}
+use Rattle.run_laws.proofs.Rules.{plain_memory, stop_gives}
 use Rattle.run_laws.proofs.Taking.{IsRule, IsTold, Steps, StepsOrParts, its_effect, pass_over_gives, takes_parts, telling_gives}
-use Rattle.run_laws.proofs.Marks.{Follows, IsMark, Mark, Marks, MarksAll, StepEvent, held_first, held_joined, marks_joined, one_marked, step_marked}
+use Rattle.run_laws.proofs.Marks.{Follows, IsMark, Mark, Marks, MarksAll, StepEvent, held_first, held_joined, marks_joined, marks_rest, one_marked, step_marked}
 
 effect_made : (old : NodeState) (input : Input)
     → (effect old.net old.me (view_in old) (session_in old) input).made ≡ makes (present_in old) old.me (view_in old) (session_in old) input
@@ -87,6 +87,7 @@ module _ (F : Fact) where
   pub keeping_rule : (Q : Input → Type 0) → IsMade Q → ((input : Input) → IsTold input → Q input) → IsRule Q (MarksAll (OfKept F))
   keeping_rule Q made told = record {
     joined = marks_joined (OfKept F) kept_mark;
+    spent = λ s end input due is. marks_rest (OfKept F) kept_mark s end;
     asks = λ s call. one_marked (OfKept F) s (Event.Asks call) refl tt;
     replies = λ s call. one_marked (OfKept F) s (Event.Replies call) refl tt;
     steps = λ input q old trace end new h.
@@ -112,6 +113,6 @@ module _ (F : Fact) where
   take_keeping Q r input old here trace end new (inl (inl h)) =
       parts_keeping Q r input old here trace end new (takes_parts input old trace end new h)
   take_keeping Q r input old here trace end new (inl (inr h)) =
-      pass_over_gives Q (MarksAll (OfKept F)) r h.0 old trace end new h.3
+      pass_over_gives Q (MarksAll (OfKept F)) r input h.0 old trace end new h.2 h.3
   take_keeping Q r input old here trace end new (inr h) =
-      stop_gives (MarksAll (OfKept F)) r.joined NoMemory free_memory old trace end new h
+      stop_gives (MarksAll (OfKept F)) r.joined NoMemory plain_memory old trace end new h

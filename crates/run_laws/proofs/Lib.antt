@@ -20,4 +20,5 @@ mod Answering
 mod Ending
 mod Outgoing
 mod Forcing
+mod Limiting
 mod Holding

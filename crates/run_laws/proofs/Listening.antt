@@ -2,7 +2,6 @@
 use Rattle.std.proofs.Common.{[], ◌∷◌, ◌≡◌, ◌⊎◌, ℕ, Bool, List, None, Option, Some, inl, inr, refl}
 use Rattle.std.specs.List.{AllByRecursion}
 use Rattle.std.specs.Prelude.{Err, Ok, Result, ◌==◌, nat_le}
-use Rattle.base_types.specs.declared.LimitName.TheVariants.{Places}
 use Rattle.calendars.specs.Dates.{last_day}
 use Rattle.composer_parser.specs.declared.Defs.{Defs}
 use Rattle.model.specs.Types.{Cmd, Input, Linked, Next, Typed, Unlinked}
@@ -31,14 +30,14 @@ use Rattle.plan_builder.specs.Limits.{plan_fault}
 use Rattle.plan_builder.specs.declared.faults.PlanFault.{PlanFault}
 use Rattle.symphony_view.specs.Listings.{listing_of}
 use Rattle.node_inputs.specs.Traces.{Event}
-use Rattle.node_inputs.specs.declared.ends.NodeEnd.TheVariants.{Limit, Shutdown}
+use Rattle.node_inputs.specs.declared.ends.NodeEnd.TheVariants.{Shutdown}
 use Rattle.node_inputs.specs.Actions.{Action, Call, Each, From, If, IfThere, Nothing, Stop, Then, Wants}
 use Rattle.node_inputs.specs.Inputs.{Follow, Lose, Refused, Take, Takes}
 use Rattle.node_loop.specs.Frames.{Frames, input_of}
 use Rattle.node_lines.specs.Lines.{AnswerBy, AnswerFault, AnswerFrame, AskLink, AskOf, Listen, Obey, Order, OrderBy, PlanBy, PlanDay, Refuse, Reply}
 use Rattle.node_lines.specs.Lines.{Say, Serve, Show, command_refusal, kept_text, link_text, plan_refusal, plan_text, step_refusal, unlink_text}
-use Rattle.run_laws.proofs.Rules.{Gives, call_gives, each_gives, free_places, free_shutdown, if_gives, if_there_gives, nothing_gives, stop_gives, then_gives, wants_gives}
-use Rattle.run_laws.proofs.Taking.{IsRule, lose_gives, refused_gives, take_gives, takes_gives}
+use Rattle.run_laws.proofs.Rules.{Gives, call_gives, each_gives, if_gives, if_there_gives, nothing_gives, plain_shutdown, stop_gives, then_gives, wants_gives}
+use Rattle.run_laws.proofs.Taking.{GivesDue, IsRule, lose_gives, refused_gives, spent_gives, take_gives, takes_gives}
 
 -- what links and clients ask of a node; what frames of workstations bring is told by `input_of`
 abbrev pub IsHeard : Input → Type 0
@@ -61,16 +60,16 @@ module _ (Q : Input → Type 0) (P : Action NodeState) (r : IsRule Q P) (heard :
       if_there_gives P r.joined why (λ (r : Refusal). Say (refused_line r)) Nothing (λ q. say_gives (refused_line q))
       (nothing_gives P r.joined)
 
-  answer_fault_gives : (f : StepFault) → Gives (AnswerFault f) P
-  answer_fault_gives step_fault.PlaceSpent = stop_gives P r.joined (Limit Places) free_places
-  answer_fault_gives step_fault.NotInNetwork = refuse_gives (step_refusal step_fault.NotInNetwork)
-  answer_fault_gives step_fault.NotNeighbour = refuse_gives (step_refusal step_fault.NotNeighbour)
-  answer_fault_gives step_fault.NotMaster = refuse_gives (step_refusal step_fault.NotMaster)
-  answer_fault_gives step_fault.NoProcess = refuse_gives (step_refusal step_fault.NoProcess)
-  answer_fault_gives step_fault.NoDep = refuse_gives (step_refusal step_fault.NoDep)
-  answer_fault_gives (step_fault.Carry c) = refuse_gives (step_refusal (step_fault.Carry c))
-  answer_fault_gives step_fault.TooLong = refuse_gives (step_refusal step_fault.TooLong)
-  answer_fault_gives step_fault.NoMemory = refuse_gives (step_refusal step_fault.NoMemory)
+  answer_fault_gives : (input : Input) (f : StepFault) → GivesDue input f (AnswerFault f) P
+  answer_fault_gives input step_fault.PlaceSpent old trace end new due h = spent_gives Q P r input old trace end new due h
+  answer_fault_gives input step_fault.NotInNetwork old trace end new due h = refuse_gives (step_refusal step_fault.NotInNetwork) old trace end new h
+  answer_fault_gives input step_fault.NotNeighbour old trace end new due h = refuse_gives (step_refusal step_fault.NotNeighbour) old trace end new h
+  answer_fault_gives input step_fault.NotMaster old trace end new due h = refuse_gives (step_refusal step_fault.NotMaster) old trace end new h
+  answer_fault_gives input step_fault.NoProcess old trace end new due h = refuse_gives (step_refusal step_fault.NoProcess) old trace end new h
+  answer_fault_gives input step_fault.NoDep old trace end new due h = refuse_gives (step_refusal step_fault.NoDep) old trace end new h
+  answer_fault_gives input (step_fault.Carry c) old trace end new due h = refuse_gives (step_refusal (step_fault.Carry c)) old trace end new h
+  answer_fault_gives input step_fault.TooLong old trace end new due h = refuse_gives (step_refusal step_fault.TooLong) old trace end new h
+  answer_fault_gives input step_fault.NoMemory old trace end new due h = refuse_gives (step_refusal step_fault.NoMemory) old trace end new h
 
   serve_gives : (input : Input) → IsHeard input → (text : NodeState → List ℕ) → Gives (Serve input text) P
   serve_gives input is text = wants_gives P r.joined _ go
@@ -84,7 +83,7 @@ module _ (Q : Input → Type 0) (P : Action NodeState) (r : IsRule Q P) (heard :
       go old trace end new (inl h) =
           then_gives P r.joined (λ o t e n. Takes Follow input o t e n) (From (λ (now : NodeState). Say (text now)))
           (takes_gives Q P r input (heard input is)) said old trace end new h
-      go old trace end new (inr h) = refused_gives Q P r AnswerFault input answer_fault_gives old trace end new h
+      go old trace end new (inr h) = refused_gives Q P r AnswerFault input (answer_fault_gives input) old trace end new h
 
   order_by_gives : (o : Result (ℕ × Cmd) ResolveFault) → Gives (OrderBy o) P
   order_by_gives (Ok order) = serve_gives (Input.Local (Typed order.0 order.1)) tt (kept_text order.0)
@@ -137,7 +136,7 @@ module _ (Q : Input → Type 0) (P : Action NodeState) (r : IsRule Q P) (heard :
   obey_gives defs (line.Link name) = ask_link_gives Asked.Raise link_text name
   obey_gives defs (line.Unlink name) = ask_link_gives Asked.Close unlink_text name
   obey_gives defs line.Shutdown =
-      then_gives P r.joined (Say shutdown_line) (Stop Shutdown) (say_gives shutdown_line) (stop_gives P r.joined Shutdown free_shutdown)
+      then_gives P r.joined (Say shutdown_line) (Stop Shutdown) (say_gives shutdown_line) (stop_gives P r.joined Shutdown plain_shutdown)
   obey_gives defs (line.JNextPlan day) = plan_day_gives defs day
   obey_gives defs l = order_gives l
 

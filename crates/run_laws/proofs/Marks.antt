@@ -12,7 +12,7 @@ use Rattle.node_inputs.specs.Traces.{Event, Trace, kept}
 use Rattle.node_inputs.specs.declared.ends.NodeEnd.{NodeEnd}
 use Rattle.node_inputs.specs.Actions.{Action}
 use Rattle.run_laws.specs.Held.{held_after}
-use Rattle.run_laws.proofs.Rules.{EndsFree, IsJoined}
+use Rattle.run_laws.proofs.Rules.{IsJoined}
 use Rattle.run_laws.proofs.Splits.{InFirst, InSecond, IsFurther, IsHere, IsOnly, only_one, split_append, split_cons}
 use Rattle.run_laws.proofs.Taking.{Steps}
 use Rattle.run_laws.proofs.Tracing.{IsDone, StepTrace, step_keeps, step_trace}
@@ -55,8 +55,8 @@ pub record IsMark (R : Mark) : Type 0 where
       → R b more event back end → R a (front ++ more) event back end
 
 module _ (R : Mark) (m : IsMark R) where
-  rests : (s : NodeState) (end : Option NodeEnd) → EndsFree end → Marks R s [] end s
-  rests s end free = record {
+  pub marks_rest : (s : NodeState) (end : Option NodeEnd) → Marks R s [] end s
+  marks_rest s end = record {
     me_ = refl;
     net_ = refl;
     grows = λ h. sym (append-nil s.kept);
@@ -85,7 +85,7 @@ module _ (R : Mark) (m : IsMark R) where
           (record { me_ = h.me_; net_ = h.net_; grows = h.grows refl }) (k.each s.middle event behind s.second))
 
   pub marks_joined : IsJoined (MarksAll R)
-  marks_joined = record { rests = rests; joins = joins }
+  marks_joined = record { rests = λ s end rest. marks_rest s end; joins = joins }
 
 -- one event that keeps nothing
 pub one_marked : (R : Mark) (s : NodeState) (event : Event) → kept (event ∷ []) ≡ [] → R s [] event [] None → Marks R s (event ∷ []) None s

@@ -36,7 +36,7 @@ use Rattle.run_laws.proofs.Splits.{InFirst, InSecond, only_one, split_append}
 use Rattle.run_laws.proofs.Given.{IsGiven}
 use Rattle.run_laws.proofs.Taking.{GivesOut, IsAsk, IsEffect, IsRule, Steps, its_effect}
 use Rattle.run_laws.proofs.Tracing.{IsDone, all_done, front_kept, trace_keeps}
-use Rattle.run_laws.proofs.Marks.{Follows, IsMark, Mark, Marks, MarksAll, held_joined, marks_joined, one_marked, step_marked}
+use Rattle.run_laws.proofs.Marks.{Follows, IsMark, Mark, Marks, MarksAll, held_joined, marks_joined, marks_rest, one_marked, step_marked}
 use Rattle.model.specs.Turn.{turn_body}
 
 -- what an output is, in the view behind the entry
@@ -331,6 +331,7 @@ step_out input old trace end new h = record { me_ = plain.me_; net_ = plain.net_
 pub out_rule : IsRule (λ i. Unit {0}) (MarksAll GoesOutHeld)
 out_rule = record {
   joined = marks_joined GoesOutHeld out_mark;
+  spent = λ s end input due is. marks_rest GoesOutHeld out_mark s end;
   asks = λ s call. one_marked GoesOutHeld s (Event.Asks call) refl tt;
   replies = λ s call. one_marked GoesOutHeld s (Event.Replies call) refl tt;
   steps = λ input q. step_out input;

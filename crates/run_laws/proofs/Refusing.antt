@@ -6,7 +6,7 @@ use Rattle.node_inputs.specs.Keeping.{IsRefusal}
 use Rattle.node_inputs.specs.Traces.{Event, Trace}
 use Rattle.node_inputs.specs.declared.ends.NodeEnd.{NodeEnd}
 use Rattle.run_laws.proofs.Taking.{IsRule}
-use Rattle.run_laws.proofs.Marks.{Follows, IsMark, Mark, MarksAll, StepEvent, marks_joined, one_marked, step_marked}
+use Rattle.run_laws.proofs.Marks.{Follows, IsMark, Mark, MarksAll, StepEvent, marks_joined, marks_rest, one_marked, step_marked}
 
 -- a refusal is the last of all, and the end is its own
 abbrev pub EndsThere : Mark
@@ -43,6 +43,7 @@ event_ends made old end front event back k = tt
 pub refusal_rule : IsRule (λ i. Unit {0}) (MarksAll EndsThere)
 refusal_rule = record {
   joined = marks_joined EndsThere refusal_mark;
+  spent = λ s end input due is. marks_rest EndsThere refusal_mark s end;
   asks = λ s call. one_marked EndsThere s (Event.Asks call) refl tt;
   replies = λ s call. one_marked EndsThere s (Event.Replies call) refl tt;
   steps = λ input q old trace end new h.

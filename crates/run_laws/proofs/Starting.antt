@@ -15,7 +15,7 @@ use Rattle.node_inputs.specs.declared.ends.NodeEnd.{NodeEnd}
 use Rattle.node_inputs.specs.Actions.{Then}
 use Rattle.node_inputs.specs.Inputs.{IsKeeping, Keep}
 use Rattle.run_laws.specs.Launches.{launch_of, launches_kept, launches_started}
-use Rattle.run_laws.proofs.Rules.{EndsFree, Gives, IsJoined}
+use Rattle.run_laws.proofs.Rules.{Gives, IsJoined}
 use Rattle.run_laws.proofs.Given.{carry_starts, launch_out}
 use Rattle.run_laws.proofs.Splits.{InFirst, InSecond, IsFurther, IsHere, only_one, split_append, split_cons}
 use Rattle.run_laws.proofs.Tracing.{IsDone, StepTrace, all_done, done_keeps_none, front_kept, step_trace, trace_keeps}
@@ -68,16 +68,16 @@ pub record StartsItsLaunches (old : NodeState) (trace : Trace) (end : Option Nod
   pub kept_first : (front back : Trace) (call : StartCall) → trace ≡ front ++ Event.Starts call ∷ back
       → launches_kept old.me front ≡ launches_started front ++ (call.job, call.number) ∷ []
 
-starts_joined : IsJoined (λ o t e n. StartsItsLaunches o t e n)
-starts_joined = record { rests = rests; joins = joins }
-  where
-    rests : (s : NodeState) (end : Option NodeEnd) → EndsFree end → StartsItsLaunches s [] end s
-    rests s end free = record {
-      me_ = refl;
-      started = refl;
-      kept_first = λ front back call split. absurd (no_middle front back (Event.Starts call) split);
-    }
+starts_rest : (s : NodeState) (end : Option NodeEnd) → StartsItsLaunches s [] end s
+starts_rest s end = record {
+  me_ = refl;
+  started = refl;
+  kept_first = λ front back call split. absurd (no_middle front back (Event.Starts call) split);
+}
 
+starts_joined : IsJoined (λ o t e n. StartsItsLaunches o t e n)
+starts_joined = record { rests = λ s end rest. starts_rest s end; joins = joins }
+  where
     joins : (a b c : NodeState) (front back : Trace) (end : Option NodeEnd) → StartsItsLaunches a front None b
         → StartsItsLaunches b back end c → StartsItsLaunches a (front ++ back) end c
     joins a b c front back end h k = record {
@@ -201,6 +201,7 @@ step_starts input old trace end new h =
 pub starts_rule : IsRule (λ i. Unit {0}) (λ o t e n. StartsItsLaunches o t e n)
 starts_rule = record {
   joined = starts_joined;
+  spent = λ s end input due is. starts_rest s end;
   asks = λ s call. one_starts_none s (Event.Asks call) refl refl;
   replies = λ s call. one_starts_none s (Event.Replies call) refl refl;
   steps = λ input q. step_starts input;

@@ -15,7 +15,7 @@ use Rattle.model.specs.Types.{Net}
 use Rattle.model_laws.proofs.Sends.{same_done}
 use Rattle.outside.specs.Calls.{Asked, Replied}
 use Rattle.agent_core.specs.Nodes.{NodeState, session_in, view_in}
-use Rattle.agent_core.specs.Steps.{IsTaken, effect_in}
+use Rattle.agent_core.specs.Steps.{IsDue, IsTaken, effect_in}
 use Rattle.agent_core.specs.declared.faults.Step.{Step}
 use Rattle.agent_core.specs.declared.faults.StepFault.{StepFault}
 use Rattle.agent_core.specs.declared.faults.StepFault.TheVariants as fault
@@ -23,10 +23,10 @@ use Rattle.node_inputs.specs.Traces.{Event, Trace}
 use Rattle.node_inputs.specs.declared.ends.NodeEnd.{NodeEnd}
 use Rattle.node_inputs.specs.declared.ends.NodeEnd.TheVariants.{Limit, NoMemory}
 use Rattle.base_types.specs.declared.LimitName.TheVariants.{Places}
-use Rattle.node_inputs.specs.Actions.{Action, Call, Each, EndsBefore, If, Nothing, Then}
+use Rattle.node_inputs.specs.Actions.{Action, Call, Each, EndsBefore, If, Nothing, Stop, Then}
 use Rattle.node_inputs.specs.Inputs.{Carried, Carry, Follow, Give, IsKeeping, Keep, Lose, LoseAll, LoseIf, PassOver, Raise}
 use Rattle.node_inputs.specs.Inputs.{RaiseNew, Refused, Take, TakeQuietly, TakeWith, Takes, Tell, is_lost, is_new_neighbour, nothing_carried, start_told}
-use Rattle.run_laws.proofs.Rules.{Gives, IsJoined, call_gives, each_gives, free_places, if_gives, nothing_gives, stop_gives, then_gives, wants_gives}
+use Rattle.run_laws.proofs.Rules.{Gives, IsJoined, call_gives, each_gives, if_gives, nothing_gives, then_gives, wants_gives}
 
 abbrev pub IsAsk : Event → Type 0
 IsAsk (Event.Asks call) = Unit {0}
@@ -55,9 +55,18 @@ IsTold (Input.Local (StartFailed j)) = Unit {0}
 IsTold (Input.Local (Unlinked x)) = Unit {0}
 IsTold _ = ⊥
 
--- what holds of the steps of these inputs, of links that are asked for and of replies
+-- whatever the first may do where the fault of an input is due, the second may do
+abbrev pub GivesDue : Input → StepFault → Action NodeState → Action NodeState → Type 0
+GivesDue input f first second =
+    (old : NodeState) (trace : Trace) (end : Option NodeEnd) (new : NodeState) → IsDue old input f → first old trace end new
+    → second old trace end new
+
+-- What holds of the steps of these inputs, of links that are asked for and of replies, and of an end for a place that is
+-- spent.
 pub record IsRule (Q : Input → Type 0) (P : Action NodeState) : Type 0 where
   pub joined : IsJoined P
+  pub spent : (s : NodeState) (end : Option NodeEnd) (input : Input) → IsDue s input fault.PlaceSpent
+      → end ≡ Some (Limit Places) → P s [] end s
   pub asks : (s : NodeState) (call : Asked) → P s (Event.Asks call ∷ []) None s
   pub replies : (s : NodeState) (call : Replied) → P s (Event.Replies call ∷ []) None s
   pub steps : (input : Input) → Q input → Gives (λ o t e n. Steps input o t e n) P
@@ -249,20 +258,25 @@ takes_parts input old trace end new h = go h.acts
     go (inr e) = inr (kept_ends input old h.after new h.step trace end h.taken e)
 
 module _ (Q : Input → Type 0) (P : Action NodeState) (r : IsRule Q P) where
-  pub pass_over_gives : (f : StepFault) → Gives (PassOver f) P
-  pass_over_gives fault.NotInNetwork = nothing_gives P r.joined
-  pass_over_gives fault.NotNeighbour = nothing_gives P r.joined
-  pass_over_gives fault.NotMaster = nothing_gives P r.joined
-  pass_over_gives fault.NoProcess = nothing_gives P r.joined
-  pass_over_gives fault.NoDep = nothing_gives P r.joined
-  pass_over_gives fault.PlaceSpent = stop_gives P r.joined (Limit Places) free_places
-  pass_over_gives (fault.Carry c) = nothing_gives P r.joined
-  pass_over_gives fault.TooLong = nothing_gives P r.joined
-  pass_over_gives fault.NoMemory = nothing_gives P r.joined
+  pub spent_gives : (input : Input) → GivesDue input fault.PlaceSpent (Stop (Limit Places)) P
+  spent_gives input old trace end new due h =
+      subst (λ (t : Trace). P old t end new) (sym h.0)
+      (subst (λ (s : NodeState). P old [] end s) (sym h.2) (r.spent old end input due h.1))
 
-  pub refused_gives : (follows : StepFault → Action NodeState) (input : Input) → ((f : StepFault) → Gives (follows f) P)
-      → Gives (Refused follows input) P
-  refused_gives follows input f old trace end new h = f h.0 old trace end new h.3
+  pub pass_over_gives : (input : Input) (f : StepFault) → GivesDue input f (PassOver f) P
+  pass_over_gives input fault.NotInNetwork old trace end new due h = nothing_gives P r.joined old trace end new h
+  pass_over_gives input fault.NotNeighbour old trace end new due h = nothing_gives P r.joined old trace end new h
+  pass_over_gives input fault.NotMaster old trace end new due h = nothing_gives P r.joined old trace end new h
+  pass_over_gives input fault.NoProcess old trace end new due h = nothing_gives P r.joined old trace end new h
+  pass_over_gives input fault.NoDep old trace end new due h = nothing_gives P r.joined old trace end new h
+  pass_over_gives input fault.PlaceSpent old trace end new due h = spent_gives input old trace end new due h
+  pass_over_gives input (fault.Carry c) old trace end new due h = nothing_gives P r.joined old trace end new h
+  pass_over_gives input fault.TooLong old trace end new due h = nothing_gives P r.joined old trace end new h
+  pass_over_gives input fault.NoMemory old trace end new due h = nothing_gives P r.joined old trace end new h
+
+  pub refused_gives : (follows : StepFault → Action NodeState) (input : Input)
+      → ((f : StepFault) → GivesDue input f (follows f) P) → Gives (Refused follows input) P
+  refused_gives follows input f old trace end new h = f h.0 old trace end new h.2 h.3
 
   take_with_gives : (follows : NodeState → Step → Action NodeState) (input : Input)
       → Gives (λ o t e n. Takes follows input o t e n) P → Gives (TakeWith follows input) P
@@ -270,7 +284,7 @@ module _ (Q : Input → Type 0) (P : Action NodeState) (r : IsRule Q P) where
     where
       go : Gives (λ old trace end new. Takes follows input old trace end new ⊎ Refused PassOver input old trace end new) P
       go old trace end new (inl h) = f old trace end new h
-      go old trace end new (inr h) = refused_gives PassOver input pass_over_gives old trace end new h
+      go old trace end new (inr h) = refused_gives PassOver input (pass_over_gives input) old trace end new h
 
   quiet_gives : (input : Input) → IsTold input → Gives (TakeQuietly input) P
   quiet_gives input t =

@@ -23,7 +23,7 @@ use Rattle.node_inputs.specs.Inputs.{Take}
 use Rattle.node_loop.specs.Frames.{Frames, input_of}
 use Rattle.node_lines.specs.Lines.{Listen}
 use Rattle.node_loop.specs.Runs.{Advise, Anew, Arrive, Come, Comes, EndOf, Found, Hear, Hears, Looks, On, Probing, Reports, Run, Running, TurnOf, is_live}
-use Rattle.run_laws.proofs.Rules.{Gives, IsJoined, free_memory, free_none, free_turns, if_gives, if_there_gives, nothing_gives, stop_gives, then_gives, wants_gives}
+use Rattle.run_laws.proofs.Rules.{Gives, IsJoined, if_gives, if_there_gives, nothing_gives, plain_memory, plain_turns, rest_none, stop_gives, then_gives, wants_gives}
 use Rattle.run_laws.proofs.Taking.{IsRule, take_gives}
 use Rattle.run_laws.proofs.Listening.{IsHeard, frames_gives, listen_gives}
 
@@ -55,7 +55,7 @@ module _ (Q : Input → Type 0) (P : Action NodeState) (r : IsRule Q P) (heard :
   hears_gives : (x : ℕ) (all : Heard) → Gives (Hears x all) (Lifted P)
   hears_gives x all old trace end new h =
       subst (λ (t : Trace). P old.node t end new.node) (sym h.0)
-      (subst (λ (n : NodeState). P old.node [] end n) (sym (ap (λ (s : Running). s.node) h.2)) (r.joined.rests old.node end (free_none end h.1)))
+      (subst (λ (n : NodeState). P old.node [] end n) (sym (ap (λ (s : Running). s.node) h.2)) (r.joined.rests old.node end (rest_none end h.1)))
 
   hear_gives : (x : ℕ) (bytes : List ℕ) → Gives (Hear x bytes) (Lifted P)
   hear_gives x bytes = wants_gives (Lifted P) joined _ go
@@ -81,7 +81,7 @@ module _ (Q : Input → Type 0) (P : Action NodeState) (r : IsRule Q P) (heard :
   arrive_gives defs (arrival.Down x) = anew_gives x (Input.Local (Unlinked x)) tt
   arrive_gives defs (arrival.Client bytes) = on_gives (Listen defs bytes) P (listen_gives Q P r heard defs bytes)
   arrive_gives defs arrival.Nothing = nothing_gives (Lifted P) joined
-  arrive_gives defs arrival.NoMemory = stop_gives (Lifted P) joined NoMemory free_memory
+  arrive_gives defs arrival.NoMemory = stop_gives (Lifted P) joined NoMemory plain_memory
 
   -- one arrival
   pub come_gives : ((s : NodeState) (a : Arrival) → P s (Event.Comes a ∷ []) None s) → (defs : Defs) → Gives (Come defs) (Lifted P)
@@ -154,7 +154,7 @@ module _ (P : Action Running) (j : IsJoined P) (defs : Defs) where
       (then_gives P j (Come defs) _ come (λ o t e n k. behind o t e n (h.reading, k)) old h.rest end new h.acts)
 
   pub run_gives : Gives (λ o t e n. TurnOf defs o t e n) P → (turns : ℕ) → Gives (Run defs turns) P
-  run_gives turn zero = stop_gives P j TurnsSpent free_turns
+  run_gives turn zero = stop_gives P j TurnsSpent plain_turns
   run_gives turn (suc turns) = then_gives P j (λ o t e n. TurnOf defs o t e n) (Run defs turns) turn (run_gives turn turns)
 
 -- a law of all steps and of all events holds of each run

@@ -3,4 +3,5 @@ pub mod Alone
 pub mod Files
 pub mod Held
 pub mod Launches
+pub mod Limits
 pub mod Outgoing

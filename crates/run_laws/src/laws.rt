@@ -1,6 +1,7 @@
 //! The laws.
 ghost use Rattle.std.specs.Prelude.{ℕ, [], ◌+◌, ◌++◌, ◌<◌, ◌≡◌, ◌≢◌, ◌∷◌, All, List, Ok, Option, Some, true};
 ghost use Rattle.std.specs.Option.{option_to_list};
+ghost use Rattle.base_types.specs.declared.LimitName.{LimitName};
 ghost use Rattle.composer_parser.specs.declared.Defs.{Defs};
 ghost use Rattle.model.specs.Types.{Cmd, Entry, Events, Launched, Obeyed, Obj, Order, Orders, Rerun};
 ghost use Rattle.model.specs.History.{Seen};
@@ -13,11 +14,13 @@ ghost use Rattle.recovery_watch.specs.Advice.{advice};
 ghost use Rattle.node_inputs.specs.Keeping.{IsRefusal};
 ghost use Rattle.node_inputs.specs.Traces.{Event, Trace, kept, refusals};
 ghost use Rattle.node_inputs.specs.declared.ends.NodeEnd.{NodeEnd};
+ghost use Rattle.node_inputs.specs.declared.ends.NodeEnd.TheVariants.{Limit};
 ghost use Rattle.node_loop.specs.Runs.{Run, Running, running};
 ghost use Rattle.run_laws.specs.Alone.{IsOwnOrder, is_alone};
 ghost use Rattle.run_laws.specs.Files.{EndsWithItsProbe, FollowsFile, TellsFile};
 ghost use Rattle.run_laws.specs.Held.{IsInHand, held_after};
 ghost use Rattle.run_laws.specs.Launches.{launches_kept, launches_started};
+ghost use Rattle.run_laws.specs.Limits.{IsMet};
 ghost use Rattle.run_laws.specs.Outgoing.{IsItsWork, IsObeyedKill, TellsOfHeld};
 
 /// A run starts exactly the launches that it kept among the node's own events, in order. When a job starts its launch is
@@ -88,17 +91,21 @@ pub fn nothing_follows_a_refusal()
         → (back ≡ []) × (end ≡ Some why) × IsRefusal why }
 {}
 
-/// A run that ends for a refusal refused one entry, and for this end; and a run that ends otherwise refused none.
+/// A run that ends for a refusal refused one entry, and for this end; and a run that ends otherwise refused none. A run
+/// that ends for a limit has met it: its file was full, or an input met a place that was spent, in the node as it then is.
 pub fn ends_have_their_refusals()
     ensures forced { (defs : Defs) (turns : ℕ) (node : NodeState) (trace : Trace) (why : NodeEnd) (new : Running)
         → Run defs turns (running node) trace (Some why) new → IsRefusal why
         → (e : Entry) × (refusals trace ≡ (e, why) ∷ []) }
     ensures unforced { (defs : Defs) (turns : ℕ) (node : NodeState) (trace : Trace) (why : NodeEnd) (new : Running)
         → Run defs turns (running node) trace (Some why) new → (IsRefusal why → ⊥) → refusals trace ≡ [] }
+    ensures limits { (defs : Defs) (turns : ℕ) (node : NodeState) (trace : Trace) (name : LimitName) (new : Running)
+        → Run defs turns (running node) trace (Some (Limit name)) new → IsMet new.node name }
 {}
 
-/// A file is told among the node's own events directly behind a probe that found it, at the path of its dependency. What
-/// follows a probe that found a file tells of it, or the run ends there; this is said of a node in its network.
+/// A file is told among the node's own events directly behind a probe that found it, which was for this dependency: it
+/// waited for its file then. What follows a probe that found a file tells it of the dependency that was looked for, or the
+/// run ends there; this is said of a node in its network.
 pub fn files_follow_probes()
     ensures probed { (defs : Defs) (turns : ℕ) (node : NodeState) (trace : Trace) (end : Option NodeEnd) (new : Running)
         → Run defs turns (running node) trace end new

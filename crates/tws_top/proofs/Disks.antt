@@ -1,8 +1,14 @@
 -- What a service tells of its disk and of its link.
-use Rattle.std.proofs.Common.{◌≡◌, ◌⊎◌, ◌∙◌, ℕ, Err, List, Option, Some, ap, inl, inr, refl}
+use Rattle.std.proofs.Common.{◌++◌, ◌≡◌, ◌⊎◌, ◌∙◌, ℕ, Err, IfSome, List, None, Option, Some, ap, inl, inr, refl, subst, sym}
 use Rattle.std.specs.Io.KnownBytes.{Appends}
+use Rattle.base_types.specs.declared.LimitName.{LimitName}
 use Rattle.conman_client.specs.declared.ends.AskEnd.TheVariants.{NoAnswer}
+use Rattle.model.specs.Types.{Entry}
+use Rattle.node_inputs.specs.Keeping.{bodies}
 use Rattle.node_inputs.specs.Tellings.{Told}
+use Rattle.node_inputs.specs.Traces.{Trace, kept}
+use Rattle.node_service.specs.Serving.{IsFull, KeepsFront}
+use Rattle.run_laws.specs.Limits.{IsMet}
 use Rattle.node_inputs.specs.declared.ends.NodeEnd.TheVariants as run
 use Rattle.node_restart.specs.declared.faults.RestartFault.TheVariants as made
 use Rattle.node_service.specs.declared.services.ServiceEnd.TheVariants.{Ran, Unmade}
@@ -12,21 +18,26 @@ use Rattle.outside.specs.Streams.{Stream}
 use Rattle.node_commands.specs.Ends.{other_file_line}
 use Rattle.node_commands.specs.Forms.{Request, request_of}
 use Rattle.node_commands.specs.Services.{AskedBy, IsAsked, IsServed, ServedBy}
-use Rattle.tws_top.specs.Rows.{FindsOtherFile, HasNoAnswer}
+use Rattle.tws_top.specs.Rows.{EndsAtLimit, FindsOtherFile, HasNoAnswer, IsFileFull, MeetsLimit}
+
+file_full : (told now : Option (List ℕ)) (held : List Entry) (trace : Trace) → KeepsFront (bodies (held ++ kept trace)) told now
+    → IfSome told (λ (before : List ℕ). IsFull held trace) → IfSome told (λ (before : List ℕ). IsFileFull told now)
+file_full None now held trace keeps full = tt
+file_full (Some before) now held trace keeps full = record { held = held; trace = trace; keeps = keeps; full = full }
 
 module _ {D : Type 0} (seen : D → Option (List ℕ)) (faults moment : D → ℕ) (may_leave : D → List ℕ → Type 0)
-    (left_since : D → ℕ → List ℕ → Type 0) (disk disk' : D) (told now : Told) (request : Request) (old new : Option Stream) where
+    (left_since : D → ℕ → List ℕ → Type 0) (disk disk' : D) (told now : Told) (others_same : Type 0) (request : Request) (old new : Option Stream) where
   -- a disk that failed has risen
-  pub disk_rose : IsServed (ServedBy seen faults moment may_leave left_since disk disk' told now) request old new (Ran run.DiskFault)
-      ⊎ IsServed (ServedBy seen faults moment may_leave left_since disk disk' told now) request old new (Unmade made.Disk)
+  pub disk_rose : IsServed (ServedBy seen faults moment may_leave left_since disk disk' told now others_same) request old new (Ran run.DiskFault)
+      ⊎ IsServed (ServedBy seen faults moment may_leave left_since disk disk' told now others_same) request old new (Unmade made.Disk)
       → Rose (faults disk) (faults disk')
-  disk_rose (inl s) = s.served.cause refl
-  disk_rose (inr s) = s.served.0.cause refl
+  disk_rose (inl s) = s.served.0.cause refl
+  disk_rose (inr s) = s.served.0.0.cause refl
 
   -- another file is refused at a place
   pub other_file_found : (words : List (List ℕ)) (written written' : Option (List ℕ)) (place : ℕ)
       → request_of words ≡ Some request
-      → IsServed (ServedBy seen faults moment may_leave left_since disk disk' told now) request old new (Unmade (made.NotThisFile place))
+      → IsServed (ServedBy seen faults moment may_leave left_since disk disk' told now others_same) request old new (Unmade (made.NotThisFile place))
       → Appends written written' (other_file_line place) → FindsOtherFile words (seen disk) old new written written'
   other_file_found words written written' place asked s wrote = record {
     name = s.name;
@@ -37,9 +48,29 @@ module _ {D : Type 0} (seen : D → Option (List ℕ)) (faults moment : D → �
     asked = asked ∙ ap Some s.is;
     read = s.read;
     there = s.there;
-    refused = s.served.0.refused place refl;
+    refused = s.served.0.0.refused place refl;
     wrote = wrote;
   }
+
+  -- a limit that ended a run was met
+  pub limit_met : (which : LimitName)
+      → IsServed (ServedBy seen faults moment may_leave left_since disk disk' told now others_same) request old new (Ran (run.Limit which))
+      → MeetsLimit (seen disk) (seen disk') which
+  limit_met which s = met (s.served.0.met which refl)
+    where
+      met : IsMet s.served.0.after.node which → MeetsLimit (seen disk) (seen disk') which
+      met (inl file) =
+          subst (λ (l : LimitName). MeetsLimit (seen disk) (seen disk') l) (sym file)
+          (MeetsLimit.file_full (file_full (seen disk) (seen disk') s.served.0.start.kept s.served.0.trace s.served.0.keeps
+          (s.served.0.full (ap run.Limit file))))
+      met (inr place) =
+          subst (λ (l : LimitName). MeetsLimit (seen disk) (seen disk') l) (sym place.0)
+          (MeetsLimit.place_spent s.served.0.after.node place.1 place.2)
+
+  pub ends_at_limit : (which : LimitName)
+      → IsServed (ServedBy seen faults moment may_leave left_since disk disk' told now others_same) request old new (Ran (run.Limit which))
+      → EndsAtLimit (ServedBy seen faults moment may_leave left_since disk disk' told now others_same) request (seen disk) (seen disk') old new
+  ends_at_limit which s = record { which = which; served = s; met = limit_met which s }
 
 -- a node gave no reply
 pub no_answer_given : (words : List (List ℕ)) (request : Request) (old new : Option Stream) (calls calls' : LinkCalls)

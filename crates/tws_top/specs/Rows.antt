@@ -1,5 +1,5 @@
 -- The statuses of services one by one.
-use Rattle.std.specs.Prelude.{ℕ, ◌≡◌, ◌⊎◌, IfSome, List, None, Option, Some, slice_get}
+use Rattle.std.specs.Prelude.{ℕ, ◌++◌, ◌≡◌, ◌⊎◌, IfSome, List, None, Option, Some, slice_get}
 use Rattle.std.specs.Io.KnownBytes.{Appends}
 use Rattle.base_types.specs.Limits.{limit_number}
 use Rattle.base_types.specs.declared.LimitName.{LimitName}
@@ -9,6 +9,15 @@ use Rattle.composer_parser.specs.declared.Defs.{Defs}
 use Rattle.conman_client.specs.Asks.{IsUnanswered}
 use Rattle.definition_texts.specs.Kinds.{word_of}
 use Rattle.definition_texts.specs.declared.refusals.Refusal.{Refusal}
+use Rattle.model.specs.Types.{Entry, Input}
+use Rattle.agent_core.specs.Nodes.{NodeState}
+use Rattle.agent_core.specs.Steps.{IsDue}
+use Rattle.agent_core.specs.declared.faults.StepFault.TheVariants.{PlaceSpent}
+use Rattle.node_inputs.specs.Keeping.{bodies}
+use Rattle.node_inputs.specs.Traces.{Trace, kept}
+use Rattle.node_inputs.specs.declared.ends.NodeEnd.TheVariants.{Limit}
+use Rattle.node_service.specs.Serving.{IsFull, KeepsFront}
+use Rattle.node_service.specs.declared.services.ServiceEnd.TheVariants.{Ran}
 use Rattle.node_restart.specs.Restarting.{IsRefused}
 use Rattle.outside.specs.Calls.{LinkCalls}
 use Rattle.outside.specs.Causes.{Rose}
@@ -19,7 +28,7 @@ use Rattle.workload_defs.specs.Nets.{net_of, peers_of}
 use Rattle.workload_defs.specs.Stations.{number_of}
 use Rattle.node_commands.specs.Ends.{other_file_line}
 use Rattle.node_commands.specs.Forms.{AskOf, NodeFor, Request, name_in, request_of}
-use Rattle.node_commands.specs.Services.{ReadsDefs, RefusesDefs}
+use Rattle.node_commands.specs.Services.{IsServed, ReadsDefs, RefusesDefs, Serving}
 
 -- The input was read to its end as what is no checked definitions, and nothing but the line was written.
 pub record RefusesRequest (words : List (List ℕ)) (old new : Option Stream) (written written' : Option (List ℕ)) : Type 0 where
@@ -66,11 +75,30 @@ pub record HasNoAnswer (words : List (List ℕ)) (old new : Option Stream) (call
   pub its_peer : slice_get (peers_of defs) me ≡ Some peer
   pub why : Rose faults faults' ⊎ IsUnanswered peer.ws calls calls'
 
+-- Where the disk tells its bytes, the file keeps in front what was held and kept, and with one entry more it is too long.
+pub record IsFileFull (told now : Option (List ℕ)) : Type 0 where
+  pub held : List Entry
+  pub trace : Trace
+  pub keeps : KeepsFront (bodies (held ++ kept trace)) told now
+  pub full : IsFull held trace
+
+-- why the run of a node ends at a limit: its file is full, or an input meets a place that is spent
+pub data MeetsLimit (told now : Option (List ℕ)) : LimitName → Type 0 where
+  file_full : IfSome told (λ (before : List ℕ). IsFileFull told now) → MeetsLimit told now limit.File
+  place_spent : (node : NodeState) (input : Input) → IsDue node input PlaceSpent → MeetsLimit told now limit.Places
+
+-- a node was served, and its run ended at a limit that it met
+pub record EndsAtLimit (S : Serving) (request : Request) (told now : Option (List ℕ)) (old new : Option Stream) : Type 0 where
+  pub which : LimitName
+  pub served : IsServed S request old new (Ran (Limit which))
+  pub met : MeetsLimit told now which
+
 -- The input of a request passes its limit, or the run of a node ends at one, and nothing but the line was written.
-pub data PassesLimit (words : List (List ℕ)) (old new : Option Stream) (written written' : Option (List ℕ)) : Type 0 where
+pub data PassesLimit (S : Serving) (words : List (List ℕ)) (told now : Option (List ℕ)) (old new : Option Stream)
+    (written written' : Option (List ℕ)) : Type 0 where
   of_input : (request : Request) → request_of words ≡ Some request → TakesCount 16777217 old new
       → Appends written written' (limit_line (limit_word limit.Input) 16777216)
-      → PassesLimit words old new written written'
-  of_run : (name : List ℕ) (turns : ℕ) (which : LimitName) → request_of words ≡ Some (NodeFor name turns)
-      → Appends written written' (limit_line (limit_word which) (limit_number which))
-      → PassesLimit words old new written written'
+      → PassesLimit S words told now old new written written'
+  of_run : (request : Request) → request_of words ≡ Some request → (ends : EndsAtLimit S request told now old new)
+      → Appends written written' (limit_line (limit_word ends.which) (limit_number ends.which))
+      → PassesLimit S words told now old new written written'

@@ -31,7 +31,8 @@ ghost use Rattle.input_commands.specs.declared.words.Wanted.TheVariants as wants
 ghost use Rattle.workload_defs.specs.Stations.{number_of};
 ghost use Rattle.tws_top.specs.Dues.{IsAnswer, LeftCallsFor as ServiceLeftCallsFor};
 ghost use Rattle.node_commands.specs.Forms.{AskOf, NodeFor, Request, request_of};
-ghost use Rattle.tws_top.specs.Rows.{FindsOtherFile, HasNoAnswer, HasNoStation, PassesLimit as ServicePassesLimit, RefusesRequest};
+ghost use Rattle.tws_top.specs.Rows.{EndsAtLimit, FindsOtherFile, HasNoAnswer, HasNoStation};
+ghost use Rattle.tws_top.specs.Rows.{PassesLimit as ServicePassesLimit, RefusesRequest};
 ghost use Rattle.node_commands.specs.Services.{AskedBy, IsService, ServedBy};
 
 use base_types::Text;
@@ -91,7 +92,8 @@ pub fn tws<I: Source, O: Sink, D: Disk, L: Link, J: Spawner, C: Clock, F: Prober
     ensures due { result.status ≢ 4 → result.status ≢ 9
         → IsAnswer (ServedBy D.seen D.faults D.moment D.may_leave D.left_since disk result.disk
         (told_by (L.calls link.old) (J.calls jobs.old) (C.readings clock.old) (F.asked files.old))
-        (told_by (L.calls link.new) (J.calls jobs.new) (C.readings clock.new) (F.asked files.new)))
+        (told_by (L.calls link.new) (J.calls jobs.new) (C.readings clock.new) (F.asked files.new))
+        ((link.new ≡ link.old) × (jobs.new ≡ jobs.old) × (clock.new ≡ clock.old) × (files.new ≡ files.old)))
         (AskedBy (L.calls link.old) (L.calls link.new) (L.faults link.old) (L.faults link.new))
         words.now (I.stream input.old) (I.stream input.new)
         result.status result.world (O.written out.old) (O.written out.new) (O.faults out.old) (O.faults out.new) }
@@ -100,7 +102,8 @@ pub fn tws<I: Source, O: Sink, D: Disk, L: Link, J: Spawner, C: Clock, F: Prober
     ensures service { (request : Request) → request_of words.now ≡ Some request
         → IsService (ServedBy D.seen D.faults D.moment D.may_leave D.left_since disk result.disk
         (told_by (L.calls link.old) (J.calls jobs.old) (C.readings clock.old) (F.asked files.old))
-        (told_by (L.calls link.new) (J.calls jobs.new) (C.readings clock.new) (F.asked files.new)))
+        (told_by (L.calls link.new) (J.calls jobs.new) (C.readings clock.new) (F.asked files.new))
+        ((link.new ≡ link.old) × (jobs.new ≡ jobs.old) × (clock.new ≡ clock.old) × (files.new ≡ files.old)))
         (AskedBy (L.calls link.old) (L.calls link.new) (L.faults link.old) (L.faults link.new))
         ((result.disk ≡ disk) × (link.new ≡ link.old) × (jobs.new ≡ jobs.old) × (clock.new ≡ clock.old)
         × (files.new ≡ files.old))
@@ -147,7 +150,12 @@ pub fn tws<I: Source, O: Sink, D: Disk, L: Link, J: Spawner, C: Clock, F: Prober
         → length source.left ≤ 16777216 → AreChecked source.left d → number_of d name ≡ Some me
         → (Rose (I.faults input.old) (I.faults input.new) → ⊥) → (Rose (O.faults out.old) (O.faults out.new) → ⊥)
         → (Rose (D.faults disk) (D.faults result.disk) → ⊥)
-        → (result.status ≡ 0) ⊎ (result.status ≡ 7) ⊎ (result.status ≡ 8) ⊎ (result.status ≡ 9) ⊎ (result.status ≡ 10) }
+        → (result.status ≡ 0) ⊎ (result.status ≡ 7) ⊎ (result.status ≡ 8) ⊎ (result.status ≡ 9)
+        ⊎ ((result.status ≡ 10) × EndsAtLimit (ServedBy D.seen D.faults D.moment D.may_leave D.left_since disk result.disk
+        (told_by (L.calls link.old) (J.calls jobs.old) (C.readings clock.old) (F.asked files.old))
+        (told_by (L.calls link.new) (J.calls jobs.new) (C.readings clock.new) (F.asked files.new))
+        ((link.new ≡ link.old) × (jobs.new ≡ jobs.old) × (clock.new ≡ clock.old) × (files.new ≡ files.old)))
+        (NodeFor name turns) (D.seen disk) (D.seen result.disk) (I.stream input.old) (I.stream input.new)) }
     ensures complete_ask { (source : Stream) (name command : List ℕ) (me : ℕ) (d : Definitions)
         → I.stream input.old ≡ Some source → request_of words.now ≡ Some (AskOf name command)
         → length source.left ≤ 16777216 → AreChecked source.left d → number_of d name ≡ Some me
@@ -196,7 +204,12 @@ pub fn tws<I: Source, O: Sink, D: Disk, L: Link, J: Spawner, C: Clock, F: Prober
         (L.calls link.old) (L.calls link.new) (L.faults link.old) (L.faults link.new) }
     ensures limit { result.status ≡ 10
         → PassesLimit (I.stream input.old) (I.stream input.new) (O.written out.old) (O.written out.new)
-        ⊎ ServicePassesLimit words.now (I.stream input.old) (I.stream input.new) (O.written out.old) (O.written out.new) }
+        ⊎ ServicePassesLimit (ServedBy D.seen D.faults D.moment D.may_leave D.left_since disk result.disk
+        (told_by (L.calls link.old) (J.calls jobs.old) (C.readings clock.old) (F.asked files.old))
+        (told_by (L.calls link.new) (J.calls jobs.new) (C.readings clock.new) (F.asked files.new))
+        ((link.new ≡ link.old) × (jobs.new ≡ jobs.old) × (clock.new ≡ clock.old) × (files.new ≡ files.old)))
+        words.now (D.seen disk) (D.seen result.disk) (I.stream input.old) (I.stream input.new)
+        (O.written out.old) (O.written out.new) }
     ensures not_sound { result.status ≡ 11 → (asked_of words.now ≡ Some (asks.Input wants.Audit))
         × FindsWrong (I.stream input.old) (I.stream input.new) (O.written out.old) (O.written out.new) }
     ensures statuses { (result.status ≡ 0) ⊎ (result.status ≡ 1) ⊎ (result.status ≡ 2) ⊎ (result.status ≡ 3)
@@ -213,6 +226,10 @@ pub fn tws<I: Source, O: Sink, D: Disk, L: Link, J: Spawner, C: Clock, F: Prober
         × (jobs.new ≡ jobs.old) × (clock.new ≡ clock.old) × (files.new ≡ files.old) }
     ensures ask_untouched { (name command : List ℕ) → request_of words.now ≡ Some (AskOf name command)
         → (result.disk ≡ disk) × (jobs.new ≡ jobs.old) × (clock.new ≡ clock.old) × (files.new ≡ files.old) }
+    // With 1, 2, 4 and 7 no node was made.
+    ensures node_untouched { (name : List ℕ) (turns : ℕ) → request_of words.now ≡ Some (NodeFor name turns)
+        → (result.status ≡ 1) ⊎ (result.status ≡ 2) ⊎ (result.status ≡ 4) ⊎ (result.status ≡ 7)
+        → (link.new ≡ link.old) × (jobs.new ≡ jobs.old) × (clock.new ≡ clock.old) × (files.new ≡ files.old) }
     ensures memory { result.status ≡ 9 → asked_of words.now ≡ None → request_of words.now ≢ None }
     ensures source_count { result.status ≢ 4 → I.faults input.new ≡ I.faults input.old }
     ensures sink_count { result.status ≢ 5 → O.faults out.new ≡ O.faults out.old }

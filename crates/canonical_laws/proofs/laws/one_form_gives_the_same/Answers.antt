@@ -1,4 +1,5 @@
-use Rattle.canonical_laws.proofs.Meanings.{one_net, one_list_of_peers, one_count, one_free, one_run, one_limit, timed_together, one_text}
+use Rattle.canonical_laws.proofs.Meanings.{one_net, one_list_of_peers, one_count, one_free, one_run, one_limit}
+use Rattle.canonical_laws.proofs.Meanings.{timed_together, one_text}
 use Rattle.canonical_laws.proofs.laws.one_form_gives_the_same.Goals as goal
 
 pub returns-clause-net : goal.returns-clause-net

@@ -5,11 +5,11 @@ use Rattle.agent_core.specs.Steps.{IsTaken}
 use Rattle.agent_core.specs.declared.faults.Step.{Step}
 use Rattle.agent_core.specs.declared.faults.StepFault.{StepFault}
 use Rattle.node_inputs.specs.Inputs.{Follow}
-use Rattle.node_inputs.specs.Stepping.{IsStepped}
+use Rattle.node_inputs.specs.Stepping.{IsPassed, IsStepped}
 use Rattle.node_inputs.specs.Tellings.{told_by}
 use Rattle.node_inputs.proofs.Doing.{did_as, did_end, did_outside, did_then}
 use Rattle.node_inputs.proofs.Keepable.{kept_keepable, taken_keepable}
-use Rattle.node_inputs.proofs.Taking.{did_takes, did_telling, stepped_end}
+use Rattle.node_inputs.proofs.Taking.{did_takes, did_telling, passed_told, stepped_end}
 use Rattle.node_inputs.proofs.Within.{taken_within}
 use Rattle.node_inputs.proofs.inputs.take_or_tell.Goals as goal
 
@@ -20,6 +20,13 @@ returns-in_err-step-clause-does g c = λ clock files.
     (did_outside g.K.Keeper.spent c.args.keeper.now c.requires.ready
     (stepped_end Follow c.args.input.now c.args.agent.now c.step.new.agent c.in_err-step.field-0.0
     (told_by (g.L.Link.calls c.args.link.now) (g.J.Spawner.calls c.args.jobs.now) clock files) c.in_err-step.ensures))
+
+pub returns-in-Err-clause-does : goal.returns-in-Err-clause-does
+returns-in-Err-clause-does g c = λ clock files.
+    let passed : IsPassed c.args.agent.now c.args.input.now c.in-Err.fault c.step.new.agent = subst (λ (r : Result Step StepFault). IsStepped c.args.agent.now c.args.input.now (Ok r) c.step.new.agent) c.in-Err.is c.in_ok-step.ensures in
+    did_outside g.K.Keeper.spent c.args.keeper.now c.requires.ready
+    (passed_told c.args.input.now c.args.agent.now c.step.new.agent c.in-Err.fault
+    (told_by (g.L.Link.calls c.args.link.now) (g.J.Spawner.calls c.args.jobs.now) clock files) passed)
 
 pub keep_entry-requires-clause-keepable : goal.keep_entry-requires-clause-keepable
 keep_entry-requires-clause-keepable g c =

@@ -8,6 +8,10 @@ use Rattle.node_inputs.specs.Traces.{Event}
 use Rattle.node_inputs.proofs.Lasting.{at_most, nothing_lasts, kept_lasts, refused_lasts, kept_or_same}
 use Rattle.node_inputs.proofs.keeping.keep.Goals as goal
 
+pub returns-in-Err-clause-kept : goal.returns-in-Err-clause-kept
+returns-in-Err-clause-kept g c =
+    ([], inl (refl, refl), nothing_lasts g.K.Keeper.kept g.K.Keeper.size g.K.Keeper.faults g.K.Keeper.moment g.K.Keeper.may_leave g.K.Keeper.left_since g.K.Keeper.opens_since g.K.Keeper.spent [] refl c.args.keeper.now c.requires.ready)
+
 pub returns-in-Err-NoMemory-clause-kept : goal.returns-in-Err-NoMemory-clause-kept
 returns-in-Err-NoMemory-clause-kept g c =
     ([], inl (refl, refl), nothing_lasts g.K.Keeper.kept g.K.Keeper.size g.K.Keeper.faults g.K.Keeper.moment g.K.Keeper.may_leave g.K.Keeper.left_since g.K.Keeper.opens_since g.K.Keeper.spent [] refl c.args.keeper.now c.requires.ready)
@@ -26,6 +30,8 @@ returns-in-Ok-append-clause-kept g c =
       Event.Keeps e ∷ [],
       refl,
       kept_lasts g.K.Keeper.kept g.K.Keeper.size g.K.Keeper.faults g.K.Keeper.moment g.K.Keeper.may_leave g.K.Keeper.left_since g.K.Keeper.opens_since old new e
+          (record { fit = c.requires.fit; in_range = search rules })
+          c.requires.ready.rest
           (subst (λ (b : List ℕ). g.K.Keeper.kept new ≡ option_map (with_body b) (g.K.Keeper.kept old)) body c.in-Ok-append.ensures.kept)
           (omega (arith, grows, long))
           (omega (arith, room, long))
@@ -50,6 +56,9 @@ returns-in-Err-Full-clause-kept g c =
       Event.Refuses e (Limit File) ∷ [],
       inr (inr refl, refl),
       refused_lasts g.K.Keeper.kept g.K.Keeper.size g.K.Keeper.faults g.K.Keeper.moment g.K.Keeper.may_leave g.K.Keeper.left_since g.K.Keeper.opens_since old new e (Limit File)
+          (record { fit = c.requires.fit; in_range = search rules })
+          c.requires.ready.rest
+          (λ other. c.append.ensures.rest unspent)
           same
           same_size
           c.append.ensures.later
@@ -74,6 +83,9 @@ returns-in-Err-Disk-clause-kept g c =
       Event.Refuses e DiskFault ∷ [],
       inr (inl refl, refl),
       refused_lasts g.K.Keeper.kept g.K.Keeper.size g.K.Keeper.faults g.K.Keeper.moment g.K.Keeper.may_leave g.K.Keeper.left_since g.K.Keeper.opens_since old new e DiskFault
+          (record { fit = c.requires.fit; in_range = search rules })
+          c.requires.ready.rest
+          (λ other. absurd (other refl))
           same
           same_size
           c.append.ensures.later

@@ -4,8 +4,8 @@ use Rattle.lemmas.proofs.Options.{none_some}
 use Rattle.node_commands.specs.Forms.{AskOf, NodeFor, Request, request_of, service_in}
 use Rattle.input_commands.specs.Words.{asked_of, asks_record}
 use Rattle.tws_top.specs.Rows.{PassesLimit}
-use Rattle.tws_top.proofs.Completeness.{ask_alone, ask_done, node_done}
-use Rattle.tws_top.proofs.Disks.{disk_rose, no_answer_given, other_file_found}
+use Rattle.tws_top.proofs.Completeness.{ask_alone, ask_done, node_alone, node_done, node_ends}
+use Rattle.tws_top.proofs.Disks.{disk_rose, ends_at_limit, limit_met, no_answer_given, other_file_found}
 use Rattle.tws_top.proofs.Numbers.{came, row_1, row_10, row_11, row_12, row_2, row_3, row_4, row_5, row_6, row_7, row_8, row_silent, service_numbers}
 use Rattle.tws_top.proofs.Services.{exact_of, service_answer, service_due, text_answer}
 use Rattle.tws_top.proofs.Words.{five_among, has_request, no_input, no_request, not_of_texts, of_texts, services_among, texts_among}
@@ -94,6 +94,11 @@ returns-in-None-clause-ask_untouched g c = λ name command requests.
     let none : request_of c.args.words.now ≡ None = no_request c.args.words.now (sym c.asked_service.ensures ∙ c.in-None.is) in
     absurd (none_some (sym none ∙ requests))
 
+pub returns-in-None-clause-node_untouched : goal.returns-in-None-clause-node_untouched
+returns-in-None-clause-node_untouched g c = λ name turns requests early.
+    let none : request_of c.args.words.now ≡ None = no_request c.args.words.now (sym c.asked_service.ensures ∙ c.in-None.is) in
+    absurd (none_some (sym none ∙ requests))
+
 pub returns-in-None-clause-memory : goal.returns-in-None-clause-memory
 returns-in-None-clause-memory g c = λ e asked requests.
     c.answer_words-status.ensures.memory e asked
@@ -143,8 +148,10 @@ returns-in-Some-clause-complete_audit g c = λ source h told asked.
 
 pub returns-in-Some-clause-complete_node : goal.returns-in-Some-clause-complete_node
 returns-in-Some-clause-complete_node g c = λ source name turns me d told requests short are there calm_source calm_sink calm_disk.
-    node_done source name turns me d told short are there calm_source calm_sink
-    (λ s. calm_disk (disk_rose _ _ _ _ _ _ _ _ _ _ _ _ s)) (c.serve-status.ensures.service (NodeFor name turns) requests)
+    node_ends
+    (λ which s. ends_at_limit _ _ _ _ _ _ _ _ _ _ _ _ _ which s)
+    (node_done source name turns me d told short are there calm_source calm_sink
+    (λ s. calm_disk (disk_rose _ _ _ _ _ _ _ _ _ _ _ _ _ s)) (c.serve-status.ensures.service (NodeFor name turns) requests))
 
 pub returns-in-Some-clause-complete_ask : goal.returns-in-Some-clause-complete_ask
 returns-in-Some-clause-complete_ask g c = λ source name command me d told requests short are there calm_source calm_sink.
@@ -253,7 +260,7 @@ returns-in-Some-clause-disk_failed g c = λ e.
     let is : service_in c.args.words.now ≡ Some c.in-Some.service = sym c.asked_service.ensures ∙ c.in-Some.is in
     let r = has_request c.args.words.now c.in-Some.service is in
     let h = c.serve-status.ensures.service r.0 r.1 in
-    disk_rose _ _ _ _ _ _ _ _ _ r.0 _ _ (row_6 _ _ _ _ r.0 _ _ _ _ _ _ _ _ _ (came _ _ _ _ r.0 _ _ _ _ _ _ _ _ _ h (λ five. omega (arith, e, five))) e)
+    disk_rose _ _ _ _ _ _ _ _ _ _ r.0 _ _ (row_6 _ _ _ _ r.0 _ _ _ _ _ _ _ _ _ (came _ _ _ _ r.0 _ _ _ _ _ _ _ _ _ h (λ five. omega (arith, e, five))) e)
 
 pub returns-in-Some-clause-other_file : goal.returns-in-Some-clause-other_file
 returns-in-Some-clause-other_file g c = λ e.
@@ -261,7 +268,7 @@ returns-in-Some-clause-other_file g c = λ e.
     let r = has_request c.args.words.now c.in-Some.service is in
     let h = c.serve-status.ensures.service r.0 r.1 in
     let row = row_7 _ _ _ _ r.0 _ _ _ _ _ _ _ _ _ (came _ _ _ _ r.0 _ _ _ _ _ _ _ _ _ h (λ five. omega (arith, e, five))) e in
-    other_file_found _ _ _ _ _ _ _ _ _ r.0 _ _ c.args.words.now _ _ row.0 r.1 row.1 row.2
+    other_file_found _ _ _ _ _ _ _ _ _ _ r.0 _ _ c.args.words.now _ _ row.0 r.1 row.1 row.2
 
 pub returns-in-Some-clause-turns_spent : goal.returns-in-Some-clause-turns_spent
 returns-in-Some-clause-turns_spent g c = λ e.
@@ -283,7 +290,7 @@ returns-in-Some-clause-limit g c = λ e.
     let r = has_request c.args.words.now c.in-Some.service is in
     let h = c.serve-status.ensures.service r.0 r.1 in
     inr (⊎_elim (λ row. PassesLimit.of_input r.0 r.1 row.0 row.1)
-    (λ row. PassesLimit.of_run row.1.name row.1.turns row.0 (r.1 ∙ ap Some row.1.is) row.2)
+    (λ row. PassesLimit.of_run r.0 r.1 (record { which = row.0; served = row.1; met = limit_met _ _ _ _ _ _ _ _ _ _ r.0 _ _ row.0 row.1 }) row.2)
     (row_10 _ _ _ _ r.0 _ _ _ _ _ _ _ _ _ (came _ _ _ _ r.0 _ _ _ _ _ _ _ _ _ h (λ five. omega (arith, e, five))) e))
 
 pub returns-in-Some-clause-not_sound : goal.returns-in-Some-clause-not_sound
@@ -330,6 +337,11 @@ returns-in-Some-clause-outside_untouched g c = λ requests.
 pub returns-in-Some-clause-ask_untouched : goal.returns-in-Some-clause-ask_untouched
 returns-in-Some-clause-ask_untouched g c = λ name command requests.
     ask_alone name command (λ all. (all.0, all.2, all.3, all.4)) (c.serve-status.ensures.service (AskOf name command) requests)
+
+pub returns-in-Some-clause-node_untouched : goal.returns-in-Some-clause-node_untouched
+returns-in-Some-clause-node_untouched g c = λ name turns requests early.
+    node_alone _ name turns (λ all. (all.1, all.2, all.3, all.4)) (λ fault s. s.served.1)
+    (c.serve-status.ensures.service (NodeFor name turns) requests) early
 
 pub returns-in-Some-clause-memory : goal.returns-in-Some-clause-memory
 returns-in-Some-clause-memory g c = λ e asked requests.

@@ -16,6 +16,7 @@ Usage: trials/crashes.py [PROGRAM [WORKERS [few]]]. PROGRAM is named from the to
 import os
 import re
 import shutil
+import signal
 import subprocess
 import sys
 import tempfile
@@ -114,6 +115,22 @@ class Case:
                 self.said.append("does not shut down")
         return node.wait()
 
+    def has_no_links(self):
+        """Whether the node could not read its key: then it has no links, as it must, and nobody can ask it anything."""
+        try:
+            with open(f"{self.room}/MDM.log", encoding="utf-8") as file:
+                return " nokey " in file.read()
+        except FileNotFoundError:
+            return False
+
+    @staticmethod
+    def end_traced(tracer):
+        """Ends the node that this strace runs, which then ends by itself."""
+        with open(f"/proc/{tracer.pid}/task/{tracer.pid}/children", encoding="utf-8") as file:
+            for process in file.read().split():
+                os.kill(int(process), signal.SIGKILL)
+        tracer.wait()
+
     def plan(self):
         """Asks for a plan, where the node says that there is none: a second order would be a second plan."""
         jobs = self.jobs()
@@ -130,7 +147,9 @@ class Case:
         node = self.node("strace", "-qq", "-o", "/dev/null", "-e", f"trace={self.kind}", "-e", inject)
         planned, end = False, time.time() + 6
         while node.poll() is None and time.time() < end:
-            if not planned:
+            if self.has_no_links():
+                self.end_traced(node)
+            elif not planned:
                 planned = self.plan()
             elif self.are_done(self.jobs()):
                 break

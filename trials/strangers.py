@@ -5,11 +5,12 @@ With a key he tries: the old greeting, no greeting, a wrong key, a wrong number,
 repeated, a dropped, an exchanged and a cut record, his own bytes back, the answer of another node, slow greetings, and
 many connections. None of it may get a byte of the plan out or an entry in: each is closed, the log says why, the file
 of the node stays as it was, honest nodes and clients go on, and the node takes less than 100 megabytes. Who holds the
-key is let in. `tws ask` without the key, or with one that others may read, is not answered.
+key is let in. Then he stands at the port that a node calls, and says nothing, or answers by a cut, a wrong, an old or
+another node's answer: no proof and no byte of the plan comes. `tws ask` without the key, or with one that others may read, is not answered.
 
 Without a key it shows what the key is for: the same greeting brings the plan to the stranger.
 
-It prints what each try came to and ends with 0, or with 1 where one came to something else. It takes some 40 seconds;
+It prints what each try came to and ends with 0, or with 1 where one came to something else. It takes about a minute;
 the gate runs it. Usage: trials/strangers.py [PROGRAM [MANY]]. PROGRAM is named from the top folder on, as
 out/quick/tws. MANY is how many connections are made at the end, 10,000 without it.
 """
@@ -257,6 +258,72 @@ def under_a_key(program, count):
     return faults
 
 
+def answers(room, old):
+    """What one without the key answers to the greeting of a node, by its name."""
+
+    def of_another(greeting):
+        with room.call(room.agent) as other:
+            other.sendall(hello(MASTER, AGENT, greeting[8:]))
+            return taken(other, 68)
+
+    yield "no answer", lambda greeting: b""
+    yield "a cut answer", lambda greeting: old[:67]
+    yield "a wrong answer", lambda greeting: old[:4] + os.urandom(64)
+    yield "an answer by a wrong key", lambda greeting: answer_by(key_of(b"x" * 32), old, greeting)
+    yield "an old answer", lambda greeting: old
+    yield "the caller's own answer", of_another
+
+
+def answer_by(key, old, greeting):
+    return old[:36] + code(key, b"A", greeting + old[4:36])
+
+
+def called(listener, answer):
+    """The next call of a node, its greeting, and the connection behind this answer to it."""
+    stream, _ = listener.accept()
+    stream.settimeout(10)
+    greeting = taken(stream, 40)
+    stream.sendall(answer(greeting))
+    return stream, greeting
+
+
+def at_the_called_end(program):
+    """A stranger at the port of the master, whom an agent calls that has a plan."""
+    faults = []
+    with Room(program, SECRET) as room:
+        room.define()
+        room.start("MDM")
+        room.start("A1")
+        if room.until(lambda: " up ws=1 " in room.log("MDM"), 20) is None:
+            return ["no link came up under the key"]
+        room.ask("MDM", "jnextplan 12/01/2026")
+        if room.until(lambda: "SUCC" in room.ask("MDM", "showschedules")[1], 20) is None:
+            return ["the agent has no plan"]
+        with room.call() as stream:
+            stream.sendall(hello(AGENT, MASTER, b"n" * 32))
+            old = taken(stream, 68)
+        room.ask("MDM", "shutdown")
+        room.nodes[0].wait(20)
+        with socket.create_server(("127.0.0.1", room.master)) as listener:
+            listener.settimeout(20)
+            for name, answer in answers(room, old):
+                stream, greeting = called(listener, answer)
+                with stream:
+                    good = greeting[:8] == hello(AGENT, MASTER, b"") and is_closed(stream)
+                print(f"{name}: {'as it must be' if good else 'NOT SO'}", flush=True)
+                if not good:
+                    faults.append(name)
+            stream, greeting = called(listener, lambda greeting: answer_by(key_of(SECRET), old, greeting))
+            with stream:
+                if taken(stream, 32) != code(key_of(SECRET), b"P", greeting + old[4:36]):
+                    faults.append("a called end that holds the key has no proof")
+        told = {line.split(" why=")[1].split()[0] for line in room.log("A1").splitlines() if " unproved " in line}
+        print("the log of the caller tells of called ends without the key:", *sorted(told))
+        if not {"answer", "patience"} <= told:
+            faults.append("the log does not say why called ends were left")
+    return faults
+
+
 def without_a_key(program):
     """What the key is for."""
     with Room(program) as room:
@@ -275,7 +342,8 @@ def without_a_key(program):
 
 def main(words):
     program, rest = program_of(words)
-    faults = without_a_key(program) + under_a_key(program, int(rest[0]) if rest else 10_000)
+    faults = without_a_key(program) + at_the_called_end(program)
+    faults += under_a_key(program, int(rest[0]) if rest else 10_000)
     for fault in faults:
         print(fault, file=sys.stderr)
     return 1 if faults else 0

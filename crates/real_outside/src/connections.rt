@@ -266,13 +266,17 @@ impl<R: Net + Clock + Files<File = File> + RandomSource + Drop> Connections<R> {
         }
     }
 
-    /// Goes on with all that waits for the other ends.
+    /// Goes on with all that waits for the other ends. A client sends no beats: its workstation reads nothing behind the
+    /// question, and bytes that are not read when it closes cost the client the end of its reply.
     fn keep(&mut self) {
+        let beats = self.own != CLIENT;
         for line in self.lines.iter_mut() {
-            if let Some(key) = &self.key {
-                line.look_for_answer(self.alloc, key, self.now);
+            if let Some(key) = &self.key
+                && let Some(why) = line.look_for_answer(self.alloc, key, self.now)
+            {
+                tell_unproved(&self.commons, line.peer(), why);
             }
-            line.keep(self.now);
+            line.keep(beats, self.now);
         }
         for _ in 0..self.leaving.len() {
             if let Some(mut channel) = self.leaving.pop_front()
@@ -433,6 +437,24 @@ fn tell_arrival<R: Net + Clock + Files<File = File> + Drop>(
     }
 }
 
+/// Tells the log of a workstation that did not prove that it knows the key.
+fn tell_unproved<R: Files<File = File> + Clock + Drop>(
+    commons: &Commons<R>,
+    peer: &Peer,
+    why: &'static str,
+) {
+    commons.tell_rarely(
+        Topic::Unproved,
+        "unproved",
+        &[
+            ("ws", Value::Number(u64::from(peer.ws.0))),
+            ("host", Value::Text(peer.host.as_str())),
+            ("port", Value::Number(u64::from(peer.port))),
+            ("why", Value::Word(why)),
+        ],
+    );
+}
+
 /// Waits until the workstation that a client calls has proved that it knows the key.
 fn wait_for_answer<R: Net + Clock>(
     alloc: Global,
@@ -442,7 +464,9 @@ fn wait_for_answer<R: Net + Clock>(
     line: &mut Line<R::Stream>,
 ) -> io::Result<()> {
     for _ in 0..CLIENTS_ROUNDS {
-        line.look_for_answer(alloc, key, now);
+        if line.look_for_answer(alloc, key, now).is_some() {
+            break;
+        }
         if line.is_joined() {
             return Ok(());
         }

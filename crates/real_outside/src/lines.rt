@@ -208,31 +208,37 @@ impl<S: Read + Write + OpenStream + Drop> Line<S> {
     }
 
     /// Looks for the answer to a greeting under this key. One that does not prove that the other end knows the key ends the
-    /// call.
-    pub fn look_for_answer(&mut self, alloc: Global, key: &NetworkKey, now: Duration)
+    /// call, and so does none within five seconds. Then this tells why.
+    pub fn look_for_answer(
+        &mut self,
+        alloc: Global,
+        key: &NetworkKey,
+        now: Duration,
+    ) -> Option<&'static str>
         ensures { self.new.up ≡ self.old.up }
     {
-        let Some(mut greeted) = self.greeted.take() else {
-            return;
-        };
+        let mut greeted = self.greeted.take()?;
         let answer: [u8; ANSWER] = match take_piece(&mut greeted.stream) {
             Piece::Whole(answer) => answer,
             Piece::Waits => {
-                if now.saturating_sub(greeted.since) < Duration::from_secs(PATIENCE) {
-                    self.greeted = Some(greeted);
+                if now.saturating_sub(greeted.since) >= Duration::from_secs(PATIENCE) {
+                    return Some("patience");
                 }
-                return;
+                self.greeted = Some(greeted);
+                return None;
             }
-            Piece::Wrong => return,
+            Piece::Wrong => return Some("gone"),
         };
         let Some(talk) = key.answered(&greeted.hello, &answer) else {
-            return;
+            return Some("answer");
         };
         let mut stream = greeted.stream;
-        if write_at_once(&mut stream, &talk.proof()).is_ok() {
-            let channel = Channel::new(alloc, stream, Some(talk.callers()), now);
-            self.join(channel, "called");
+        if write_at_once(&mut stream, &talk.proof()).is_err() {
+            return Some("gone");
         }
+        let channel = Channel::new(alloc, stream, Some(talk.callers()), now);
+        self.join(channel, "called");
+        None
     }
 
     /// What comes next over the line. Where it is to be, a connection under a key over which nothing came for twenty seconds
@@ -273,14 +279,20 @@ impl<S: Read + Write + OpenStream + Drop> Line<S> {
         }
     }
 
-    /// Sends what waits. Where the other end is found gone the connection is closed.
-    pub fn keep(&mut self, now: Duration)
+    /// Sends what waits, and a beat where there are any and it is due. Where the other end is found gone the connection is
+    /// closed.
+    pub fn keep(&mut self, beats: bool, now: Duration)
         ensures { self.new.up ≡ self.old.up }
     {
         let Some(channel) = &mut self.channel else {
             return;
         };
-        if let Err(error) = channel.keep(now) {
+        let kept = if beats {
+            channel.keep(now)
+        } else {
+            channel.flush(now)
+        };
+        if let Err(error) = kept {
             self.end(why_lost(&error));
         }
     }

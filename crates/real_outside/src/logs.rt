@@ -36,6 +36,8 @@ pub fn cause_of(error: &io::Error) -> Field<'static> {
 pub enum Topic {
     /// Callers that were not let in.
     Refused,
+    /// Workstations that were called and did not prove that they know the key.
+    Unproved,
     /// Pieces that were not taken, since too much waits.
     Full,
     /// Files that could not be looked for.
@@ -83,6 +85,7 @@ pub struct Log<R> {
     /// The line that is being made.
     line: String,
     refused: Rare,
+    unproved: Rare,
     full: Rare,
     looked: Rare,
 }
@@ -103,6 +106,7 @@ impl<R: Files<File = File> + Clock + Drop> Log<R> {
             bytes: 0,
             line: String::new(alloc),
             refused: NEVER,
+            unproved: NEVER,
             full: NEVER,
             looked: NEVER,
         })
@@ -133,6 +137,7 @@ impl<R: Files<File = File> + Clock + Drop> Log<R> {
         };
         let rare = match topic {
             Topic::Refused => &mut self.refused,
+            Topic::Unproved => &mut self.unproved,
             Topic::Full => &mut self.full,
             Topic::Looked => &mut self.looked,
         };

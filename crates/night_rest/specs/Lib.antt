@@ -1,0 +1,2 @@
+-- What a night has done, and where it leads.
+pub mod Nights

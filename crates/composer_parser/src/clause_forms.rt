@@ -13,7 +13,7 @@ use crate::gathering::{Gathers, gather};
 use crate::lists::list;
 use crate::moments::{is_plus_next, plus, time};
 use crate::parts::{is_keyword, is_next, is_number_next, is_word_of, key, number, taken};
-use crate::stops::Stop;
+use crate::stops::{Stop, or_stop};
 use base_types::{Items, NoMemory, OnUntil, Text, Token};
 use std::alloc::Global;
 
@@ -22,8 +22,8 @@ fn plus_days<'a>(text: &str, rest: &'a [Token]) -> Result<(Option<u32>, &'a [Tok
     ensures { Gives (λ x. x.0) (λ x. x.1.now) text.now result (read spec.plus_days (all_spelled text.now rest.now)) }
 {
     if is_plus_next(text, rest) {
-        let (n, rest) = plus(text, rest)?;
-        let (_, rest) = key(text, rest, "DAYS")?;
+        let (n, rest) = or_stop!(plus(text, rest));
+        let (_, rest) = or_stop!(key(text, rest, "DAYS"));
         return Ok((Some(n), rest));
     }
     Ok((None, rest))
@@ -39,7 +39,7 @@ fn until_word<'a>(text: &str, rest: &'a [Token]) -> Result<(OnUntil, &'a [Token]
     if let Some((_, rest)) = taken(text, rest, "CONT") {
         return Ok((OnUntil::Cont, rest));
     }
-    let (_, rest) = key(text, rest, "CANC")?;
+    let (_, rest) = or_stop!(key(text, rest, "CANC"));
     Ok((OnUntil::Canc, rest))
 }
 
@@ -63,7 +63,7 @@ fn priority<'a>(text: &str, rest: &'a [Token]) -> Result<(u32, &'a [Token]), Sto
     if let Some((_, rest)) = taken(text, rest, "HI") {
         return Ok((100, rest));
     }
-    let (_, rest) = key(text, rest, "GO")?;
+    let (_, rest) = or_stop!(key(text, rest, "GO"));
     Ok((101, rest))
 }
 
@@ -71,9 +71,9 @@ fn priority<'a>(text: &str, rest: &'a [Token]) -> Result<(u32, &'a [Token]), Sto
 fn at_clause<'a>(text: &str, rest: &'a [Token]) -> Result<(Lined<Clause>, &'a [Token]), Stop>
     ensures { Gives (λ x. x.0) (λ x. x.1.now) text.now result (read spec.at_clause (all_spelled text.now rest.now)) }
 {
-    let (line, rest) = key(text, rest, "AT")?;
-    let (time, rest) = time(text, rest)?;
-    let (days, rest) = plus_days(text, rest)?;
+    let (line, rest) = or_stop!(key(text, rest, "AT"));
+    let (time, rest) = or_stop!(time(text, rest));
+    let (days, rest) = or_stop!(plus_days(text, rest));
     let item = Clause::At(time, days);
     Ok((Lined { line, item }, rest))
 }
@@ -82,10 +82,10 @@ fn at_clause<'a>(text: &str, rest: &'a [Token]) -> Result<(Lined<Clause>, &'a [T
 fn until_clause<'a>(text: &str, rest: &'a [Token]) -> Result<(Lined<Clause>, &'a [Token]), Stop>
     ensures { Gives (λ x. x.0) (λ x. x.1.now) text.now result (read spec.until_clause (all_spelled text.now rest.now)) }
 {
-    let (line, rest) = key(text, rest, "UNTIL")?;
-    let (time, rest) = time(text, rest)?;
-    let (days, rest) = plus_days(text, rest)?;
-    let (action, rest) = on_until(text, rest)?;
+    let (line, rest) = or_stop!(key(text, rest, "UNTIL"));
+    let (time, rest) = or_stop!(time(text, rest));
+    let (days, rest) = or_stop!(plus_days(text, rest));
+    let (action, rest) = or_stop!(on_until(text, rest));
     let item = Clause::Until(time, days, action);
     Ok((Lined { line, item }, rest))
 }
@@ -94,9 +94,9 @@ fn until_clause<'a>(text: &str, rest: &'a [Token]) -> Result<(Lined<Clause>, &'a
 fn deadline_clause<'a>(text: &str, rest: &'a [Token]) -> Result<(Lined<Clause>, &'a [Token]), Stop>
     ensures { Gives (λ x. x.0) (λ x. x.1.now) text.now result (read spec.deadline_clause (all_spelled text.now rest.now)) }
 {
-    let (line, rest) = key(text, rest, "DEADLINE")?;
-    let (time, rest) = time(text, rest)?;
-    let (days, rest) = plus_days(text, rest)?;
+    let (line, rest) = or_stop!(key(text, rest, "DEADLINE"));
+    let (time, rest) = or_stop!(time(text, rest));
+    let (days, rest) = or_stop!(plus_days(text, rest));
     let item = Clause::Deadline(time, days);
     Ok((Lined { line, item }, rest))
 }
@@ -105,8 +105,8 @@ fn deadline_clause<'a>(text: &str, rest: &'a [Token]) -> Result<(Lined<Clause>, 
 fn priority_clause<'a>(text: &str, rest: &'a [Token]) -> Result<(Lined<Clause>, &'a [Token]), Stop>
     ensures { Gives (λ x. x.0) (λ x. x.1.now) text.now result (read spec.priority_clause (all_spelled text.now rest.now)) }
 {
-    let (line, rest) = key(text, rest, "PRIORITY")?;
-    let (n, rest) = priority(text, rest)?;
+    let (line, rest) = or_stop!(key(text, rest, "PRIORITY"));
+    let (n, rest) = or_stop!(priority(text, rest));
     let item = Clause::Priority(n);
     Ok((Lined { line, item }, rest))
 }
@@ -115,8 +115,8 @@ fn priority_clause<'a>(text: &str, rest: &'a [Token]) -> Result<(Lined<Clause>, 
 fn limit_clause<'a>(text: &str, rest: &'a [Token]) -> Result<(Lined<Clause>, &'a [Token]), Stop>
     ensures { Gives (λ x. x.0) (λ x. x.1.now) text.now result (read spec.limit_clause (all_spelled text.now rest.now)) }
 {
-    let (line, rest) = key(text, rest, "LIMIT")?;
-    let (n, rest) = number(text, rest)?;
+    let (line, rest) = or_stop!(key(text, rest, "LIMIT"));
+    let (n, rest) = or_stop!(number(text, rest));
     let item = Clause::Limit(n);
     Ok((Lined { line, item }, rest))
 }
@@ -125,7 +125,7 @@ fn limit_clause<'a>(text: &str, rest: &'a [Token]) -> Result<(Lined<Clause>, &'a
 fn carry_clause<'a>(text: &str, rest: &'a [Token]) -> Result<(Lined<Clause>, &'a [Token]), Stop>
     ensures { Gives (λ x. x.0) (λ x. x.1.now) text.now result (read spec.carry_clause (all_spelled text.now rest.now)) }
 {
-    let (line, rest) = key(text, rest, "CARRYFORWARD")?;
+    let (line, rest) = or_stop!(key(text, rest, "CARRYFORWARD"));
     let item = Clause::CarryForward;
     Ok((Lined { line, item }, rest))
 }
@@ -138,8 +138,8 @@ fn follows_clause<'a>(
 ) -> Result<(Lined<Clause>, &'a [Token]), Stop>
     ensures { Gives (λ x. x.0) (λ x. x.1.now) text.now result (read spec.follows_clause (all_spelled text.now rest.now)) }
 {
-    let (line, rest) = key(text, rest, "FOLLOWS")?;
-    let (all, rest) = list::<Pred>(alloc, text, rest)?;
+    let (line, rest) = or_stop!(key(text, rest, "FOLLOWS"));
+    let (all, rest) = or_stop!(list::<Pred>(alloc, text, rest));
     let item = Clause::Follows(all);
     Ok((Lined { line, item }, rest))
 }
@@ -152,8 +152,8 @@ fn needs_clause<'a>(
 ) -> Result<(Lined<Clause>, &'a [Token]), Stop>
     ensures { Gives (λ x. x.0) (λ x. x.1.now) text.now result (read spec.needs_clause (all_spelled text.now rest.now)) }
 {
-    let (line, rest) = key(text, rest, "NEEDS")?;
-    let (all, rest) = list::<Need>(alloc, text, rest)?;
+    let (line, rest) = or_stop!(key(text, rest, "NEEDS"));
+    let (all, rest) = or_stop!(list::<Need>(alloc, text, rest));
     let item = Clause::Needs(all);
     Ok((Lined { line, item }, rest))
 }
@@ -166,8 +166,8 @@ fn prompt_clause<'a>(
 ) -> Result<(Lined<Clause>, &'a [Token]), Stop>
     ensures { Gives (λ x. x.0) (λ x. x.1.now) text.now result (read spec.prompt_clause (all_spelled text.now rest.now)) }
 {
-    let (line, rest) = key(text, rest, "PROMPT")?;
-    let (all, rest) = list::<PromptItem>(alloc, text, rest)?;
+    let (line, rest) = or_stop!(key(text, rest, "PROMPT"));
+    let (all, rest) = or_stop!(list::<PromptItem>(alloc, text, rest));
     let item = Clause::Prompt(all);
     Ok((Lined { line, item }, rest))
 }
@@ -180,8 +180,8 @@ fn opens_clause<'a>(
 ) -> Result<(Lined<Clause>, &'a [Token]), Stop>
     ensures { Gives (λ x. x.0) (λ x. x.1.now) text.now result (read spec.opens_clause (all_spelled text.now rest.now)) }
 {
-    let (line, rest) = key(text, rest, "OPENS")?;
-    let (all, rest) = list::<Text>(alloc, text, rest)?;
+    let (line, rest) = or_stop!(key(text, rest, "OPENS"));
+    let (all, rest) = or_stop!(list::<Text>(alloc, text, rest));
     let item = Clause::Opens(all);
     Ok((Lined { line, item }, rest))
 }

@@ -6,14 +6,15 @@ use crate::definitions::{
     CalendarDef, CpuDef, Defs, DomainDef, JobDef, Lined, ResourceDef, WorkDef,
 };
 use crate::schedules::{CycleDef, EntryDef, FreeDef, OnDef, OnItem, ScheduleDef};
+use crate::stops::or_stop;
 use base_types::{Copied, NoMemory};
 
 /// Copies of two values.
 fn copies<A: Copied + Drop, B: Copied>(first: &A, second: &B) -> Result<(A, B), NoMemory>
     ensures { IfOk result (λ both. (both.0 ≡ first.now) × (both.1 ≡ second.now)) }
 {
-    let first = first.copy()?;
-    let second = second.copy()?;
+    let first = or_stop!(first.copy());
+    let second = or_stop!(second.copy());
     Ok((first, second))
 }
 
@@ -21,15 +22,15 @@ impl<T: Copied> Copied for Lined<T> {
     fn copy(&self) -> Result<Lined<T>, NoMemory> {
         Ok(Lined {
             line: self.line,
-            item: self.item.copy()?,
+            item: or_stop!(self.item.copy()),
         })
     }
 }
 
 impl Copied for CpuDef {
     fn copy(&self) -> Result<CpuDef, NoMemory> {
-        let (name, os) = copies(&self.name, &self.os)?;
-        let (host, domain) = copies(&self.host, &self.domain)?;
+        let (name, os) = or_stop!(copies(&self.name, &self.os));
+        let (host, domain) = or_stop!(copies(&self.host, &self.domain));
         Ok(CpuDef {
             name,
             os,
@@ -45,43 +46,43 @@ impl Copied for CpuDef {
 
 impl Copied for DomainDef {
     fn copy(&self) -> Result<DomainDef, NoMemory> {
-        let (name, manager) = copies(&self.name, &self.manager)?;
+        let (name, manager) = or_stop!(copies(&self.name, &self.manager));
         Ok(DomainDef {
             name,
             manager,
-            parent: self.parent.copy()?,
+            parent: or_stop!(self.parent.copy()),
         })
     }
 }
 
 impl Copied for CalendarDef {
     fn copy(&self) -> Result<CalendarDef, NoMemory> {
-        let (name, text) = copies(&self.name, &self.text)?;
+        let (name, text) = or_stop!(copies(&self.name, &self.text));
         Ok(CalendarDef {
             name,
             text,
-            days: self.days.copy()?,
+            days: or_stop!(self.days.copy()),
         })
     }
 }
 
 impl Copied for ResourceDef {
     fn copy(&self) -> Result<ResourceDef, NoMemory> {
-        let (ws, name) = copies(&self.ws, &self.name)?;
+        let (ws, name) = or_stop!(copies(&self.ws, &self.name));
         Ok(ResourceDef {
             ws,
             name,
             total: self.total,
-            text: self.text.copy()?,
+            text: or_stop!(self.text.copy()),
         })
     }
 }
 
 impl Copied for WorkDef {
     fn copy(&self) -> Result<WorkDef, NoMemory> {
-        let (logon, cond) = copies(&self.logon, &self.cond)?;
+        let (logon, cond) = or_stop!(copies(&self.logon, &self.cond));
         Ok(WorkDef {
-            work: self.work.copy()?,
+            work: or_stop!(self.work.copy()),
             logon,
             cond,
             recovery: self.recovery,
@@ -91,11 +92,11 @@ impl Copied for WorkDef {
 
 impl Copied for JobDef {
     fn copy(&self) -> Result<JobDef, NoMemory> {
-        let (ws, name) = copies(&self.ws, &self.name)?;
+        let (ws, name) = or_stop!(copies(&self.ws, &self.name));
         Ok(JobDef {
             ws,
             name,
-            work: self.work.copy()?,
+            work: or_stop!(self.work.copy()),
         })
     }
 }
@@ -103,7 +104,7 @@ impl Copied for JobDef {
 impl Copied for FreeDef {
     fn copy(&self) -> Result<FreeDef, NoMemory> {
         Ok(FreeDef {
-            name: self.name.copy()?,
+            name: or_stop!(self.name.copy()),
             minus_sa: self.minus_sa,
             minus_su: self.minus_su,
         })
@@ -113,7 +114,7 @@ impl Copied for FreeDef {
 impl Copied for CycleDef {
     fn copy(&self) -> Result<CycleDef, NoMemory> {
         Ok(CycleDef {
-            name: self.name.copy()?,
+            name: or_stop!(self.name.copy()),
             first: self.first,
             last: self.last,
         })
@@ -124,8 +125,8 @@ impl Copied for OnDef {
     fn copy(&self) -> Result<OnDef, NoMemory> {
         Ok(OnDef {
             except: self.except,
-            cycle: self.cycle.copy()?,
-            items: self.items.copy()?,
+            cycle: or_stop!(self.cycle.copy()),
+            items: or_stop!(self.items.copy()),
             shift: self.shift,
         })
     }
@@ -133,11 +134,11 @@ impl Copied for OnDef {
 
 impl Copied for Pred {
     fn copy(&self) -> Result<Pred, NoMemory> {
-        let (ws, name) = copies(&self.ws, &self.name)?;
+        let (ws, name) = or_stop!(copies(&self.ws, &self.name));
         Ok(Pred {
             ws,
             name,
-            part: self.part.copy()?,
+            part: or_stop!(self.part.copy()),
         })
     }
 }
@@ -146,16 +147,16 @@ impl Copied for Need {
     fn copy(&self) -> Result<Need, NoMemory> {
         Ok(Need {
             units: self.units,
-            ws: self.ws.copy()?,
-            name: self.name.copy()?,
+            ws: or_stop!(self.ws.copy()),
+            name: or_stop!(self.name.copy()),
         })
     }
 }
 
 impl Copied for EntryDef {
     fn copy(&self) -> Result<EntryDef, NoMemory> {
-        let (ws, name) = copies(&self.ws, &self.name)?;
-        let (work, clauses) = copies(&self.work, &self.clauses)?;
+        let (ws, name) = or_stop!(copies(&self.ws, &self.name));
+        let (work, clauses) = or_stop!(copies(&self.work, &self.clauses));
         Ok(EntryDef {
             ws,
             name,
@@ -167,9 +168,9 @@ impl Copied for EntryDef {
 
 impl Copied for ScheduleDef {
     fn copy(&self) -> Result<ScheduleDef, NoMemory> {
-        let (ws, name) = copies(&self.ws, &self.name)?;
-        let (free, ons) = copies(&self.free, &self.ons)?;
-        let (clauses, entries) = copies(&self.clauses, &self.entries)?;
+        let (ws, name) = or_stop!(copies(&self.ws, &self.name));
+        let (free, ons) = or_stop!(copies(&self.free, &self.ons));
+        let (clauses, entries) = or_stop!(copies(&self.clauses, &self.entries));
         Ok(ScheduleDef {
             ws,
             name,
@@ -186,7 +187,7 @@ impl Copied for PredPart {
         match self {
             PredPart::Plain => Ok(PredPart::Plain),
             PredPart::All => Ok(PredPart::All),
-            PredPart::Job(name) => Ok(PredPart::Job(name.copy()?)),
+            PredPart::Job(name) => Ok(PredPart::Job(or_stop!(name.copy()))),
         }
     }
 }
@@ -194,8 +195,8 @@ impl Copied for PredPart {
 impl Copied for PromptItem {
     fn copy(&self) -> Result<PromptItem, NoMemory> {
         match self {
-            PromptItem::Name(name) => Ok(PromptItem::Name(name.copy()?)),
-            PromptItem::Own(text) => Ok(PromptItem::Own(text.copy()?)),
+            PromptItem::Name(name) => Ok(PromptItem::Name(or_stop!(name.copy()))),
+            PromptItem::Own(text) => Ok(PromptItem::Own(or_stop!(text.copy()))),
         }
     }
 }
@@ -210,8 +211,8 @@ impl Copied for OnItem {
             OnItem::FreeDays => Ok(OnItem::FreeDays),
             OnItem::Request => Ok(OnItem::Request),
             OnItem::Date(day) => Ok(OnItem::Date(*day)),
-            OnItem::Rule(rule) => Ok(OnItem::Rule(rule.copy()?)),
-            OnItem::Calendar(name, offset) => Ok(OnItem::Calendar(name.copy()?, *offset)),
+            OnItem::Rule(rule) => Ok(OnItem::Rule(or_stop!(rule.copy()))),
+            OnItem::Calendar(name, offset) => Ok(OnItem::Calendar(or_stop!(name.copy()), *offset)),
         }
     }
 }
@@ -225,10 +226,10 @@ impl Copied for Clause {
             Clause::Priority(n) => Ok(Clause::Priority(*n)),
             Clause::Limit(n) => Ok(Clause::Limit(*n)),
             Clause::CarryForward => Ok(Clause::CarryForward),
-            Clause::Follows(all) => Ok(Clause::Follows(all.copy()?)),
-            Clause::Needs(all) => Ok(Clause::Needs(all.copy()?)),
-            Clause::Prompt(all) => Ok(Clause::Prompt(all.copy()?)),
-            Clause::Opens(all) => Ok(Clause::Opens(all.copy()?)),
+            Clause::Follows(all) => Ok(Clause::Follows(or_stop!(all.copy()))),
+            Clause::Needs(all) => Ok(Clause::Needs(or_stop!(all.copy()))),
+            Clause::Prompt(all) => Ok(Clause::Prompt(or_stop!(all.copy()))),
+            Clause::Opens(all) => Ok(Clause::Opens(or_stop!(all.copy()))),
         }
     }
 }
@@ -263,8 +264,8 @@ impl Defs {
           schedules = [];
         }) }
     {
-        let zone = self.zone.copy()?;
-        let carry = self.carry.copy()?;
+        let zone = or_stop!(self.zone.copy());
+        let carry = or_stop!(self.carry.copy());
         Ok(Defs {
             last_line: self.last_line,
             start: copy_of_start(&self.start),
@@ -284,8 +285,8 @@ impl Defs {
     fn copy_first(&self, copy: &mut Defs) -> Result<(), NoMemory>
         ensures { OnOk result (copy.new ≡ record copy.old { cpus = self.now.cpus; domains = self.now.domains; calendars = self.now.calendars; prompts = self.now.prompts }) }
     {
-        let (cpus, domains) = copies(&self.cpus, &self.domains)?;
-        let (calendars, prompts) = copies(&self.calendars, &self.prompts)?;
+        let (cpus, domains) = or_stop!(copies(&self.cpus, &self.domains));
+        let (calendars, prompts) = or_stop!(copies(&self.calendars, &self.prompts));
         copy.cpus = cpus;
         copy.domains = domains;
         copy.calendars = calendars;
@@ -297,8 +298,8 @@ impl Defs {
     fn copy_last(&self, copy: &mut Defs) -> Result<(), NoMemory>
         ensures { OnOk result (copy.new ≡ record copy.old { resources = self.now.resources; jobs = self.now.jobs; schedules = self.now.schedules }) }
     {
-        let (resources, jobs) = copies(&self.resources, &self.jobs)?;
-        copy.schedules = self.schedules.copy()?;
+        let (resources, jobs) = or_stop!(copies(&self.resources, &self.jobs));
+        copy.schedules = or_stop!(self.schedules.copy());
         copy.resources = resources;
         copy.jobs = jobs;
         Ok(())
@@ -307,9 +308,9 @@ impl Defs {
 
 impl Copied for Defs {
     fn copy(&self) -> Result<Defs, NoMemory> {
-        let mut copy = self.copy_of_options()?;
-        self.copy_first(&mut copy)?;
-        self.copy_last(&mut copy)?;
+        let mut copy = or_stop!(self.copy_of_options());
+        or_stop!(self.copy_first(&mut copy));
+        or_stop!(self.copy_last(&mut copy));
         Ok(copy)
     }
 }

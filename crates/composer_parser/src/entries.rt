@@ -12,7 +12,7 @@ use crate::pieces::{Begins, Piece};
 use crate::places::{is_scoped_next, scoped};
 use crate::schedules::EntryDef;
 use crate::scopes::{own_of, ws_of};
-use crate::stops::Stop;
+use crate::stops::{Stop, or_no_memory, or_stop};
 use crate::works::work;
 use base_types::{Items, NoMemory, Token};
 use std::alloc::Global;
@@ -27,7 +27,7 @@ fn own_work<'a>(
     ensures { Gives (λ x. x.0) (λ x. x.1.now) text.now result (read spec.own_work (all_spelled text.now rest.now)) }
 {
     if is_next(text, rest, "SCRIPTNAME") || is_next(text, rest, "DOCOMMAND") {
-        let (found, rest) = work(alloc, text, rest)?;
+        let (found, rest) = or_stop!(work(alloc, text, rest));
         return Ok((Some(found), rest));
     }
     Ok((None, rest))
@@ -43,8 +43,8 @@ fn entry_of(
 ) -> Result<Lined<EntryDef>, NoMemory>
     ensures { IfOk result (λ e. e ≡ spec.entry_of (on_line line word.now) work clauses) }
 {
-    let name = own_of(alloc, word)?;
-    let ws = ws_of(alloc, word)?;
+    let name = or_stop!(own_of(alloc, word));
+    let ws = or_stop!(ws_of(alloc, word));
     let item = EntryDef {
         ws,
         name,
@@ -66,10 +66,13 @@ impl Piece for Lined<EntryDef> {
         text: &str,
         rest: &'a [Token],
     ) -> Result<(Lined<EntryDef>, &'a [Token]), Stop> {
-        let (word, line, rest) = scoped(text, rest)?;
-        let (work, rest) = own_work(alloc, text, rest)?;
-        let (clauses, rest) = clauses(alloc, text, rest, false)?;
-        Ok((entry_of(alloc, line, word, work, clauses)?, rest))
+        let (word, line, rest) = or_stop!(scoped(text, rest));
+        let (work, rest) = or_stop!(own_work(alloc, text, rest));
+        let (clauses, rest) = or_stop!(clauses(alloc, text, rest, false));
+        Ok((
+            or_no_memory!(entry_of(alloc, line, word, work, clauses)),
+            rest,
+        ))
     }
 }
 

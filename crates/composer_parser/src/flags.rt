@@ -7,7 +7,7 @@ ghost use Rattle.composer_parser.specs.Tokens.{all_spelled, Gives};
 
 use crate::gathering::{Gathers, gather};
 use crate::parts::{is_next, key, taken};
-use crate::stops::{Stop, Why};
+use crate::stops::{Stop, Why, or_stop};
 use base_types::{NoMemory, Token};
 use std::alloc::Global;
 
@@ -74,19 +74,19 @@ impl Gathers for CpuFlags {
         rest: &'a [Token],
     ) -> Result<(CpuFlag, &'a [Token]), Stop> {
         if let Some((_, rest)) = taken(text, rest, "AUTOLINK") {
-            let (on, rest) = on_or_off(text, rest)?;
+            let (on, rest) = or_stop!(on_or_off(text, rest));
             return Ok((CpuFlag::AutoLink(on), rest));
         }
         if let Some((_, rest)) = taken(text, rest, "BEHINDFIREWALL") {
-            let rest = firewall_off(text, rest)?;
+            let rest = or_stop!(firewall_off(text, rest));
             return Ok((CpuFlag::BehindFirewall, rest));
         }
         if let Some((_, rest)) = taken(text, rest, "RESOLVEDEP") {
-            let (_, rest) = on_or_off(text, rest)?;
+            let (_, rest) = or_stop!(on_or_off(text, rest));
             return Ok((CpuFlag::ResolveDep, rest));
         }
-        let (_, rest) = key(text, rest, "FULLSTATUS")?;
-        let (on, rest) = on_or_off(text, rest)?;
+        let (_, rest) = or_stop!(key(text, rest, "FULLSTATUS"));
+        let (on, rest) = or_stop!(on_or_off(text, rest));
         Ok((CpuFlag::FullStatus(on), rest))
     }
 
@@ -108,7 +108,7 @@ fn on_or_off<'a>(text: &str, rest: &'a [Token]) -> Result<(bool, &'a [Token]), S
     if let Some((_, rest)) = taken(text, rest, "ON") {
         return Ok((true, rest));
     }
-    let (_, rest) = key(text, rest, "OFF")?;
+    let (_, rest) = or_stop!(key(text, rest, "OFF"));
     Ok((false, rest))
 }
 

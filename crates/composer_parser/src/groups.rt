@@ -10,7 +10,7 @@ use crate::parts::{is_text_next, number, text_value};
 use crate::pieces::{Begins, Piece};
 use crate::places::{is_name_next, is_placed_next, placed, plain_name};
 use crate::scopes::{own_of, placed_ws};
-use crate::stops::Stop;
+use crate::stops::{Stop, or_no_memory, or_stop};
 use crate::works::work;
 use base_types::{Items, NoMemory, PromptDef, Text, Token};
 use std::alloc::Global;
@@ -24,7 +24,7 @@ fn text_or_none<'a>(
     ensures { Gives (λ x. x.0) (λ x. x.1.now) text.now result (read spec.a_text_or_none (all_spelled text.now rest.now)) }
 {
     if is_text_next(text, rest) {
-        let (found, rest) = text_value(alloc, text, rest)?;
+        let (found, rest) = or_stop!(text_value(alloc, text, rest));
         return Ok((Some(found), rest));
     }
     Ok((None, rest))
@@ -41,11 +41,11 @@ impl Piece for Lined<CalendarDef> {
         text: &str,
         rest: &'a [Token],
     ) -> Result<(Lined<CalendarDef>, &'a [Token]), Stop> {
-        let (word, line, rest) = plain_name(text, rest)?;
-        let (about, rest) = text_or_none(alloc, text, rest)?;
-        let (days, rest) = row::<u32>(alloc, text, rest)?;
+        let (word, line, rest) = or_stop!(plain_name(text, rest));
+        let (about, rest) = or_stop!(text_or_none(alloc, text, rest));
+        let (days, rest) = or_stop!(row::<u32>(alloc, text, rest));
         Ok((
-            calendar_of(alloc, line, word, about, days.into_items())?,
+            or_no_memory!(calendar_of(alloc, line, word, about, days.into_items())),
             rest,
         ))
     }
@@ -61,7 +61,7 @@ fn calendar_of(
 ) -> Result<Lined<CalendarDef>, NoMemory>
     ensures { IfOk result (λ c. c ≡ spec.calendar_of (on_line line word.now) text days) }
 {
-    let name = Text::of_upper(alloc, word)?;
+    let name = or_stop!(Text::of_upper(alloc, word));
     let item = CalendarDef { name, text, days };
     Ok(Lined { line, item })
 }
@@ -77,9 +77,9 @@ impl Piece for Lined<PromptDef> {
         text: &str,
         rest: &'a [Token],
     ) -> Result<(Lined<PromptDef>, &'a [Token]), Stop> {
-        let (word, line, rest) = plain_name(text, rest)?;
-        let (asked, rest) = text_value(alloc, text, rest)?;
-        let name = Text::of_upper(alloc, word)?;
+        let (word, line, rest) = or_stop!(plain_name(text, rest));
+        let (asked, rest) = or_stop!(text_value(alloc, text, rest));
+        let name = or_no_memory!(Text::of_upper(alloc, word));
         let item = PromptDef { name, text: asked };
         Ok((Lined { line, item }, rest))
     }
@@ -96,10 +96,13 @@ impl Piece for Lined<ResourceDef> {
         text: &str,
         rest: &'a [Token],
     ) -> Result<(Lined<ResourceDef>, &'a [Token]), Stop> {
-        let (word, line, rest) = placed(text, rest)?;
-        let (total, rest) = number(text, rest)?;
-        let (about, rest) = text_or_none(alloc, text, rest)?;
-        Ok((resource_of(alloc, line, word, total, about)?, rest))
+        let (word, line, rest) = or_stop!(placed(text, rest));
+        let (total, rest) = or_stop!(number(text, rest));
+        let (about, rest) = or_stop!(text_or_none(alloc, text, rest));
+        Ok((
+            or_no_memory!(resource_of(alloc, line, word, total, about)),
+            rest,
+        ))
     }
 }
 
@@ -113,8 +116,8 @@ fn resource_of(
 ) -> Result<Lined<ResourceDef>, NoMemory>
     ensures { IfOk result (λ r. r ≡ spec.resource_of (on_line line word.now) total text) }
 {
-    let ws = placed_ws(alloc, word)?;
-    let name = own_of(alloc, word)?;
+    let ws = or_stop!(placed_ws(alloc, word));
+    let name = or_stop!(own_of(alloc, word));
     let item = ResourceDef {
         ws,
         name,
@@ -135,9 +138,9 @@ impl Piece for Lined<JobDef> {
         text: &str,
         rest: &'a [Token],
     ) -> Result<(Lined<JobDef>, &'a [Token]), Stop> {
-        let (word, line, rest) = placed(text, rest)?;
-        let (work, rest) = work(alloc, text, rest)?;
-        Ok((job_of(alloc, line, word, work)?, rest))
+        let (word, line, rest) = or_stop!(placed(text, rest));
+        let (work, rest) = or_stop!(work(alloc, text, rest));
+        Ok((or_no_memory!(job_of(alloc, line, word, work)), rest))
     }
 }
 
@@ -145,8 +148,8 @@ impl Piece for Lined<JobDef> {
 fn job_of(alloc: Global, line: u32, word: &str, work: WorkDef) -> Result<Lined<JobDef>, NoMemory>
     ensures { IfOk result (λ j. j ≡ spec.job_of (on_line line word.now) work) }
 {
-    let ws = placed_ws(alloc, word)?;
-    let name = own_of(alloc, word)?;
+    let ws = or_stop!(placed_ws(alloc, word));
+    let name = or_stop!(own_of(alloc, word));
     let item = JobDef { ws, name, work };
     Ok(Lined { line, item })
 }

@@ -15,7 +15,7 @@ use crate::pieces::Piece;
 use crate::places::is_name_next;
 use crate::rules::{is_foreign_rule, is_rule};
 use crate::schedules::{Offset, OffsetUnit, OnItem};
-use crate::stops::{Stop, Why};
+use crate::stops::{Stop, Why, or_no_memory, or_stop};
 use base_types::{Text, Token, TokenKind};
 use std::alloc::Global;
 
@@ -32,7 +32,7 @@ fn offset_unit<'a>(text: &str, rest: &'a [Token]) -> Result<(OffsetUnit, &'a [To
     if let Some((_, rest)) = taken(text, rest, "WEEKDAYS") {
         return Ok((OffsetUnit::Weekdays, rest));
     }
-    let (_, rest) = key(text, rest, "WORKDAYS")?;
+    let (_, rest) = or_stop!(key(text, rest, "WORKDAYS"));
     Ok((OffsetUnit::Workdays, rest))
 }
 
@@ -41,8 +41,8 @@ fn offset<'a>(text: &str, rest: &'a [Token]) -> Result<(Option<Offset>, &'a [Tok
     ensures { Gives (λ x. x.0) (λ x. x.1.now) text.now result (read spec.offset (all_spelled text.now rest.now)) }
 {
     if is_offset_next(text, rest) {
-        let ((plus, n), rest) = signed(text, rest)?;
-        let (unit, rest) = offset_unit(text, rest)?;
+        let ((plus, n), rest) = or_stop!(signed(text, rest));
+        let (unit, rest) = or_stop!(offset_unit(text, rest));
         return Ok((Some(Offset { plus, n, unit }), rest));
     }
     Ok((None, rest))
@@ -57,9 +57,9 @@ fn calendar_item<'a>(
 ) -> Result<(OnItem, &'a [Token]), Stop>
     ensures { Gives (λ x. x.0) (λ x. x.1.now) text.now result (read spec.calendar_item (all_spelled text.now rest.now)) }
 {
-    let (word, rest) = name_word(text, rest)?;
-    let (offset, rest) = offset(text, rest)?;
-    let name = Text::of_upper(alloc, word)?;
+    let (word, rest) = or_stop!(name_word(text, rest));
+    let (offset, rest) = or_stop!(offset(text, rest));
+    let name = or_no_memory!(Text::of_upper(alloc, word));
     Ok((OnItem::Calendar(name, offset), rest))
 }
 
@@ -85,7 +85,7 @@ fn weekday<'a>(text: &str, rest: &'a [Token]) -> Result<(OnItem, &'a [Token]), S
     if let Some((_, rest)) = taken(text, rest, "SA") {
         return Ok((OnItem::Weekday(5), rest));
     }
-    let (_, rest) = key(text, rest, "SU")?;
+    let (_, rest) = or_stop!(key(text, rest, "SU"));
     Ok((OnItem::Weekday(6), rest))
 }
 
@@ -105,14 +105,14 @@ fn days<'a>(text: &str, rest: &'a [Token]) -> Result<(OnItem, &'a [Token]), Stop
     if let Some((_, rest)) = taken(text, rest, "FREEDAYS") {
         return Ok((OnItem::FreeDays, rest));
     }
-    let (_, rest) = key(text, rest, "REQUEST")?;
+    let (_, rest) = or_stop!(key(text, rest, "REQUEST"));
     Ok((OnItem::Request, rest))
 }
 
 fn date_item<'a>(text: &str, rest: &'a [Token]) -> Result<(OnItem, &'a [Token]), Stop>
     ensures { Gives (λ x. x.0) (λ x. x.1.now) text.now result (read (made Date ⊛ date) (all_spelled text.now rest.now)) }
 {
-    let (day, rest) = date_value(text, rest)?;
+    let (day, rest) = or_stop!(date_value(text, rest));
     Ok((OnItem::Date(day), rest))
 }
 
@@ -148,11 +148,11 @@ fn rule<'a>(alloc: Global, text: &str, rest: &'a [Token]) -> Result<(OnItem, &'a
     let TokenKind::Quoted = token.kind else {
         return Err(Stop::Here(Why::NotExpected, rest.len()));
     };
-    let value = quoted_value(alloc, text, token)?;
-    if is_rule(alloc, value.as_str())? {
+    let value = or_no_memory!(quoted_value(alloc, text, token));
+    if or_no_memory!(is_rule(alloc, value.as_str())) {
         return Ok((OnItem::Rule(value), behind));
     }
-    if is_foreign_rule(alloc, value.as_str())? {
+    if or_no_memory!(is_foreign_rule(alloc, value.as_str())) {
         return Err(Stop::Here(Why::IsLeftOut, rest.len()));
     }
     Err(Stop::Here(Why::NotExpected, rest.len()))

@@ -11,7 +11,7 @@ use crate::parts::{is_mark_next, is_number_next, mark, name, number, text_value}
 use crate::pieces::Piece;
 use crate::places::{is_name_next, scoped};
 use crate::scopes::{own_of, ws_of};
-use crate::stops::{Stop, Why};
+use crate::stops::{Stop, Why, or_no_memory, or_stop};
 use base_types::{Items, NoMemory, Text, Token};
 use std::alloc::Global;
 use std::marker::Model;
@@ -62,7 +62,7 @@ impl<T: Piece> Gathers for Commas<T> {
         text: &str,
         rest: &'a [Token],
     ) -> Result<(T, &'a [Token]), Stop> {
-        let rest = mark(text, rest, b',')?;
+        let rest = or_stop!(mark(text, rest, b','));
         T::read(alloc, text, rest)
     }
 
@@ -92,7 +92,7 @@ fn units<'a>(text: &str, rest: &'a [Token]) -> Result<(Option<u32>, &'a [Token])
     ensures { Gives (λ x. x.0) (λ x. x.1.now) text.now result (read spec.units (all_spelled text.now rest.now)) }
 {
     if is_number_next(text, rest) {
-        let (n, rest) = number(text, rest)?;
+        let (n, rest) = or_stop!(number(text, rest));
         return Ok((Some(n), rest));
     }
     Ok((None, rest))
@@ -106,9 +106,9 @@ impl Piece for Need {
 
     #[tactic(auto, unfolding(crate::specs::Clauses::need))]
     fn read<'a>(alloc: Global, text: &str, rest: &'a [Token]) -> Result<(Need, &'a [Token]), Stop> {
-        let (units, rest) = units(text, rest)?;
-        let (word, _, rest) = scoped(text, rest)?;
-        Ok((need_of(alloc, units, word)?, rest))
+        let (units, rest) = or_stop!(units(text, rest));
+        let (word, _, rest) = or_stop!(scoped(text, rest));
+        Ok((or_no_memory!(need_of(alloc, units, word)), rest))
     }
 }
 
@@ -116,8 +116,8 @@ impl Piece for Need {
 fn need_of(alloc: Global, units: Option<u32>, word: &str) -> Result<Need, NoMemory>
     ensures { IfOk result (λ n. n ≡ spec.need_of units word.now) }
 {
-    let name = own_of(alloc, word)?;
-    let ws = ws_of(alloc, word)?;
+    let name = or_stop!(own_of(alloc, word));
+    let ws = or_stop!(ws_of(alloc, word));
     Ok(Need { units, ws, name })
 }
 
@@ -134,10 +134,10 @@ impl Piece for PromptItem {
         rest: &'a [Token],
     ) -> Result<(PromptItem, &'a [Token]), Stop> {
         if is_name_next(text, rest) {
-            let (name, rest) = name(alloc, text, rest)?;
+            let (name, rest) = or_stop!(name(alloc, text, rest));
             return Ok((PromptItem::Name(name), rest));
         }
-        let (own, rest) = text_value(alloc, text, rest)?;
+        let (own, rest) = or_stop!(text_value(alloc, text, rest));
         Ok((PromptItem::Own(own), rest))
     }
 }
@@ -161,8 +161,8 @@ impl Piece for Text {
 
     #[tactic(auto, unfolding(crate::specs::Clauses::file))]
     fn read<'a>(alloc: Global, text: &str, rest: &'a [Token]) -> Result<(Text, &'a [Token]), Stop> {
-        let (path, rest) = text_value(alloc, text, rest)?;
-        let rest = no_qualifier(text, rest)?;
+        let (path, rest) = or_stop!(text_value(alloc, text, rest));
+        let rest = or_stop!(no_qualifier(text, rest));
         Ok((path, rest))
     }
 }

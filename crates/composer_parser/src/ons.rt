@@ -14,7 +14,7 @@ use crate::moments::date_value;
 use crate::parts::{description, is_mark_next, is_next, key, name_word, taken};
 use crate::pieces::{Begins, Piece};
 use crate::schedules::{CycleDef, OnDef, OnItem, Shift};
-use crate::stops::{Stop, Why};
+use crate::stops::{Stop, Why, or_no_memory, or_stop};
 use base_types::{Text, Token};
 use std::alloc::Global;
 
@@ -23,7 +23,7 @@ fn valid_from<'a>(text: &str, rest: &'a [Token]) -> Result<(Option<u32>, &'a [To
     ensures { Gives (λ x. x.0) (λ x. x.1.now) text.now result (read spec.valid_from (all_spelled text.now rest.now)) }
 {
     if let Some((_, rest)) = taken(text, rest, "VALIDFROM") {
-        let (day, rest) = date_value(text, rest)?;
+        let (day, rest) = or_stop!(date_value(text, rest));
         return Ok((Some(day), rest));
     }
     Ok((None, rest))
@@ -34,7 +34,7 @@ fn valid_to<'a>(text: &str, rest: &'a [Token]) -> Result<(Option<u32>, &'a [Toke
     ensures { Gives (λ x. x.0) (λ x. x.1.now) text.now result (read spec.valid_to (all_spelled text.now rest.now)) }
 {
     if let Some((_, rest)) = taken(text, rest, "VALIDTO") {
-        let (day, rest) = date_value(text, rest)?;
+        let (day, rest) = or_stop!(date_value(text, rest));
         return Ok((Some(day), rest));
     }
     Ok((None, rest))
@@ -52,11 +52,11 @@ fn cycle<'a>(
     let Some((_, rest)) = taken(text, rest, "RUNCYCLE") else {
         return Ok((None, rest));
     };
-    let (word, rest) = name_word(text, rest)?;
-    let (first, rest) = valid_from(text, rest)?;
-    let (last, rest) = valid_to(text, rest)?;
-    let rest = description(text, rest)?;
-    let name = Text::of_upper(alloc, word)?;
+    let (word, rest) = or_stop!(name_word(text, rest));
+    let (first, rest) = or_stop!(valid_from(text, rest));
+    let (last, rest) = or_stop!(valid_to(text, rest));
+    let rest = or_stop!(description(text, rest));
+    let name = or_no_memory!(Text::of_upper(alloc, word));
     Ok((Some(CycleDef { name, first, last }), rest))
 }
 
@@ -95,7 +95,7 @@ fn on_key<'a>(text: &str, rest: &'a [Token]) -> Result<((bool, u32), &'a [Token]
     if let Some((line, rest)) = taken(text, rest, "ON") {
         return Ok(((false, line), rest));
     }
-    let (line, rest) = key(text, rest, "EXCEPT")?;
+    let (line, rest) = or_stop!(key(text, rest, "EXCEPT"));
     Ok(((true, line), rest))
 }
 
@@ -109,9 +109,9 @@ fn on_items<'a>(
     ensures { Gives {C = Option ShiftOf → LinedOf OnOf} (λ x shift. lined x.0.line (record x.0.item { shift = shift })) (λ x. x.1.now) text.now result
         (read (made (λ k cycle items shift. spec.on_of k.0 k.1 cycle items shift) ⊛ spec.on_key ⊛ spec.cycle ⊛ spec.items) (all_spelled text.now rest.now)) }
 {
-    let ((except, line), rest) = on_key(text, rest)?;
-    let (cycle, rest) = cycle(alloc, text, rest)?;
-    let (items, rest) = list::<OnItem>(alloc, text, rest)?;
+    let ((except, line), rest) = or_stop!(on_key(text, rest));
+    let (cycle, rest) = or_stop!(cycle(alloc, text, rest));
+    let (items, rest) = or_stop!(list::<OnItem>(alloc, text, rest));
     let item = OnDef {
         except,
         cycle,
@@ -133,9 +133,9 @@ impl Piece for Lined<OnDef> {
         text: &str,
         rest: &'a [Token],
     ) -> Result<(Lined<OnDef>, &'a [Token]), Stop> {
-        let (mut found, rest) = on_items(alloc, text, rest)?;
-        let (shift, rest) = shift(text, rest)?;
-        let rest = no_times(text, rest)?;
+        let (mut found, rest) = or_stop!(on_items(alloc, text, rest));
+        let (shift, rest) = or_stop!(shift(text, rest));
+        let rest = or_stop!(no_times(text, rest));
         found.item.shift = shift;
         Ok((found, rest))
     }

@@ -7,7 +7,7 @@ ghost use Rattle.composer_parser.specs.Tokens.{all_spelled, Gives};
 use crate::definitions::Lined;
 use crate::moments::time;
 use crate::parts::{key, taken, text_value};
-use crate::stops::Stop;
+use crate::stops::{Stop, or_stop};
 use base_types::{Carry, Text, Token};
 use std::alloc::Global;
 
@@ -27,7 +27,7 @@ fn start_of_day<'a>(
     ensures { Gives (λ x. x.0) (λ x. x.1.now) text.now result (read spec.start_of_day (all_spelled text.now rest.now)) }
 {
     if let Some((line, rest)) = taken(text, rest, "STARTOFDAY") {
-        let (item, rest) = time(text, rest)?;
+        let (item, rest) = or_stop!(time(text, rest));
         return Ok((Some(Lined { line, item }), rest));
     }
     Ok((None, rest))
@@ -42,7 +42,7 @@ fn time_zone<'a>(
     ensures { Gives (λ x. x.0) (λ x. x.1.now) text.now result (read spec.time_zone (all_spelled text.now rest.now)) }
 {
     if let Some((line, rest)) = taken(text, rest, "TIMEZONE") {
-        let (item, rest) = text_value(alloc, text, rest)?;
+        let (item, rest) = or_stop!(text_value(alloc, text, rest));
         return Ok((Some(Lined { line, item }), rest));
     }
     Ok((None, rest))
@@ -58,7 +58,7 @@ fn carry_word<'a>(text: &str, rest: &'a [Token]) -> Result<(Carry, &'a [Token]),
     if let Some((_, rest)) = taken(text, rest, "NO") {
         return Ok((Carry::No, rest));
     }
-    let (_, rest) = key(text, rest, "ALL")?;
+    let (_, rest) = or_stop!(key(text, rest, "ALL"));
     Ok((Carry::All, rest))
 }
 
@@ -70,7 +70,7 @@ fn carry_forward<'a>(
     ensures { Gives (λ x. x.0) (λ x. x.1.now) text.now result (read spec.carry_forward (all_spelled text.now rest.now)) }
 {
     if let Some((line, rest)) = taken(text, rest, "ENCARRYFORWARD") {
-        let (item, rest) = carry_word(text, rest)?;
+        let (item, rest) = or_stop!(carry_word(text, rest));
         return Ok((Some(Lined { line, item }), rest));
     }
     Ok((None, rest))
@@ -93,8 +93,8 @@ pub(crate) fn read_options<'a>(
         };
         return Ok((none, rest));
     };
-    let (start, rest) = start_of_day(text, rest)?;
-    let (zone, rest) = time_zone(alloc, text, rest)?;
-    let (carry, rest) = carry_forward(text, rest)?;
+    let (start, rest) = or_stop!(start_of_day(text, rest));
+    let (zone, rest) = or_stop!(time_zone(alloc, text, rest));
+    let (carry, rest) = or_stop!(carry_forward(text, rest));
     Ok((Options { start, zone, carry }, rest))
 }

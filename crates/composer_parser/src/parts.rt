@@ -16,7 +16,7 @@ ghost use Rattle.composer_parser.specs.Parts.{key, skipped_text, skipped_word};
 ghost use Rattle.composer_parser.specs.Tokens.{all_spelled, Gives};
 
 use crate::spells::piece;
-use crate::stops::{Stop, Why};
+use crate::stops::{Stop, Why, or_no_memory, or_stop};
 use crate::words::is_free_name;
 use base_types::{NoMemory, Text, Token, TokenKind};
 use std::alloc::Global;
@@ -135,8 +135,8 @@ pub(crate) fn name<'a>(
 ) -> Result<(Text, &'a [Token]), Stop>
     ensures { Gives (λ x. x.0) (λ x. x.1.now) text.now result (read spec.name (all_spelled text.now rest.now)) }
 {
-    let (word, rest) = name_word(text, rest)?;
-    Ok((Text::of_upper(alloc, word)?, rest))
+    let (word, rest) = or_stop!(name_word(text, rest));
+    Ok((or_no_memory!(Text::of_upper(alloc, word)), rest))
 }
 
 /// A text in quotes, which is dropped.
@@ -238,7 +238,7 @@ pub(crate) fn text_value<'a>(
     let TokenKind::Quoted = token.kind else {
         return Err(Stop::Here(Why::NotExpected, rest.len()));
     };
-    Ok((quoted_value(alloc, text, token)?, behind))
+    Ok((or_no_memory!(quoted_value(alloc, text, token)), behind))
 }
 
 /// A word or a text as it is written.
@@ -253,8 +253,8 @@ pub(crate) fn value<'a>(
         return Err(Stop::Here(Why::NotExpected, 0));
     };
     match token.kind {
-        TokenKind::Word => Ok((Text::of(alloc, piece(text, token))?, behind)),
-        TokenKind::Quoted => Ok((quoted_value(alloc, text, token)?, behind)),
+        TokenKind::Word => Ok((or_no_memory!(Text::of(alloc, piece(text, token))), behind)),
+        TokenKind::Quoted => Ok((or_no_memory!(quoted_value(alloc, text, token)), behind)),
         TokenKind::Mark => Err(Stop::Here(Why::NotExpected, rest.len())),
     }
 }

@@ -12,7 +12,7 @@ use crate::clauses::Pred;
 use crate::pieces::Piece;
 use crate::scopes::{is_placed, is_pred, is_scoped, pred_of};
 use crate::spells::piece;
-use crate::stops::{Stop, Why};
+use crate::stops::{Stop, Why, or_no_memory};
 use crate::words::is_free_name;
 use base_types::{Token, TokenKind};
 use std::alloc::Global;
@@ -133,6 +133,6 @@ impl Piece for Pred {
         if !is_pred(word) {
             return Err(Stop::Here(Why::NotExpected, rest.len()));
         }
-        Ok((pred_of(alloc, word)?, behind))
+        Ok((or_no_memory!(pred_of(alloc, word)), behind))
     }
 }

@@ -6,6 +6,7 @@ ghost use Rattle.composer_parser.specs.Words.{holds, before, behind};
 ghost use Rattle.composer_parser.specs.Rules as spec;
 
 use crate::parts::is_number;
+use crate::stops::or_stop;
 use crate::words::is_one_of;
 use base_types::NoMemory;
 use std::alloc::Global;
@@ -15,7 +16,7 @@ use std::alloc::Global;
 pub(crate) fn is_rule(alloc: Global, value: &str) -> Result<bool, NoMemory>
     ensures { IfOk result (λ b. b ≡ spec.is_rule value.now) }
 {
-    let parts = parts(alloc, value)?;
+    let parts = or_stop!(parts(alloc, value));
     let parts = parts.as_slice();
     Ok(are_like_rule(parts) && are_known(parts) && are_formed(parts))
 }
@@ -25,7 +26,7 @@ pub(crate) fn is_rule(alloc: Global, value: &str) -> Result<bool, NoMemory>
 pub(crate) fn is_foreign_rule(alloc: Global, value: &str) -> Result<bool, NoMemory>
     ensures { IfOk result (λ b. b ≡ spec.is_foreign_rule value.now) }
 {
-    let parts = parts(alloc, value)?;
+    let parts = or_stop!(parts(alloc, value));
     let parts = parts.as_slice();
     Ok(are_like_rule(parts) && !are_known(parts))
 }

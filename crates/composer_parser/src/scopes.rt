@@ -5,6 +5,7 @@ ghost use Rattle.composer_parser.specs.Parts as spec;
 ghost use Rattle.composer_parser.specs.Words.{holds, before, behind};
 
 use crate::clauses::{Pred, PredPart};
+use crate::stops::or_stop;
 use crate::words::is_free_name;
 use base_types::{NoMemory, Text};
 use std::alloc::Global;
@@ -64,7 +65,7 @@ pub(crate) fn ws_of(alloc: Global, word: &str) -> Result<Option<Text>, NoMemory>
     ensures { IfOk result (λ o. o ≡ spec.ws_of word.now) }
 {
     match at_hash(word) {
-        Some((ws, _)) => Ok(Some(Text::of_upper(alloc, ws)?)),
+        Some((ws, _)) => Ok(Some(or_stop!(Text::of_upper(alloc, ws)))),
         None => Ok(None),
     }
 }
@@ -98,7 +99,7 @@ pub(crate) fn pred_of(alloc: Global, word: &str) -> Result<Pred, NoMemory>
     let Some((stream, part)) = at_dot(word) else {
         return in_stream(alloc, word, PredPart::Plain);
     };
-    let part = part_of(alloc, part)?;
+    let part = or_stop!(part_of(alloc, part));
     in_stream(alloc, stream, part)
 }
 
@@ -106,8 +107,8 @@ pub(crate) fn pred_of(alloc: Global, word: &str) -> Result<Pred, NoMemory>
 fn in_stream(alloc: Global, word: &str, part: PredPart) -> Result<Pred, NoMemory>
     ensures { IfOk result (λ p. p ≡ record { ws = spec.ws_of word.now; name = spec.own_of word.now; part = part }) }
 {
-    let name = own_of(alloc, word)?;
-    let ws = ws_of(alloc, word)?;
+    let name = or_stop!(own_of(alloc, word));
+    let ws = or_stop!(ws_of(alloc, word));
     Ok(Pred { ws, name, part })
 }
 
@@ -116,6 +117,6 @@ fn part_of(alloc: Global, part: &str) -> Result<PredPart, NoMemory>
 {
     match part.as_bytes() {
         [b'@', ..] => Ok(PredPart::All),
-        _ => Ok(PredPart::Job(Text::of_upper(alloc, part)?)),
+        _ => Ok(PredPart::Job(or_stop!(Text::of_upper(alloc, part)))),
     }
 }

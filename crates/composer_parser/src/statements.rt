@@ -15,7 +15,7 @@ use crate::options::{Options, read_options};
 use crate::parts::{is_next, key};
 use crate::schedules::ScheduleDef;
 use crate::stations::{cpu, domain};
-use crate::stops::Stop;
+use crate::stops::{Stop, or_stop};
 use crate::streams::schedule;
 use base_types::{Items, NoMemory, PromptDef, Token};
 use std::alloc::Global;
@@ -40,7 +40,7 @@ fn cpu_statement<'a>(
 ) -> Result<(Statement, &'a [Token]), Stop>
     ensures { Gives (λ x. x.0) (λ x. x.1.now) text.now result (read spec.cpu_statement (all_spelled text.now rest.now)) }
 {
-    let (found, rest) = cpu(alloc, text, rest)?;
+    let (found, rest) = or_stop!(cpu(alloc, text, rest));
     Ok((Statement::Cpu(found), rest))
 }
 
@@ -52,7 +52,7 @@ fn domain_statement<'a>(
 ) -> Result<(Statement, &'a [Token]), Stop>
     ensures { Gives (λ x. x.0) (λ x. x.1.now) text.now result (read spec.domain_statement (all_spelled text.now rest.now)) }
 {
-    let (found, rest) = domain(alloc, text, rest)?;
+    let (found, rest) = or_stop!(domain(alloc, text, rest));
     Ok((Statement::Domain(found), rest))
 }
 
@@ -64,8 +64,8 @@ fn calendar_group<'a>(
 ) -> Result<(Statement, &'a [Token]), Stop>
     ensures { Gives (λ x. x.0) (λ x. x.1.now) text.now result (read spec.calendar_group (all_spelled text.now rest.now)) }
 {
-    let (_, rest) = key(text, rest, "$CALENDAR")?;
-    let (all, rest) = row::<Lined<CalendarDef>>(alloc, text, rest)?;
+    let (_, rest) = or_stop!(key(text, rest, "$CALENDAR"));
+    let (all, rest) = or_stop!(row::<Lined<CalendarDef>>(alloc, text, rest));
     Ok((Statement::Calendars(all), rest))
 }
 
@@ -77,8 +77,8 @@ fn prompt_group<'a>(
 ) -> Result<(Statement, &'a [Token]), Stop>
     ensures { Gives (λ x. x.0) (λ x. x.1.now) text.now result (read spec.prompt_group (all_spelled text.now rest.now)) }
 {
-    let (_, rest) = key(text, rest, "$PROMPT")?;
-    let (all, rest) = row::<Lined<PromptDef>>(alloc, text, rest)?;
+    let (_, rest) = or_stop!(key(text, rest, "$PROMPT"));
+    let (all, rest) = or_stop!(row::<Lined<PromptDef>>(alloc, text, rest));
     Ok((Statement::Prompts(all), rest))
 }
 
@@ -90,8 +90,8 @@ fn resource_group<'a>(
 ) -> Result<(Statement, &'a [Token]), Stop>
     ensures { Gives (λ x. x.0) (λ x. x.1.now) text.now result (read spec.resource_group (all_spelled text.now rest.now)) }
 {
-    let (_, rest) = key(text, rest, "$RESOURCE")?;
-    let (all, rest) = row::<Lined<ResourceDef>>(alloc, text, rest)?;
+    let (_, rest) = or_stop!(key(text, rest, "$RESOURCE"));
+    let (all, rest) = or_stop!(row::<Lined<ResourceDef>>(alloc, text, rest));
     Ok((Statement::Resources(all), rest))
 }
 
@@ -103,8 +103,8 @@ fn job_group<'a>(
 ) -> Result<(Statement, &'a [Token]), Stop>
     ensures { Gives (λ x. x.0) (λ x. x.1.now) text.now result (read spec.job_group (all_spelled text.now rest.now)) }
 {
-    let (_, rest) = key(text, rest, "$JOBS")?;
-    let (all, rest) = row::<Lined<JobDef>>(alloc, text, rest)?;
+    let (_, rest) = or_stop!(key(text, rest, "$JOBS"));
+    let (all, rest) = or_stop!(row::<Lined<JobDef>>(alloc, text, rest));
     Ok((Statement::Jobs(all), rest))
 }
 
@@ -116,7 +116,7 @@ fn schedule_statement<'a>(
 ) -> Result<(Statement, &'a [Token]), Stop>
     ensures { Gives (λ x. x.0) (λ x. x.1.now) text.now result (read spec.schedule_statement (all_spelled text.now rest.now)) }
 {
-    let (found, rest) = schedule(alloc, text, rest)?;
+    let (found, rest) = or_stop!(schedule(alloc, text, rest));
     Ok((Statement::Schedule(found), rest))
 }
 
@@ -239,8 +239,8 @@ pub(crate) fn definitions<'a>(
 ) -> Result<(Defs, &'a [Token]), Stop>
     ensures { Gives (λ x. x.0) (λ x. x.1.now) text.now result (read (spec.defs last_line) (all_spelled text.now rest.now)) }
 {
-    let (options, rest) = read_options(alloc, text, rest)?;
-    let (mut defs, rest) = statements(alloc, text, rest, last_line)?;
+    let (options, rest) = or_stop!(read_options(alloc, text, rest));
+    let (mut defs, rest) = or_stop!(statements(alloc, text, rest, last_line));
     defs.set_options(options);
     Ok((defs, rest))
 }

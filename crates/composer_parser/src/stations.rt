@@ -13,7 +13,7 @@ use crate::flags::flags;
 use crate::parts::{
     description, is_any_word, key, name, name_word, number, taken, upper_word, value,
 };
-use crate::stops::{Stop, Why};
+use crate::stops::{Stop, Why, or_no_memory, or_stop};
 use base_types::{NoMemory, Text, Token};
 use std::alloc::Global;
 
@@ -38,7 +38,7 @@ fn port<'a>(text: &str, rest: &'a [Token]) -> Result<(Option<u32>, &'a [Token]),
     ensures { Gives (λ x. x.0) (λ x. x.1.now) text.now result (read spec.port (all_spelled text.now rest.now)) }
 {
     if let Some((_, rest)) = taken(text, rest, "TCPADDR") {
-        let (port, rest) = number(text, rest)?;
+        let (port, rest) = or_stop!(number(text, rest));
         return Ok((Some(port), rest));
     }
     Ok((None, rest))
@@ -64,9 +64,9 @@ fn machine_os<'t, 'a>(text: &'t str, rest: &'a [Token]) -> Result<(&'t str, &'a 
     ensures { Gives {C = List ℕ → Option ℕ → MachineOf} (λ x host tcp. record { os = upper x.0.now; host = host; port = tcp }) (λ x. x.1.now) text.now result
         (read (made (λ x os y host tcp. record { os = os; host = host; port = tcp }) ⊛ key (codes "OS") ⊛ upper_word ⊛ key (codes "NODE")) (all_spelled text.now rest.now)) }
 {
-    let (_, rest) = key(text, rest, "OS")?;
-    let (word, rest) = upper_word(text, rest)?;
-    let (_, rest) = key(text, rest, "NODE")?;
+    let (_, rest) = or_stop!(key(text, rest, "OS"));
+    let (word, rest) = or_stop!(upper_word(text, rest));
+    let (_, rest) = or_stop!(key(text, rest, "NODE"));
     Ok((word, rest))
 }
 
@@ -78,10 +78,10 @@ fn cpu_machine<'a>(
 ) -> Result<(Machine, &'a [Token]), Stop>
     ensures { Gives (λ x. x.0) (λ x. x.1.now) text.now result (read spec.machine (all_spelled text.now rest.now)) }
 {
-    let (word, rest) = machine_os(text, rest)?;
-    let (host, rest) = value(alloc, text, rest)?;
-    let (port, rest) = port(text, rest)?;
-    let os = Text::of_upper(alloc, word)?;
+    let (word, rest) = or_stop!(machine_os(text, rest));
+    let (host, rest) = or_stop!(value(alloc, text, rest));
+    let (port, rest) = or_stop!(port(text, rest));
+    let os = or_no_memory!(Text::of_upper(alloc, word));
     Ok((Machine { os, host, port }, rest))
 }
 
@@ -90,9 +90,9 @@ fn place_domain<'t, 'a>(text: &'t str, rest: &'a [Token]) -> Result<(&'t str, &'
     ensures { Gives {C = ℕ → ℕ → Bool → PlaceOf} (λ x y z manager. record { domain = upper x.0.now; manager = manager }) (λ x. x.1.now) text.now result
         (read (made (λ x own u y z manager. record { domain = own; manager = manager }) ⊛ key (codes "DOMAIN") ⊛ name ⊛ key (codes "FOR")) (all_spelled text.now rest.now)) }
 {
-    let (_, rest) = key(text, rest, "DOMAIN")?;
-    let (word, rest) = name_word(text, rest)?;
-    let (_, rest) = key(text, rest, "FOR")?;
+    let (_, rest) = or_stop!(key(text, rest, "DOMAIN"));
+    let (word, rest) = or_stop!(name_word(text, rest));
+    let (_, rest) = or_stop!(key(text, rest, "FOR"));
     Ok((word, rest))
 }
 
@@ -100,11 +100,11 @@ fn place_domain<'t, 'a>(text: &'t str, rest: &'a [Token]) -> Result<(&'t str, &'
 fn cpu_place<'a>(alloc: Global, text: &str, rest: &'a [Token]) -> Result<(Place, &'a [Token]), Stop>
     ensures { Gives (λ x. x.0) (λ x. x.1.now) text.now result (read spec.place (all_spelled text.now rest.now)) }
 {
-    let (word, rest) = place_domain(text, rest)?;
-    let (_, rest) = key(text, rest, "MAESTRO")?;
-    let (_, rest) = key(text, rest, "TYPE")?;
-    let (manager, rest) = cpu_type(text, rest)?;
-    let domain = Text::of_upper(alloc, word)?;
+    let (word, rest) = or_stop!(place_domain(text, rest));
+    let (_, rest) = or_stop!(key(text, rest, "MAESTRO"));
+    let (_, rest) = or_stop!(key(text, rest, "TYPE"));
+    let (manager, rest) = or_stop!(cpu_type(text, rest));
+    let domain = or_no_memory!(Text::of_upper(alloc, word));
     Ok((Place { domain, manager }, rest))
 }
 
@@ -119,7 +119,7 @@ fn cpu_of(
     ensures { IfOk result (λ c. c ≡ spec.cpu_of line (upper word.now) tt machine place spec.no_flags line) }
 {
     let item = CpuDef {
-        name: Text::of_upper(alloc, word)?,
+        name: or_stop!(Text::of_upper(alloc, word)),
         os: machine.os,
         host: machine.host,
         port: machine.port,
@@ -136,9 +136,9 @@ fn cpu_name<'t, 'a>(text: &'t str, rest: &'a [Token]) -> Result<(u32, &'t str, &
     ensures { Gives (λ x. spec.cpu_of x.0 (upper x.1.now) tt) (λ x. x.2.now) text.now result
         (read (made spec.cpu_of ⊛ key (codes "CPUNAME") ⊛ name ⊛ described) (all_spelled text.now rest.now)) }
 {
-    let (line, rest) = key(text, rest, "CPUNAME")?;
-    let (word, rest) = name_word(text, rest)?;
-    let rest = description(text, rest)?;
+    let (line, rest) = or_stop!(key(text, rest, "CPUNAME"));
+    let (word, rest) = or_stop!(name_word(text, rest));
+    let rest = or_stop!(description(text, rest));
     Ok((line, word, rest))
 }
 
@@ -151,10 +151,13 @@ fn placed_cpu<'a>(
     ensures { Gives (λ x flags y. lined x.0.line (record x.0.item { autolink = flags.autolink; full = flags.full })) (λ x. x.1.now) text.now result
         (read (made spec.cpu_of ⊛ key (codes "CPUNAME") ⊛ name ⊛ described ⊛ spec.machine ⊛ spec.place) (all_spelled text.now rest.now)) }
 {
-    let (line, word, rest) = cpu_name(text, rest)?;
-    let (machine, rest) = cpu_machine(alloc, text, rest)?;
-    let (place, rest) = cpu_place(alloc, text, rest)?;
-    Ok((cpu_of(alloc, line, word, machine, place)?, rest))
+    let (line, word, rest) = or_stop!(cpu_name(text, rest));
+    let (machine, rest) = or_stop!(cpu_machine(alloc, text, rest));
+    let (place, rest) = or_stop!(cpu_place(alloc, text, rest));
+    Ok((
+        or_no_memory!(cpu_of(alloc, line, word, machine, place)),
+        rest,
+    ))
 }
 
 #[tactic(auto, unfolding(crate::specs::Stations::cpu))]
@@ -165,9 +168,9 @@ pub(crate) fn cpu<'a>(
 ) -> Result<(Lined<CpuDef>, &'a [Token]), Stop>
     ensures { Gives (λ x. x.0) (λ x. x.1.now) text.now result (read spec.cpu (all_spelled text.now rest.now)) }
 {
-    let (mut found, rest) = placed_cpu(alloc, text, rest)?;
-    let (flags, rest) = flags(alloc, text, rest)?;
-    let (_, rest) = key(text, rest, "END")?;
+    let (mut found, rest) = or_stop!(placed_cpu(alloc, text, rest));
+    let (flags, rest) = or_stop!(flags(alloc, text, rest));
+    let (_, rest) = or_stop!(key(text, rest, "END"));
     found.item.autolink = flags.autolink;
     found.item.full = flags.full;
     Ok((found, rest))
@@ -194,10 +197,10 @@ fn parent<'a>(
     ensures { Gives (λ x. x.0) (λ x. x.1.now) text.now result (read spec.parent (all_spelled text.now rest.now)) }
 {
     if let Some((_, rest)) = taken(text, rest, "PARENT") {
-        let (above, rest) = name(alloc, text, rest)?;
+        let (above, rest) = or_stop!(name(alloc, text, rest));
         return Ok((Some(above), rest));
     }
-    let (_, rest) = key(text, rest, "ISMASTER")?;
+    let (_, rest) = or_stop!(key(text, rest, "ISMASTER"));
     Ok((None, rest))
 }
 
@@ -212,8 +215,8 @@ fn domain_of(
     ensures { IfOk result (λ d. d ≡ spec.domain_of line (upper word.now) (upper manager.now) parent) }
 {
     let item = DomainDef {
-        name: Text::of_upper(alloc, word)?,
-        manager: Text::of_upper(alloc, manager)?,
+        name: or_stop!(Text::of_upper(alloc, word)),
+        manager: or_stop!(Text::of_upper(alloc, manager)),
         parent,
     };
     Ok(Lined { line, item })
@@ -227,10 +230,10 @@ fn domain_name<'t, 'a>(
     ensures { Gives (λ x. spec.domain_of x.0 (upper x.1.now)) (λ x. x.2.now) text.now result
         (read (made spec.domain_of ⊛ key (codes "DOMAIN") ⊛ name ⊲ described ⊲ spec.star) (all_spelled text.now rest.now)) }
 {
-    let (line, rest) = key(text, rest, "DOMAIN")?;
-    let (word, rest) = name_word(text, rest)?;
-    let rest = description(text, rest)?;
-    let rest = star(text, rest)?;
+    let (line, rest) = or_stop!(key(text, rest, "DOMAIN"));
+    let (word, rest) = or_stop!(name_word(text, rest));
+    let rest = or_stop!(description(text, rest));
+    let rest = or_stop!(star(text, rest));
     Ok((line, word, rest))
 }
 
@@ -242,9 +245,9 @@ fn domain_manager<'t, 'a>(
     ensures { Gives (λ x. spec.domain_of x.0 (upper x.1.now) (upper x.2.now)) (λ x. x.3.now) text.now result
         (read (made spec.domain_of ⊛ key (codes "DOMAIN") ⊛ name ⊲ described ⊲ spec.star ⊲ key (codes "MANAGER") ⊛ name) (all_spelled text.now rest.now)) }
 {
-    let (line, word, rest) = domain_name(text, rest)?;
-    let (_, rest) = key(text, rest, "MANAGER")?;
-    let (manager, rest) = name_word(text, rest)?;
+    let (line, word, rest) = or_stop!(domain_name(text, rest));
+    let (_, rest) = or_stop!(key(text, rest, "MANAGER"));
+    let (manager, rest) = or_stop!(name_word(text, rest));
     Ok((line, word, manager, rest))
 }
 
@@ -256,8 +259,11 @@ pub(crate) fn domain<'a>(
 ) -> Result<(Lined<DomainDef>, &'a [Token]), Stop>
     ensures { Gives (λ x. x.0) (λ x. x.1.now) text.now result (read spec.domain (all_spelled text.now rest.now)) }
 {
-    let (line, word, manager, rest) = domain_manager(text, rest)?;
-    let (parent, rest) = parent(alloc, text, rest)?;
-    let (_, rest) = key(text, rest, "END")?;
-    Ok((domain_of(alloc, line, word, manager, parent)?, rest))
+    let (line, word, manager, rest) = or_stop!(domain_manager(text, rest));
+    let (parent, rest) = or_stop!(parent(alloc, text, rest));
+    let (_, rest) = or_stop!(key(text, rest, "END"));
+    Ok((
+        or_no_memory!(domain_of(alloc, line, word, manager, parent)),
+        rest,
+    ))
 }

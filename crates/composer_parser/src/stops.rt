@@ -21,6 +21,31 @@ pub(crate) enum Stop {
     NoMemory,
 }
 
+/// What a reader gave, or made. Where it stopped, its caller stops for the same reason. `?` would do the same by two calls
+/// more, and each proof would follow them.
+macro_rules! or_stop {
+    ($given:expr) => {
+        match $given {
+            Ok(given) => given,
+            Err(stop) => return Err(stop),
+        }
+    };
+}
+
+pub(crate) use or_stop;
+
+/// The same of what takes memory, in a reader.
+macro_rules! or_no_memory {
+    ($made:expr) => {
+        match $made {
+            Ok(made) => made,
+            Err(_) => return Err($crate::stops::Stop::NoMemory),
+        }
+    };
+}
+
+pub(crate) use or_no_memory;
+
 impl From<NoMemory> for Stop {
     ghost use Rattle.composer_parser.specs.declared.stops.Stop.TheVariants.{NoMemory as NoRoom};
 

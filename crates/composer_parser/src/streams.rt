@@ -14,7 +14,7 @@ use crate::parts::{description, key, mark, name_word, taken};
 use crate::places::scoped;
 use crate::schedules::{EntryDef, FreeDef, OnDef, ScheduleDef};
 use crate::scopes::{own_of, ws_of};
-use crate::stops::Stop;
+use crate::stops::{Stop, or_no_memory, or_stop};
 use base_types::{Items, NoMemory, Text, Token};
 use std::alloc::Global;
 
@@ -50,11 +50,11 @@ fn free_days<'a>(
     let Some((_, rest)) = taken(text, rest, "FREEDAYS") else {
         return Ok((None, rest));
     };
-    let (word, rest) = name_word(text, rest)?;
-    let (minus_sa, rest) = minus_sa(text, rest)?;
-    let (minus_su, rest) = minus_su(text, rest)?;
+    let (word, rest) = or_stop!(name_word(text, rest));
+    let (minus_sa, rest) = or_stop!(minus_sa(text, rest));
+    let (minus_su, rest) = or_stop!(minus_su(text, rest));
     let free = FreeDef {
-        name: Text::of_upper(alloc, word)?,
+        name: or_no_memory!(Text::of_upper(alloc, word)),
         minus_sa,
         minus_su,
     };
@@ -84,8 +84,8 @@ impl Title {
     fn of(alloc: Global, line: u32, word: &str, free: Option<FreeDef>) -> Result<Title, NoMemory>
         ensures { IfOk result (λ t. t ≡ spec.title_of line (on_line line word.now) free) }
     {
-        let name = own_of(alloc, word)?;
-        let ws = ws_of(alloc, word)?;
+        let name = or_stop!(own_of(alloc, word));
+        let ws = or_stop!(ws_of(alloc, word));
         Ok(Title {
             line,
             ws,
@@ -130,11 +130,11 @@ fn stream_title<'a>(
 ) -> Result<(Title, &'a [Token]), Stop>
     ensures { Gives (λ x. x.0) (λ x. x.1.now) text.now result (read spec.title (all_spelled text.now rest.now)) }
 {
-    let (line, rest) = key(text, rest, "SCHEDULE")?;
-    let (word, _, rest) = scoped(text, rest)?;
-    let rest = description(text, rest)?;
-    let (free, rest) = free_days(alloc, text, rest)?;
-    Ok((Title::of(alloc, line, word, free)?, rest))
+    let (line, rest) = or_stop!(key(text, rest, "SCHEDULE"));
+    let (word, _, rest) = or_stop!(scoped(text, rest));
+    let rest = or_stop!(description(text, rest));
+    let (free, rest) = or_stop!(free_days(alloc, text, rest));
+    Ok((or_no_memory!(Title::of(alloc, line, word, free)), rest))
 }
 
 /// A stream up to its clauses, without its entries.
@@ -147,9 +147,9 @@ fn open_header<'a>(
     ensures { Gives (λ x. x.0) (λ x. x.1.now) text.now result
         (read (made spec.header_of ⊛ spec.title ⊛ spec.ons ⊛ clauses true) (all_spelled text.now rest.now)) }
 {
-    let (title, rest) = stream_title(alloc, text, rest)?;
-    let (ons, rest) = row::<Lined<OnDef>>(alloc, text, rest)?;
-    let (clauses, rest) = clauses(alloc, text, rest, true)?;
+    let (title, rest) = or_stop!(stream_title(alloc, text, rest));
+    let (ons, rest) = or_stop!(row::<Lined<OnDef>>(alloc, text, rest));
+    let (clauses, rest) = or_stop!(clauses(alloc, text, rest, true));
     Ok((title.stream(alloc, ons.into_items(), clauses), rest))
 }
 
@@ -162,8 +162,8 @@ fn header<'a>(
 ) -> Result<(Lined<ScheduleDef>, &'a [Token]), Stop>
     ensures { Gives (λ x. x.0) (λ x. x.1.now) text.now result (read spec.header (all_spelled text.now rest.now)) }
 {
-    let (found, rest) = open_header(alloc, text, rest)?;
-    let rest = mark(text, rest, b':')?;
+    let (found, rest) = or_stop!(open_header(alloc, text, rest));
+    let rest = or_stop!(mark(text, rest, b':'));
     Ok((found, rest))
 }
 
@@ -176,9 +176,9 @@ pub(crate) fn schedule<'a>(
 ) -> Result<(Lined<ScheduleDef>, &'a [Token]), Stop>
     ensures { Gives (λ x. x.0) (λ x. x.1.now) text.now result (read spec.schedule (all_spelled text.now rest.now)) }
 {
-    let (mut found, rest) = header(alloc, text, rest)?;
-    let (entries, rest) = row::<Lined<EntryDef>>(alloc, text, rest)?;
-    let (_, rest) = key(text, rest, "END")?;
+    let (mut found, rest) = or_stop!(header(alloc, text, rest));
+    let (entries, rest) = or_stop!(row::<Lined<EntryDef>>(alloc, text, rest));
+    let (_, rest) = or_stop!(key(text, rest, "END"));
     found.item.entries = entries.into_items();
     Ok((found, rest))
 }

@@ -11,7 +11,7 @@ ghost use Rattle.composer_parser.specs.declared.works.WorkFlag.TheVariants as fl
 use crate::definitions::WorkDef;
 use crate::gathering::{Gathers, gather};
 use crate::parts::{is_next, key, skip_text, skip_word, taken, text_value, value};
-use crate::stops::{Stop, Why};
+use crate::stops::{Stop, Why, or_stop};
 use base_types::{NoMemory, Recovery, Text, Token, Work};
 use std::alloc::Global;
 
@@ -114,7 +114,7 @@ impl Gathers for WorkFlags {
 fn logon<'a>(alloc: Global, text: &str, rest: &'a [Token]) -> Result<(WorkFlag, &'a [Token]), Stop>
     ensures { Gives (λ x. x.0) (λ x. x.1.now) text.now result (read (made flag.Logon ⊛ value) (all_spelled text.now rest.now)) }
 {
-    let (user, rest) = value(alloc, text, rest)?;
+    let (user, rest) = or_stop!(value(alloc, text, rest));
     Ok((WorkFlag::Logon(user), rest))
 }
 
@@ -122,7 +122,7 @@ fn logon<'a>(alloc: Global, text: &str, rest: &'a [Token]) -> Result<(WorkFlag, 
 fn about<'a>(text: &str, rest: &'a [Token]) -> Result<(WorkFlag, &'a [Token]), Stop>
     ensures { Gives (λ x. x.0) (λ x. x.1.now) text.now result (read (made (λ x. flag.Description) ⊛ skipped_text) (all_spelled text.now rest.now)) }
 {
-    let rest = skip_text(text, rest)?;
+    let rest = or_stop!(skip_text(text, rest));
     Ok((WorkFlag::Description, rest))
 }
 
@@ -130,7 +130,7 @@ fn about<'a>(text: &str, rest: &'a [Token]) -> Result<(WorkFlag, &'a [Token]), S
 fn task_type<'a>(text: &str, rest: &'a [Token]) -> Result<(WorkFlag, &'a [Token]), Stop>
     ensures { Gives (λ x. x.0) (λ x. x.1.now) text.now result (read (made (λ x. flag.TaskType) ⊛ skipped_word) (all_spelled text.now rest.now)) }
 {
-    let rest = skip_word(text, rest)?;
+    let rest = or_stop!(skip_word(text, rest));
     Ok((WorkFlag::TaskType, rest))
 }
 
@@ -138,7 +138,7 @@ fn task_type<'a>(text: &str, rest: &'a [Token]) -> Result<(WorkFlag, &'a [Token]
 fn cond<'a>(alloc: Global, text: &str, rest: &'a [Token]) -> Result<(WorkFlag, &'a [Token]), Stop>
     ensures { Gives (λ x. x.0) (λ x. x.1.now) text.now result (read (made flag.Cond ⊛ text_of) (all_spelled text.now rest.now)) }
 {
-    let (cond, rest) = text_value(alloc, text, rest)?;
+    let (cond, rest) = or_stop!(text_value(alloc, text, rest));
     Ok((WorkFlag::Cond(cond), rest))
 }
 
@@ -146,9 +146,9 @@ fn cond<'a>(alloc: Global, text: &str, rest: &'a [Token]) -> Result<(WorkFlag, &
 fn recovery<'a>(text: &str, rest: &'a [Token]) -> Result<(WorkFlag, &'a [Token]), Stop>
     ensures { Gives (λ x. x.0) (λ x. x.1.now) text.now result (read (made (λ x r. flag.Recovery r) ⊛ key (codes "RECOVERY") ⊛ spec.recovery_word ⊲ spec.no_recovery_job) (all_spelled text.now rest.now)) }
 {
-    let (_, rest) = key(text, rest, "RECOVERY")?;
-    let (recovery, rest) = recovery_word(text, rest)?;
-    let rest = no_recovery_job(text, rest)?;
+    let (_, rest) = or_stop!(key(text, rest, "RECOVERY"));
+    let (recovery, rest) = or_stop!(recovery_word(text, rest));
+    let rest = or_stop!(no_recovery_job(text, rest));
     Ok((WorkFlag::Recovery(recovery), rest))
 }
 
@@ -157,11 +157,11 @@ fn command<'a>(alloc: Global, text: &str, rest: &'a [Token]) -> Result<(Work, &'
     ensures { Gives (λ x. x.0) (λ x. x.1.now) text.now result (read spec.command (all_spelled text.now rest.now)) }
 {
     if let Some((_, rest)) = taken(text, rest, "SCRIPTNAME") {
-        let (file, rest) = value(alloc, text, rest)?;
+        let (file, rest) = or_stop!(value(alloc, text, rest));
         return Ok((Work::Script(file), rest));
     }
-    let (_, rest) = key(text, rest, "DOCOMMAND")?;
-    let (line, rest) = text_value(alloc, text, rest)?;
+    let (_, rest) = or_stop!(key(text, rest, "DOCOMMAND"));
+    let (line, rest) = or_stop!(text_value(alloc, text, rest));
     Ok((Work::Command(line), rest))
 }
 
@@ -228,7 +228,7 @@ pub(crate) fn work<'a>(
 ) -> Result<(WorkDef, &'a [Token]), Stop>
     ensures { Gives (λ x. x.0) (λ x. x.1.now) text.now result (read spec.work (all_spelled text.now rest.now)) }
 {
-    let (work, rest) = command(alloc, text, rest)?;
-    let (flags, rest) = work_flags(alloc, text, rest)?;
+    let (work, rest) = or_stop!(command(alloc, text, rest));
+    let (flags, rest) = or_stop!(work_flags(alloc, text, rest));
     Ok((work_of(work, flags), rest))
 }

@@ -177,7 +177,7 @@ fn question<S: Read + Write + OpenStream + Drop>(
                 return Next::Wrong("memory");
             }
         }
-        Come::End => return Next::Wrong("gone"),
+        Come::End | Come::Lost(_) => return Next::Wrong("gone"),
         Come::Wrong => return Next::Wrong("record"),
         Come::NoMemory => return Next::NoMemory(Stage::Asks(channel, asked)),
     }

@@ -2,7 +2,7 @@
 
 use crate::pieces::Pieces;
 use crate::seals::Seals;
-use crate::streams::{Come, is_waiting, take_some};
+use crate::streams::{Come, is_waiting, none_of, take_some};
 use base_types::Items;
 use sealed_records::{MOST_IN_RECORD, Queue, Taken, Unput};
 use std::alloc::Global;
@@ -222,8 +222,7 @@ impl<S: Read + Write + OpenStream + Drop> Channel<S> {
         let count = match self.stream.peek(buffer) {
             Ok(0) => return Come::End,
             Ok(count) => count,
-            Err(error) if is_waiting(&error) => return Come::Nothing,
-            Err(_) => return Come::End,
+            Err(error) => return none_of(error),
         };
         self.come.settle();
         if self.come.put(&buffer[..count]).is_err() {
@@ -231,7 +230,8 @@ impl<S: Read + Write + OpenStream + Drop> Channel<S> {
         }
         match self.stream.read(&mut buffer[..count]) {
             Ok(read) if read == count => Come::Nothing,
-            _ => Come::End,
+            Ok(_) => Come::End,
+            Err(error) => Come::Lost(error),
         }
     }
 }

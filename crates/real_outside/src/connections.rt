@@ -4,7 +4,7 @@ use crate::addresses::LookUps;
 use crate::callers::{Callers, Door, Heard, refuse};
 use crate::channels::Channel;
 use crate::commons::{Commons, Wait};
-use crate::homes::{Home, tell_of};
+use crate::homes::{Home, tell_of, tell_unaccepted};
 use crate::keys::read_key;
 use crate::lines::Line;
 use crate::logs::{Topic, Value, cause_of};
@@ -262,7 +262,12 @@ impl<R: Net + Clock + Files<File = File> + RandomSource + Drop> Connections<R> {
         if let Err(error) = called
             && line.is_new_failure(&error)
         {
-            tell_of(&self.commons, "uncalled", line.peer(), cause_of(&error));
+            tell_of(
+                &self.commons,
+                "uncalled",
+                line.peer(),
+                &[cause_of(&error)],
+            );
         }
     }
 
@@ -294,11 +299,12 @@ impl<R: Net + Clock + Files<File = File> + RandomSource + Drop> Connections<R> {
             return;
         };
         for _ in 0..MOST_ACCEPTED {
-            let Some((stream, address)) = home.accept() else {
+            let Some((stream, address)) = home.accept(&self.commons) else {
                 return;
             };
-            if set_up(&stream).is_ok() {
-                self.callers.add(&self.commons, stream, address, self.now);
+            match set_up(&stream) {
+                Ok(()) => self.callers.add(&self.commons, stream, address, self.now),
+                Err(error) => tell_unaccepted(&self.commons, &error),
             }
         }
     }
@@ -426,13 +432,19 @@ fn tell_arrival<R: Net + Clock + Files<File = File> + Drop>(
     arrival: &Arrival,
 ) {
     match arrival {
-        Arrival::Up(_) => tell_of(commons, "up", line.peer(), ("by", Value::Word(line.why()))),
-        Arrival::Down(_) => tell_of(
+        Arrival::Up(_) => tell_of(
             commons,
-            "down",
+            "up",
             line.peer(),
-            ("why", Value::Word(line.why())),
+            &[("by", Value::Word(line.why()))],
         ),
+        Arrival::Down(_) => {
+            let why = ("why", Value::Word(line.why()));
+            match line.cause() {
+                Some(cause) => tell_of(commons, "down", line.peer(), &[why, cause]),
+                None => tell_of(commons, "down", line.peer(), &[why]),
+            }
+        }
         _ => {}
     }
 }

@@ -2,7 +2,8 @@
 
 use crate::addresses::{Addresses, LookUps};
 use crate::commons::Commons;
-use crate::logs::{Field, Value, cause_of};
+use crate::logs::{Field, Topic, Value, cause_of};
+use crate::streams::is_waiting;
 use base_types::Peer;
 use std::alloc::Global;
 use std::fs::{File, Files};
@@ -45,11 +46,16 @@ impl<R: Net + Clock + Files<File = File> + Drop> Home<R> {
         self.listener.is_some()
     }
 
-    /// One who calls, where there is one, and from which address.
-    pub fn accept(&self) -> Option<(R::Stream, SocketAddr)> {
-        match &self.listener {
-            Some(listener) => listener.accept().ok(),
-            None => None,
+    /// One who calls, where there is one, and from which address. A failure is told to the log.
+    pub fn accept(&self, commons: &Commons<R>) -> Option<(R::Stream, SocketAddr)> {
+        match self.listener.as_ref()?.accept() {
+            Ok(caller) => Some(caller),
+            Err(error) => {
+                if !is_waiting(&error) {
+                    tell_unaccepted(commons, &error);
+                }
+                None
+            }
         }
     }
 
@@ -83,7 +89,7 @@ impl<R: Net + Clock + Files<File = File> + Drop> Home<R> {
                     commons,
                     "listening",
                     &self.peer,
-                    ("key", Value::Word(self.keyed)),
+                    &[("key", Value::Word(self.keyed))],
                 );
                 Ok(())
             }
@@ -91,7 +97,7 @@ impl<R: Net + Clock + Files<File = File> + Drop> Home<R> {
                 let kind = Some(error.kind());
                 if self.failed != kind {
                     self.failed = kind;
-                    tell_of(commons, "deaf", &self.peer, cause_of(&error));
+                    tell_of(commons, "deaf", &self.peer, &[cause_of(&error)]);
                 }
                 Err(error)
             }
@@ -118,17 +124,25 @@ impl<R: Net + Clock + Files<File = File> + Drop> Home<R> {
     }
 }
 
+/// Tells the log of a caller who could not be let in, since the system says this.
+pub fn tell_unaccepted<R: Files<File = File> + Clock + Drop>(
+    commons: &Commons<R>,
+    error: &io::Error,
+) {
+    commons.tell_rarely(Topic::Unaccepted, "unaccepted", &[cause_of(error)]);
+}
+
 /// Writes a line of the log about a workstation.
 pub fn tell_of<R: Files<File = File> + Clock + Drop>(
     commons: &Commons<R>,
     word: &str,
     peer: &Peer,
-    field: Field<'static>,
+    fields: &[Field<'static>],
 ) {
     let who = [
         ("ws", Value::Number(u64::from(peer.ws.0))),
         ("host", Value::Text(peer.host.as_str())),
         ("port", Value::Number(u64::from(peer.port))),
     ];
-    commons.tell_both(word, &who, &[field]);
+    commons.tell_both(word, &who, fields);
 }

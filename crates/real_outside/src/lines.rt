@@ -4,6 +4,7 @@ ghost use Rattle.real_outside.specs.Turns.{InTurn};
 
 use crate::addresses::Addresses;
 use crate::channels::Channel;
+use crate::logs::{Field, cause_of};
 use crate::seals::{ANSWER, HELLO, NONCE, NetworkKey, hello_of};
 use crate::streams::{Come, Piece, greeting, is_waiting, take_piece, write_at_once};
 use base_types::{Peer, Ws};
@@ -51,6 +52,8 @@ pub struct Line<S> {
     called: Option<Duration>,
     /// Why the last connection ended, or who made the one that is there.
     why: &'static str,
+    /// What the system said where the last connection was lost.
+    cause: Option<Field<'static>>,
     /// How the last call failed, where no connection came since.
     failed: Option<ErrorKind>,
 }
@@ -70,6 +73,7 @@ impl<S: Read + Write + OpenStream + Drop> Line<S> {
             wanted: false,
             called: None,
             why: "",
+            cause: None,
             failed: None,
         }
     }
@@ -106,6 +110,17 @@ impl<S: Read + Write + OpenStream + Drop> Line<S> {
     {
         self.channel = None;
         self.why = why;
+        self.cause = None;
+    }
+
+    /// Lets the connection go, of which the system says this.
+    fn lose(&mut self, error: &io::Error)
+        ensures up { self.new.up ≡ self.old.up }
+        ensures peer { self.new.peer.ws ≡ self.old.peer.ws }
+        ensures gone { self.new.channel ≡ None }
+    {
+        self.end(why_lost(error));
+        self.cause = Some(cause_of(error));
     }
 
     /// Closes the connection.
@@ -124,6 +139,11 @@ impl<S: Read + Write + OpenStream + Drop> Line<S> {
     /// Why the last connection ended, or who made the one that is there.
     pub fn why(&self) -> &'static str {
         self.why
+    }
+
+    /// What the system said where the last connection was lost.
+    pub fn cause(&self) -> Option<Field<'static>> {
+        self.cause
     }
 
     /// Whether the name of its host has to be looked up before it is called.
@@ -272,6 +292,10 @@ impl<S: Read + Write + OpenStream + Drop> Line<S> {
                 self.end("ended");
                 self.news().unwrap_or(Arrival::Nothing)
             }
+            Come::Lost(error) => {
+                self.lose(&error);
+                self.news().unwrap_or(Arrival::Nothing)
+            }
             Come::Wrong => {
                 self.end("record");
                 self.news().unwrap_or(Arrival::Nothing)
@@ -293,7 +317,7 @@ impl<S: Read + Write + OpenStream + Drop> Line<S> {
             channel.flush(now)
         };
         if let Err(error) = kept {
-            self.end(why_lost(&error));
+            self.lose(&error);
         }
     }
 
@@ -330,14 +354,14 @@ impl<S: Read + Write + OpenStream + Drop> Line<S> {
             Ok(()) => Ok(()),
             Err(error) if is_waiting(&error) => Err(error),
             Err(error) => {
-                self.end(why_lost(&error));
+                self.lose(&error);
                 Err(error)
             }
         }
     }
 }
 
-/// Why a connection is lost over which nothing can be sent.
+/// Why a connection is lost of which the system says this.
 fn why_lost(error: &io::Error) -> &'static str {
     match error.kind() {
         ErrorKind::TimedOut => "stalled",

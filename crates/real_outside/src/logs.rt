@@ -36,6 +36,8 @@ pub fn cause_of(error: &io::Error) -> Field<'static> {
 pub enum Topic {
     /// Callers that were not let in.
     Refused,
+    /// Callers that could not be let in.
+    Unaccepted,
     /// Workstations that were called and did not prove that they know the key.
     Unproved,
     /// Pieces that were not taken, since too much waits.
@@ -85,6 +87,7 @@ pub struct Log<R> {
     /// The line that is being made.
     line: String,
     refused: Rare,
+    unaccepted: Rare,
     unproved: Rare,
     full: Rare,
     looked: Rare,
@@ -106,6 +109,7 @@ impl<R: Files<File = File> + Clock + Drop> Log<R> {
             bytes: 0,
             line: String::new(alloc),
             refused: NEVER,
+            unaccepted: NEVER,
             unproved: NEVER,
             full: NEVER,
             looked: NEVER,
@@ -137,6 +141,7 @@ impl<R: Files<File = File> + Clock + Drop> Log<R> {
         };
         let rare = match topic {
             Topic::Refused => &mut self.refused,
+            Topic::Unaccepted => &mut self.unaccepted,
             Topic::Unproved => &mut self.unproved,
             Topic::Full => &mut self.full,
             Topic::Looked => &mut self.looked,

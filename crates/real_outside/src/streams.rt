@@ -37,8 +37,10 @@ const UNHEARD: u32 = 20_000;
 pub enum Come {
     Nothing,
     Bytes(Bytes),
-    /// The connection ended.
+    /// The other end closed the connection.
     End,
+    /// The connection is lost, as the system says.
+    Lost(io::Error),
     /// A record came that is not under the key of the connection.
     Wrong,
     /// There was no memory for what came; it is still to come.
@@ -127,8 +129,16 @@ pub fn take_some<S: Read + OpenStream>(alloc: Global, stream: &mut S, buffer: &m
     match stream.peek(buffer) {
         Ok(0) => Come::End,
         Ok(count) => take(alloc, stream, count),
-        Err(error) if is_waiting(&error) => Come::Nothing,
-        Err(_) => Come::End,
+        Err(error) => none_of(error),
+    }
+}
+
+/// What has come where a call failed.
+pub fn none_of(error: io::Error) -> Come {
+    if is_waiting(&error) {
+        Come::Nothing
+    } else {
+        Come::Lost(error)
     }
 }
 
@@ -143,7 +153,6 @@ pub fn take<S: Read>(alloc: Global, stream: &mut S, count: usize) -> Come {
             bytes.truncate(read);
             Come::Bytes(Items::of_vec(bytes))
         }
-        Err(error) if is_waiting(&error) => Come::Nothing,
-        Err(_) => Come::End,
+        Err(error) => none_of(error),
     }
 }

@@ -4,7 +4,7 @@ use crate::fronts::text_of;
 use std::alloc::{AllocError, Global};
 use std::collections::VecDeque;
 use std::fs::{File, Files, OpenOptions};
-use std::io::{ErrorKind, Write};
+use std::io::ErrorKind;
 use std::os::unix::fs::OpenOptionsExt;
 use std::{fs, io};
 
@@ -16,7 +16,7 @@ pub struct Launch {
 }
 
 /// The folder `NAME.out` of a workstation. Each launch has a file `JOB.LAUNCH` there, and while it runs a file
-/// `JOB.LAUNCH.pid`, which tells its mark and its process.
+/// `JOB.LAUNCH.pid`, which tells its process.
 #[derive(Drop)]
 pub struct Folder<R> {
     alloc: Global,
@@ -71,22 +71,12 @@ impl<R: Files<File = File> + Drop> Folder<R> {
         options.open(&self.rt, self.output(launch)?.as_str())
     }
 
-    /// Notes a launch by its mark, before its process begins.
-    pub fn keep_note(&self, launch: &Launch, mark: &str) -> io::Result<()> {
-        let mut line = String::from_str(self.alloc, mark)?;
-        line.push('\n')?;
-        fs::write(&self.rt, self.note(launch)?.as_str(), line.as_str())
+    /// Notes the process of a launch, by its identity.
+    pub fn keep_note(&self, launch: &Launch, identity: &str) -> io::Result<()> {
+        fs::write(&self.rt, self.note(launch)?.as_str(), identity)
     }
 
-    /// Adds the identity of its process to what is noted of a launch.
-    pub fn complete_note(&self, launch: &Launch, identity: &str) -> io::Result<()> {
-        let mut options = OpenOptions::new();
-        options.append(true);
-        let mut file = options.open(&self.rt, self.note(launch)?.as_str())?;
-        file.write_all(identity.as_bytes())
-    }
-
-    /// What is noted of a launch: a line with its mark, and one with the identity of its process.
+    /// The identity that was noted of a launch.
     pub fn noted(&self, launch: &Launch) -> io::Result<String> {
         text_of(self.alloc, &self.rt, self.note(launch)?.as_str())
     }
@@ -98,7 +88,7 @@ impl<R: Files<File = File> + Drop> Folder<R> {
 }
 
 impl<R: Files<File = File> + AllocGlobal + Clone + Drop> Folder<R> {
-    /// The launches that are noted. Where there is no folder there are none.
+    /// The launches whose processes are noted. Where there is no folder there are none.
     pub fn launches(&self) -> io::Result<VecDeque<Launch>> {
         let mut launches = VecDeque::new(self.alloc);
         let names = match fs::read_dir(&self.rt, self.path()?.as_str()) {
@@ -107,22 +97,16 @@ impl<R: Files<File = File> + AllocGlobal + Clone + Drop> Folder<R> {
             Err(error) => return Err(error),
         };
         for name in names {
-            match name {
-                Ok(entry) => {
-                    if let Some(launch) = launch_of(entry.file_name()) {
-                        launches.push_back(launch)?;
-                    }
-                }
-                // a name that is no text is no note's
-                Err(error) if error.kind() == ErrorKind::InvalidFilename => {}
-                Err(error) => return Err(error),
+            let entry = name?;
+            if let Some(launch) = launch_of(entry.file_name()) {
+                launches.push_back(launch)?;
             }
         }
         Ok(launches)
     }
 }
 
-/// The launch of which a file of this name tells.
+/// The launch that a file of this name tells the process of.
 fn launch_of(name: &str) -> Option<Launch> {
     let (job, rest) = name.split_once('.')?;
     let number = rest.strip_suffix(".pid")?;

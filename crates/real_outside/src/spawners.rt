@@ -5,7 +5,7 @@ use crate::commons::Commons;
 use crate::faults::counted;
 use crate::launches::{Folder, Launch};
 use crate::logs::{Field, Value, cause_of};
-use crate::processes::{MARK, State, identity, kill_with_group, new_mark, state_of};
+use crate::processes::{identity, kill_with_group, number_of};
 use base_types::{JobNo, NoMemory, Work};
 use outside::{End, Failed, Spawner};
 use std::alloc::{AllocError, Global};
@@ -35,6 +35,24 @@ struct Running<P: OpenProcess> {
     child: Child<P>,
 }
 
+/// A launch of an earlier run of the node that may still be at work.
+#[derive(Drop)]
+struct Left {
+    launch: Launch,
+    process: u32,
+    /// What tells its process from each other one.
+    identity: String,
+}
+
+/// What the system tells of a process that was noted.
+#[derive(Drop)]
+enum State {
+    There,
+    Gone,
+    /// It cannot tell.
+    Untold,
+}
+
 /// The processes that were started and have not been reported, and those of earlier runs of the node.
 #[derive(Drop)]
 struct Children<R: Processes> {
@@ -43,33 +61,27 @@ struct Children<R: Processes> {
     commons: Commons<R>,
     folder: Folder<R>,
     running: Vec<Running<R::Started>>,
-    /// The launches of earlier runs that may still be at work, and whether they were looked for.
-    left: VecDeque<Launch>,
-    found: bool,
-    /// When it was looked last at what is left of them, where it was.
+    left: VecDeque<Left>,
+    /// When it was looked last at what is left of earlier launches, where it was.
     looked: Option<Duration>,
 }
 
 impl<R: Processes + Files<File = File> + Clock + AllocGlobal + Clone + Drop> Children<R> {
     fn start(&mut self, job: JobNo, number: u32, work: &Work) -> io::Result<()> {
         let launch = Launch { job: job.0, number };
-        self.find_left()?;
+        self.look_at_left();
         self.end_left_of(job.0)?;
         self.running.reserve(1)?;
         let file = self.folder.open(&launch)?;
-        let mark = self.mark(&launch);
-        let child = match self.begin(&launch, work, &file, mark.as_ref()) {
-            Ok(child) => child,
-            Err(error) => {
-                let _ = self.folder.drop_note(&launch);
-                return Err(error);
+        let child = match self.spawn("setsid", &launch, work, &file) {
+            Err(error) if error.kind() == ErrorKind::NotFound => {
+                self.spawn("sh", &launch, work, &file)?
             }
+            child => child?,
         };
         let process = child.id();
         self.running.push(Running { launch, child })?;
-        if mark.is_some() {
-            self.note(&launch, process);
-        }
+        self.note(&launch, process);
         self.tell(
             "started",
             &launch,
@@ -80,22 +92,6 @@ impl<R: Processes + Files<File = File> + Clock + AllocGlobal + Clone + Drop> Chi
         Ok(())
     }
 
-    /// Starts a shell on the work, in a session of its own where this system has the program for it.
-    fn begin(
-        &self,
-        launch: &Launch,
-        work: &Work,
-        file: &File,
-        mark: Option<&String>,
-    ) -> io::Result<Child<R::Started>> {
-        match self.spawn("setsid", launch, work, file, mark) {
-            Err(error) if error.kind() == ErrorKind::NotFound => {
-                self.spawn("sh", launch, work, file, mark)
-            }
-            child => child,
-        }
-    }
-
     /// Starts a shell on the work by this program, with nothing to read. All that it writes goes to the file.
     fn spawn(
         &self,
@@ -103,7 +99,6 @@ impl<R: Processes + Files<File = File> + Clock + AllocGlobal + Clone + Drop> Chi
         launch: &Launch,
         work: &Work,
         file: &File,
-        mark: Option<&String>,
     ) -> io::Result<Child<R::Started>> {
         let mut command = Command::new(self.alloc, program)?;
         if program == "setsid" {
@@ -120,9 +115,6 @@ impl<R: Processes + Files<File = File> + Clock + AllocGlobal + Clone + Drop> Chi
         command.env("TWS_NODE", self.folder.node())?;
         command.env("TWS_JOB", decimal(self.alloc, launch.job)?.as_str())?;
         command.env("TWS_LAUNCH", decimal(self.alloc, launch.number)?.as_str())?;
-        if let Some(mark) = mark {
-            command.env(MARK, mark.as_str())?;
-        }
         let out = file.try_clone()?;
         let errors = file.try_clone()?;
         command.stdin(Stdio::null());
@@ -131,24 +123,10 @@ impl<R: Processes + Files<File = File> + Clock + AllocGlobal + Clone + Drop> Chi
         command.spawn(&self.rt)
     }
 
-    /// Notes beside its output the mark that a launch will have. Where that fails the launch goes on without one.
-    fn mark(&self, launch: &Launch) -> Option<String> {
-        let error = match new_mark(self.alloc, &self.rt) {
-            Ok(mark) => match self.folder.keep_note(launch, mark.as_str()) {
-                Ok(()) => return Some(mark),
-                Err(error) => error,
-            },
-            Err(error) => error,
-        };
-        let _ = self.folder.drop_note(launch);
-        self.tell("unnoted", launch, cause_of(&error));
-        None
-    }
-
-    /// Notes the process of a launch behind its mark, where it has not ended yet. Where that fails the launch goes on.
-    fn note(&self, launch: &Launch, process: u32) {
+    /// Notes the process of a launch beside its output, where it has not ended yet. Where that fails the launch goes on.
+    fn note(&mut self, launch: &Launch, process: u32) {
         let noted = match identity(self.alloc, &self.rt, process) {
-            Ok(Some(identity)) => self.folder.complete_note(launch, identity.as_str()),
+            Ok(Some(identity)) => self.folder.keep_note(launch, identity.as_str()),
             Ok(None) => Ok(()),
             Err(error) => Err(error),
         };
@@ -192,68 +170,77 @@ impl<R: Processes + Files<File = File> + Clock + AllocGlobal + Clone + Drop> Chi
         for running in self.running.iter_mut() {
             if running.launch == launch {
                 let process = running.child.id();
-                let killed = kill_with_group(self.alloc, &self.rt, process);
+                let _ = kill_with_group(self.alloc, &self.rt, process);
                 let _ = running.child.kill();
-                let (word, field) = match &killed {
-                    Ok(()) => ("killed", ("process", Value::Number(u64::from(process)))),
-                    Err(error) => ("unkilled", cause_of(error)),
-                };
                 self.commons.tell(
-                    word,
+                    "killed",
                     &[
                         ("job", Value::Number(u64::from(launch.job))),
                         ("launch", Value::Number(u64::from(launch.number))),
-                        field,
+                        ("process", Value::Number(u64::from(process))),
                     ],
                 );
             }
         }
     }
 
-    /// Looks every second at what is left of earlier launches. Where they could not be looked for this is tried again.
+    /// Looks at what is left of earlier launches: the first time by what is noted of them, and then every second whether
+    /// it is still there.
     fn look_at_left(&mut self) {
         let Ok(now) = self.rt.monotonic() else {
             return;
         };
-        if let Some(looked) = self.looked
-            && now.saturating_sub(looked) < Duration::from_secs(LOOK)
-        {
-            return;
+        match self.looked {
+            None => self.find_left(),
+            Some(looked) if now.saturating_sub(looked) >= Duration::from_secs(LOOK) => {
+                self.pass_left()
+            }
+            Some(_) => return,
         }
         self.looked = Some(now);
-        if self.found {
-            self.pass_left();
-        } else if let Err(error) = self.find_left() {
-            let cause = [("call", Value::Word("find-launches")), cause_of(&error)];
-            self.commons.tell("failed", &cause);
+    }
+
+    /// Finds what is left of the launches of earlier runs.
+    fn find_left(&mut self) {
+        let mut launches = match self.folder.launches() {
+            Ok(launches) => launches,
+            Err(error) => {
+                let cause = [("call", Value::Word("find-launches")), cause_of(&error)];
+                self.commons.tell("failed", &cause);
+                return;
+            }
+        };
+        for _ in 0..launches.len() {
+            if let Some(launch) = launches.pop_front() {
+                self.find(&launch);
+            }
         }
     }
 
-    /// Finds what is left of the launches of earlier runs, where that was not done. It fails where the folder of the notes
-    /// cannot be read.
-    fn find_left(&mut self) -> io::Result<()> {
-        if self.found {
-            return Ok(());
-        }
-        self.left = self.folder.launches()?;
-        self.found = true;
-        self.pass_left();
-        for launch in self.left.iter() {
-            self.tell("left", launch, self.process_of(launch));
-        }
-        Ok(())
-    }
-
-    /// The process of a launch, as a field of the log.
-    fn process_of(&self, launch: &Launch) -> Field<'static> {
-        match self.state_of(launch) {
-            State::There(process) => ("process", Value::Number(u64::from(process))),
-            State::Gone | State::Untold => ("process", Value::Word("unknown")),
+    /// Takes down a launch of an earlier run, where it is still at work. Else its note is dropped.
+    fn find(&mut self, launch: &Launch) {
+        let Ok(identity) = self.folder.noted(launch) else {
+            return;
+        };
+        match number_of(identity.as_str()) {
+            Some(process) if self.may_run(process, identity.as_str()) => {
+                self.tell(
+                    "left",
+                    launch,
+                    ("process", Value::Number(u64::from(process))),
+                );
+                let _ = self.left.push_back(Left {
+                    launch: *launch,
+                    process,
+                    identity,
+                });
+            }
+            _ => self.drop_left(launch, "gone"),
         }
     }
 
     /// Drops the note of a launch that is at work no more, and tells so by this word.
-    fn drop_left(&self, launch: &Launch, word: &str) {
+    fn drop_left(&mut self, launch: &Launch, word: &str) {
         let fields = [
             ("job", Value::Number(u64::from(launch.job))),
             ("launch", Value::Number(u64::from(launch.number))),
@@ -262,30 +249,32 @@ impl<R: Processes + Files<File = File> + Clock + AllocGlobal + Clone + Drop> Chi
         let _ = self.folder.drop_note(launch);
     }
 
-    /// What the system tells of a launch that was noted. Where the note cannot be read it may be at work.
-    fn state_of(&self, launch: &Launch) -> State {
-        match self.folder.noted(launch) {
-            Ok(note) => state_of(self.alloc, &self.rt, note.as_str()),
+    /// Whether the process of this identity still runs.
+    fn state_of(&self, process: u32, known: &str) -> State {
+        match identity(self.alloc, &self.rt, process) {
+            Ok(Some(now)) if now.as_str() == known => State::There,
+            Ok(_) => State::Gone,
             Err(error) if error.kind() == ErrorKind::NotFound => State::Gone,
             Err(_) => State::Untold,
         }
     }
 
+    /// Whether the process of this identity may still run.
+    fn may_run(&self, process: u32, known: &str) -> bool {
+        !matches!(self.state_of(process, known), State::Gone)
+    }
+
     /// Drops what is left no more.
     fn pass_left(&mut self) {
         for _ in 0..self.left.len() {
-            if let Some(launch) = self.left.pop_front() {
-                match self.state_of(&launch) {
-                    State::Gone => self.drop_left(&launch, "gone"),
-                    State::There(_) | State::Untold => self.keep_left(launch),
+            if let Some(left) = self.left.pop_front() {
+                if self.may_run(left.process, left.identity.as_str()) {
+                    let _ = self.left.push_back(left);
+                } else {
+                    self.drop_left(&left.launch, "gone");
                 }
             }
         }
-    }
-
-    /// Keeps a launch that was taken out just now, for which there is room.
-    fn keep_left(&mut self, launch: Launch) {
-        let _ = self.left.push_back(launch);
     }
 
     /// Ends what is left of the earlier launches of a job, so that its work is not done twice side by side. It fails where one
@@ -293,13 +282,13 @@ impl<R: Processes + Files<File = File> + Clock + AllocGlobal + Clone + Drop> Chi
     fn end_left_of(&mut self, job: u32) -> io::Result<()> {
         let mut ended = Ok(());
         for _ in 0..self.left.len() {
-            if let Some(launch) = self.left.pop_front() {
-                if launch.job != job {
-                    self.keep_left(launch);
-                } else if self.is_ended(&launch) {
-                    self.drop_left(&launch, "cleared");
+            if let Some(left) = self.left.pop_front() {
+                if left.launch.job != job {
+                    let _ = self.left.push_back(left);
+                } else if self.is_ended(&left) {
+                    self.drop_left(&left.launch, "cleared");
                 } else {
-                    self.keep_left(launch);
+                    let _ = self.left.push_back(left);
                     ended = Err(ErrorKind::TimedOut.into());
                 }
             }
@@ -308,13 +297,13 @@ impl<R: Processes + Files<File = File> + Clock + AllocGlobal + Clone + Drop> Chi
     }
 
     /// Ends what is left of a launch, and tells whether it is gone within half a second. A process is killed where the system
-    /// says that it is of that launch.
-    fn is_ended(&self, launch: &Launch) -> bool {
+    /// says that it is the one that was noted.
+    fn is_ended(&mut self, left: &Left) -> bool {
         for _ in 0..MOST_WAITS {
-            match self.state_of(launch) {
+            match self.state_of(left.process, left.identity.as_str()) {
                 State::Gone => return true,
-                State::There(process) => {
-                    let _ = kill_with_group(self.alloc, &self.rt, process);
+                State::There => {
+                    let _ = kill_with_group(self.alloc, &self.rt, left.process);
                 }
                 State::Untold => {}
             }
@@ -373,10 +362,8 @@ fn first_ended<P: OpenProcess>(running: &mut [Running<P>]) -> Option<(usize, Opt
 /// that is in its group, where this system has the program `setsid`; elsewhere it ends the shell alone. One that ended
 /// without a code, by a signal for instance, is reported with -1.
 ///
-/// While a launch runs, `JOB.LAUNCH.pid` tells its process and its mark, which is TWS_MARK in its environment. The mark is
-/// noted before the process begins. By these files the first call finds what is left of launches of an earlier run of the
-/// node: their processes, and others of their groups or, where no process is noted, others with their mark. Where such a
-/// job is started again, what is left of its earlier launches is ended first.
+/// While a launch runs, `JOB.LAUNCH.pid` tells its process. By these files the first call finds what is left of launches
+/// of an earlier run of the node. Where such a job is started again, what is left of its earlier launches is ended first.
 #[derive(Drop)]
 pub struct ChildSpawner<R: Processes> {
     children: Children<R>,
@@ -397,7 +384,6 @@ impl<R: Processes + Files<File = File> + Clock + Drop> ChildSpawner<R> {
                 folder: Folder::new(alloc, rt, name)?,
                 running: Vec::new(alloc),
                 left: VecDeque::new(alloc),
-                found: false,
                 looked: None,
             },
             faults: 0,
@@ -411,8 +397,8 @@ impl<R: Processes + Files<File = File> + Clock + AllocGlobal + Clone + Drop> Spa
 
     ghost faults = { λ s. s.faults };
 
-    /// It fails where the file of its output cannot be opened, the shell cannot be started, what is left of earlier launches
-    /// cannot be found or ended, or memory runs out.
+    /// It fails where the file of its output cannot be opened, the shell cannot be started, what is left of an earlier launch
+    /// cannot be ended, or memory runs out.
     fn start(&mut self, job: JobNo, number: u32, work: &Work) -> Result<(), Failed> {
         let started = self.children.start(job, number, work);
         counted(&mut self.faults, &self.children.commons, "start", started)

@@ -6,30 +6,18 @@
 //! system that it makes end.
 #![tactic(auto)]
 
-mod addresses;
 mod callers;
-mod channels;
 mod clocks;
-mod commons;
 mod connections;
 mod disks;
 mod faults;
-mod fronts;
-mod homes;
-mod keys;
-mod launches;
 mod lines;
 mod links;
-mod logs;
-mod pieces;
 mod probers;
-mod processes;
-mod seals;
 mod spawners;
 mod streams;
 
 pub use clocks::SystemClock;
-pub use commons::Commons;
 pub use disks::FileDisk;
 pub use links::TcpLink;
 pub use probers::FileProber;

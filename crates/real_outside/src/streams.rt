@@ -1,16 +1,12 @@
 //! One connection: how it begins, and how bytes go over it.
 
-use base_types::{Bytes, Items};
+use base_types::{Bytes, Items, Peer};
 use byteorder::{BigEndian, ByteOrder};
-use libc::net::{
-    IPPROTO_TCP, SO_KEEPALIVE, SOL_SOCKET, TCP_KEEPCNT, TCP_KEEPIDLE, TCP_KEEPINTVL,
-    TCP_USER_TIMEOUT, setsockopt,
-};
 use std::alloc::Global;
 use std::io;
 use std::io::{ErrorKind, Read, Write};
-use std::net::OpenStream;
-use std::os::fd::AsRawFd;
+use std::net::{Net, OpenStream, SocketAddr, TcpStream, ToSocketAddrs};
+use std::time::Duration;
 
 /// The number by which a client calls itself.
 pub const CLIENT: u16 = 65_535;
@@ -21,16 +17,14 @@ pub const GREETING: usize = 6;
 /// The first bytes of each connection.
 const MARK: &[u8] = b"TWS1";
 
-/// After how many seconds without a word the system asks whether the other end is there, how many seconds apart, and how
-/// often.
-const IDLE: u32 = 10;
+/// How many addresses of one host are tried.
+const MOST_ADDRESSES: usize = 4;
 
-const BETWEEN: u32 = 5;
+/// How many seconds a write waits for a peer that takes nothing.
+const WRITE_WAIT: u64 = 1;
 
-const PROBES: u32 = 3;
-
-/// After how many milliseconds a connection ends whose bytes the other end does not confirm.
-const UNHEARD: u32 = 20_000;
+/// How many writes are made for one piece.
+const MOST_WRITES: u32 = 10;
 
 /// What has come over a connection.
 #[derive(Drop)]
@@ -39,35 +33,42 @@ pub enum Come {
     Bytes(Bytes),
     /// The connection ended.
     End,
-    /// A record came that is not under the key of the connection.
-    Wrong,
     /// There was no memory for what came; it is still to come.
     NoMemory,
 }
 
-/// Sets a new connection up: no call of it waits, small pieces go out at once, and the system looks whether the other
-/// end is still there.
-pub fn set_up<S: OpenStream + AsRawFd>(stream: &S) -> io::Result<()> {
+/// Connects to a peer and greets it by the caller's number. Each address of its host has so many milliseconds to answer.
+pub fn call<R: Net>(rt: &R, peer: &Peer, caller: u16, patience: u64) -> io::Result<R::Stream> {
+    let addresses = (peer.host.as_str(), peer.port).to_socket_addrs(rt)?;
+    for address in addresses.take(MOST_ADDRESSES) {
+        if let Ok(stream) = call_at(rt, &address, caller, patience) {
+            return Ok(stream);
+        }
+    }
+    Err(ErrorKind::NotConnected.into())
+}
+
+fn call_at<R: Net>(
+    rt: &R,
+    address: &SocketAddr,
+    caller: u16,
+    patience: u64,
+) -> io::Result<R::Stream> {
+    let mut stream = TcpStream::connect_timeout(rt, address, Duration::from_millis(patience))?;
+    set_up(&stream)?;
+    write_whole(&mut stream, &greeting(caller))?;
+    Ok(stream)
+}
+
+/// Sets a new connection up: its reads do not wait, its writes wait for a second, and small pieces go out at once.
+pub fn set_up<S: OpenStream>(stream: &S) -> io::Result<()> {
     stream.set_nodelay(true)?;
+    stream.set_write_timeout(Some(Duration::from_secs(WRITE_WAIT)))?;
     stream.set_nonblocking(true)?;
-    let socket = stream.as_raw_fd();
-    // Where the system knows no such option, the connection is as good without.
-    let _kept = unsafe { setsockopt(socket, SOL_SOCKET, SO_KEEPALIVE, &value_of(1), 4) };
-    let _idle = unsafe { setsockopt(socket, IPPROTO_TCP, TCP_KEEPIDLE, &value_of(IDLE), 4) };
-    let _wait = unsafe { setsockopt(socket, IPPROTO_TCP, TCP_KEEPINTVL, &value_of(BETWEEN), 4) };
-    let _most = unsafe { setsockopt(socket, IPPROTO_TCP, TCP_KEEPCNT, &value_of(PROBES), 4) };
-    let _dead = unsafe { setsockopt(socket, IPPROTO_TCP, TCP_USER_TIMEOUT, &value_of(UNHEARD), 4) };
     Ok(())
 }
 
-/// A number as the value of an option.
-fn value_of(number: u32) -> [u8; 16] {
-    let [a, b, c, d] = number.to_ne_bytes();
-    [a, b, c, d, 0, 0, 0, 0, 0, 0, 0, 0, 0, 0, 0, 0]
-}
-
-/// The bytes by which one greets without a key.
-pub fn greeting(caller: u16) -> [u8; GREETING] {
+fn greeting(caller: u16) -> [u8; GREETING] {
     let mut bytes = *b"TWS1\0\0";
     BigEndian::write_u16(&mut bytes[4..], caller);
     bytes
@@ -87,39 +88,25 @@ pub fn is_waiting(error: &io::Error) -> bool {
     matches!(error.kind(), ErrorKind::WouldBlock | ErrorKind::Interrupted)
 }
 
-/// Writes a short piece over a new connection, or fails. Nothing waits before it, so the system takes it at once.
-pub fn write_at_once<S: Write>(stream: &mut S, bytes: &[u8]) -> io::Result<()> {
-    match stream.write(bytes) {
-        Ok(count) if count == bytes.len() => Ok(()),
-        Ok(_) => Err(ErrorKind::WriteZero.into()),
-        Err(error) => Err(error),
+/// Writes all these bytes, or fails. It fails where the peer takes nothing for a second, and after ten seconds at most.
+pub fn write_whole<S: Write + OpenStream>(stream: &mut S, bytes: &[u8]) -> io::Result<()> {
+    stream.set_nonblocking(false)?;
+    let mut rest = bytes;
+    for _ in 0..MOST_WRITES {
+        if rest.is_empty() {
+            break;
+        }
+        match stream.write(rest) {
+            Ok(0) => return Err(ErrorKind::WriteZero.into()),
+            Ok(count) => rest = &rest[count..],
+            Err(error) if error.kind() == ErrorKind::Interrupted => {}
+            Err(error) => return Err(error),
+        }
     }
-}
-
-/// What of a whole piece of so many bytes has come.
-#[derive(Drop)]
-pub enum Piece<const N: usize> {
-    Whole([u8; N]),
-    /// It is still to come.
-    Waits,
-    /// It does not come.
-    Wrong,
-}
-
-/// Takes a piece once it is there whole.
-pub fn take_piece<S: Read + OpenStream, const N: usize>(stream: &mut S) -> Piece<N> {
-    let mut bytes = [0u8; N];
-    match stream.peek(&mut bytes) {
-        Ok(0) => return Piece::Wrong,
-        Ok(count) if count < N => return Piece::Waits,
-        Ok(_) => {}
-        Err(error) if is_waiting(&error) => return Piece::Waits,
-        Err(_) => return Piece::Wrong,
+    if !rest.is_empty() {
+        return Err(ErrorKind::TimedOut.into());
     }
-    match stream.read(&mut bytes) {
-        Ok(count) if count == N => Piece::Whole(bytes),
-        _ => Piece::Wrong,
-    }
+    stream.set_nonblocking(true)
 }
 
 /// Takes what has come, up to the length of the buffer. Where there is no memory for it, it stays.

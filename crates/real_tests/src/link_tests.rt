@@ -1,15 +1,13 @@
 //! The links of nodes and clients, over loopback.
 use base_types::{Items, NoMemory, Peer, Peers, Text, Ws};
 use outside::{Arrival, Link};
-use real_outside::{Commons, TcpLink};
+use real_outside::TcpLink;
 use std::alloc::{AllocError, Global};
-use std::fs::OpenOptions;
+use std::io;
 use std::io::{ErrorKind, Read, Write};
 use std::net::{Net, OpenListener, OpenStream, TcpListener, TcpStream};
-use std::os::unix::fs::OpenOptionsExt;
 use std::test::Fail;
 use std::time::Duration;
-use std::{fs, io};
 
 const M: Ws = Ws(0);
 
@@ -147,12 +145,12 @@ fn comes_and_goes<L: Link + Drop>(
 fn an_agent_finds_its_master(rt: HostRuntime) -> Result<(), Fail> {
     let alloc = rt.alloc();
     let of_both = peers(alloc, &[free_port(&rt)?, free_port(&rt)?])?;
-    let mut agent = TcpLink::new(alloc, rt, Commons::new(alloc, rt, "OFLINKS")?);
+    let mut agent = TcpLink::new(alloc, rt);
     assert!(rt; is_alone(&mut agent, &of_both));
 
     // The master comes later, and goes, and comes again.
     for _ in 0..2 {
-        let master = TcpLink::new(alloc, rt, Commons::new(alloc, rt, "OFLINKS")?);
+        let master = TcpLink::new(alloc, rt);
         assert!(rt; comes_and_goes(alloc, &of_both, master, &mut agent));
     }
     Ok(())
@@ -193,8 +191,8 @@ fn a_link_ends_at_both_ends(rt: HostRuntime) -> Result<(), Fail> {
     let alloc = rt.alloc();
     let port = free_port(&rt)?;
     let of_both = peers(alloc, &[port, free_port(&rt)?])?;
-    let mut master = TcpLink::new(alloc, rt, Commons::new(alloc, rt, "OFLINKS")?);
-    let mut agent = TcpLink::new(alloc, rt, Commons::new(alloc, rt, "OFLINKS")?);
+    let mut master = TcpLink::new(alloc, rt);
+    let mut agent = TcpLink::new(alloc, rt);
     assert!(rt;
         are_apart(&mut master, &mut agent, &of_both) && begins_and_ends(&mut master, &mut agent)
     );
@@ -239,8 +237,8 @@ fn settle<L: Link>(master: &mut L, agent: &mut L) -> bool {
 fn two_that_call_each_other_find_each_other(rt: HostRuntime) -> Result<(), Fail> {
     let alloc = rt.alloc();
     let of_both = peers(alloc, &[free_port(&rt)?, free_port(&rt)?])?;
-    let mut master = TcpLink::new(alloc, rt, Commons::new(alloc, rt, "OFLINKS")?);
-    let mut agent = TcpLink::new(alloc, rt, Commons::new(alloc, rt, "OFLINKS")?);
+    let mut master = TcpLink::new(alloc, rt);
+    let mut agent = TcpLink::new(alloc, rt);
     let begun = master.begin(Some(M), Some(A), &of_both).is_ok()
         && agent.begin(Some(A), Some(M), &of_both).is_ok();
     assert!(rt; begun && settle(&mut master, &mut agent) && talk(&mut master, &mut agent));
@@ -262,8 +260,8 @@ fn ask<L: Link>(node: &mut L, client: &mut L) -> bool {
 fn a_client_asks_a_node(rt: HostRuntime) -> Result<(), Fail> {
     let alloc = rt.alloc();
     let of_master = peers(alloc, &[free_port(&rt)?])?;
-    let mut client = TcpLink::new(alloc, rt, Commons::new(alloc, rt, "OFLINKS")?);
-    let mut master = TcpLink::new(alloc, rt, Commons::new(alloc, rt, "OFLINKS")?);
+    let mut client = TcpLink::new(alloc, rt);
+    let mut master = TcpLink::new(alloc, rt);
     let begun = client.begin(None, Some(M), &of_master).is_err()
         && master.begin(Some(M), None, &of_master).is_ok()
         && client.begin(None, Some(M), &of_master).is_ok();
@@ -275,8 +273,8 @@ fn a_client_asks_a_node(rt: HostRuntime) -> Result<(), Fail> {
 fn a_node_listens_on_its_own_address_alone(rt: HostRuntime) -> Result<(), Fail> {
     let alloc = rt.alloc();
     let of_master = peers(alloc, &[free_port(&rt)?])?;
-    let mut master = TcpLink::new(alloc, rt, Commons::new(alloc, rt, "OFLINKS")?);
-    let mut second = TcpLink::new(alloc, rt, Commons::new(alloc, rt, "OFLINKS")?);
+    let mut master = TcpLink::new(alloc, rt);
+    let mut second = TcpLink::new(alloc, rt);
     let begun = master.begin(Some(A), None, &of_master).is_err()
         && master.begin(Some(M), Some(A), &of_master).is_err()
         && master.begin(Some(M), None, &of_master).is_ok();
@@ -327,40 +325,10 @@ fn callers_are_not_trusted(rt: HostRuntime) -> Result<(), Fail> {
     let alloc = rt.alloc();
     let port = free_port(&rt)?;
     let of_both = peers(alloc, &[port, free_port(&rt)?])?;
-    let mut node = TcpLink::new(alloc, rt, Commons::new(alloc, rt, "OFLINKS")?);
+    let mut node = TcpLink::new(alloc, rt);
     let heard = node.begin(Some(M), None, &of_both).is_ok()
         && hears_slow_one(&rt, port, &mut node).unwrap_or(false);
     assert!(rt; heard);
     assert_eq!(rt; wrong_ones_refused(&rt, port, &mut node).unwrap_or(0), 4);
-    Ok(())
-}
-
-/// The text of a key.
-const KEY: &str = "0123456789abcdef0123456789abcdef";
-
-/// Whether a link under the key carries bytes both ways, many of them too.
-fn is_carried<L: Link>(alloc: Global, of_both: &Peers, master: &mut L, agent: &mut L) -> bool {
-    master.begin(Some(M), None, of_both).is_ok()
-        && agent.begin(Some(A), Some(M), of_both).is_ok()
-        && settle(master, agent)
-        && talk(master, agent)
-        && tell_much(alloc, master, agent).unwrap_or(false)
-}
-
-#[test]
-fn a_key_lets_its_holders_in_alone(rt: HostRuntime) -> Result<(), Fail> {
-    let alloc = rt.alloc();
-    let port = free_port(&rt)?;
-    let of_both = peers(alloc, &[port, free_port(&rt)?])?;
-    let mut master = TcpLink::new(alloc, rt, Commons::new(alloc, rt, "OFLINKS")?);
-    let mut agent = TcpLink::new(alloc, rt, Commons::new(alloc, rt, "OFLINKS")?);
-    let mut options = OpenOptions::new();
-    options.write(true).create(true).mode(0o600);
-    options.open(&rt, "tws.key")?.write_all(KEY.as_bytes())?;
-    let carried = is_carried(alloc, &of_both, &mut master, &mut agent);
-    fs::remove_file(&rt, "tws.key")?;
-    assert!(rt; carried);
-    let greeting = b"TWS1\0\x01 and thirty-four bytes more than that, all wrong";
-    assert!(rt; refuses(&rt, port, &mut master, greeting).unwrap_or(false));
     Ok(())
 }

@@ -2,12 +2,11 @@
 use base_types::Text;
 use file_watch::Prober;
 use outside::Failed;
-use real_outside::{Commons, FileProber};
+use real_outside::FileProber;
 use std::alloc::Global;
 use std::fs;
-use std::fs::{File, Files};
+use std::fs::Files;
 use std::test::Fail;
-use std::time::Clock;
 
 /// Paths, and what the prober answers where `in.dat` is a file.
 static ANSWERS: [(&str, Result<bool, Failed>); 4] = [
@@ -18,7 +17,7 @@ static ANSWERS: [(&str, Result<bool, Failed>); 4] = [
 ];
 
 /// Whether the prober gives this answer.
-fn answers<R: Files<File = File> + Clock + Drop>(
+fn answers<R: Files>(
     alloc: Global,
     prober: &mut FileProber<R>,
     path: &str,
@@ -31,7 +30,7 @@ fn answers<R: Files<File = File> + Clock + Drop>(
 }
 
 /// How many of the answers are given, up to the first that is not.
-fn given<R: Files<File = File> + Clock + Drop>(alloc: Global, prober: &mut FileProber<R>) -> usize {
+fn given<R: Files>(alloc: Global, prober: &mut FileProber<R>) -> usize {
     for (i, (path, wanted)) in ANSWERS.iter().enumerate() {
         if !answers(alloc, prober, path, *wanted) {
             return i;
@@ -44,7 +43,7 @@ fn given<R: Files<File = File> + Clock + Drop>(alloc: Global, prober: &mut FileP
 fn files_are_there_or_not(rt: HostRuntime) -> Result<(), Fail> {
     let alloc = rt.alloc();
     let _ = fs::remove_file(&rt, "in.dat");
-    let mut prober = FileProber::new(rt, Commons::new(alloc, rt, "OFFILES")?);
+    let mut prober = FileProber::new(rt);
     assert!(rt; answers(alloc, &mut prober, "in.dat", Ok(false)));
     fs::write(&rt, "in.dat", "")?;
     assert_eq!(rt; given(alloc, &mut prober), 4);

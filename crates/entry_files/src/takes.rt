@@ -32,6 +32,7 @@ pub(crate) fn take_entries(
     ensures wrong { (place : ℕ) → IsErrOf result (NotThisFile place) → IsWrongAt net.now owner place bodies.now }
     ensures own { IsErrOf result OfFolder → ⊥ }
 {
+    // The workstation is named for the clauses alone: who owns the file was seen when its head was read.
     let _ = owner;
     let mut taken = Owners::new(alloc);
     let mut place = 8u64;

@@ -7,7 +7,9 @@ use Rattle.node_inputs.specs.Keeping.{IsReady, KeptBy, Lasts}
 use Rattle.node_inputs.specs.Traces.{Event, Trace, refusals, tried}
 use Rattle.node_inputs.specs.declared.ends.NodeEnd.{NodeEnd}
 use Rattle.node_inputs.specs.declared.ends.NodeEnd.TheVariants.{NoMemory}
-use Rattle.node_inputs.proofs.Lasting.{both_last, none_kept, nothing_lasts, refusals-append, tried-append}
+use Rattle.node_inputs.proofs.Fronts.{none_kept, refusals-append, tried-append}
+use Rattle.node_inputs.proofs.Joining.{both_last}
+use Rattle.node_inputs.proofs.Lasting.{nothing_lasts}
 use Rattle.node_inputs.specs.Actions.{Action, Call, Nothing, Stop, Then, Wants}
 use Rattle.node_inputs.specs.Doings.{Does, DoesOutside, end_of}
 use Rattle.node_inputs.specs.Inputs.{Keep}

@@ -1,6 +1,8 @@
 pub mod Choosing
 pub mod Doing
 pub mod Flagging
+pub mod Fronts
+pub mod Joining
 pub mod Keepable
 pub mod Lasting
 pub mod Looping

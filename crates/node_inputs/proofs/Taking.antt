@@ -11,7 +11,9 @@ use Rattle.agent_core.specs.declared.faults.StepFault.TheVariants as fault
 use Rattle.outside.specs.Kept.{Bodies}
 use Rattle.node_inputs.specs.Keeping.{IsReady}
 use Rattle.node_inputs.specs.Traces.{Trace, refusals}
-use Rattle.node_inputs.proofs.Lasting.{both_last, none_kept, nothing_lasts, refusals-append}
+use Rattle.node_inputs.proofs.Fronts.{none_kept, refusals-append}
+use Rattle.node_inputs.proofs.Joining.{both_last}
+use Rattle.node_inputs.proofs.Lasting.{nothing_lasts}
 use Rattle.node_inputs.specs.declared.ends.NodeEnd.{NodeEnd}
 use Rattle.node_inputs.specs.declared.ends.NodeEnd.TheVariants.{NoMemory}
 use Rattle.node_inputs.specs.Actions.{Action, Nothing, Then}

@@ -13,7 +13,7 @@ use Rattle.message_file.specs.Files.{kept_of}
 use Rattle.message_file.proofs.Reading.{kept_is}
 use Rattle.node_inputs.specs.Keeping.{IsLeft, IsLeftAtEnd, IsLeftWith, IsWritten, bodies}
 use Rattle.node_inputs.specs.Traces.{Event, Trace, kept, tried}
-use Rattle.node_inputs.proofs.Lasting.{tried-append}
+use Rattle.node_inputs.proofs.Fronts.{tried-append}
 use Rattle.node_restart.specs.Restarting.{Restarts}
 use Rattle.node_service.specs.Joining.{GoesOn}
 use Rattle.node_service.specs.Serving.{told_kept}

@@ -5,7 +5,7 @@ use Rattle.std.proofs.Common.{IfSome, option_map}
 use Rattle.std.specs.List.{AllByRecursion}
 use Rattle.std.proofs.lemmas.List.{map-append}
 use Rattle.std.proofs.lemmas.List.Elements.{All-from_recursion, recursion_from_All}
-use Rattle.node_inputs.proofs.Lasting.{rose_since}
+use Rattle.node_inputs.proofs.Joining.{rose_since}
 use Rattle.node_restart.proofs.Stopping.{own_files}
 use Rattle.model.specs.Fit.{AreFitEntries, IsFit}
 use Rattle.model.specs.Spelling.{entry_bytes}

@@ -13,7 +13,8 @@ use Rattle.message_file.specs.Files.{kept_of}
 use Rattle.message_file.specs.State.{FileState, KeptLeft, kept_in}
 use Rattle.node_inputs.specs.Keeping.{IsLeft, IsLeftWith, IsRefusal, IsLeftAtEnd, IsPath, IsUnfailed, KeeperTells, bodies, kept_size, record_size}
 use Rattle.node_inputs.specs.Traces.{Trace, kept, refusals, tried}
-use Rattle.node_inputs.proofs.Lasting.{one_is, tried-append}
+use Rattle.node_inputs.proofs.Fronts.{tried-append}
+use Rattle.node_inputs.proofs.Lasting.{one_is}
 use Rattle.node_inputs.specs.declared.ends.NodeEnd.{NodeEnd}
 use Rattle.node_inputs.specs.declared.ends.NodeEnd.TheVariants.{DiskFault, Limit, NoMemory, Shutdown, TurnsSpent}
 use Rattle.composer_parser.specs.declared.Defs.{Defs}

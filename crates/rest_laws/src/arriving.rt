@@ -29,8 +29,8 @@ pub fn there_is_always_a_round()
 
 /// Where there is always one more round, the network comes to rest after at most so many rounds, a number that the world
 /// at the start decides with the readings that clocks may have, and then its work is done: so from each world of steps, as
-/// long as no input comes from outside. Clocks go on between rounds as they will; of whatever rounds come, all but so many
-/// begin at rest.
+/// long as no input comes from outside. Clocks go on between rounds among the readings that are listed for them; of whatever
+/// rounds come, all but so many begin at rest.
 pub fn rounds_come_to_rest()
     ensures world { (net : Net) (readings : ℕ → List ℕ) (clocks : ℕ → ℕ → ℕ) (x : World) → IsTree net → Invariant net x
         → AlwaysRounds net readings x → ((k : ℕ) → AreAmong readings (clocks k)) → ComesToRest net readings clocks x }
@@ -44,8 +44,8 @@ pub fn rounds_come_to_rest()
 
 /// Orders alone tell that no entry which a turn would make is too long: no answer adds more than a few numbers to its
 /// order, and an entry counts each workstation once. So a world of steps has short answers where the orders that its steps
-/// give have, whatever else they bring. Each order that is written in the program's language has a short
-/// answer: a fit one, which submits one job at most and no dependency.
+/// give have, whatever else they bring. Each order that is written in the program's language has a short answer: a fit one,
+/// which submits one job at most and no dependency.
 pub fn answers_stay_short()
     ensures always { (net : Net) (readings : ℕ → List ℕ) (x : World) → Invariant net x → IsTrue (names_inside net x)
         → IsTrue (are_answers_short net x) → AlwaysShort net readings x }

@@ -34,8 +34,8 @@ pub fn pairs_without_links_come_to_no_rest()
 {}
 
 /// All that is asked of a network so that it comes to rest can be met, with something left to do: three workstations, one
-/// behind the other, a plan and an order, no link up yet, and clocks that go on after the first round. Where they have come to later the agent has launched its
-/// job, its process has ended, and the order is answered.
+/// behind the other, a plan and an order, no link up yet, and clocks that go on after the first round. Where they have come
+/// to later the agent has launched its job, its process has ended, and the order is answered.
 pub fn three_workstations_come_to_rest()
     ensures tree { IsTree trio }
     ensures names { IsTrue (names_inside trio trio_begun) }

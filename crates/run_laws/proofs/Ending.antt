@@ -2,7 +2,7 @@
 use Rattle.std.proofs.Common.{[], ◌++◌, ◌≡◌, ◌∙◌, ◌∷◌, List, None, Option, Some, ap, append_assoc, refl, subst, sym}
 use Rattle.std.proofs.lemmas.List.{append-nil}
 use Rattle.std.specs.Option.{option_to_list}
-use Rattle.node_inputs.proofs.Lasting.{kept-append}
+use Rattle.node_inputs.proofs.Fronts.{kept-append}
 use Rattle.model.specs.Types.{Entry, Input}
 use Rattle.agent_core.specs.Nodes.{NodeState}
 use Rattle.node_inputs.specs.Traces.{Event, Trace, kept}

@@ -2,7 +2,7 @@
 use Rattle.std.proofs.Common.{[], ◌++◌, ◌≡◌, ◌∙◌, ◌∷◌, ℕ, List, None, Option, Some, ap, inl, inr, refl, subst, sym}
 use Rattle.std.specs.List.{AllByRecursion}
 use Rattle.base_types.specs.declared.LimitName.TheVariants.{Places}
-use Rattle.node_inputs.proofs.Lasting.{refusals-append}
+use Rattle.node_inputs.proofs.Fronts.{refusals-append}
 use Rattle.model.specs.Types.{Entry, Input, Launch, Out, Send, Work}
 use Rattle.agent_core.specs.Nodes.{NodeState}
 use Rattle.mail_frames.specs.declared.frames.Frame.{Frame}

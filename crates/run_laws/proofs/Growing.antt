@@ -2,7 +2,7 @@
 use Rattle.std.proofs.Common.{[], ◌++◌, ◌≡◌, ◌≤◌, ◌∙◌, ◌∷◌, ℕ, List, ap, append_assoc, arith, inl, inr, refl, sym}
 use Rattle.std.specs.List.{AllByRecursion}
 use Rattle.model_laws.proofs.Answered.{answered-append}
-use Rattle.node_inputs.proofs.Lasting.{kept-append}
+use Rattle.node_inputs.proofs.Fronts.{kept-append}
 use Rattle.model.specs.Types.{Body, Entry, Feed}
 use Rattle.model.specs.Facts.{answered}
 use Rattle.model.specs.History.{list_of}

@@ -3,7 +3,7 @@ use Rattle.std.proofs.Common.{[], ◌++◌, ◌≡◌, ◌∙◌, ◌∷◌, ◌
 use Rattle.std.proofs.lemmas.List.{append-nil}
 use Rattle.std.specs.List.{AllByRecursion}
 use Rattle.lemmas.proofs.Lists.{no_middle}
-use Rattle.node_inputs.proofs.Lasting.{kept-append}
+use Rattle.node_inputs.proofs.Fronts.{kept-append}
 use Rattle.model.specs.Types.{Entry, Input}
 use Rattle.model.specs.History.{view_of}
 use Rattle.agent_core.specs.Nodes.{NodeState, view_in}

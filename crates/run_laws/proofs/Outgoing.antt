@@ -4,7 +4,7 @@ use Rattle.std.specs.List.{AllByRecursion}
 use Rattle.std.specs.Option.{option_map_or, option_to_list}
 use Rattle.std.specs.Prelude.{filter, flat_map, if◌then◌else◌, option_map, ◌&&◌}
 use Rattle.lemmas.proofs.Lists.{all_append, all_left, all_middle, no_middle}
-use Rattle.node_inputs.proofs.Lasting.{kept-append}
+use Rattle.node_inputs.proofs.Fronts.{kept-append}
 use Rattle.model.specs.Types.{Ack, Body, Entry, Events, Feed, Fulfil, Input, Kill, Launch, Launched, Linked, Local, Mail, Net, Next, Obeyed, Out, Packet, Send, StartFailed}
 use Rattle.model.specs.Types.{Turn, Typed, Unlinked}
 use Rattle.model.specs.Words.{below, nth}

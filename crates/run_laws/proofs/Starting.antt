@@ -6,7 +6,7 @@ use Rattle.std.specs.List.{AllByRecursion}
 use Rattle.std.specs.Option.{option_to_list}
 use Rattle.std.specs.Prelude.{filter_map}
 use Rattle.lemmas.proofs.Lists.{all_left, no_middle}
-use Rattle.node_inputs.proofs.Lasting.{kept-append}
+use Rattle.node_inputs.proofs.Fronts.{kept-append}
 use Rattle.model.specs.Types.{Entry, Input}
 use Rattle.outside.specs.Calls.{StartCall}
 use Rattle.agent_core.specs.Nodes.{NodeState}

@@ -2,7 +2,7 @@
 use Rattle.std.proofs.Common.{[], ◌++◌, ◌≡◌, ◌∙◌, ◌∷◌, List, None, Option, Some, ap, inl, inr, refl, subst, sym}
 use Rattle.std.specs.List.{AllByRecursion}
 use Rattle.std.specs.Option.{option_to_list}
-use Rattle.node_inputs.proofs.Lasting.{kept-append}
+use Rattle.node_inputs.proofs.Fronts.{kept-append}
 use Rattle.lemmas.proofs.Lists.{all_append, no_middle}
 use Rattle.model.specs.Types.{Entry, Input, Out}
 use Rattle.agent_core.specs.Nodes.{NodeState}

@@ -295,7 +295,7 @@ cat > "$copy/crates/audit_bench/src/nights.rt" <<'PROGRAM'
 //! A night of 7,000 streams at 16 workstations, each with a chain of four jobs at four of them.
 use crate::documents::{job, stream};
 use crate::histories::History;
-use base_types::{Body, Dep, Items, JobNo, NoMemory, Seen, StreamDoc, StreamNo};
+use base_types::{Body, Dep, Items, JobNo, NoMemory, Seen, SharedDocs, StreamDoc, StreamNo};
 use std::alloc::Global;
 
 const STREAMS: u32 = 7000;
@@ -352,6 +352,7 @@ pub(crate) fn tell(history: &mut History) -> Result<(), NoMemory> {
     for s in 0..STREAMS {
         docs.push(chain(alloc, s.wrapping_add(1))?)?;
     }
+    let docs = SharedDocs::of(alloc, docs)?;
     history.tell(0, Body::NewPlan(1, Seen::new(alloc), Items::new(alloc), docs))?;
     for s in 0..STREAMS {
         run_stream(history, s.wrapping_add(1))?;
@@ -366,7 +367,7 @@ cat > "$copy/crates/audit_bench/src/reruns.rt" <<'PROGRAM'
 //! first few.
 use crate::documents::{job, stream};
 use crate::histories::History;
-use base_types::{Body, Dep, Deps, Items, JobNo, NoMemory, Seen, StreamDoc, Ws};
+use base_types::{Body, Dep, Deps, Items, JobNo, NoMemory, Seen, SharedDocs, StreamDoc, Ws};
 use std::alloc::Global;
 
 const FIRST: u16 = 32;
@@ -431,6 +432,7 @@ pub(crate) fn tell(history: &mut History) -> Result<(), NoMemory> {
     for w in 0..ALL {
         docs.push(document(alloc, w.wrapping_add(1))?)?;
     }
+    let docs = SharedDocs::of(alloc, docs)?;
     history.tell(0, Body::NewPlan(1, Seen::new(alloc), Items::new(alloc), docs))?;
     for w in 0..ALL {
         history.release(w.wrapping_add(1), u32::from(w.wrapping_add(1)))?;
@@ -450,7 +452,7 @@ cat > "$copy/crates/audit_bench/src/crowds.rt" <<'PROGRAM'
 //! The master has 300 streams of 100 jobs. All jobs are launched before the first of them ends.
 use crate::documents::{job, stream};
 use crate::histories::History;
-use base_types::{Body, Items, NoMemory, Seen, StreamDoc};
+use base_types::{Body, Items, NoMemory, Seen, SharedDocs, StreamDoc};
 use std::alloc::Global;
 
 const STREAMS: u32 = 300;
@@ -474,6 +476,7 @@ pub(crate) fn tell(history: &mut History) -> Result<(), NoMemory> {
     for s in 0..STREAMS {
         docs.push(document(alloc, s.wrapping_add(1))?)?;
     }
+    let docs = SharedDocs::of(alloc, docs)?;
     history.tell(0, Body::NewPlan(1, Seen::new(alloc), Items::new(alloc), docs))?;
     history.limit(0, 60000)?;
     for s in 0..STREAMS {
@@ -494,7 +497,7 @@ cat > "$copy/crates/audit_bench/src/months.rt" <<'PROGRAM'
 //! Thirty nights of 230 streams each. The plan of each night carries ten that the night before left.
 use crate::histories::History;
 use crate::nights::{chain, run_stream};
-use base_types::{Body, Items, NoMemory, StreamDocs, StreamNo, StreamNos};
+use base_types::{Body, Items, NoMemory, SharedDocs, StreamDocs, StreamNo, StreamNos};
 
 /// How many fresh streams a night has.
 const FRESH: u32 = 230;
@@ -529,7 +532,7 @@ pub(crate) fn tell(history: &mut History) -> Result<(), NoMemory> {
     for night in 0..30u32 {
         let cut = history.seen(&all)?;
         let carried = carried(history, night)?;
-        let docs = documents(history, night)?;
+        let docs = SharedDocs::of(history.alloc, documents(history, night)?)?;
         history.tell(0, Body::NewPlan(night.wrapping_add(1), cut, carried, docs))?;
         if night > 0 {
             for i in 0..LEFT {

@@ -8,13 +8,22 @@ trap 'rm -rf "$copy"' EXIT
 
 cp crates.txt HANDLES "$copy"
 mkdir -p "$copy/crates/facts_bench/src"
-for crate in base_types model owner_rows grouped_places owner_fold; do
+# below NAME: the crates of the repository that a crate stands on, and the crate itself behind them
+below() {
+  local crate
+  for crate in $(sed -n "s/^$1: *//p" crates.txt); do
+    [ ! -d "crates/$crate" ] || below "$crate"
+  done
+  echo "$1"
+}
+: > "$copy/crates.txt"
+for crate in $(below owner_fold | awk '!seen[$0]++'); do
   mkdir "$copy/crates/$crate"
   for part in src specs proofs; do
     [ ! -d "crates/$crate/$part" ] || cp -r "crates/$crate/$part" "$copy/crates/$crate"
   done
+  grep -E "^$crate:" crates.txt >> "$copy/crates.txt"
 done
-grep -E '^(base_types|model|owner_rows|grouped_places|owner_fold):' crates.txt > "$copy/crates.txt"
 echo 'facts_bench: base_types owner_fold' >> "$copy/crates.txt"
 
 cat > "$copy/crates/facts_bench/src/main.rt" <<'PROGRAM'
@@ -24,8 +33,8 @@ cat > "$copy/crates/facts_bench/src/main.rt" <<'PROGRAM'
 #![tactic(auto)]
 
 use base_types::{
-    Body, Entry, Feed, Items, JobDoc, JobNo, NoMemory, Recovery, Seen, StreamDoc, StreamNo, Text,
-    Work, Ws,
+    Body, Entry, Feed, Items, JobDoc, JobNo, NoMemory, Recovery, Seen, SharedDocs, StreamDoc,
+    StreamNo, Text, Work, Ws,
 };
 use owner_fold::Owners;
 use std::alloc::Global;
@@ -69,6 +78,7 @@ fn plan(alloc: Global) -> Result<Body, NoMemory> {
     for number in 0..STREAMS {
         docs.push(stream(alloc, number)?)?;
     }
+    let docs = SharedDocs::of(alloc, docs)?;
     Ok(Body::NewPlan(1, Seen::new(alloc), Items::new(alloc), docs))
 }
 

@@ -32,7 +32,7 @@ cat > "$copy/crates/plans_bench/src/main.rt" <<'PROGRAM'
 #![tactic(auto)]
 
 use base_types::{
-    Body, DraftDep, DraftDeps, Items, JobDraft, Net, NoMemory, Node, Recovery, StreamDraft,
+    Body, Carry, DraftDep, DraftDeps, Items, JobDraft, Net, NoMemory, Node, Recovery, StreamDraft,
     StreamDrafts, Text, Work, Ws,
 };
 use carry_forward::next_plan;
@@ -111,6 +111,7 @@ fn net(alloc: Global) -> Result<Net, NoMemory> {
         nodes,
         resources: Items::new(alloc),
         prompts: Items::new(alloc),
+        carry: Carry::Yes,
     })
 }
 
@@ -119,7 +120,7 @@ fn planned(alloc: Global, drafts: &StreamDrafts) -> Option<usize> {
     let net = Network::new(alloc, net(alloc).ok()?).ok()?;
     let owners = Owners::new(alloc);
     match next_plan(alloc, &net, &owners, drafts) {
-        Ok(Body::NewPlan(_, _, _, docs)) => Some(docs.len()),
+        Ok(Body::NewPlan(_, _, _, docs)) => Some(docs.docs().len()),
         _ => None,
     }
 }

@@ -35,7 +35,7 @@ cat > "$copy/crates/ready_bench/src/main.rt" <<'PROGRAM'
 #![tactic(auto)]
 
 use base_types::{
-    Body, Dep, Deps, Entry, Feed, Items, JobDoc, JobNo, Moment, NoMemory, Seen, StreamDoc, StreamNo,
+    Body, Dep, Deps, Entry, Feed, Items, JobDoc, JobNo, Moment, NoMemory, Seen, SharedDocs, StreamDoc, StreamNo,
     Ws,
 };
 use dependencies::Readiness;
@@ -85,7 +85,7 @@ fn take(owners: &mut Owners, body: Body) -> Result<(), NoMemory> {
 
 fn holding(alloc: Global) -> Result<Owners, NoMemory> {
     let mut owners = Owners::new(alloc);
-    let docs = one(alloc, followed_stream(alloc)?)?;
+    let docs = SharedDocs::of(alloc, one(alloc, followed_stream(alloc)?)?)?;
     take(&mut owners, Body::NewPlan(1, Seen::new(alloc), Items::new(alloc), docs))?;
     take(&mut owners, Body::Released(StreamNo(1), Seen::new(alloc)))?;
     take(&mut owners, Body::Launched(JobNo(JOBS + 1), 1, Seen::new(alloc)))?;

@@ -37,7 +37,7 @@ cat > "$copy/crates/steps_bench/src/main.rt" <<'PROGRAM'
 use agent_core::{Agent, StepFault};
 use base_types::{
     Body, Dep, Deps, Entries, Entry, Feed, Input, Items, JobDoc, JobNo, Local, Moment, NoMemory,
-    Seen, StreamDoc, StreamNo, Text, Ws,
+    Seen, SharedDocs, StreamDoc, StreamNo, Text, Ws,
 };
 use network_tree::Network;
 use std::alloc::Global;
@@ -82,7 +82,7 @@ fn event(w: Ws, place: u32, body: Body) -> Entry {
 
 fn kept(alloc: Global) -> Result<Entries, NoMemory> {
     let mut entries = Items::new(alloc);
-    let docs = one(alloc, stream_of_jobs(alloc)?)?;
+    let docs = SharedDocs::of(alloc, one(alloc, stream_of_jobs(alloc)?)?)?;
     let plan = Body::NewPlan(1, Seen::new(alloc), Items::new(alloc), docs);
     entries.push(event(M, 1, plan))?;
     entries.push(event(M, 2, Body::Released(StreamNo(1), Seen::new(alloc))))?;

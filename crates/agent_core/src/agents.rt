@@ -114,8 +114,8 @@ impl Agent {
         self.idle_until = None;
     }
 
-    /// Makes the index of the best job anew where it was given up, so that a turn has one. Where memory runs out all
-    /// stays.
+    /// Lets the tracker make the index of the best job anew, where it was given up. Contracts see nothing of that: whatever
+    /// comes, the node is as before.
     pub(crate) fn renew(&mut self) -> Result<(), NoMemory>
         ensures { self.new ≡ self.old }
     {

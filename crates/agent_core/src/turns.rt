@@ -53,8 +53,8 @@ impl Agent {
         self.idle_until = Some(t);
     }
 
-    /// The body of a turn's entry, if it keeps one. The best job is found by the index, which is missing only where memory
-    /// ran out.
+    /// The body of a turn's entry, if it keeps one. The best job is found by the index. Where there is none, the answer is
+    /// `NoMemory`.
     fn due_body(&self, t: Moment) -> Result<Option<Body>, StepFault>
         ensures { IsTurnBody self.now t result }
     {

@@ -202,7 +202,7 @@ seven a b p q r s t =
       length-append a b,
     )
 
-all_few : (d : Defs) (plan : PlanDay) (n : ℕ) (inside : Bool) (own : Option (List ℕ)) (cs : List (Lined Clause))
+pub all_few : (d : Defs) (plan : PlanDay) (n : ℕ) (inside : Bool) (own : Option (List ℕ)) (cs : List (Lined Clause))
     → length (dependencies_of d plan n inside own cs) ≤ sum_by lined_weight cs
 unfolding dependencies_of
 all_few d plan n inside own cs =

@@ -1,12 +1,7 @@
-mod OneRun
 mod Tellings
-mod Calling
+pub mod Calling
 mod Histories
-mod Dues
-mod Outcomes
-mod Stops
+pub mod Saying
+pub mod Stops
 mod SoundTexts
-mod Worlds
-mod Rows
-mod Drafts
-pub mod Answered
+mod Answered

@@ -1,4 +1,4 @@
--- The statuses with which an input and a line are answered, by their numbers.
+-- The status of a run that stops, and that of success.
 use Rattle.std.proofs.Common.{◌≡◌, arith, refl}
 use Rattle.record_runs.specs.declared.stops.Stop.{Stop}
 use Rattle.record_runs.specs.declared.stops.Stop.TheVariants as stop
@@ -7,19 +7,6 @@ use Rattle.replies.specs.declared.statuses.Status.TheVariants.{Success, Definiti
 use Rattle.replies.specs.declared.statuses.Status.TheVariants.{SourceFailed, SinkFailed, DiskFailed, OtherFile, TurnsSpent, NoMemory, LimitPassed, NotSound, NoAnswer}
 use Rattle.input_commands.specs.Lines.{stop_status}
 use Rattle.replies.specs.Statuses.{number_of}
-use Rattle.input_commands.proofs.Calling.{IsOfInput, success, definitions_, refused, limit_, wrong_}
-
--- a status that a step is answered with is one of two, by its number
-pub record_or_limit : (status : Status) → IsOfInput status → (number_of status ≡ 3 → status ≡ RecordRefused)
-    × (number_of status ≡ 10 → status ≡ LimitPassed)
-record_or_limit status success =
-    (λ e. absurd (let never : ⊥ = omega arith in never), λ e. absurd (let never : ⊥ = omega arith in never))
-record_or_limit status definitions_ =
-    (λ e. absurd (let never : ⊥ = omega arith in never), λ e. absurd (let never : ⊥ = omega arith in never))
-record_or_limit status refused = (λ e. refl, λ e. absurd (let never : ⊥ = omega arith in never))
-record_or_limit status limit_ = (λ e. absurd (let never : ⊥ = omega arith in never), λ e. refl)
-record_or_limit status wrong_ =
-    (λ e. absurd (let never : ⊥ = omega arith in never), λ e. absurd (let never : ⊥ = omega arith in never))
 
 pub stop_is_no_success : (s : Stop) → number_of (stop_status s) ≡ 0 → ⊥
 stop_is_no_success stop.NoPacket e = omega arith
@@ -31,28 +18,6 @@ stop_is_no_success stop.OutOfRange e = omega arith
 stop_is_no_success stop.NotInNetwork e = omega arith
 stop_is_no_success stop.NotMaster e = omega arith
 stop_is_no_success (stop.Limit name number) e = omega arith
-
-pub stop_not_1 : (s : Stop) → number_of (stop_status s) ≡ 1 → ⊥
-stop_not_1 stop.NoPacket e = omega arith
-stop_not_1 stop.NoProcess e = omega arith
-stop_not_1 stop.NoDep e = omega arith
-stop_not_1 stop.NotNeighbour e = omega arith
-stop_not_1 stop.UnknownName e = omega arith
-stop_not_1 stop.OutOfRange e = omega arith
-stop_not_1 stop.NotInNetwork e = omega arith
-stop_not_1 stop.NotMaster e = omega arith
-stop_not_1 (stop.Limit name number) e = omega arith
-
-pub stop_not_11 : (s : Stop) → number_of (stop_status s) ≡ 11 → ⊥
-stop_not_11 stop.NoPacket e = omega arith
-stop_not_11 stop.NoProcess e = omega arith
-stop_not_11 stop.NoDep e = omega arith
-stop_not_11 stop.NotNeighbour e = omega arith
-stop_not_11 stop.UnknownName e = omega arith
-stop_not_11 stop.OutOfRange e = omega arith
-stop_not_11 stop.NotInNetwork e = omega arith
-stop_not_11 stop.NotMaster e = omega arith
-stop_not_11 (stop.Limit name number) e = omega arith
 
 -- 0 is the status of success alone
 pub success_is_0 : (s : Status) → number_of s ≡ 0 → s ≡ Success

@@ -1,5 +1,5 @@
 -- What is told of a world, and what bytes are.
-use Rattle.std.proofs.Common.{◌≡◌, ◌==◌, ◌+◌, ◌<◌, ℕ, List, Result, Ok, Err, sym, ap, ◌∙◌, subst, refl, length}
+use Rattle.std.proofs.Common.{◌≡◌, ◌==◌, ◌+◌, ◌<◌, ℕ, List, Result, Ok, Err, sym, ap, ◌∙◌, subst, length}
 use Rattle.std.proofs.Common.{take, count_by, arith}
 use Rattle.std.specs.Result.{IfOk}
 use Rattle.std.specs.Prelude.{IsUtf8}
@@ -17,7 +17,6 @@ use Rattle.network_world.specs.Stations.{WorldState}
 use Rattle.network_world.specs.Standing.{NodeStandsFor, StandsFor}
 use Rattle.history_script.specs.Printed.{history_text}
 use Rattle.symphony_view.specs.Counts.{stream_counts, job_counts}
-use Rattle.night_records.proofs.Once.{one_answer}
 use Rattle.night_records.specs.Readings.{At, IsRead}
 use Rattle.night_records.specs.declared.Record.{Record}
 use Rattle.record_faults.specs.declared.kinds.ScriptKind.{ScriptKind}
@@ -78,13 +77,6 @@ no_text_read bytes n line valid is =
     let other : utf8_valid_len bytes ≡ length bytes → ⊥ = λ e. omega arith in
     subst (λ (l : ℕ). AreRead bytes (Err (l, BadLine)))
     (ap (λ m. 1 + count_by (λ b. b == 10) (take m bytes)) len ∙ sym is) (AreRead.no_text other)
-
--- bytes are read to one thing
-pub one_reading : (bytes : List ℕ) (a b : Result Record At) → AreRead bytes a → AreRead bytes b → a ≡ b
-one_reading bytes a b (AreRead.no_text ne) (AreRead.no_text other) = refl
-one_reading bytes a b (AreRead.no_text ne) (AreRead.text is h) = absurd (ne is)
-one_reading bytes a b (AreRead.text is h) (AreRead.no_text ne) = absurd (ne is)
-one_reading bytes a b (AreRead.text is h) (AreRead.text also k) = one_answer bytes a b h k
 
 -- the same of calls that may want memory
 pub text_result : {E : Type 0} (bytes text : List ℕ) (r : Result Record E) → text ≡ bytes → IsUtf8 bytes

@@ -4,5 +4,4 @@ pub mod Lines
 pub mod Nights
 pub mod Audits
 pub mod Dues
-pub mod Rows
 pub mod Replies

@@ -5,9 +5,10 @@
 //! `accepts` and `to_send` are those of `model::specs::NewEntry` and `Forwarding`.
 //!
 //! What that costs: a count that was acknowledged is found in a tree. What is to be sent to a neighbour is found by one
-//! walk over the feeds of the network, which ends at eight and passes over each issuer of whom no order is held. A feed
-//! of orders is asked for its way first, which is one look; of what goes this way the entries held are counted, and a
-//! feed of events is asked for its way only where something of it is not acknowledged.
+//! walk over the feeds of the network, which ends at eight and passes over each issuer of whom no order is held. One that
+//! manages no domain looks at its own events alone. A few look-ups tell of most other feeds that they do not go to this
+//! neighbour. Of the rest the entries held are counted, and a feed of events is asked for its way only where something
+//! of it is not acknowledged.
 #![tactic(auto)]
 
 mod mails;

@@ -1,5 +1,5 @@
 //! What is sent to a neighbour: up to eight places that it has not acknowledged.
-ghost use Rattle.std.specs.Prelude.{◌≡◌, ◌≤◌, ◌<◌, ◌+◌, ◌-◌, ◌++◌, ◌∷◌, [], IsTrue, false, flat_map, length, map, nat_lt, slice_get, take};
+ghost use Rattle.std.specs.Prelude.{◌≡◌, ◌≤◌, ◌<◌, ◌+◌, ◌-◌, ◌++◌, ◌∷◌, [], ℕ, IsTrue, false, flat_map, length, map, nat_lt, slice_get, take};
 ghost use Rattle.std.specs.List.{list_all};
 ghost use Rattle.model.specs.Types as types;
 ghost use Rattle.model.specs.Words.{below, numbers_from};
@@ -13,7 +13,7 @@ ghost use Rattle.mailman_core.specs.Sends.{sent, unsent};
 use crate::mails::Mail;
 use arrayvec::ArrayVec;
 use base_types::{Feed, Growing, Out, Packet, Ws};
-use mailman_routes::forwards;
+use mailman_routes::{are_plainly_unwanted, forwards, passes_own_alone};
 use network_tree::Network;
 use owner_fold::Owners;
 use std::marker::Model;
@@ -76,16 +76,26 @@ fn add_places(batch: &mut Batch, feed: &Feed, acked: u32, held: u32)
     }
 }
 
-/// Whether a feed of orders goes another way. That is one look into the table of ways.
+/// Whether orders to t go another way. That is one look into the table of ways.
 #[tactic(auto, unfolding(model::specs::Forwarding::forwards))]
-fn goes_elsewhere(net: &Network, me: Ws, to: Ws, feed: &Feed) -> bool
+fn are_orders_elsewhere(net: &Network, me: Ws, to: Ws, t: Ws) -> bool
     requires from { me < node_count net.now }
+    requires inside { t < node_count net.now }
+    ensures { IsTrue result → (V : View) (a : ℕ) → spec.forwards net.now V me to (types.Orders a t) ≡ false }
+{
+    t.0 == me.0 || net.towards(me, t) != Some(to)
+}
+
+/// Whether a few look-ups tell that a feed is not passed on to `to`.
+fn goes_elsewhere(net: &Network, o: &Owners, me: Ws, to: Ws, feed: &Feed) -> bool
+    requires from { me < node_count net.now }
+    requires to { to < node_count net.now }
     requires inside { IsTrue (list_all (λ w. nat_lt w (node_count net.now)) (ws_in_feed feed.now)) }
-    ensures { IsTrue result → (V : View) → spec.forwards net.now V me to feed.now ≡ false }
+    ensures { IsTrue result → spec.forwards net.now (view_of o.now) me to feed.now ≡ false }
 {
     match feed {
-        Feed::Events(_) => false,
-        Feed::Orders(_, t) => t.0 == me.0 || net.towards(me, *t) != Some(to),
+        Feed::Events(x) => are_plainly_unwanted(net, o, me, to, *x),
+        Feed::Orders(_, t) => are_orders_elsewhere(net, me, to, *t),
     }
 }
 
@@ -100,11 +110,11 @@ impl Mail {
         ensures { batch.new.items ≡ take 8 (batch.old.items
             ++ unsent net.now (view_of o.now) me to (acked_by self.now to) (feed.now ∷ [])) }
     {
-        let held = o.count(*feed);
-        if held == 0 {
+        if goes_elsewhere(net, o, me, to, feed) {
             return;
         }
-        if goes_elsewhere(net, me, to, feed) {
+        let held = o.count(*feed);
+        if held == 0 {
             return;
         }
         let acked = self.acked_count(to, feed);
@@ -117,8 +127,8 @@ impl Mail {
         add_places(batch, feed, acked, held);
     }
 
-    /// Adds what is to be sent of the feeds of events.
-    fn add_events(&self, net: &Network, o: &Owners, me: Ws, to: Ws, batch: &mut Batch)
+    /// Adds what is to be sent of the feeds of events, each of which is looked at.
+    fn add_each_events(&self, net: &Network, o: &Owners, me: Ws, to: Ws, batch: &mut Batch)
         requires from { me < node_count net.now }
         requires to { to < node_count net.now }
         requires few { length batch.old.items ≤ 8 }
@@ -132,6 +142,22 @@ impl Mail {
             }
             let feed = Feed::Events(Ws(w));
             self.add_feed(net, o, me, to, &feed, batch);
+        }
+    }
+
+    /// Adds what is to be sent of the feeds of events. One that manages no domain looks at its own alone.
+    fn add_events(&self, net: &Network, o: &Owners, me: Ws, to: Ws, batch: &mut Batch)
+        requires from { me < node_count net.now }
+        requires to { to < node_count net.now }
+        requires few { length batch.old.items ≤ 8 }
+        ensures { batch.new.items ≡ take 8 (batch.old.items
+            ++ unsent net.now (view_of o.now) me to (acked_by self.now to)
+            (map types.Events (below (node_count net.now)))) }
+    {
+        if passes_own_alone(net, me) {
+            self.add_feed(net, o, me, to, &Feed::Events(me), batch);
+        } else {
+            self.add_each_events(net, o, me, to, batch);
         }
     }
 

@@ -1,14 +1,25 @@
 -- Who is behind one that manages no domain: nobody.
-use Rattle.std.proofs.Common.{◌≡◌, ◌∷◌, ◌+◌, ◌<◌, ◌≤◌, ◌∙◌, [], ℕ, Bool, List, None, Option, Some, ap, arith, false, inl, inr}
+use Rattle.std.proofs.Common.{◌≡◌, ◌≢◌, ◌∷◌, ◌+◌, ◌<◌, ◌≤◌, ◌∙◌, [], ℕ, Bool, List, None, Option, Some, ap, arith, false, inl, inr}
 use Rattle.std.proofs.Common.{length, refl, suc, sym, true, zero}
 use Rattle.std.proofs.lemmas.Bool.Decides.{eqb_tells}
 use Rattle.std.specs.List.{list_any}
 use Rattle.std.specs.Option.{option_map_or}
-use Rattle.std.specs.Prelude.{◌&&◌, ◌||◌, ◌==◌, drop, option_and_then, slice_get}
+use Rattle.std.specs.Prelude.{◌&&◌, ◌||◌, ◌==◌, drop, not, option_and_then, slice_get}
 use Rattle.lemmas.proofs.Booleans.{or_false}
-use Rattle.model.specs.Types.{Net, Node}
-use Rattle.model.specs.Words.{below, has, numbers_from}
+use Rattle.model.specs.Types.{Events, Net, Node}
+use Rattle.model.specs.Words.{below, has, numbers_from, some_is}
 use Rattle.model.specs.Network.{IsTree, climb, hop, is_behind, is_manager, node_count}
+use Rattle.model.specs.History.{View}
+use Rattle.model.specs.Forwarding.{forwards, is_under, wants}
+
+neither : (a b c d : Bool) → b ≡ false → c ≡ false → ((a && b) || (c && d)) ≡ false
+neither true b c d h k = rw (h, k) refl
+neither false b c d h k = rw k refl
+
+neither_way : (a b c d e : Bool) → a ≡ false → e ≡ false → ((a && b) || (c && (d && e))) ≡ false
+neither_way a b true true e h k = rw h k
+neither_way a b true false e h k = rw h refl
+neither_way a b false d e h k = rw h refl
 
 -- a workstation with a hop is one of the network
 inside : {X : Type 0} (g : Node → Option X) (nodes : List Node) (w : ℕ) (x : X)
@@ -91,3 +102,33 @@ only_itself net W m tree h inside =
     (λ v. ap (λ (b : Bool). ((v == m) || b) && W v) (nobody_behind net tree m h v)
     ∙ ap (λ (b : Bool). b && W v) (or_false (v == m)))
     0 (node_count net) (omega arith) (omega (arith, inside))
+
+-- one that manages no domain passes on its own events alone
+pub own_alone : (net : Net) (V : View) (n m x : ℕ) → IsTree net → is_manager net n ≡ false → x ≢ n
+    → forwards net V n m (Events x) ≡ false
+unfolding forwards
+own_alone net V n m x tree h other =
+    neither (some_is (hop net n) m) (is_under net x n) (some_is (hop net m) n)
+    (not (is_under net x m) && list_any (λ v. is_under net v m && wants net V v x) (below (node_count net)))
+    (λ i. apart i || nobody_behind net tree n h x i) (go (hop net m) refl)
+  where
+    apart : (x == n) ≡ false
+    apart = elim (eqb_tells x n) [ inl e ↦ absurd (other e.1) | inr e ↦ e.0 ]
+
+    go : (o : Option ℕ) → hop net m ≡ o → some_is o n ≡ false
+    go None e = refl
+    go (Some up) e =
+        elim (eqb_tells up n) [
+          | inl s ↦ absurd (let q : true ≡ false = sym (hop_manages net tree m n (e ∙ ap Some s.1)) ∙ h in cc)
+          | inr s ↦ s.0
+        ]
+
+-- events do not go down to one whom nobody is behind, and who does not want them
+pub not_down : (net : Net) (V : View) (n m x : ℕ) → IsTree net → is_manager net m ≡ false → m < node_count net
+    → some_is (hop net n) m ≡ false → wants net V m x ≡ false → forwards net V n m (Events x) ≡ false
+unfolding forwards
+not_down net V n m x tree h inside up unwanted =
+    let nobody : list_any (λ v. is_under net v m && wants net V v x) (below (node_count net)) ≡ false =
+    only_itself net (λ v. wants net V v x) m tree h inside ∙ unwanted in
+    neither_way (some_is (hop net n) m) (is_under net x n) (some_is (hop net m) n) (not (is_under net x m))
+    (list_any (λ v. is_under net v m && wants net V v x) (below (node_count net))) up nobody

@@ -58,7 +58,7 @@ one_run (Some w) run h =
 
 module _ (d : Defs) (plan : PlanDay) where
   -- the draft of an entry, and of a stream
-  abbrev job_of : ℕ → ScheduleDef → EntryDef → JobDraft
+  abbrev pub job_of : ℕ → ScheduleDef → EntryDef → JobDraft
   job_of n s e =
       record {
         ws = number_or_master d (ws_of_entry d s e);
@@ -87,7 +87,7 @@ module _ (d : Defs) (plan : PlanDay) where
         deps = h.deps_ i;
       }
 
-  abbrev jobs_of : ℕ → ScheduleDef → List (Lined EntryDef) → List JobDraft
+  abbrev pub jobs_of : ℕ → ScheduleDef → List (Lined EntryDef) → List JobDraft
   jobs_of n s es = map (λ (e : Lined EntryDef). job_of n s e.item) es
 
   one_jobs : (n : ℕ) (s : ScheduleDef) (es : List (Lined EntryDef)) (js : List JobDraft) → AreJobDrafts d plan n s es js
@@ -98,7 +98,7 @@ module _ (d : Defs) (plan : PlanDay) where
   one_jobs n s (e ∷ es) (j ∷ js) h =
       ap (λ x. x ∷ js) (one_job n s e.item j h.0) ∙ ap (λ l. job_of n s e.item ∷ l) (one_jobs n s es js h.1)
 
-  abbrev stream_of : ℕ → ScheduleDef → StreamDraft
+  abbrev pub stream_of : ℕ → ScheduleDef → StreamDraft
   stream_of n s =
       record {
         ws = number_or_master d (ws_of_stream d s);
@@ -124,7 +124,7 @@ module _ (d : Defs) (plan : PlanDay) where
         jobs = jobs i;
       }
 
-  abbrev stream_at : ℕ → Option StreamDraft
+  abbrev pub stream_at : ℕ → Option StreamDraft
   stream_at n = option_map (λ (s : Lined ScheduleDef). stream_of n s.item) (slice_get d.schedules n)
 
   one_at : (n : ℕ) (o : Option (Lined ScheduleDef)) (draft : StreamDraft) → IsDraftAt d plan n o draft
@@ -142,17 +142,17 @@ module _ (d : Defs) (plan : PlanDay) where
       ∙ ap (λ o. cons_option o (filter_map stream_at ns)) (sym (one_at n (slice_get d.schedules n) x h.0))
 
 -- the drafts of a day
-abbrev drafts_of : Defs → ℕ → List StreamDraft
+abbrev pub drafts_of : Defs → ℕ → List StreamDraft
 drafts_of d day = filter_map (stream_at d (plan_day d day)) (running d day)
 
 -- the plan of a day that has one, and the cause of one that has none
-abbrev by_fault : Defs → ℕ → Option PlanFault → Result (List StreamDraft) Cause
+abbrev pub by_fault : Defs → ℕ → Option PlanFault → Result (List StreamDraft) Cause
 by_fault d day None = Ok (drafts_of d day)
 by_fault d day (Some (Limit most)) = Err (full_day most)
 by_fault d day (Some (OutOfRange line)) = Err no_moment
 by_fault d day (Some NoMemory) = Err no_moment
 
-abbrev by_day : Defs → ℕ → Bool → Result (List StreamDraft) Cause
+abbrev pub by_day : Defs → ℕ → Bool → Result (List StreamDraft) Cause
 by_day d day false = Err no_moment
 by_day d day true = by_fault d day (plan_fault d day)
 

@@ -6,19 +6,13 @@
 //! system that it makes end.
 #![tactic(auto)]
 
-mod callers;
 mod clocks;
-mod connections;
 mod disks;
-mod faults;
-mod lines;
-mod links;
 mod probers;
-mod spawners;
-mod streams;
 
 pub use clocks::SystemClock;
 pub use disks::FileDisk;
-pub use links::TcpLink;
+pub use job_processes::ChildSpawner;
+pub use node_log::Commons;
 pub use probers::FileProber;
-pub use spawners::ChildSpawner;
+pub use tcp_links::TcpLink;

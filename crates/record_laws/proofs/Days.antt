@@ -1,4 +1,4 @@
--- Where the drafts of definitions are fit, so is what the days of a record give.
+-- Where the drafts of definitions are fit, so is what the days of a record give. Each day has one answer.
 use Rattle.std.proofs.Common.{◌≡◌, ◌∙◌, ◌∷◌, [], ℕ, Bool, true, false, List, Option, Some, None, Result, Ok, Err, refl, subst, sym}
 use Rattle.std.specs.Prelude.{length, nat_le, nat_lt, option_map}
 use Rattle.std.specs.Option.{option_or}
@@ -14,7 +14,8 @@ use Rattle.plan_builder.specs.declared.PlanFault.TheVariants.{Limit, NoMemory, O
 use Rattle.record_runs.specs.Causes.{Cause, full_day, no_moment}
 use Rattle.record_runs.specs.Lines.{Day}
 use Rattle.night_records.specs.Days as given
-use Rattle.night_records.specs.Days.{ArePlans}
+use Rattle.night_records.specs.Days.{ArePlans, GivesDay}
+use Rattle.night_records.proofs.Plans.{are_plans, plans_of}
 use Rattle.record_laws.proofs.Drafts.{drafts_there}
 use Rattle.record_laws.proofs.Fits.{AreFitDays, IsFitPlan}
 
@@ -61,3 +62,24 @@ days_fit d day are fit n drafts is = by_day (nat_le n last_day) refl
     by_day : (b : Bool) → nat_le n last_day ≡ b → IsFitPlan drafts
     by_day false e = not_given no_moment (are n (Err no_moment) (given.behind e))
     by_day true e = by_fault e (plan_fault d n) refl
+
+-- the plans of a day are those that its record gives
+answer_there : (d : Defs) (n : ℕ) → (answer : Result (List StreamDraft) Cause) × GivesDay d n answer
+answer_there d n = by_day (nat_le n last_day) refl
+  where
+    by_fault : nat_le n last_day ≡ true → (o : Option PlanFault) → plan_fault d n ≡ o
+        → (answer : Result (List StreamDraft) Cause) × GivesDay d n answer
+    by_fault low (Some (Limit most)) e = (Err (full_day most), given.full most low e)
+    by_fault low (Some (OutOfRange line)) e = (Err no_moment, given.timeless line low e)
+    by_fault low (Some NoMemory) e = absurd (has_memory d n e)
+    by_fault low None e = let some = drafts_there d n in (Ok some.0, given.drafts some.0 low e some.1)
+
+    by_day : (b : Bool) → nat_le n last_day ≡ b → (answer : Result (List StreamDraft) Cause) × GivesDay d n answer
+    by_day false e = (Err no_moment, given.behind e)
+    by_day true e = by_fault e (plan_fault d n) refl
+
+pub plans_are : (workload : Option Defs) (day : Day) → ArePlans workload day → (n : ℕ) → plans_of workload n ≡ day n
+plans_are None day are n = sym (are n (Err no_moment) refl)
+plans_are (Some d) day are n =
+    let some = answer_there d n in
+    are_plans (Some d) n some.0 some.1 ∙ sym (are n some.0 some.1)

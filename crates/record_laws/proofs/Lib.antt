@@ -17,3 +17,5 @@ pub mod NetworkRows
 pub mod NetworkRecords
 pub mod NetworkDefinitions
 pub mod Networks
+pub mod Nets
+pub mod Stops

@@ -24,6 +24,7 @@ use Rattle.record_script.specs.Numbers.{Numbered, within}
 use Rattle.record_script.specs.Networks.{first_or}
 use Rattle.record_script.specs.Plans.{cond_in, condition, dep_in, draft_of, each, ends_section, job_draft, job_in, logon_in}
 use Rattle.record_script.specs.Plans.{operations, plans_with, section_in, stream_draft, stream_in, streams_in, work_in}
+use Rattle.night_records.proofs.Sections.{each_short, until_short}
 use Rattle.record_laws.proofs.Fits.{AreFitPlans, IsFitPlan}
 use Rattle.record_laws.proofs.FitRows.{IsFitDepRow, IsFitRanged, IsFitRow}
 
@@ -117,15 +118,6 @@ until_fit p (r ∷ rows) fit = go (p r) (until_fit p rows (All-tail IsFitRow r r
     go true more = All-nil IsFitRow
     go false more = All-cons IsFitRow r (until p rows) (All-head IsFitRow r rows fit) more
 
-until_few : (p : Row → Bool) (rows : List Row) → length (until p rows) ≤ length rows
-until_few p [] = omega arith
-until_few p (r ∷ rows) = go (p r) (until_few p rows)
-  where
-    go : (b : Bool) → length (until p rows) ≤ length rows
-        → length (if b then [] else r ∷ until p rows) ≤ length (r ∷ rows)
-    go true h = omega arith
-    go false h = omega (arith, h)
-
 -- fit rows, no more than a count can tell
 pub record AreFitRows (rows : List Row) : Type 0 where
   pub texts : All IsFitRow rows
@@ -133,7 +125,7 @@ pub record AreFitRows (rows : List Row) : Type 0 where
 
 before_fit : (p : Row → Bool) (rows : List Row) → AreFitRows rows → AreFitRows (until p rows)
 before_fit p rows h =
-    record { texts = until_fit p rows h.texts; few = omega (arith, until_few p rows, h.few) }
+    record { texts = until_fit p rows h.texts; few = omega (arith, until_short p rows, h.few) }
 
 deps_fit : (n : Numbered) (s : StreamRow) (ws : List ℕ) (rows : List Row) → IsFitText s.name → AreFitRows rows
     → AreFit IsFitDraftDep (filter_map (dep_in n s ws) rows)
@@ -145,15 +137,6 @@ deps_fit n s ws rows name h = (
 -- what is picked, with the rows behind it
 abbrev IsFitPick : {A : Type 0} → (A → Type 0) → A × List Row → Type 0
 IsFitPick P p = P p.0 × AreFitRows p.1
-
-each_few : {A : Type 0} (pick : Row → Option A) (rows : List Row) → length (each pick rows) ≤ length rows
-each_few pick [] = omega arith
-each_few {A = A} pick (r ∷ rows) = go (pick r) (each_few pick rows)
-  where
-    go : (o : Option A) → length (each pick rows) ≤ length rows
-        → length (option_map_or (λ a. (a, rows) ∷ each pick rows) o (each pick rows)) ≤ length (r ∷ rows)
-    go None h = omega (arith, h)
-    go (Some a) h = omega (arith, h)
 
 each_fit : {A : Type 0} (P : A → Type 0) (pick : Row → Option A) → ((r : Row) → IsFitRow r → IfSome (pick r) P)
     → (rows : List Row) → All IsFitRow rows → length rows ≤ 4294967296
@@ -209,7 +192,7 @@ stream_fit n s behind name h =
       jobs_ = (
         omega (
           arith,
-          each_few job_in (until begins_stream behind),
+          each_short job_in (until begins_stream behind),
           own.few,
           length-map (each job_in (until begins_stream behind)) (λ (p : JobRow × List Row). job_draft n s p.0 p.1),
         ),
@@ -227,7 +210,7 @@ section_fit : (n : Numbered) (rows : List Row) → AreFitRows rows → IsFitPlan
 section_fit n rows h = (
   omega (
     arith,
-    each_few stream_in rows,
+    each_short stream_in rows,
     h.few,
     length-map (each stream_in rows) (λ (p : StreamRow × List Row). stream_draft n p.0 p.1),
   ),

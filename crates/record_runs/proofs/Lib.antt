@@ -5,3 +5,6 @@ pub mod Tables
 pub mod Nights
 pub mod Planned
 pub mod Endings
+pub mod Owners
+pub mod Going
+pub mod Coming

@@ -5,3 +5,4 @@ pub mod Runs
 pub mod Days
 pub mod Ends
 pub mod Taken
+pub mod Never

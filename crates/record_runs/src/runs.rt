@@ -1,4 +1,5 @@
 //! The run of a record.
+ghost use Rattle.std.specs.List.{AllByRecursion};
 ghost use Rattle.std.specs.Prelude.{◌≡◌, IfOk, IfSome, None, Some};
 ghost use Rattle.model.specs.World.{empty_world};
 ghost use Rattle.network_tree.specs.Faults.{net_fault};
@@ -6,6 +7,7 @@ ghost use Rattle.network_world.specs.Standing.{StandsFor};
 ghost use Rattle.record_runs.specs.Days.{IsPlanOf};
 ghost use Rattle.record_runs.specs.Lines.{Day};
 ghost use Rattle.record_runs.specs.Ends.{AreLinesInside, AskNoDay, IsEnd, IsOver};
+ghost use Rattle.record_runs.specs.Never.{ArePlansFor, IsPlanFor, StopsOtherwise};
 ghost use Rattle.record_runs.specs.Taken.{IsStopIn, LeadsAll, StopsIn};
 
 use crate::days::{DayPlans, NoDays, take_any_line};
@@ -75,12 +77,15 @@ fn take_lines<D: DayPlans>(
 
 /// Takes the lines of a record, whose days have these plans. `Done` comes exactly where the run takes all lines, with a
 /// world that stands for the one which it reaches, and `Stopped` exactly where a line cannot be taken. `NoMemory` where
-/// memory runs out.
+/// memory runs out. Where the plans are for the network, no line names a workstation outside it, none but the master takes
+/// a plan, and no place is spent.
 pub fn run_days<D: DayPlans>(alloc: Global, script: Script, days: &D) -> Result<RunEnd, NoMemory>
     requires accepted { net_fault script.net ≡ None }
     requires inside { AreLinesInside script.net script.steps }
     ensures end { (day : Day) → IsPlanOf (D.gives days.now) day → IfOk result (IsEnd day script) }
     ensures net { IfOk result (IsOver script.net) }
+    ensures otherwise { (day : Day) → IsPlanOf (D.gives days.now) day → ArePlansFor script day
+        → IfOk result StopsOtherwise }
 {
     let (net, plans, steps) = script.into_parts();
     let mut world = begun(alloc, net)?;
@@ -93,13 +98,15 @@ pub fn run_days<D: DayPlans>(alloc: Global, script: Script, days: &D) -> Result<
 
 /// Takes the lines of a record, of which none asks for the drafts of a day. `Done` comes exactly where the run takes all
 /// lines, with a world that stands for the one which it reaches, and `Stopped` exactly where a line cannot be taken.
-/// `NoMemory` where memory runs out.
+/// `NoMemory` where memory runs out. Where the plans are for the network, no line names a workstation outside it, none but
+/// the master takes a plan, and no place is spent.
 pub fn run_script(alloc: Global, script: Script) -> Result<RunEnd, NoMemory>
     requires accepted { net_fault script.net ≡ None }
     requires inside { AreLinesInside script.net script.steps }
     requires no_day { AskNoDay script.steps }
     ensures end { (day : Day) → IfOk result (IsEnd day script) }
     ensures net { IfOk result (IsOver script.net) }
+    ensures otherwise { AllByRecursion (IsPlanFor script.net) script.plans → IfOk result StopsOtherwise }
 {
     run_days(alloc, script, &NoDays)
 }

@@ -2,7 +2,7 @@
 #![tactic(auto)]
 
 use base_types::{NoMemory, Text};
-use real_outside::{ChildSpawner, FileDisk, FileProber, SystemClock, TcpLink};
+use real_outside::{ChildSpawner, Commons, FileDisk, FileProber, SystemClock, TcpLink};
 use std::alloc::{AllocError, Global};
 use std::io::ErrorKind;
 use std::process::ExitCode;
@@ -41,11 +41,12 @@ fn run(rt: HostRuntime, words: &[Text]) -> Result<u8, NoMemory> {
     let alloc = rt.alloc();
     let mut input = StdSource::new(rt.reader());
     let mut out = StdSink::new(io::writer(&rt));
-    let disk = FileDisk::new(alloc, rt, name(words))?;
-    let mut link = TcpLink::new(alloc, rt);
-    let mut jobs = ChildSpawner::new(alloc, rt);
+    let commons = Commons::new(alloc, rt, name(words))?;
+    let disk = FileDisk::new(alloc, rt, name(words), commons.share()?)?;
+    let mut link = TcpLink::new(alloc, rt, commons.share()?);
+    let mut jobs = ChildSpawner::new(alloc, rt, name(words), commons.share()?)?;
     let mut clock = SystemClock::new(rt);
-    let mut files = FileProber::new(rt);
+    let mut files = FileProber::new(rt, commons);
     let done = tws(
         alloc, words, &mut input, &mut out, disk, &mut link, &mut jobs, &mut clock, &mut files,
     );

@@ -1,28 +1,22 @@
 -- What services answer where nothing fails.
-use Rattle.std.proofs.Common.{◌≡◌, ◌≤◌, ◌⊎◌, ◌∙◌, ℕ, List, Option, Some, ap, arith, inl, inr, length, subst, sym}
+use Rattle.std.proofs.Common.{◌≡◌, ◌≤◌, ◌⊎◌, ◌∙◌, ℕ, List, Option, Some, ap, inl, inr, length, subst, sym}
 use Rattle.lemmas.proofs.Options.{none_some}
 use Rattle.base_types.specs.declared.LimitName.{LimitName}
 use Rattle.composer_parser.specs.declared.Defs.{Defs}
 use Rattle.definition_texts.specs.Refusals.{AreChecked}
-use Rattle.node_inputs.specs.declared.ends.NodeEnd.{NodeEnd}
 use Rattle.node_inputs.specs.declared.ends.NodeEnd.TheVariants as run
-use Rattle.node_restart.specs.declared.faults.RestartFault.{RestartFault}
 use Rattle.node_restart.specs.declared.faults.RestartFault.TheVariants as made
 use Rattle.node_service.specs.declared.services.ServiceEnd.TheVariants.{Ran, Unmade}
 use Rattle.outside.specs.Causes.{Rose}
 use Rattle.outside.specs.Streams.{Stream}
-use Rattle.replies.specs.Statuses.{number_of as number_of_status}
-use Rattle.replies.specs.declared.statuses.Status.{Status}
-use Rattle.node_commands.specs.Ends.{IsTold, run_status, run_text}
 use Rattle.node_commands.specs.Forms.{AskOf, NodeFor, Request}
 use Rattle.node_commands.specs.Services.{Asking, IsServed, IsService, Serving}
 use Rattle.workload_defs.specs.Stations.{number_of}
-use Rattle.tws_top.specs.Rows.{EndsAtLimit}
 use Rattle.tws_top.proofs.Numbers.{Came, at_limit, by_5, came, failed, other_file, refused, replied, row_5, shut_down, source_failed, spent, starved, too_long, unanswered, unknown, unread}
 use Rattle.tws_top.proofs.Services.{long_short, refuses_checked, same_defs}
 
 -- a node and an ask are two requests
-two_requests : (name other command : List ℕ) (turns : ℕ) → NodeFor name turns ≡ AskOf other command → ⊥
+pub two_requests : (name other command : List ℕ) (turns : ℕ) → NodeFor name turns ≡ AskOf other command → ⊥
 two_requests name other command turns e = cc
 
 -- the statuses of a node where nothing fails; with 10 its run ended at a limit
@@ -31,10 +25,10 @@ NodeEnds S request old new result =
     (result ≡ 0) ⊎ (result ≡ 7) ⊎ (result ≡ 8) ⊎ (result ≡ 9)
     ⊎ ((result ≡ 10) × (which : LimitName) × IsServed S request old new (Ran (run.Limit which)))
 
-pub node_ends : {S : Serving} {request : Request} {old new : Option Stream} {result : ℕ} {told now : Option (List ℕ)}
-    → ((which : LimitName) → IsServed S request old new (Ran (run.Limit which)) → EndsAtLimit S request told now old new)
+pub node_ends : {S : Serving} {request : Request} {old new : Option Stream} {result : ℕ} {Ends : Type 0}
+    → ((which : LimitName) → IsServed S request old new (Ran (run.Limit which)) → Ends)
     → NodeEnds S request old new result
-    → (result ≡ 0) ⊎ (result ≡ 7) ⊎ (result ≡ 8) ⊎ (result ≡ 9) ⊎ ((result ≡ 10) × EndsAtLimit S request told now old new)
+    → (result ≡ 0) ⊎ (result ≡ 7) ⊎ (result ≡ 8) ⊎ (result ≡ 9) ⊎ ((result ≡ 10) × Ends)
 node_ends f (inl e) = inl e
 node_ends f (inr (inl e)) = inr (inl e)
 node_ends f (inr (inr (inl e))) = inr (inr (inl e))
@@ -60,7 +54,7 @@ module _ (S : Serving) (A : Asking) (same but_link : Type 0) (source : Stream) (
   node_came turns calm (at_limit e which s wrote) = inr (inr (inr (inr (e, which, s))))
   node_came turns calm (other_file e place s wrote) = inr (inl e)
   node_came turns calm (unread e s) = absurd (calm (inr s))
-  node_came turns calm (replied e text a) = absurd (two_requests name a.name a.command turns a.is)
+  node_came turns calm (replied e text a wrote) = absurd (two_requests name a.name a.command turns a.is)
   node_came turns calm (unanswered e a) = absurd (two_requests name a.name a.command turns a.is)
 
   pub node_completes : (turns : ℕ) (calm : IsServed S (NodeFor name turns) (Some source) new (Ran run.DiskFault) ⊎ IsServed S (NodeFor name turns) (Some source) new (Unmade made.Disk) → ⊥)
@@ -87,7 +81,7 @@ module _ (S : Serving) (A : Asking) (same but_link : Type 0) (source : Stream) (
   ask_came command (at_limit e which s wrote) = absurd (two_requests s.name name command s.turns (sym s.is))
   ask_came command (other_file e place s wrote) = absurd (two_requests s.name name command s.turns (sym s.is))
   ask_came command (unread e s) = absurd (two_requests s.name name command s.turns (sym s.is))
-  ask_came command (replied e text a) = inl e
+  ask_came command (replied e text a wrote) = inl e
   ask_came command (unanswered e a) = inr (inr e)
 
   pub ask_completes : (command : List ℕ)
@@ -125,47 +119,3 @@ module _ {S : Serving} {A : Asking} {same but_link : Type 0} {old new : Option S
   ask_done source name command me d told short are there calm_source calm_sink h =
       ask_completes S A same but_link source new faults faults' result written written' sink sink' name me d short are there calm_source calm_sink command
       (subst (λ (o : Option Stream). IsService S A same but_link (AskOf name command) o new faults faults' result written written' sink sink') told h)
-
-  -- an ask calls nothing but the link
-  pub ask_alone : (name command : List ℕ) → (same → but_link)
-      → IsService S A same but_link (AskOf name command) old new faults faults' result written written' sink sink' → but_link
-  ask_alone name command rest (IsService.silent all why keeps) = rest all
-  ask_alone name command rest (IsService.unserved due text all row told) = rest all
-  ask_alone name command rest (IsService.served end s told) = absurd (two_requests s.name name command s.turns (sym s.is))
-  ask_alone name command rest (IsService.asked answer others a told) = others
-
-  -- with 1, 2, 4 and 7 no node was made
-  pub node_alone : (rest : Type 0) (name : List ℕ) (turns : ℕ) → (same → rest)
-      → ((fault : RestartFault) → IsServed S (NodeFor name turns) old new (Unmade fault) → rest)
-      → IsService S A same but_link (NodeFor name turns) old new faults faults' result written written' sink sink'
-      → (result ≡ 1) ⊎ (result ≡ 2) ⊎ (result ≡ 4) ⊎ (result ≡ 7) → rest
-  node_alone rest name turns alone unmade h early = go h
-    where
-      apart : (n : ℕ) → (n ≡ 1 → ⊥) → (n ≡ 2 → ⊥) → (n ≡ 4 → ⊥) → (n ≡ 7 → ⊥) → result ≡ n → ⊥
-      apart n not_1 not_2 not_4 not_7 is = at early
-        where
-          at : (result ≡ 1) ⊎ (result ≡ 2) ⊎ (result ≡ 4) ⊎ (result ≡ 7) → ⊥
-          at (inl e) = not_1 (sym is ∙ e)
-          at (inr (inl e)) = not_2 (sym is ∙ e)
-          at (inr (inr (inl e))) = not_4 (sym is ∙ e)
-          at (inr (inr (inr e))) = not_7 (sym is ∙ e)
-
-      not_5 : result ≡ 5 → ⊥
-      not_5 = apart 5 (λ e. omega (arith, e)) (λ e. omega (arith, e)) (λ e. omega (arith, e)) (λ e. omega (arith, e))
-
-      its_number : (due : Status) (text : List ℕ) → IsTold due text result written written' sink sink' → result ≡ number_of_status due
-      its_number due text is = ((is.said (apart 9 (λ e. omega (arith, e)) (λ e. omega (arith, e)) (λ e. omega (arith, e)) (λ e. omega (arith, e)))).all not_5).0
-
-      ran : (why : NodeEnd) → IsTold (run_status why) (run_text why) result written written' sink sink' → ⊥
-      ran run.Shutdown is = apart 0 (λ e. omega (arith, e)) (λ e. omega (arith, e)) (λ e. omega (arith, e)) (λ e. omega (arith, e)) (its_number _ _ is)
-      ran run.TurnsSpent is = apart 8 (λ e. omega (arith, e)) (λ e. omega (arith, e)) (λ e. omega (arith, e)) (λ e. omega (arith, e)) (its_number _ _ is)
-      ran run.DiskFault is = apart 6 (λ e. omega (arith, e)) (λ e. omega (arith, e)) (λ e. omega (arith, e)) (λ e. omega (arith, e)) (its_number _ _ is)
-      ran (run.Limit which) is = apart 10 (λ e. omega (arith, e)) (λ e. omega (arith, e)) (λ e. omega (arith, e)) (λ e. omega (arith, e)) (its_number _ _ is)
-      ran run.NoMemory is = apart 9 (λ e. omega (arith, e)) (λ e. omega (arith, e)) (λ e. omega (arith, e)) (λ e. omega (arith, e)) (its_number _ _ is)
-
-      go : IsService S A same but_link (NodeFor name turns) old new faults faults' result written written' sink sink' → rest
-      go (IsService.silent all why keeps) = alone all
-      go (IsService.unserved due text all row told) = alone all
-      go (IsService.served (Unmade fault) s told) = unmade fault s
-      go (IsService.served (Ran why) s told) = absurd (ran why told)
-      go (IsService.asked answer others a told) = absurd (two_requests name a.name a.command turns a.is)

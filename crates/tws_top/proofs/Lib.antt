@@ -1,5 +1,16 @@
 mod Services
 mod Numbers
 mod Completeness
+mod Untouched
 mod Disks
 mod Words
+mod Drafts
+mod OneRun
+mod Comings
+mod Histories
+mod Stops
+mod Outcomes
+mod Worlds
+mod InputDues
+mod InputRows
+mod CanonicalTexts

@@ -42,7 +42,7 @@ module _ (S : Serving) (A : Asking) (same but_link : Type 0) (request : Request)
     other_file : n ≡ 7 → (place : ℕ) → IsServed S request old new (Unmade (made.NotThisFile place))
         → Appends written written' (other_file_line place) → Came n
     unread : n ≡ 6 → IsServed S request old new (Unmade made.Disk) → Came n
-    replied : n ≡ 0 → (text : List ℕ) → IsAsked A request old new (Ok text) → Came n
+    replied : n ≡ 0 → (text : List ℕ) → IsAsked A request old new (Ok text) → Appends written written' text → Came n
     unanswered : n ≡ 12 → IsAsked A request old new (Err ask.NoAnswer) → Came n
 
   by_9 : (Q : Type 0) → (result ≡ 9 → Q) → (result ≢ 9 → Q) → Q
@@ -87,11 +87,28 @@ module _ (S : Serving) (A : Asking) (same but_link : Type 0) (request : Request)
           let t = told _ _ is other_9 other_5 in other_file t.0 place s t.1
       go (IsService.served (Unmade made.Disk) s is) other_9 = unread (told _ _ is other_9 other_5).0 s
       go (IsService.served (Unmade made.NoMemory) s is) other_9 = starved (told _ _ is other_9 other_5).0
-      go (IsService.asked (Ok text) others a is) other_9 = replied (told _ _ is other_9 other_5).0 text a
+      go (IsService.asked (Ok text) others a is) other_9 =
+          let t = told _ _ is other_9 other_5 in replied t.0 text a t.1
       go (IsService.asked (Err ask.NoAnswer) others a is) other_9 = unanswered (told _ _ is other_9 other_5).0 a
       go (IsService.asked (Err ask.NoMemory) others a is) other_9 = starved (told _ _ is other_9 other_5).0
 
   -- the numbers one by one
+  pub row_0 : Came result → result ≡ 0 → IsServed S request old new (Ran run.Shutdown)
+      ⊎ ((text : List ℕ) × IsAsked A request old new (Ok text) × Appends written written' text)
+  row_0 (source_failed e rose keeps) is = absurd (omega (arith, e, is))
+  row_0 (starved e) is = absurd (omega (arith, e, is))
+  row_0 (too_long e takes wrote) is = absurd (omega (arith, e, is))
+  row_0 (refused e r reads wrote) is = absurd (omega (arith, e, is))
+  row_0 (unknown e defs reads none) is = absurd (omega (arith, e, is))
+  row_0 (shut_down e s) is = inl s
+  row_0 (spent e s) is = absurd (omega (arith, e, is))
+  row_0 (failed e s) is = absurd (omega (arith, e, is))
+  row_0 (at_limit e name s wrote) is = absurd (omega (arith, e, is))
+  row_0 (other_file e place s wrote) is = absurd (omega (arith, e, is))
+  row_0 (unread e s) is = absurd (omega (arith, e, is))
+  row_0 (replied e text a wrote) is = inr (text, a, wrote)
+  row_0 (unanswered e a) is = absurd (omega (arith, e, is))
+
   pub row_1 : Came result → result ≡ 1
       → (r : Refusal) × RefusesDefs r old new × Appends written written' (definitions_line r.line (word_of r.kind))
   row_1 (source_failed e rose keeps) is = absurd (omega (arith, e, is))
@@ -105,7 +122,7 @@ module _ (S : Serving) (A : Asking) (same but_link : Type 0) (request : Request)
   row_1 (at_limit e name s wrote) is = absurd (omega (arith, e, is))
   row_1 (other_file e place s wrote) is = absurd (omega (arith, e, is))
   row_1 (unread e s) is = absurd (omega (arith, e, is))
-  row_1 (replied e text a) is = absurd (omega (arith, e, is))
+  row_1 (replied e text a wrote) is = absurd (omega (arith, e, is))
   row_1 (unanswered e a) is = absurd (omega (arith, e, is))
 
   pub row_2 : Came result → result ≡ 2
@@ -121,7 +138,7 @@ module _ (S : Serving) (A : Asking) (same but_link : Type 0) (request : Request)
   row_2 (at_limit e name s wrote) is = absurd (omega (arith, e, is))
   row_2 (other_file e place s wrote) is = absurd (omega (arith, e, is))
   row_2 (unread e s) is = absurd (omega (arith, e, is))
-  row_2 (replied e text a) is = absurd (omega (arith, e, is))
+  row_2 (replied e text a wrote) is = absurd (omega (arith, e, is))
   row_2 (unanswered e a) is = absurd (omega (arith, e, is))
 
   pub row_3 : Came result → result ≡ 3 → ⊥
@@ -136,7 +153,7 @@ module _ (S : Serving) (A : Asking) (same but_link : Type 0) (request : Request)
   row_3 (at_limit e name s wrote) is = absurd (omega (arith, e, is))
   row_3 (other_file e place s wrote) is = absurd (omega (arith, e, is))
   row_3 (unread e s) is = absurd (omega (arith, e, is))
-  row_3 (replied e text a) is = absurd (omega (arith, e, is))
+  row_3 (replied e text a wrote) is = absurd (omega (arith, e, is))
   row_3 (unanswered e a) is = absurd (omega (arith, e, is))
 
   pub row_4 : Came result → result ≡ 4 → Rose source source' × Keeps written written'
@@ -151,7 +168,7 @@ module _ (S : Serving) (A : Asking) (same but_link : Type 0) (request : Request)
   row_4 (at_limit e name s wrote) is = absurd (omega (arith, e, is))
   row_4 (other_file e place s wrote) is = absurd (omega (arith, e, is))
   row_4 (unread e s) is = absurd (omega (arith, e, is))
-  row_4 (replied e text a) is = absurd (omega (arith, e, is))
+  row_4 (replied e text a wrote) is = absurd (omega (arith, e, is))
   row_4 (unanswered e a) is = absurd (omega (arith, e, is))
 
   pub row_6 : Came result → result ≡ 6
@@ -167,7 +184,7 @@ module _ (S : Serving) (A : Asking) (same but_link : Type 0) (request : Request)
   row_6 (at_limit e name s wrote) is = absurd (omega (arith, e, is))
   row_6 (other_file e place s wrote) is = absurd (omega (arith, e, is))
   row_6 (unread e s) is = inr s
-  row_6 (replied e text a) is = absurd (omega (arith, e, is))
+  row_6 (replied e text a wrote) is = absurd (omega (arith, e, is))
   row_6 (unanswered e a) is = absurd (omega (arith, e, is))
 
   pub row_7 : Came result → result ≡ 7
@@ -184,7 +201,7 @@ module _ (S : Serving) (A : Asking) (same but_link : Type 0) (request : Request)
   row_7 (at_limit e name s wrote) is = absurd (omega (arith, e, is))
   row_7 (other_file e place s wrote) is = (place, s, wrote)
   row_7 (unread e s) is = absurd (omega (arith, e, is))
-  row_7 (replied e text a) is = absurd (omega (arith, e, is))
+  row_7 (replied e text a wrote) is = absurd (omega (arith, e, is))
   row_7 (unanswered e a) is = absurd (omega (arith, e, is))
 
   pub row_8 : Came result → result ≡ 8 → IsServed S request old new (Ran run.TurnsSpent)
@@ -199,7 +216,7 @@ module _ (S : Serving) (A : Asking) (same but_link : Type 0) (request : Request)
   row_8 (at_limit e name s wrote) is = absurd (omega (arith, e, is))
   row_8 (other_file e place s wrote) is = absurd (omega (arith, e, is))
   row_8 (unread e s) is = absurd (omega (arith, e, is))
-  row_8 (replied e text a) is = absurd (omega (arith, e, is))
+  row_8 (replied e text a wrote) is = absurd (omega (arith, e, is))
   row_8 (unanswered e a) is = absurd (omega (arith, e, is))
 
   pub row_10 : Came result → result ≡ 10
@@ -217,7 +234,7 @@ module _ (S : Serving) (A : Asking) (same but_link : Type 0) (request : Request)
   row_10 (at_limit e name s wrote) is = inr (name, s, wrote)
   row_10 (other_file e place s wrote) is = absurd (omega (arith, e, is))
   row_10 (unread e s) is = absurd (omega (arith, e, is))
-  row_10 (replied e text a) is = absurd (omega (arith, e, is))
+  row_10 (replied e text a wrote) is = absurd (omega (arith, e, is))
   row_10 (unanswered e a) is = absurd (omega (arith, e, is))
 
   pub row_11 : Came result → result ≡ 11 → ⊥
@@ -232,7 +249,7 @@ module _ (S : Serving) (A : Asking) (same but_link : Type 0) (request : Request)
   row_11 (at_limit e name s wrote) is = absurd (omega (arith, e, is))
   row_11 (other_file e place s wrote) is = absurd (omega (arith, e, is))
   row_11 (unread e s) is = absurd (omega (arith, e, is))
-  row_11 (replied e text a) is = absurd (omega (arith, e, is))
+  row_11 (replied e text a wrote) is = absurd (omega (arith, e, is))
   row_11 (unanswered e a) is = absurd (omega (arith, e, is))
 
   pub row_12 : Came result → result ≡ 12 → IsAsked A request old new (Err ask.NoAnswer)
@@ -247,7 +264,7 @@ module _ (S : Serving) (A : Asking) (same but_link : Type 0) (request : Request)
   row_12 (at_limit e name s wrote) is = absurd (omega (arith, e, is))
   row_12 (other_file e place s wrote) is = absurd (omega (arith, e, is))
   row_12 (unread e s) is = absurd (omega (arith, e, is))
-  row_12 (replied e text a) is = absurd (omega (arith, e, is))
+  row_12 (replied e text a wrote) is = absurd (omega (arith, e, is))
   row_12 (unanswered e a) is = a
 
   -- the numbers that come
@@ -264,7 +281,7 @@ module _ (S : Serving) (A : Asking) (same but_link : Type 0) (request : Request)
   numbers (at_limit e name s wrote) = inr (inr (inr (inr (inr (inr (inr (inr (inl e))))))))
   numbers (other_file e place s wrote) = inr (inr (inr (inr (inr (inl e)))))
   numbers (unread e s) = inr (inr (inr (inr (inl e))))
-  numbers (replied e text a) = inl e
+  numbers (replied e text a wrote) = inl e
   numbers (unanswered e a) = inr (inr (inr (inr (inr (inr (inr (inr (inr (e)))))))))
 
   -- with 5 the sink failed

@@ -92,6 +92,16 @@ module _ (S : Serving) (A : Asking) (request : Request) (source : Stream) (new :
   reached_not d name me reads there is b y (LeftCallsFor.unknown e short are none) =
       unknown_not d e name me are (subst (λ (n : List ℕ). number_of_station e n ≡ None) is none) reads there
 
+  left_alone : {same but_link : Type 0} {faults faults' result : ℕ} {written written' : Option (List ℕ)} {sink sink' : ℕ}
+      (b : Status) (y : List ℕ) → LeftCallsFor request source.left b y
+      → IsService S A same but_link request (Some source) new faults faults' result written written' sink sink' → same
+  left_alone b y left (IsService.silent all why keeps) = all
+  left_alone b y left (IsService.unserved due text all row told) = all
+  left_alone b y left (IsService.served end is told) =
+      absurd (reached_not is.defs is.name is.me is.read is.there (ap name_in is.is) b y left)
+  left_alone b y left (IsService.asked answer others is told) =
+      absurd (reached_not is.defs is.name is.me is.read is.there (ap name_in is.is) b y left)
+
   service_one : (a b : Status) (x y : List ℕ) → ServiceCallsFor S A request (Some source) new a x
       → LeftCallsFor request source.left b y → (a ≡ b) × (x ≡ y)
   service_one a b x y (ServiceCallsFor.unserved row) left = unserved_one a b x y row left
@@ -171,3 +181,13 @@ pub exact_of : {S : Serving} {A : Asking} {request : Request} {old new : Option 
 exact_of {S} {A} {request} {old} {new} source {a} {b} {x} {y} {result} {written} {written'} {faults} {faults'} told row left says =
     exact_said S A request source new a b x y result written written' faults faults'
     (subst (λ (o : Option Stream). ServiceCallsFor S A request o new a x) told row) left says
+
+-- and where that calls for no service, none is reached
+pub left_untouched : {S : Serving} {A : Asking} {same but_link : Type 0} {request : Request} {old new : Option Stream}
+    {faults faults' result : ℕ} {written written' : Option (List ℕ)} {sink sink' : ℕ} (source : Stream) (b : Status)
+    (y : List ℕ) → old ≡ Some source → LeftCallsFor request source.left b y
+    → IsService S A same but_link request old new faults faults' result written written' sink sink' → same
+left_untouched {S} {A} {same} {but_link} {request} {old} {new} {faults} {faults'} {result} {written} {written'} {sink} {sink'} source b y told left h =
+    left_alone S A request source new b y left
+    (subst
+    (λ (o : Option Stream). IsService S A same but_link request o new faults faults' result written written' sink sink') told h)

@@ -5,6 +5,7 @@ use Rattle.lemmas.proofs.Options.{none_some}
 use Rattle.node_commands.specs.Forms.{Request, request_of, requested, service_in, service_of}
 use Rattle.node_commands.specs.declared.forms.Service.{Service}
 use Rattle.input_commands.specs.Words.{asked_of, sample_of_words}
+use Rattle.tws_top.proofs.InputRows.{IsOfTexts, IsSaid, said_0, said_1, said_10, said_11, said_2, said_3}
 
 -- without a service there is no request
 pub no_request : (words : List (List ℕ)) → service_in words ≡ None → request_of words ≡ None
@@ -49,34 +50,43 @@ no_input (word ∷ name ∷ last ∷ []) service e = asks_nothing word name last
 no_input (a ∷ b ∷ c ∷ d ∷ more) service e = absurd (none_some e)
 
 -- the numbers of words that the input alone answers
-pub of_texts : (n : ℕ) → (n ≡ 0) ⊎ (n ≡ 1) ⊎ (n ≡ 2) ⊎ (n ≡ 3) ⊎ (n ≡ 4) ⊎ (n ≡ 5) ⊎ (n ≡ 9) ⊎ (n ≡ 10) ⊎ (n ≡ 11)
-    → (n < 6) ⊎ ((8 < n) × (n < 12))
+pub of_texts : (n : ℕ) → IsOfTexts n → (n < 6) ⊎ ((8 < n) × (n < 12))
 of_texts n (inl e) = inl (omega (arith, e))
-of_texts n (inr (inl e)) = inl (omega (arith, e))
+of_texts n (inr (inl e)) = inr (omega (arith, e), omega (arith, e))
 of_texts n (inr (inr (inl e))) = inl (omega (arith, e))
-of_texts n (inr (inr (inr (inl e)))) = inl (omega (arith, e))
-of_texts n (inr (inr (inr (inr (inl e))))) = inl (omega (arith, e))
-of_texts n (inr (inr (inr (inr (inr (inl e)))))) = inl (omega (arith, e))
-of_texts n (inr (inr (inr (inr (inr (inr (inl e))))))) = inr (omega (arith, e), omega (arith, e))
-of_texts n (inr (inr (inr (inr (inr (inr (inr (inl e)))))))) = inr (omega (arith, e), omega (arith, e))
-of_texts n (inr (inr (inr (inr (inr (inr (inr (inr e)))))))) = inr (omega (arith, e), omega (arith, e))
+of_texts n (inr (inr (inr is))) = by_said n is
+  where
+    by_said : (m : ℕ) → IsSaid m → (m < 6) ⊎ ((8 < m) × (m < 12))
+    by_said m said_0 = inl (omega arith)
+    by_said m said_1 = inl (omega arith)
+    by_said m said_2 = inl (omega arith)
+    by_said m said_3 = inl (omega arith)
+    by_said m said_10 = inr (omega arith, omega arith)
+    by_said m said_11 = inr (omega arith, omega arith)
 
 pub not_of_texts : (n k : ℕ) → (n < 6) ⊎ ((8 < n) × (n < 12)) → n ≡ k → (k < 6 → ⊥) → (8 < k → k < 12 → ⊥) → ⊥
 not_of_texts n k (inl low) is no_low no_high = no_low (omega (arith, low, is))
 not_of_texts n k (inr high) is no_low no_high = no_high (omega (arith, high.0, is)) (omega (arith, high.1, is))
 
 -- they are among all numbers, and so are those of services
-pub texts_among : (n : ℕ) → (n ≡ 0) ⊎ (n ≡ 1) ⊎ (n ≡ 2) ⊎ (n ≡ 3) ⊎ (n ≡ 4) ⊎ (n ≡ 5) ⊎ (n ≡ 9) ⊎ (n ≡ 10) ⊎ (n ≡ 11)
+pub five_among : (n : ℕ) → n ≡ 5 → (n ≡ 0) ⊎ (n ≡ 1) ⊎ (n ≡ 2) ⊎ (n ≡ 3) ⊎ (n ≡ 4) ⊎ (n ≡ 5) ⊎ (n ≡ 6) ⊎ (n ≡ 7) ⊎ (n ≡ 8) ⊎ (n ≡ 9) ⊎ (n ≡ 10) ⊎ (n ≡ 11) ⊎ (n ≡ 12)
+five_among n e = inr (inr (inr (inr (inr (inl e)))))
+
+pub texts_among : (n : ℕ) → IsOfTexts n
     → (n ≡ 0) ⊎ (n ≡ 1) ⊎ (n ≡ 2) ⊎ (n ≡ 3) ⊎ (n ≡ 4) ⊎ (n ≡ 5) ⊎ (n ≡ 6) ⊎ (n ≡ 7) ⊎ (n ≡ 8) ⊎ (n ≡ 9) ⊎ (n ≡ 10) ⊎ (n ≡ 11) ⊎ (n ≡ 12)
-texts_among n (inl e) = inl e
-texts_among n (inr (inl e)) = inr (inl e)
-texts_among n (inr (inr (inl e))) = inr (inr (inl e))
-texts_among n (inr (inr (inr (inl e)))) = inr (inr (inr (inl e)))
-texts_among n (inr (inr (inr (inr (inl e))))) = inr (inr (inr (inr (inl e))))
-texts_among n (inr (inr (inr (inr (inr (inl e)))))) = inr (inr (inr (inr (inr (inl e)))))
-texts_among n (inr (inr (inr (inr (inr (inr (inl e))))))) = inr (inr (inr (inr (inr (inr (inr (inr (inr (inl e)))))))))
-texts_among n (inr (inr (inr (inr (inr (inr (inr (inl e)))))))) = inr (inr (inr (inr (inr (inr (inr (inr (inr (inr (inl e))))))))))
-texts_among n (inr (inr (inr (inr (inr (inr (inr (inr (e))))))))) = inr (inr (inr (inr (inr (inr (inr (inr (inr (inr (inr (inl e)))))))))))
+texts_among n (inl e) = inr (inr (inr (inr (inl e))))
+texts_among n (inr (inl e)) = inr (inr (inr (inr (inr (inr (inr (inr (inr (inl e)))))))))
+texts_among n (inr (inr (inl e))) = five_among n e
+texts_among n (inr (inr (inr is))) = by_said n is
+  where
+    by_said : (m : ℕ) → IsSaid m
+        → (m ≡ 0) ⊎ (m ≡ 1) ⊎ (m ≡ 2) ⊎ (m ≡ 3) ⊎ (m ≡ 4) ⊎ (m ≡ 5) ⊎ (m ≡ 6) ⊎ (m ≡ 7) ⊎ (m ≡ 8) ⊎ (m ≡ 9) ⊎ (m ≡ 10) ⊎ (m ≡ 11) ⊎ (m ≡ 12)
+    by_said m said_0 = inl refl
+    by_said m said_1 = inr (inl refl)
+    by_said m said_2 = inr (inr (inl refl))
+    by_said m said_3 = inr (inr (inr (inl refl)))
+    by_said m said_10 = inr (inr (inr (inr (inr (inr (inr (inr (inr (inr (inl refl))))))))))
+    by_said m said_11 = inr (inr (inr (inr (inr (inr (inr (inr (inr (inr (inr (inl refl)))))))))))
 
 pub services_among : (n : ℕ) → (n ≡ 0) ⊎ (n ≡ 1) ⊎ (n ≡ 2) ⊎ (n ≡ 4) ⊎ (n ≡ 6) ⊎ (n ≡ 7) ⊎ (n ≡ 8) ⊎ (n ≡ 9) ⊎ (n ≡ 10) ⊎ (n ≡ 12)
     → (n ≡ 0) ⊎ (n ≡ 1) ⊎ (n ≡ 2) ⊎ (n ≡ 3) ⊎ (n ≡ 4) ⊎ (n ≡ 5) ⊎ (n ≡ 6) ⊎ (n ≡ 7) ⊎ (n ≡ 8) ⊎ (n ≡ 9) ⊎ (n ≡ 10) ⊎ (n ≡ 11) ⊎ (n ≡ 12)
@@ -90,6 +100,3 @@ services_among n (inr (inr (inr (inr (inr (inr (inl e))))))) = inr (inr (inr (in
 services_among n (inr (inr (inr (inr (inr (inr (inr (inl e)))))))) = inr (inr (inr (inr (inr (inr (inr (inr (inr (inl e)))))))))
 services_among n (inr (inr (inr (inr (inr (inr (inr (inr (inl e))))))))) = inr (inr (inr (inr (inr (inr (inr (inr (inr (inr (inl e))))))))))
 services_among n (inr (inr (inr (inr (inr (inr (inr (inr (inr (e)))))))))) = inr (inr (inr (inr (inr (inr (inr (inr (inr (inr (inr (inr (e))))))))))))
-
-pub five_among : (n : ℕ) → n ≡ 5 → (n ≡ 0) ⊎ (n ≡ 1) ⊎ (n ≡ 2) ⊎ (n ≡ 3) ⊎ (n ≡ 4) ⊎ (n ≡ 5) ⊎ (n ≡ 6) ⊎ (n ≡ 7) ⊎ (n ≡ 8) ⊎ (n ≡ 9) ⊎ (n ≡ 10) ⊎ (n ≡ 11) ⊎ (n ≡ 12)
-five_among n e = inr (inr (inr (inr (inr (inl e)))))

@@ -1,3 +1,4 @@
--- What is due for all words, and the statuses of services one by one.
+-- What is due for all words, and the statuses one by one.
 pub mod Dues
-pub mod Rows
+pub mod InputRows
+pub mod ServiceRows

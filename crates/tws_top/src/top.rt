@@ -1,6 +1,7 @@
 //! The top call.
 ghost use Rattle.std.specs.Prelude.{◌≡◌, ◌≢◌, ◌⊎◌, ◌↔◌, ◌≤◌, ℕ, List, Ok, Option, length, Some, None, IsSome, IsTrue, false};
 ghost use Rattle.std.specs.Io.KnownBytes.{Appends, Keeps};
+ghost use Rattle.command_laws.specs.Canonical.{WritesCanonical, WritesSamePlans};
 ghost use Rattle.composer_parser.specs.declared.Defs.{Defs as Definitions};
 ghost use Rattle.input_commands.specs.declared.Wish.{Wish as Wishes};
 ghost use Rattle.input_commands.specs.declared.Wish.TheVariants as wishes;
@@ -10,17 +11,17 @@ ghost use Rattle.model.specs.Sound.{IsSound};
 ghost use Rattle.model.specs.World as model;
 ghost use Rattle.night_records.specs.declared.Record.{Record as Records};
 ghost use Rattle.node_inputs.specs.Tellings.{told_by};
+ghost use Rattle.node_inputs.specs.declared.ends.NodeEnd.{NodeEnd as RunEnds};
+ghost use Rattle.node_inputs.specs.declared.ends.NodeEnd.TheVariants as run_ends;
 ghost use Rattle.outside.specs.Causes.{Rose};
 ghost use Rattle.outside.specs.Streams.{Stream};
 ghost use Rattle.plan_builder.specs.Limits.{plan_fault};
 ghost use Rattle.record_runs.specs.Runs.{done as reaches};
 ghost use Rattle.sample_record.specs.Samples.{sample_of};
 ghost use Rattle.input_commands.specs.Audits.{AreHistory, WritesHistory};
-ghost use Rattle.replies.specs.Sayings.{Says};
 ghost use Rattle.input_commands.specs.Dues.{LeftCallsFor};
+ghost use Rattle.replies.specs.Sayings.{Says};
 ghost use Rattle.input_commands.specs.Nights.{AreRead, IsRun, Night};
-ghost use Rattle.input_commands.specs.Rows.{Compiles, FindsSound, FindsWrong, PassesLimit, Plans, Refuses, RefusesDefinitions};
-ghost use Rattle.input_commands.specs.Rows.{RefusesHistory, Tells};
 ghost use Rattle.input_commands.specs.Words.{asked_of, asks_input, asks_record};
 ghost use Rattle.replies.specs.declared.statuses.Status.{Status as Statuses};
 ghost use Rattle.input_commands.specs.declared.words.Asked.TheVariants as asks;
@@ -31,8 +32,10 @@ ghost use Rattle.input_commands.specs.declared.words.Wanted.TheVariants as wants
 ghost use Rattle.workload_defs.specs.Stations.{number_of};
 ghost use Rattle.tws_top.specs.Dues.{IsAnswer, LeftCallsFor as ServiceLeftCallsFor};
 ghost use Rattle.node_commands.specs.Forms.{AskOf, NodeFor, Request, request_of};
-ghost use Rattle.tws_top.specs.Rows.{EndsAtLimit, FindsOtherFile, HasNoAnswer, HasNoStation};
-ghost use Rattle.tws_top.specs.Rows.{PassesLimit as ServicePassesLimit, RefusesRequest};
+ghost use Rattle.tws_top.specs.InputRows.{Compiles, FindsSound, FindsWrong, PassesLimit, Plans, Refuses};
+ghost use Rattle.tws_top.specs.InputRows.{RefusesDefinitions, RefusesHistory, Tells};
+ghost use Rattle.tws_top.specs.ServiceRows.{EndsAtLimit, FindsOtherFile, HasNoAnswer, HasNoStation, HasReply, HasServed};
+ghost use Rattle.tws_top.specs.ServiceRows.{PassesLimit as ServicePassesLimit, RefusesRequest};
 ghost use Rattle.node_commands.specs.Services.{AskedBy, IsService, ServedBy};
 
 use base_types::Text;
@@ -76,7 +79,7 @@ pub struct Done<D> {
 /// all is done. With 4, 6 and 9 nothing is written at all, and with 5 a front of the text that is due. With `replay`,
 /// `summary`, `history` and 0 the world that the steps made is handed back. The disk is handed back with every status, and
 /// words other than those of `node` make no call on it, and none on processes, clock and files; words other than those of
-/// `node` and `ask` make none on the link.
+/// `node` and `ask` make none on the link. With 1, 2 and 4 nothing but source and sink was called, with 7 the disk besides.
 pub fn tws<I: Source, O: Sink, D: Disk, L: Link, J: Spawner, C: Clock, F: Prober>(
     alloc: Global,
     words: &[Text],
@@ -151,11 +154,11 @@ pub fn tws<I: Source, O: Sink, D: Disk, L: Link, J: Spawner, C: Clock, F: Prober
         → (Rose (I.faults input.old) (I.faults input.new) → ⊥) → (Rose (O.faults out.old) (O.faults out.new) → ⊥)
         → (Rose (D.faults disk) (D.faults result.disk) → ⊥)
         → (result.status ≡ 0) ⊎ (result.status ≡ 7) ⊎ (result.status ≡ 8) ⊎ (result.status ≡ 9)
-        ⊎ ((result.status ≡ 10) × EndsAtLimit (ServedBy D.seen D.faults D.moment D.may_leave D.left_since disk result.disk
+        ⊎ ((result.status ≡ 10) × EndsAtLimit D.seen D.faults D.moment D.may_leave D.left_since disk result.disk
         (told_by (L.calls link.old) (J.calls jobs.old) (C.readings clock.old) (F.asked files.old))
         (told_by (L.calls link.new) (J.calls jobs.new) (C.readings clock.new) (F.asked files.new))
-        ((link.new ≡ link.old) × (jobs.new ≡ jobs.old) × (clock.new ≡ clock.old) × (files.new ≡ files.old)))
-        (NodeFor name turns) (D.seen disk) (D.seen result.disk) (I.stream input.old) (I.stream input.new)) }
+        ((link.new ≡ link.old) × (jobs.new ≡ jobs.old) × (clock.new ≡ clock.old) × (files.new ≡ files.old))
+        (NodeFor name turns) (I.stream input.old) (I.stream input.new)) }
     ensures complete_ask { (source : Stream) (name command : List ℕ) (me : ℕ) (d : Definitions)
         → I.stream input.old ≡ Some source → request_of words.now ≡ Some (AskOf name command)
         → length source.left ≤ 16777216 → AreChecked source.left d → number_of d name ≡ Some me
@@ -173,6 +176,13 @@ pub fn tws<I: Source, O: Sink, D: Disk, L: Link, J: Spawner, C: Clock, F: Prober
     ensures compiled { result.status ≡ 0
         → asked_of words.now ≡ Some (asks.Input (wants.Definitions wishes.CanonicalText))
         → Compiles (I.stream input.old) (I.stream input.new) (O.written out.old) (O.written out.new) }
+    // What `compile` writes is compiled to itself, and is planned on each day as what was compiled.
+    ensures compiled_again { result.status ≡ 0
+        → asked_of words.now ≡ Some (asks.Input (wants.Definitions wishes.CanonicalText))
+        → WritesCanonical (O.written out.old) (O.written out.new) }
+    ensures planned_again { result.status ≡ 0
+        → asked_of words.now ≡ Some (asks.Input (wants.Definitions wishes.CanonicalText))
+        → WritesSamePlans (I.stream input.old) (I.stream input.new) (O.written out.old) (O.written out.new) }
     ensures planned { result.status ≡ 0 → (day : ℕ)
         → asked_of words.now ≡ Some (asks.Input (wants.Definitions (wishes.Plan day)))
         → Plans day (I.stream input.old) (I.stream input.new) (O.written out.old) (O.written out.new) }
@@ -180,6 +190,15 @@ pub fn tws<I: Source, O: Sink, D: Disk, L: Link, J: Spawner, C: Clock, F: Prober
         → FindsSound (I.stream input.old) (I.stream input.new) (O.written out.old) (O.written out.new) }
     ensures sampled { result.status ≡ 0 → (jobs seed : ℕ) → asked_of words.now ≡ Some (asks.Sample jobs seed)
         → Appends (O.written out.old) (O.written out.new) (sample_of jobs seed) }
+    ensures shut_down { result.status ≡ 0 → (name : List ℕ) (turns : ℕ) → request_of words.now ≡ Some (NodeFor name turns)
+        → HasServed (ServedBy D.seen D.faults D.moment D.may_leave D.left_since disk result.disk
+        (told_by (L.calls link.old) (J.calls jobs.old) (C.readings clock.old) (F.asked files.old))
+        (told_by (L.calls link.new) (J.calls jobs.new) (C.readings clock.new) (F.asked files.new))
+        ((link.new ≡ link.old) × (jobs.new ≡ jobs.old) × (clock.new ≡ clock.old) × (files.new ≡ files.old)))
+        words.now (I.stream input.old) (I.stream input.new) run_ends.Shutdown }
+    ensures replied { result.status ≡ 0 → (name command : List ℕ) → request_of words.now ≡ Some (AskOf name command)
+        → HasReply (AskedBy (L.calls link.old) (L.calls link.new) (L.faults link.old) (L.faults link.new)) words.now
+        (I.stream input.old) (I.stream input.new) (O.written out.old) (O.written out.new) }
     ensures definitions_refused { result.status ≡ 1
         → ((wish : Wishes) × (asked_of words.now ≡ Some (asks.Input (wants.Definitions wish)))
         × RefusesDefinitions wish (I.stream input.old) (I.stream input.new) (O.written out.old) (O.written out.new))
@@ -198,17 +217,20 @@ pub fn tws<I: Source, O: Sink, D: Disk, L: Link, J: Spawner, C: Clock, F: Prober
     ensures disk_failed { result.status ≡ 6 → Rose (D.faults disk) (D.faults result.disk) }
     ensures other_file { result.status ≡ 7 → FindsOtherFile words.now (D.seen disk) (I.stream input.old)
         (I.stream input.new) (O.written out.old) (O.written out.new) }
-    ensures turns_spent { result.status ≡ 8 → (name : List ℕ) × (turns : ℕ)
-        × (request_of words.now ≡ Some (NodeFor name turns)) }
+    ensures turns_spent { result.status ≡ 8 → HasServed (ServedBy D.seen D.faults D.moment D.may_leave D.left_since disk result.disk
+        (told_by (L.calls link.old) (J.calls jobs.old) (C.readings clock.old) (F.asked files.old))
+        (told_by (L.calls link.new) (J.calls jobs.new) (C.readings clock.new) (F.asked files.new))
+        ((link.new ≡ link.old) × (jobs.new ≡ jobs.old) × (clock.new ≡ clock.old) × (files.new ≡ files.old)))
+        words.now (I.stream input.old) (I.stream input.new) run_ends.TurnsSpent }
     ensures no_answer { result.status ≡ 12 → HasNoAnswer words.now (I.stream input.old) (I.stream input.new)
         (L.calls link.old) (L.calls link.new) (L.faults link.old) (L.faults link.new) }
     ensures limit { result.status ≡ 10
         → PassesLimit (I.stream input.old) (I.stream input.new) (O.written out.old) (O.written out.new)
-        ⊎ ServicePassesLimit (ServedBy D.seen D.faults D.moment D.may_leave D.left_since disk result.disk
+        ⊎ ServicePassesLimit D.seen D.faults D.moment D.may_leave D.left_since disk result.disk
         (told_by (L.calls link.old) (J.calls jobs.old) (C.readings clock.old) (F.asked files.old))
         (told_by (L.calls link.new) (J.calls jobs.new) (C.readings clock.new) (F.asked files.new))
-        ((link.new ≡ link.old) × (jobs.new ≡ jobs.old) × (clock.new ≡ clock.old) × (files.new ≡ files.old)))
-        words.now (D.seen disk) (D.seen result.disk) (I.stream input.old) (I.stream input.new)
+        ((link.new ≡ link.old) × (jobs.new ≡ jobs.old) × (clock.new ≡ clock.old) × (files.new ≡ files.old))
+        words.now (I.stream input.old) (I.stream input.new)
         (O.written out.old) (O.written out.new) }
     ensures not_sound { result.status ≡ 11 → (asked_of words.now ≡ Some (asks.Input wants.Audit))
         × FindsWrong (I.stream input.old) (I.stream input.new) (O.written out.old) (O.written out.new) }
@@ -226,10 +248,25 @@ pub fn tws<I: Source, O: Sink, D: Disk, L: Link, J: Spawner, C: Clock, F: Prober
         × (jobs.new ≡ jobs.old) × (clock.new ≡ clock.old) × (files.new ≡ files.old) }
     ensures ask_untouched { (name command : List ℕ) → request_of words.now ≡ Some (AskOf name command)
         → (result.disk ≡ disk) × (jobs.new ≡ jobs.old) × (clock.new ≡ clock.old) × (files.new ≡ files.old) }
-    // With 1, 2, 4 and 7 no node was made.
+    // With 1, 2 and 4, and where the bytes of the source call for no service, nothing but source and sink was called.
+    ensures unserved_untouched { (result.status ≡ 1) ⊎ (result.status ≡ 2) ⊎ (result.status ≡ 4)
+        → (result.disk ≡ disk) × (link.new ≡ link.old) × (jobs.new ≡ jobs.old) × (clock.new ≡ clock.old)
+        × (files.new ≡ files.old) }
+    ensures left_untouched { (source : Stream) (request : Request) (status : Statuses) (text : List ℕ)
+        → I.stream input.old ≡ Some source → request_of words.now ≡ Some request
+        → ServiceLeftCallsFor request source.left status text → (result.disk ≡ disk) × (link.new ≡ link.old)
+        × (jobs.new ≡ jobs.old) × (clock.new ≡ clock.old) × (files.new ≡ files.old) }
+    // With 1, 2, 4 and 7 no node was made. With any status one ran, or nothing behind the disk was called.
     ensures node_untouched { (name : List ℕ) (turns : ℕ) → request_of words.now ≡ Some (NodeFor name turns)
         → (result.status ≡ 1) ⊎ (result.status ≡ 2) ⊎ (result.status ≡ 4) ⊎ (result.status ≡ 7)
         → (link.new ≡ link.old) × (jobs.new ≡ jobs.old) × (clock.new ≡ clock.old) × (files.new ≡ files.old) }
+    ensures unmade_untouched { (name : List ℕ) (turns : ℕ) → request_of words.now ≡ Some (NodeFor name turns)
+        → ((why : RunEnds) × HasServed (ServedBy D.seen D.faults D.moment D.may_leave D.left_since disk result.disk
+        (told_by (L.calls link.old) (J.calls jobs.old) (C.readings clock.old) (F.asked files.old))
+        (told_by (L.calls link.new) (J.calls jobs.new) (C.readings clock.new) (F.asked files.new))
+        ((link.new ≡ link.old) × (jobs.new ≡ jobs.old) × (clock.new ≡ clock.old) × (files.new ≡ files.old)))
+        words.now (I.stream input.old) (I.stream input.new) why)
+        ⊎ ((link.new ≡ link.old) × (jobs.new ≡ jobs.old) × (clock.new ≡ clock.old) × (files.new ≡ files.old)) }
     ensures memory { result.status ≡ 9 → asked_of words.now ≡ None → request_of words.now ≢ None }
     ensures source_count { result.status ≢ 4 → I.faults input.new ≡ I.faults input.old }
     ensures sink_count { result.status ≢ 5 → O.faults out.new ≡ O.faults out.old }

@@ -4,7 +4,10 @@ use Rattle.composer_parser.specs.declared.Defs.{Defs}
 use Rattle.network_tree.specs.Faults.{net_fault}
 use Rattle.record_runs.specs.Ends.{AreLinesInside, IsEnd, IsOver}
 use Rattle.record_script.specs.declared.Script.{Script}
+use Rattle.record_runs.specs.Never.{ArePlansFor}
 use Rattle.night_records.specs.Days.{ArePlans}
+use Rattle.night_records.proofs.OwnPlans.{own_plans}
+use Rattle.night_records.proofs.Plans.{are_plans, plans_of}
 use Rattle.night_records.proofs.runs.run_record.Goals as goal
 
 pub run_days-requires-clause-accepted : goal.run_days-requires-clause-accepted
@@ -24,3 +27,11 @@ returns-clause-end c = λ day is.
 pub returns-clause-net : goal.returns-clause-net
 returns-clause-net c =
     subst (λ (s : Script). IfOk c.run_days.result (IsOver s.net)) c.into_parts-script.ensures.script c.run_days.ensures.net
+
+pub returns-clause-otherwise : goal.returns-clause-otherwise
+returns-clause-otherwise c = λ text short is.
+    c.run_days.ensures.otherwise (plans_of c.args.night.workload)
+    (subst (λ (w : Option Defs). ArePlans w (plans_of c.args.night.workload)) (sym c.into_parts-script.ensures.workload)
+    (are_plans c.args.night.workload))
+    (subst (λ (s : Script). ArePlansFor s (plans_of c.args.night.workload)) (sym c.into_parts-script.ensures.script)
+    (own_plans text c.args.night short is))

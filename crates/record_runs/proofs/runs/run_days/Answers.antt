@@ -1,4 +1,6 @@
 use Rattle.std.proofs.Common.{◌∙◌}
+use Rattle.network_tree.proofs.Trees.{few}
+use Rattle.record_runs.proofs.Coming.{stop_comes}
 use Rattle.record_runs.proofs.Nights.{all_of_it, script_done, script_stopped, some_of_it}
 use Rattle.record_runs.proofs.runs.run_days.Goals as goal
 
@@ -17,3 +19,13 @@ returns-clause-end g c = λ day is.
     (c.new-left.ensures ∙ c.into_parts-net.ensures.plans) (c.as_slice.ensures ∙ c.into_parts-net.ensures.steps)
     c.in_ok-world.ensures.empty
     (some_of_it _ _ _ c.in-Some.is (c.in_ok-take_lines.ensures.stopped day is))
+
+pub returns-clause-otherwise : goal.returns-clause-otherwise
+returns-clause-otherwise g c = λ day is plans.
+    stop_comes day c.args.script c.in-Some.line c.in-Some.stop (few c.args.script.net c.requires.accepted).0
+    c.requires.inside plans
+    (script_stopped day c.args.script c.in_ok-world.world c.in_ok-world.world.net c.new-left.result
+    c.as_slice.result.now (c.in-Some.line, c.in-Some.stop) (c.in_ok-world.ensures.net ∙ c.into_parts-net.ensures.net)
+    (c.new-left.ensures ∙ c.into_parts-net.ensures.plans) (c.as_slice.ensures ∙ c.into_parts-net.ensures.steps)
+    c.in_ok-world.ensures.empty
+    (some_of_it _ _ _ c.in-Some.is (c.in_ok-take_lines.ensures.stopped day is)))

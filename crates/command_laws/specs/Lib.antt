@@ -1,0 +1,2 @@
+-- What texts call for that commands wrote.
+pub mod Canonical

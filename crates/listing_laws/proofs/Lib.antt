@@ -1,0 +1,17 @@
+pub mod Spelled
+pub mod Words
+pub mod Chars
+pub mod DepLines
+pub mod ObjectLines
+pub mod Conditions
+pub mod Placed
+pub mod Walks
+pub mod Passing
+pub mod Ends
+pub mod Picks
+pub mod RowKinds
+pub mod Drafts
+pub mod Networks
+pub mod Texts
+pub mod ListingChars
+pub mod Read

@@ -1,0 +1,3 @@
+-- Drafts whose listing is read back, and to what.
+pub mod Listables
+pub mod ListingReturns

@@ -1,0 +1,6 @@
+mod Between
+mod Stops
+mod Fronts
+mod Disks
+mod Standing
+mod Nights

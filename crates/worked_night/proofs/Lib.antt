@@ -1,0 +1,7 @@
+mod Days
+mod Frames
+mod Turns
+mod Runs
+mod Heard
+mod Written
+mod Whole

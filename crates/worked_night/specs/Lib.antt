@@ -1,0 +1,3 @@
+-- A workload of two workstations, and a night of them.
+pub mod Workload
+pub mod Happened

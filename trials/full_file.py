@@ -1,18 +1,17 @@
 #!/usr/bin/env python3
 """A node whose message file is full.
 
-It makes the file of a network of one workstation with orders that wait, so large that the next entry of 17 bytes still
-fits and no other does, and starts a node over it. The node keeps the clock, cannot keep its answer to the first order,
-and ends with status 10 and the line `limit: file 2147483648`. Then a second node ends so at once, since the clock's
-entry has no room either. After each the file has every byte that it had, the entry that fitted, and nothing of one that
-did not. docs/FILES.md shows the bytes.
+It makes the file of a network of one workstation with orders that wait, so large that the next entry of 16 bytes still
+fits and no other does, and starts a node over it. The node keeps that it declines the first order, cannot keep its
+answer to the second one, and ends with status 10 and the line `limit: file 2147483648`. Then a second node ends so at
+once. After each the file has every byte that it had, the entry that fitted, and nothing of one that did not.
+docs/FILES.md shows the bytes.
 
 Usage: trials/full_file.py [FOLDER]   FOLDER is where the file is made, and is emptied of it at the end; without it a new
                                       one. TWS may name another program, from the top folder on. It ends with 0, or with 1
                                       and what is not so.
-It is run by hand; the gate does not run it. The texts of the orders are zeros, so the file has holes and takes some 140
-MB of a disk that knows them, but 2.2 GB of one that does not. A node holds all of its entries: it takes some 2.3 GB of
-memory. All takes some minutes.
+It is run by hand; the gate does not run it. The file takes 2.2 GB of the disk, and a node, which holds all of its
+entries, takes more than that of memory. All takes some minutes.
 """
 import os
 import shutil
@@ -25,11 +24,11 @@ TOP = os.path.dirname(os.path.dirname(os.path.abspath(__file__)))
 TWS = os.path.join(TOP, os.environ.get("TWS", "crates/tws_program/out/tws_program"))
 
 LONGEST_FILE = 2147483648
-LONGEST_TEXT = 65535
+LONGEST_TEXT = 4096
 HEAD = b"TWSM\x00\x01\x00\x00"
 OPEN, CLOSED = b"\x01", b"\x00"
-# version, feed of events of workstation 0, place, kind, and the reading
-CLOCK_SIZE = 17
+# version, feed of events of workstation 0, place, kind, issuer and place of the order, and why it is declined
+ANSWER_SIZE = 16
 WANTED = "limit: file 2147483648\n"
 
 DEFINITIONS = """CPUNAME MDM OS UNIX NODE 127.0.0.1 TCPADDR 1 DOMAIN MASTERDM FOR MAESTRO TYPE MANAGER END
@@ -107,14 +106,12 @@ def tail_of(path, gate):
         return file.read()
 
 
-def check_clock(tail):
-    """Behind the old gate, which is open now, stand the clock and a closed gate, and nothing more."""
-    begins = OPEN + number(CLOCK_SIZE, 4) + b"\x01\x00" + number(0, 2) + number(1, 4) + b"\x03"
-    reading = int.from_bytes(tail[len(begins) : len(begins) + 8], "big")
-    if not tail.startswith(begins) or len(tail) != 5 + CLOCK_SIZE + 1 or tail[-1:] == OPEN:
-        sys.exit(f"behind the orders stands {tail[:64].hex()}, {len(tail)} bytes, and not the clock alone")
-    if abs(reading - time.time()) > 3600:
-        sys.exit(f"the clock that was kept reads {reading}")
+def check_answer(tail):
+    """Behind the old gate, which is open now, stand the answer to the first order and a closed gate, and nothing more."""
+    answer = b"\x01\x00" + number(0, 2) + number(1, 4) + b"\x0e" + number(0, 2) + number(1, 4)
+    begins = OPEN + number(ANSWER_SIZE, 4) + answer
+    if not tail.startswith(begins) or len(tail) != 5 + ANSWER_SIZE + 1 or tail[-1:] == OPEN:
+        sys.exit(f"behind the orders stands {tail[:64].hex()}, {len(tail)} bytes, and not one answer alone")
 
 
 def serve(folder):
@@ -130,7 +127,7 @@ def try_in(folder):
     path = os.path.join(folder, "MDM.msg")
     if os.path.exists(path):
         sys.exit(f"{path} is there already")
-    gate = LONGEST_FILE - 1 - 5 - CLOCK_SIZE
+    gate = LONGEST_FILE - 1 - 5 - ANSWER_SIZE
     lengths = orders_up_to(gate)
     try:
         write_file(path, lengths, gate)
@@ -138,7 +135,7 @@ def try_in(folder):
         serve(folder)
         check_front(path, lengths, gate)
         tail = tail_of(path, gate)
-        check_clock(tail)
+        check_answer(tail)
         if os.path.getsize(path) != LONGEST_FILE:
             sys.exit(f"the file has {os.path.getsize(path)} bytes")
         serve(folder)

@@ -92,7 +92,7 @@ impl<
         let process = ("process", Value::Number(u64::from(process)));
         self.tell("started", &launch, process);
         self.commons.note_work();
-        self.commons.note_running(true);
+        self.commons.note_running(self.running.len());
         Ok(())
     }
 
@@ -169,7 +169,7 @@ impl<
         let _ = self.folder.drop_note(&launch);
         self.tell("ended", &launch, how_ended(&status));
         self.commons.note_work();
-        self.commons.note_running(!self.running.is_empty());
+        self.commons.note_running(self.running.len());
         Some(End {
             job: JobNo(launch.job),
             number: launch.number,
@@ -421,8 +421,10 @@ fn first_ended<P: OpenProcess>(running: &mut [Running<P>]) -> Option<(usize, Opt
 /// While a launch runs, `JOB.LAUNCH.pid` tells its mark and its process. The mark is noted before the process begins, and a
 /// launch that cannot be noted does not begin. By these files the first call finds what is left of launches of an earlier
 /// run of the node: their processes, and all others with their marks. Where such a job is started again, what is left of
-/// its earlier launches is ended first. Who takes the mark out of its environment, and is not the first process of its
-/// launch, is not found.
+/// its earlier launches is ended first.
+///
+/// A process that takes the mark out of its environment, or becomes another user's, is found only where it is the first of
+/// its launch. So a launch may be told as ended while such a process goes on.
 #[derive(Drop)]
 pub struct ChildSpawner<R: Processes> {
     children: Children<R>,

@@ -8,13 +8,20 @@ use std::fs::{File, Files};
 use std::rc::Rc;
 use std::time::Clock;
 
+/// How many milliseconds a poll waits at least and at most while jobs run, and how many jobs make it one longer.
+const LEAST_WAIT: u64 = 4;
+
+const MOST_WAIT: u64 = 50;
+
+const JOBS_A_MILLISECOND: u64 = 20;
+
 /// How long a poll of the links may wait.
 #[derive(Drop)]
 pub enum Wait {
     /// Not at all: the node did something since the last poll.
     Not,
-    /// A few milliseconds: a job runs, which may end.
-    Short,
+    /// So many milliseconds: jobs run, which may end.
+    Short(u64),
     Long,
 }
 
@@ -22,8 +29,8 @@ pub enum Wait {
 struct Inside<R> {
     /// Whether the node did something since the last poll.
     busy: Cell<bool>,
-    /// Whether a job runs.
-    running: Cell<bool>,
+    /// How many jobs run.
+    running: Cell<usize>,
     log: RefCell<Log<R>>,
 }
 
@@ -41,7 +48,7 @@ impl<R: Files<File = File> + Clock + Drop> Commons<R> {
     pub fn new(alloc: Global, rt: R, name: &str) -> Result<Self, NoMemory> {
         let inside = Inside {
             busy: Cell::new(false),
-            running: Cell::new(false),
+            running: Cell::new(0),
             log: RefCell::new(Log::new(alloc, rt, name)?),
         };
         match Rc::new(alloc, inside) {
@@ -62,19 +69,22 @@ impl<R: Files<File = File> + Clock + Drop> Commons<R> {
         self.inside.busy.set(true);
     }
 
-    /// Whether a job runs from now on.
-    pub fn note_running(&self, running: bool) {
-        self.inside.running.set(running);
+    /// How many jobs run from now on.
+    pub fn note_running(&self, count: usize) {
+        self.inside.running.set(count);
     }
 
-    /// How long the next poll may wait. What was done before is then done with.
+    /// How long the next poll may wait. What was done before is then done with. The more jobs run the longer it is, since
+    /// each of them is asked in each turn whether it has ended.
     pub fn wait(&self) -> Wait {
         if self.inside.busy.replace(false) {
-            Wait::Not
-        } else if self.inside.running.get() {
-            Wait::Short
-        } else {
+            return Wait::Not;
+        }
+        let count = self.inside.running.get() as u64;
+        if count == 0 {
             Wait::Long
+        } else {
+            Wait::Short((count / JOBS_A_MILLISECOND).max(LEAST_WAIT).min(MOST_WAIT))
         }
     }
 

@@ -12,6 +12,9 @@ use std::{fs, io};
 /// How many bytes a log has at most when a further line is put; then it gets its other name, and a new one begins.
 const MOST_BYTES: u64 = 16_777_216;
 
+/// How many bytes it has at most when a further line is put where it cannot get its other name.
+const MOST_OF_ALL: u64 = 33_554_432;
+
 /// What stands in a field of a line.
 #[derive(Clone, Copy)]
 pub enum Value<'a> {
@@ -73,8 +76,8 @@ const NEVER: Rare = Rare {
     passed: 0,
 };
 
-/// The log `NAME.log` in the current folder, which is made for the node's user alone. It touches no file before it is opened. What cannot be written is passed
-/// over, and costs nothing else.
+/// The log `NAME.log` in the current folder, which is made for the node's user alone. It touches no file before it is
+/// opened. What cannot be written is passed over, and costs nothing else.
 #[derive(Drop)]
 pub struct Log<R> {
     rt: R,
@@ -85,6 +88,8 @@ pub struct Log<R> {
     file: Option<File>,
     /// How many bytes the file has.
     bytes: u64,
+    /// Whether the last line was written in part.
+    torn: bool,
     /// The line that is being made.
     line: String,
     refused: Rare,
@@ -108,6 +113,7 @@ impl<R: Files<File = File> + Clock + Drop> Log<R> {
             open: false,
             file: None,
             bytes: 0,
+            torn: false,
             line: String::new(alloc),
             refused: NEVER,
             unaccepted: NEVER,
@@ -176,28 +182,46 @@ impl<R: Files<File = File> + Clock + Drop> Log<R> {
         more: &[Field<'_>],
     ) -> Result<(), AllocError> {
         self.line.clear();
+        if self.torn {
+            self.line.push('\n')?;
+        }
         write!(self.line, "{:.3} {}", now, word)?;
         spell_fields(&mut self.line, fields)?;
         spell_fields(&mut self.line, more)?;
         self.line.push('\n')
     }
 
-    /// Writes the line that was made.
+    /// Writes the line that was made. Where the log is full and cannot get its other name, nothing is written.
     fn put(&mut self) {
         if self.file.is_none() {
             self.reopen();
         }
-        if self.file.is_some() && self.bytes >= MOST_BYTES {
-            self.file = None;
-            let _ = fs::rename(&self.rt, self.path.as_str(), self.older.as_str());
-            self.reopen();
+        if self.bytes >= MOST_BYTES {
+            self.turn();
+        }
+        if self.bytes >= MOST_OF_ALL {
+            return;
         }
         let Some(file) = &mut self.file else {
             return;
         };
         match file.write(self.line.as_bytes()) {
-            Ok(count) => self.bytes = self.bytes.saturating_add(count as u64),
+            Ok(0) => {}
+            Ok(count) => {
+                self.bytes = self.bytes.saturating_add(count as u64);
+                self.torn = count < self.line.len();
+            }
             Err(_) => self.file = None,
+        }
+    }
+
+    /// Gives the log its other name, and begins a new one. Where it cannot get that name it goes on.
+    fn turn(&mut self) {
+        if fs::rename(&self.rt, self.path.as_str(), self.older.as_str()).is_ok() {
+            self.file = None;
+            self.bytes = 0;
+            self.torn = false;
+            self.reopen();
         }
     }
 
@@ -243,10 +267,10 @@ fn spell_cause(line: &mut String, kind: ErrorKind, number: Option<i32>) -> Resul
     }
 }
 
-/// Writes a text. A blank, and what is no sign, is written as a question mark.
+/// Writes a text. Each blank of any kind, and what is no sign, is written as a question mark.
 fn spell_text(line: &mut String, text: &str) -> Result<(), AllocError> {
     for sign in text.chars() {
-        let shown = if sign.is_control() || sign == ' ' {
+        let shown = if sign.is_control() || sign.is_whitespace() {
             '?'
         } else {
             sign

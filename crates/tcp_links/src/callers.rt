@@ -1,9 +1,11 @@
 //! Those who called and have not said yet who they are, or what they ask.
 
 use crate::channels::Channel;
+use crate::rounds::Round;
 use crate::seals::{CODE, HELLO, NONCE, NetworkKey, Talk, numbers_of};
-use crate::streams::{CLIENT, Come, GREETING, Piece, caller_of, take_piece, write_at_once};
+use crate::streams::{CLIENT, Come, GREETING, Piece, caller_of};
 use crate::tellings::refuse;
+use crate::{seals, streams};
 use base_types::{Bytes, Items, Ws};
 use mail_frames::{BYTES_OF_LENGTH, LONGEST_COMMAND};
 use node_log::Commons;
@@ -24,33 +26,36 @@ const PATIENCE: u64 = 5;
 
 /// How far one who called has come.
 #[derive(Drop)]
-enum Stage<S> {
+enum Stage {
     /// It has not greeted.
-    New(S),
+    New,
     /// It has greeted by this number under the key, and was answered.
-    Answered(S, Talk, u16),
-    /// It is a client, and has sent these bytes.
-    Asks(Channel<S>, Queue),
+    Answered(Talk, u16),
+    /// It is a client.
+    Asks,
 }
 
 /// One who called.
 #[derive(Drop)]
 struct Caller<S> {
-    stage: Stage<S>,
+    channel: Channel<S>,
+    stage: Stage,
+    /// What it has asked so far.
+    asked: Queue,
     address: SocketAddr,
     since: Duration,
 }
 
 /// What a caller came to.
 #[derive(Drop)]
-enum Next<S> {
-    Stays(Stage<S>),
-    Workstation(Ws, Channel<S>),
-    Client(Channel<S>, Bytes),
+enum Step {
+    Stays,
+    Workstation(Ws),
+    Client(Bytes),
     /// It is not let in, for this reason: it is gone, or says what is not understood.
     Wrong(&'static str),
     /// There was no memory for what came.
-    NoMemory(Stage<S>),
+    NoMemory,
 }
 
 /// What was heard from the callers.
@@ -64,152 +69,129 @@ pub enum Heard<S> {
     NoMemory,
 }
 
-/// Who is called: the own number, and the key where there is one.
-#[derive(Clone, Copy)]
-pub struct Door {
-    pub alloc: Global,
-    pub own: u16,
-    pub key: Option<NetworkKey>,
-    pub now: Duration,
-}
-
-/// One who is known by this number.
-fn known<S: Read + Write + OpenStream + Drop>(
-    door: &Door,
-    number: u16,
-    channel: Channel<S>,
-) -> Next<S> {
-    if number == CLIENT {
-        Next::Stays(Stage::Asks(channel, Queue::new(door.alloc)))
-    } else {
-        Next::Workstation(Ws(number), channel)
-    }
-}
-
-/// Hears a greeting without a key.
-fn greet<S: Read + Write + OpenStream + Drop>(door: &Door, mut stream: S) -> Next<S> {
-    let greeting: [u8; GREETING] = match take_piece(&mut stream) {
-        Piece::Whole(bytes) => bytes,
-        Piece::Waits => return Next::Stays(Stage::New(stream)),
-        Piece::Wrong => return Next::Wrong("gone"),
-    };
-    match caller_of(&greeting) {
-        Some(number) => {
-            let channel = Channel::new(door.alloc, stream, None, door.now);
-            known(door, number, channel)
+impl<S: Read + Write + OpenStream + Drop> Caller<S> {
+    /// How much it has shown: who has shown less has to go first.
+    fn rank(&self) -> u8 {
+        match &self.stage {
+            Stage::New => 0,
+            Stage::Answered(_, _) => 1,
+            Stage::Asks => 2,
         }
-        None => Next::Wrong("greeting"),
+    }
+
+    /// It is known by this number.
+    fn is_known(&mut self, number: u16) -> Step {
+        if number == CLIENT {
+            self.stage = Stage::Asks;
+            Step::Stays
+        } else {
+            Step::Workstation(Ws(number))
+        }
+    }
+
+    /// Hears a greeting without a key.
+    fn greet(&mut self) -> Step {
+        let greeting: [u8; GREETING] = match self.channel.take_piece(streams::MARK) {
+            Piece::Whole(bytes) => bytes,
+            Piece::Waits => return Step::Stays,
+            Piece::Other => return Step::Wrong("greeting"),
+            Piece::Gone => return Step::Wrong("gone"),
+        };
+        match caller_of(&greeting) {
+            Some(number) => self.is_known(number),
+            None => Step::Wrong("greeting"),
+        }
+    }
+
+    /// Hears a greeting under a key, and answers it.
+    fn answer<R: RandomSource>(&mut self, rt: &R, round: &Round, key: &NetworkKey) -> Step {
+        let hello: [u8; HELLO] = match self.channel.take_piece(seals::MARK) {
+            Piece::Whole(bytes) => bytes,
+            Piece::Waits => return Step::Stays,
+            Piece::Other => return Step::Wrong("greeting"),
+            Piece::Gone => return Step::Wrong("gone"),
+        };
+        let Some((caller, called)) = numbers_of(&hello) else {
+            return Step::Wrong("greeting");
+        };
+        if called != round.own || caller == round.own {
+            return Step::Wrong("number");
+        }
+        let mut nonce = [0u8; NONCE];
+        if rt.fill_bytes(&mut nonce).is_err() {
+            return Step::Wrong("random");
+        }
+        let talk = key.talk(&hello, &nonce);
+        if self.channel.greet(&talk.answer(&nonce)).is_err() {
+            return Step::Wrong("gone");
+        }
+        self.stage = Stage::Answered(talk, caller);
+        Step::Stays
+    }
+
+    /// Hears the proof that the caller knows the key.
+    fn prove(&mut self, round: &Round, talk: &Talk, number: u16) -> Step {
+        let proof: [u8; CODE] = match self.channel.take_piece(&[]) {
+            Piece::Whole(bytes) => bytes,
+            Piece::Waits => return Step::Stays,
+            Piece::Other => return Step::Wrong("proof"),
+            Piece::Gone => return Step::Wrong("gone"),
+        };
+        if !talk.is_proved(&proof) {
+            return Step::Wrong("proof");
+        }
+        self.channel.seal(talk.calleds(), round.now);
+        self.is_known(number)
+    }
+
+    /// Hears the first frame of a client, once it is there whole.
+    fn question(&mut self, round: &Round, buffer: &mut [u8]) -> Step {
+        match self.channel.take(round.alloc, buffer, round.now) {
+            Come::Nothing => {}
+            Come::Bytes(bytes) => {
+                if self.asked.put(bytes.as_slice()).is_err() {
+                    return Step::Wrong("memory");
+                }
+            }
+            Come::End | Come::Lost(_) => return Step::Wrong("gone"),
+            Come::Wrong => return Step::Wrong("record"),
+            Come::NoMemory => return Step::NoMemory,
+        }
+        frame_in(round.alloc, self.asked.rest())
+    }
+
+    /// What the caller says next.
+    fn step<R: RandomSource>(&mut self, rt: &R, round: &Round, buffer: &mut [u8]) -> Step {
+        match &self.stage {
+            Stage::New => match &round.key {
+                Some(key) => self.answer(rt, round, key),
+                None => self.greet(),
+            },
+            Stage::Answered(talk, number) => {
+                let (talk, number) = (*talk, *number);
+                self.prove(round, &talk, number)
+            }
+            Stage::Asks => self.question(round, buffer),
+        }
     }
 }
 
-/// Hears a greeting under a key, and answers it.
-fn answer<R: RandomSource, S: Read + Write + OpenStream + Drop>(
-    rt: &R,
-    door: &Door,
-    key: &NetworkKey,
-    mut stream: S,
-) -> Next<S> {
-    let hello: [u8; HELLO] = match take_piece(&mut stream) {
-        Piece::Whole(bytes) => bytes,
-        Piece::Waits => return Next::Stays(Stage::New(stream)),
-        Piece::Wrong => return Next::Wrong("gone"),
-    };
-    let Some((caller, called)) = numbers_of(&hello) else {
-        return Next::Wrong("greeting");
-    };
-    if called != door.own || caller == door.own {
-        return Next::Wrong("number");
-    }
-    let mut nonce = [0u8; NONCE];
-    if rt.fill_bytes(&mut nonce).is_err() {
-        return Next::Wrong("random");
-    }
-    let talk = key.talk(&hello, &nonce);
-    match write_at_once(&mut stream, &talk.answer(&nonce)) {
-        Ok(()) => Next::Stays(Stage::Answered(stream, talk, caller)),
-        Err(_) => Next::Wrong("gone"),
-    }
-}
-
-/// Hears the proof that the caller knows the key.
-fn prove<S: Read + Write + OpenStream + Drop>(
-    door: &Door,
-    mut stream: S,
-    talk: Talk,
-    number: u16,
-) -> Next<S> {
-    let proof: [u8; CODE] = match take_piece(&mut stream) {
-        Piece::Whole(bytes) => bytes,
-        Piece::Waits => return Next::Stays(Stage::Answered(stream, talk, number)),
-        Piece::Wrong => return Next::Wrong("gone"),
-    };
-    if !talk.is_proved(&proof) {
-        return Next::Wrong("proof");
-    }
-    let channel = Channel::new(door.alloc, stream, Some(talk.calleds()), door.now);
-    known(door, number, channel)
-}
-
-/// How many bytes the frame has that begins these. Some(None) where more have to come, and None where no command has such a
-/// frame.
-fn frame_length(bytes: &[u8]) -> Option<Option<usize>> {
+/// The frame of a client that begins these bytes, once it is there whole.
+fn frame_in(alloc: Global, bytes: &[u8]) -> Step {
     let [a, b, c, d, ..] = bytes else {
-        return Some(None);
+        return Step::Stays;
     };
     let length = u32::from_be_bytes([*a, *b, *c, *d]);
     if length == 0 || length > LONGEST_COMMAND {
-        return None;
+        return Step::Wrong("length");
     }
-    Some(Some(BYTES_OF_LENGTH + length as usize))
-}
-
-/// Hears the first frame of a client, once it is there whole.
-fn question<S: Read + Write + OpenStream + Drop>(
-    door: &Door,
-    mut channel: Channel<S>,
-    mut asked: Queue,
-    buffer: &mut [u8],
-) -> Next<S> {
-    match channel.take(door.alloc, buffer, door.now) {
-        Come::Nothing => {}
-        Come::Bytes(bytes) => {
-            if asked.put(bytes.as_slice()).is_err() {
-                return Next::Wrong("memory");
-            }
-        }
-        Come::End | Come::Lost(_) => return Next::Wrong("gone"),
-        Come::Wrong => return Next::Wrong("record"),
-        Come::NoMemory => return Next::NoMemory(Stage::Asks(channel, asked)),
-    }
-    let whole = match frame_length(asked.rest()) {
-        Some(Some(whole)) => whole,
-        Some(None) => return Next::Stays(Stage::Asks(channel, asked)),
-        None => return Next::Wrong("length"),
+    let Some(frame) = bytes.get(..BYTES_OF_LENGTH + length as usize) else {
+        return Step::Stays;
     };
-    let Some(frame) = asked.rest().get(..whole) else {
-        return Next::Stays(Stage::Asks(channel, asked));
-    };
-    let mut bytes = Vec::new(door.alloc);
-    if bytes.extend_from_slice(frame).is_err() {
-        return Next::NoMemory(Stage::Asks(channel, asked));
-    }
-    Next::Client(channel, Items::of_vec(bytes))
-}
-
-/// What the caller says next.
-fn heard_from<R: RandomSource, S: Read + Write + OpenStream + Drop>(
-    rt: &R,
-    door: &Door,
-    stage: Stage<S>,
-    buffer: &mut [u8],
-) -> Next<S> {
-    match stage {
-        Stage::New(stream) => match &door.key {
-            Some(key) => answer(rt, door, key, stream),
-            None => greet(door, stream),
-        },
-        Stage::Answered(stream, talk, number) => prove(door, stream, talk, number),
-        Stage::Asks(channel, asked) => question(door, channel, asked, buffer),
+    let mut copy = Vec::new(alloc);
+    match copy.extend_from_slice(frame) {
+        Ok(()) => Step::Client(Items::of_vec(copy)),
+        Err(_) => Step::NoMemory,
     }
 }
 
@@ -234,23 +216,43 @@ impl<S: Read + Write + OpenStream + Drop> Callers<S> {
         })
     }
 
-    /// Adds one who called from this address. Where too many are there, the one that came first has to go.
+    /// The place of the one who has to go where too many are there: of those who have shown least, the one that came first.
+    fn place_to_leave(&self) -> usize {
+        let mut found = 0;
+        let mut least = u8::MAX;
+        let mut first = Duration::MAX;
+        for (place, caller) in self.waiting.iter().enumerate() {
+            let rank = caller.rank();
+            if rank < least || rank == least && caller.since < first {
+                found = place;
+                least = rank;
+                first = caller.since;
+            }
+        }
+        found
+    }
+
+    /// Adds one who called from this address. Where too many are there, one of them has to go: of those who have shown
+    /// least, the one that came first.
     pub fn add<R: Files<File = File> + Clock + Drop>(
         &mut self,
         commons: &Commons<R>,
+        round: &Round,
         stream: S,
         address: SocketAddr,
-        now: Duration,
     ) {
-        if self.waiting.len() >= MOST
-            && let Some(first) = self.waiting.pop_front()
-        {
-            refuse(commons, &first.address, "crowd");
+        if self.waiting.len() >= MOST {
+            let place = self.place_to_leave();
+            if let Some(gone) = self.waiting.remove(place) {
+                refuse(commons, &gone.address, "crowd");
+            }
         }
         self.keep(Caller {
-            stage: Stage::New(stream),
+            channel: Channel::new(round.alloc, stream, round.now),
+            stage: Stage::New,
+            asked: Queue::new(round.alloc),
             address,
-            since: now,
+            since: round.now,
         });
     }
 
@@ -264,42 +266,40 @@ impl<S: Read + Write + OpenStream + Drop> Callers<S> {
         &mut self,
         rt: &R,
         commons: &Commons<R>,
-        door: &Door,
+        round: &Round,
         buffer: &mut [u8],
     ) -> Heard<S> {
         for _ in 0..self.waiting.len() {
-            let Some(caller) = self.waiting.pop_front() else {
+            let Some(mut caller) = self.waiting.pop_front() else {
                 return Heard::Nothing;
             };
-            let address = caller.address;
-            let since = caller.since;
-            match heard_from(rt, door, caller.stage, buffer) {
-                Next::Stays(stage) => {
-                    if door.now.saturating_sub(since) < Duration::from_secs(PATIENCE) {
-                        self.keep(Caller {
-                            stage,
-                            address,
-                            since,
-                        });
-                    } else {
-                        refuse(commons, &address, "patience");
-                    }
+            match caller.step(rt, round, buffer) {
+                Step::Stays => self.stay(commons, round, caller),
+                Step::Wrong(why) => refuse(commons, &caller.address, why),
+                Step::Workstation(ws) => {
+                    return Heard::Workstation(ws, caller.channel, caller.address);
                 }
-                Next::Workstation(ws, channel) => {
-                    return Heard::Workstation(ws, channel, address);
-                }
-                Next::Client(channel, bytes) => return Heard::Client(channel, bytes),
-                Next::Wrong(why) => refuse(commons, &address, why),
-                Next::NoMemory(stage) => {
-                    self.keep(Caller {
-                        stage,
-                        address,
-                        since,
-                    });
+                Step::Client(bytes) => return Heard::Client(caller.channel, bytes),
+                Step::NoMemory => {
+                    self.keep(caller);
                     return Heard::NoMemory;
                 }
             }
         }
         Heard::Nothing
+    }
+
+    /// Keeps a caller who may still say something.
+    fn stay<R: Files<File = File> + Clock + Drop>(
+        &mut self,
+        commons: &Commons<R>,
+        round: &Round,
+        caller: Caller<S>,
+    ) {
+        if round.now.saturating_sub(caller.since) < Duration::from_secs(PATIENCE) {
+            self.keep(caller);
+        } else {
+            refuse(commons, &caller.address, "patience");
+        }
     }
 }

@@ -2,7 +2,7 @@
 
 use crate::pieces::Pieces;
 use crate::seals::Seals;
-use crate::streams::{Come, is_waiting, none_of, take_some};
+use crate::streams::{Come, Piece, is_waiting, none_of, take_piece, take_some, write_at_once};
 use base_types::Items;
 use sealed_records::{MOST_IN_RECORD, Queue, Taken, Unput};
 use std::alloc::Global;
@@ -59,17 +59,34 @@ pub struct Channel<S> {
 
 impl<S: Read + Write + OpenStream + Drop> Channel<S> {
     /// A connection over which nothing was sent yet.
-    pub fn new(alloc: Global, stream: S, seals: Option<Seals>, now: Duration) -> Self {
+    pub fn new(alloc: Global, stream: S, now: Duration) -> Self {
         Channel {
             stream,
             waiting: Pieces::new(alloc),
             out: Queue::new(alloc),
             come: Queue::new(alloc),
-            seals,
+            seals: None,
             moved: now,
             heard: now,
             told: now,
         }
+    }
+
+    /// From now on all goes in records with these codes.
+    pub fn seal(&mut self, seals: Seals, now: Duration) {
+        self.seals = Some(seals);
+        self.heard = now;
+        self.told = now;
+    }
+
+    /// Takes a piece of a greeting that begins with this mark, once it is there whole.
+    pub fn take_piece<const N: usize>(&mut self, mark: &[u8]) -> Piece<N> {
+        take_piece(&mut self.stream, mark)
+    }
+
+    /// Writes a short piece of a greeting.
+    pub fn greet(&mut self, piece: &[u8]) -> io::Result<()> {
+        write_at_once(&mut self.stream, piece)
     }
 
     /// Whether nothing waits.

@@ -9,12 +9,15 @@
 mod addresses;
 mod callers;
 mod channels;
+mod clients;
 mod connections;
 mod homes;
 mod keys;
 mod lines;
 mod links;
+mod neighbours;
 mod pieces;
+mod rounds;
 mod seals;
 mod streams;
 mod tellings;

@@ -4,7 +4,8 @@ ghost use Rattle.tcp_links.specs.Turns.{InTurn};
 
 use crate::addresses::Addresses;
 use crate::channels::Channel;
-use crate::seals::{ANSWER, HELLO, NONCE, NetworkKey, hello_of};
+use crate::rounds::Round;
+use crate::seals::{ANSWER, HELLO, MARK, NONCE, NetworkKey, Talk, hello_of};
 use crate::streams::{Come, Piece, greeting, is_waiting, take_piece, write_at_once};
 use base_types::{Peer, Ws};
 use node_log::{Field, cause_of};
@@ -31,6 +32,40 @@ struct Greeted<S> {
     stream: S,
     hello: [u8; HELLO],
     since: Duration,
+}
+
+/// What a workstation that was greeted under a key has answered.
+#[derive(Drop)]
+enum Answer {
+    /// It has not answered yet.
+    Waits,
+    /// It knows the key.
+    Proves(Talk),
+    /// It is not called further, for this reason.
+    Wrong(&'static str),
+}
+
+/// What one that was greeted has answered.
+fn answer_of<S: Read + OpenStream>(
+    greeted: &mut Greeted<S>,
+    key: &NetworkKey,
+    now: Duration,
+) -> Answer {
+    let answer: [u8; ANSWER] = match take_piece(&mut greeted.stream, MARK) {
+        Piece::Whole(answer) => answer,
+        Piece::Waits => {
+            if now.saturating_sub(greeted.since) >= Duration::from_secs(PATIENCE) {
+                return Answer::Wrong("patience");
+            }
+            return Answer::Waits;
+        }
+        Piece::Other => return Answer::Wrong("answer"),
+        Piece::Gone => return Answer::Wrong("gone"),
+    };
+    match key.answered(&greeted.hello, &answer) {
+        Some(talk) => Answer::Proves(talk),
+        None => Answer::Wrong("answer"),
+    }
 }
 
 /// The line to another workstation: where it is reached, the connection, and what was told of it.
@@ -93,13 +128,23 @@ impl<S: Read + Write + OpenStream + Drop> Line<S> {
     }
 
     /// Takes a new connection, in place of the old one: one that was called or that called.
-    pub fn join(&mut self, channel: Channel<S>, by: &'static str)
+    fn join(&mut self, channel: Channel<S>, by: &'static str)
         ensures { self.new.up ≡ self.old.up }
     {
         self.channel = Some(channel);
         self.fresh = true;
         self.why = by;
+        self.cause = None;
         self.failed = None;
+    }
+
+    /// Takes a connection that the workstation made. A call of this end that is not answered yet is given up: its answer
+    /// would take the place of this connection.
+    pub fn take(&mut self, channel: Channel<S>)
+        ensures { self.new.up ≡ self.old.up }
+    {
+        self.greeted = None;
+        self.join(channel, "caller");
     }
 
     /// Lets the connection go, for this reason.
@@ -201,31 +246,47 @@ impl<S: Read + Write + OpenStream + Drop> Line<S> {
     /// a connection once the answer to the greeting has come.
     pub fn call<R: Net<Stream = S> + RandomSource>(
         &mut self,
-        alloc: Global,
         rt: &R,
-        caller: u16,
-        keyed: bool,
-        now: Duration,
+        round: &Round,
         patience: u64,
     ) -> io::Result<()>
         ensures { self.new.up ≡ self.old.up }
     {
-        self.called = Some(now);
-        let mut stream = self.addresses.connect(rt, patience)?;
-        if keyed {
-            let mut nonce = [0u8; NONCE];
-            rt.fill_bytes(&mut nonce)?;
-            let hello = hello_of(caller, self.peer.ws.0, &nonce);
-            write_at_once(&mut stream, &hello)?;
-            self.greeted = Some(Greeted {
-                stream,
-                hello,
-                since: now,
-            });
+        self.called = Some(round.now);
+        let stream = self.addresses.connect(rt, patience)?;
+        if round.key.is_some() {
+            self.greet_by_key(rt, round, stream)
         } else {
-            write_at_once(&mut stream, &greeting(caller))?;
-            self.join(Channel::new(alloc, stream, None, now), "called");
+            self.greet(round, stream)
         }
+    }
+
+    fn greet(&mut self, round: &Round, mut stream: S) -> io::Result<()>
+        ensures { self.new.up ≡ self.old.up }
+    {
+        write_at_once(&mut stream, &greeting(round.own))?;
+        let channel = Channel::new(round.alloc, stream, round.now);
+        self.join(channel, "called");
+        Ok(())
+    }
+
+    fn greet_by_key<R: RandomSource>(
+        &mut self,
+        rt: &R,
+        round: &Round,
+        mut stream: S,
+    ) -> io::Result<()>
+        ensures { self.new.up ≡ self.old.up }
+    {
+        let mut nonce = [0u8; NONCE];
+        rt.fill_bytes(&mut nonce)?;
+        let hello = hello_of(round.own, self.peer.ws.0, &nonce);
+        write_at_once(&mut stream, &hello)?;
+        self.greeted = Some(Greeted {
+            stream,
+            hello,
+            since: round.now,
+        });
         Ok(())
     }
 
@@ -239,26 +300,30 @@ impl<S: Read + Write + OpenStream + Drop> Line<S> {
     ) -> Option<&'static str>
         ensures { self.new.up ≡ self.old.up }
     {
-        let mut greeted = self.greeted.take()?;
-        let answer: [u8; ANSWER] = match take_piece(&mut greeted.stream) {
-            Piece::Whole(answer) => answer,
-            Piece::Waits => {
-                if now.saturating_sub(greeted.since) >= Duration::from_secs(PATIENCE) {
-                    return Some("patience");
-                }
-                self.greeted = Some(greeted);
-                return None;
+        let Some(greeted) = &mut self.greeted else {
+            return None;
+        };
+        match answer_of(greeted, key, now) {
+            Answer::Waits => None,
+            Answer::Proves(talk) => self.prove(alloc, &talk, now),
+            Answer::Wrong(why) => {
+                self.greeted = None;
+                Some(why)
             }
-            Piece::Wrong => return Some("gone"),
-        };
-        let Some(talk) = key.answered(&greeted.hello, &answer) else {
-            return Some("answer");
-        };
+        }
+    }
+
+    /// Proves to the workstation that was greeted that this end knows the key too. The connection is then made.
+    fn prove(&mut self, alloc: Global, talk: &Talk, now: Duration) -> Option<&'static str>
+        ensures { self.new.up ≡ self.old.up }
+    {
+        let greeted = self.greeted.take()?;
         let mut stream = greeted.stream;
         if write_at_once(&mut stream, &talk.proof()).is_err() {
             return Some("gone");
         }
-        let channel = Channel::new(alloc, stream, Some(talk.callers()), now);
+        let mut channel = Channel::new(alloc, stream, now);
+        channel.seal(talk.callers(), now);
         self.join(channel, "called");
         None
     }

@@ -19,7 +19,7 @@ pub const CLIENT: u16 = 65_535;
 pub const GREETING: usize = 6;
 
 /// The first bytes of each connection.
-const MARK: &[u8] = b"TWS1";
+pub const MARK: &[u8] = b"TWS1";
 
 /// After how many seconds without a word the system asks whether the other end is there, how many seconds apart, and how
 /// often.
@@ -104,23 +104,34 @@ pub enum Piece<const N: usize> {
     Whole([u8; N]),
     /// It is still to come.
     Waits,
-    /// It does not come.
-    Wrong,
+    /// What has come is another one.
+    Other,
+    /// It does not come: the connection is gone.
+    Gone,
 }
 
-/// Takes a piece once it is there whole.
-pub fn take_piece<S: Read + OpenStream, const N: usize>(stream: &mut S) -> Piece<N> {
+/// Whether these bytes begin the mark, or begin with it.
+fn may_begin(bytes: &[u8], mark: &[u8]) -> bool {
+    bytes
+        .iter()
+        .zip(mark.iter())
+        .all(|(byte, wanted)| byte == wanted)
+}
+
+/// Takes a piece that begins with this mark, once it is there whole.
+pub fn take_piece<S: Read + OpenStream, const N: usize>(stream: &mut S, mark: &[u8]) -> Piece<N> {
     let mut bytes = [0u8; N];
     match stream.peek(&mut bytes) {
-        Ok(0) => return Piece::Wrong,
+        Ok(0) => return Piece::Gone,
+        Ok(count) if !may_begin(&bytes[..count], mark) => return Piece::Other,
         Ok(count) if count < N => return Piece::Waits,
         Ok(_) => {}
         Err(error) if is_waiting(&error) => return Piece::Waits,
-        Err(_) => return Piece::Wrong,
+        Err(_) => return Piece::Gone,
     }
     match stream.read(&mut bytes) {
         Ok(count) if count == N => Piece::Whole(bytes),
-        _ => Piece::Wrong,
+        _ => Piece::Gone,
     }
 }
 

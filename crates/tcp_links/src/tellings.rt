@@ -6,7 +6,8 @@ use node_log::{Commons, Field, Topic, Value, cause_of};
 use outside::Arrival;
 use std::fs::{File, Files};
 use std::io;
-use std::net::{Net, SocketAddr};
+use std::io::{Read, Write};
+use std::net::{OpenStream, SocketAddr};
 use std::time::Clock;
 
 /// Tells the log of a caller who could not be let in, since the system says this.
@@ -49,25 +50,18 @@ pub fn refuse<R: Files<File = File> + Clock + Drop>(
 }
 
 /// Writes a line of the log where a link began or ended.
-pub fn tell_arrival<R: Net + Clock + Files<File = File> + Drop>(
+pub fn tell_arrival<R: Files<File = File> + Clock + Drop, S: Read + Write + OpenStream + Drop>(
     commons: &Commons<R>,
-    line: &Line<R::Stream>,
+    line: &Line<S>,
     arrival: &Arrival,
 ) {
+    let why = Value::Word(line.why());
     match arrival {
-        Arrival::Up(_) => tell_of(
-            commons,
-            "up",
-            line.peer(),
-            &[("by", Value::Word(line.why()))],
-        ),
-        Arrival::Down(_) => {
-            let why = ("why", Value::Word(line.why()));
-            match line.cause() {
-                Some(cause) => tell_of(commons, "down", line.peer(), &[why, cause]),
-                None => tell_of(commons, "down", line.peer(), &[why]),
-            }
-        }
+        Arrival::Up(_) => tell_of(commons, "up", line.peer(), &[("by", why)]),
+        Arrival::Down(_) => match line.cause() {
+            Some(cause) => tell_of(commons, "down", line.peer(), &[("why", why), cause]),
+            None => tell_of(commons, "down", line.peer(), &[("why", why)]),
+        },
         _ => {}
     }
 }

@@ -6,7 +6,7 @@ ghost use Rattle.model.specs.Sessions.{restarted};
 ghost use Rattle.agent_core.specs.Nodes.{present_in, session_in};
 
 use crate::trackers::Tracker;
-use base_types::{Feed, Live, Moment, NoMemory, Ws};
+use base_types::{Feed, Live, Moment, Ws};
 use mailman_core::Mail;
 use network_tree::Network;
 use owner_fold::Owners;
@@ -112,14 +112,5 @@ impl Agent {
         self.mail.clear();
         self.live = self.live.empty();
         self.idle_until = None;
-    }
-
-    /// Lets the tracker make the index of the best job anew, where it was given up. Contracts see nothing of that: whatever
-    /// comes, the node is as before.
-    pub(crate) fn renew(&mut self) -> Result<(), NoMemory>
-        ensures { self.new ≡ self.old }
-    {
-        self.tracker
-            .renew(self.alloc, &self.net, &self.owners, self.me)
     }
 }

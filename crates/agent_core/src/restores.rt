@@ -122,10 +122,7 @@ impl Agent {
         }
         let mut agent = Agent::blank(alloc, net, me)?;
         match agent.take_all(kept.as_slice()) {
-            Ok(()) => {
-                agent.renew()?;
-                Ok(agent)
-            }
+            Ok(()) => Ok(agent),
             Err(fault) => Err(fault),
         }
     }

@@ -40,8 +40,8 @@ impl Agent {
 
     /// Takes an input. The step is that of the definitions: the entry that the node keeps, what it gives out, and its
     /// session after it; or the first fault that applies, and then the agent is as before. It takes all its memory
-    /// before it changes anything, but for that of the index of the best job, which is made anew at the next step where
-    /// there is none.
+    /// before it changes anything, but for that of the index of the best job. A turn that needs the index makes it first,
+    /// where there is none.
     pub fn step(&mut self, input: &Input) -> Result<Step, StepFault>
         ensures taken { IfOk result (λ s. step_at self.old input.now ≡ Ok (effect_in s self.new)) }
         ensures kept { IfOk result (λ s. self.new.kept ≡ self.old.kept ++ option_to_list s.kept) }
@@ -50,7 +50,6 @@ impl Agent {
         ensures net { self.new.net ≡ self.old.net }
         ensures me { self.new.me ≡ self.old.me }
     {
-        self.renew()?;
         self.step_whole(input)
     }
 }

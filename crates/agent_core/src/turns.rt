@@ -53,17 +53,20 @@ impl Agent {
         self.idle_until = Some(t);
     }
 
-    /// The body of a turn's entry, if it keeps one. The best job is found by the index. Where there is none, the answer is
-    /// `NoMemory`.
-    fn due_body(&self, t: Moment) -> Result<Option<Body>, StepFault>
-        ensures { IsTurnBody self.now t result }
+    /// The body of a turn's entry, if it keeps one. The best job is found by the index, which is made first where there is
+    /// none. So a turn that does not tell `NoMemory` has one.
+    fn due_body(&mut self, t: Moment) -> Result<Option<Body>, StepFault>
+        ensures body { IsTurnBody self.old t result }
+        ensures same { self.new ≡ self.old }
     {
         if self.is_idle(t) {
             return Ok(None);
         }
+        self.tracker
+            .renew(self.alloc, &self.net, &self.owners, self.me)?;
         match &self.tracker.index {
-            None => Err(StepFault::NoMemory),
             Some(index) => self.body_by(index, t),
+            None => unreachable!(),
         }
     }
 

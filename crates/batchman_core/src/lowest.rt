@@ -1,4 +1,4 @@
-//! The lowest own members that may be released or may end.
+//! The lowest own member that may be released.
 ghost use Rattle.std.specs.Prelude.{◌≡◌, filter, nat_lt, true};
 ghost use Rattle.std.specs.Option.{option_map_or};
 ghost use Rattle.model.specs.Words.{least, lesser};
@@ -6,7 +6,7 @@ ghost use Rattle.model.specs.History.{view_of};
 ghost use Rattle.model.specs.OwnMembers as spec;
 
 use base_types::{StreamNo, Ws};
-use dependencies::{may_end_in, may_release_in};
+use dependencies::may_release_in;
 use network_tree::Network;
 use owner_fold::Owners;
 
@@ -20,25 +20,6 @@ pub(crate) fn lowest_to_release(net: &Network, o: &Owners, w: Ws) -> Option<Stre
             continue;
         }
         if may_release_in(net, o, w, doc) {
-            lowest = Some(lower(lowest, doc.no.0));
-        }
-    }
-    match lowest {
-        None => None,
-        Some(number) => Some(StreamNo(number)),
-    }
-}
-
-/// The lowest own member of w that may end.
-pub(crate) fn lowest_to_end(o: &Owners, w: Ws) -> Option<StreamNo>
-    ensures { let V = view_of o.now in result ≡ least (filter (spec.may_end V w) (spec.own_numbers V w)) }
-{
-    let mut lowest = None;
-    for doc in o.streams_under_way(w) {
-        if !is_below(lowest, doc.no.0) {
-            continue;
-        }
-        if may_end_in(o, w, doc) {
             lowest = Some(lower(lowest, doc.no.0));
         }
     }

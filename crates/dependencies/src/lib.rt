@@ -6,8 +6,8 @@
 //! took: `model::specs::Dependencies`, `Readiness`, `OwnMembers` and `Lateness` have them. None of them takes memory. A number that
 //! the catalogue lacks is not satisfied and not ready.
 //!
-//! `Readiness` is what keeps track of the best job while entries come in, with one law for all that do so. `Scan` is
-//! the plain one, which keeps nothing and walks the jobs of the catalogue at each question.
+//! `Readiness` is what keeps track of the best job and of the streams that may end while entries come in, with one law
+//! for all that do so. `Scan` is the plain one, which keeps nothing and walks the catalogue at each question.
 //!
 //! What that costs: each fact of an `Owners` is a look-up or two. A dependency asks for a few facts, one on units for
 //! some facts of each holder and each of its dependencies. `sat` asks for one dependency; `ready` and `may_release` for
@@ -22,6 +22,7 @@
 
 mod candidates;
 mod dues;
+mod ends;
 mod lates;
 mod launches;
 mod limits;

@@ -6,3 +6,4 @@ pub mod Quiet
 pub mod Standings
 pub mod Further
 pub mod Told
+pub mod Ending

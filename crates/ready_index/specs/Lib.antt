@@ -1,5 +1,6 @@
 pub mod Awaited
 pub mod Changes
+pub mod Ends
 pub mod Lists
 pub mod Places
 pub mod Standing

@@ -25,7 +25,9 @@
 
 mod candidates;
 mod changes;
+mod ends;
 mod index;
+mod jobs;
 mod laws;
 mod targets;
 mod waits;

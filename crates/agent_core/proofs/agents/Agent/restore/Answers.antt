@@ -1,4 +1,4 @@
-use Rattle.std.proofs.Common.{◌∙◌, sym}
+use Rattle.std.proofs.Common.{◌∙◌, refl, sym}
 use Rattle.std.proofs.lemmas.Bool.{ltb-true}
 use Rattle.agent_core.specs.Restoring.{restore_fault_of}
 use Rattle.agent_core.proofs.Restored.{not_restored, restore_outside, restored, self_new}
@@ -14,11 +14,11 @@ blank-requires c = ltb-true _ _ (sym c.is_inside.ensures ∙ c.if-not-is_inside.
 pub take_all-requires : goal.take_all-requires
 take_all-requires c = self_new _ _ _ _ c.in_ok-agent.ensures
 
-pub returns-in_ok-renew-in-Ok-clause-accepted : goal.returns-in_ok-renew-in-Ok-clause-accepted
-returns-in_ok-renew-in-Ok-clause-accepted c =
+pub returns-in-Ok-clause-accepted : goal.returns-in-Ok-clause-accepted
+returns-in-Ok-clause-accepted c =
     (restored c.args.net c.args.me c.args.kept.now c.as_slice.result.now c.in_ok-agent.agent c.take_all.new.self
-    c.renew.new.self (sym c.is_inside.ensures ∙ c.if-not-is_inside.false) c.as_slice.ensures c.in_ok-agent.ensures
-    c.in-Ok.ensures.taken c.in-Ok.ensures.accepted c.renew.ensures).1
+    c.take_all.new.self (sym c.is_inside.ensures ∙ c.if-not-is_inside.false) c.as_slice.ensures c.in_ok-agent.ensures
+    c.in-Ok.ensures.taken c.in-Ok.ensures.accepted refl).1
 
 pub returns-in-Err-clause-refused : goal.returns-in-Err-clause-refused
 returns-in-Err-clause-refused c =

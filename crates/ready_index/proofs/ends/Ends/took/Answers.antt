@@ -1,0 +1,12 @@
+use Rattle.std.proofs.lemmas.Result.{on_ok_weaker}
+use Rattle.ready_index.specs.declared.changes.Change.TheVariants.{Launch, Nothing}
+use Rattle.ready_index.proofs.Ending.{ends_then, ends_touched}
+use Rattle.ready_index.proofs.ends.Ends.took.Goals as goal
+
+pub returns-in-At : goal.returns-in-At
+returns-in-At c =
+    on_ok_weaker c.look_again.result
+    (λ looked before grown knows.
+    looked
+    (ends_touched c.args.o.now before c.args.e.now c.args.w c.in-At.target c.args.self.now c.in-At.ensures grown knows))
+    c.look_again.ensures

@@ -7,7 +7,7 @@ use Rattle.node_commands.specs.Forms.{AskOf, NodeFor, Request, request_of, servi
 use Rattle.input_commands.specs.Words.{asked_of, asks_input, asks_record}
 use Rattle.input_commands.proofs.Saying.{apart}
 use Rattle.tws_top.specs.ServiceRows.{PassesLimit}
-use Rattle.tws_top.proofs.CanonicalTexts.{writes_canonical, writes_same_plans}
+use Rattle.tws_top.proofs.CanonicalTexts.{writes_canonical, writes_record, writes_same_plans}
 use Rattle.tws_top.proofs.Completeness.{ask_done, node_done, node_ends, two_requests}
 use Rattle.tws_top.proofs.Disks.{disk_rose, ends_at_limit, no_answer_given, other_file_found, run_passes_limit}
 use Rattle.tws_top.proofs.InputDues.{audit_said, compiles_said, complete_said, exact_said, plans_said, sample_said}
@@ -218,6 +218,11 @@ returns-in-None-clause-planned g c = λ e day asked.
     let due = c.answer_words-status.ensures.due (apart _ 0 4 e (λ f. omega arith)) (apart _ 0 9 e (λ f. omega arith)) in
     planned_said _ _ _ _ _ _ _ _ _ due e day asked
 
+pub returns-in-None-clause-planned_record : goal.returns-in-None-clause-planned_record
+returns-in-None-clause-planned_record g c = λ e day asked.
+    let due = c.answer_words-status.ensures.due (apart _ 0 4 e (λ f. omega arith)) (apart _ 0 9 e (λ f. omega arith)) in
+    writes_record _ _ _ _ c.args.words.now day asked (planned_said _ _ _ _ _ _ _ _ _ due e day asked)
+
 pub returns-in-None-clause-sampled : goal.returns-in-None-clause-sampled
 returns-in-None-clause-sampled g c = λ e jobs seed asked.
     let due = c.answer_words-status.ensures.due (apart _ 0 4 e (λ f. omega arith)) (apart _ 0 9 e (λ f. omega arith)) in
@@ -352,6 +357,12 @@ returns-in-Some-clause-planned_again g c = λ e asked.
 
 pub returns-in-Some-clause-planned : goal.returns-in-Some-clause-planned
 returns-in-Some-clause-planned g c = λ e day asked.
+    let is : service_in c.args.words.now ≡ Some c.in-Some.service = sym c.asked_service.ensures ∙ c.in-Some.is in
+    let none : asked_of c.args.words.now ≡ None = no_input c.args.words.now c.in-Some.service is in
+    absurd (none_some (sym none ∙ asked))
+
+pub returns-in-Some-clause-planned_record : goal.returns-in-Some-clause-planned_record
+returns-in-Some-clause-planned_record g c = λ e day asked.
     let is : service_in c.args.words.now ≡ Some c.in-Some.service = sym c.asked_service.ensures ∙ c.in-Some.is in
     let none : asked_of c.args.words.now ≡ None = no_input c.args.words.now c.in-Some.service is in
     absurd (none_some (sym none ∙ asked))

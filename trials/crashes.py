@@ -4,12 +4,12 @@
 For each kind of call and each number N a node of one workstation with three jobs is started anew and asked for a plan,
 and its Nth such call kills it or fails. Then it is started again without faults, what was lost is confirmed where its
 work is done and rerun where it is not, and this must hold: all jobs end as SUCC, each ran exactly once and no more often
-than it was launched, what was acknowledged before is in the file, and the file is not refused. A log or a note that
-cannot be written must cost nothing of that.
+than it was launched, what was acknowledged before is in the file, and the file is not refused. A log that cannot be
+written costs nothing of that; a launch that cannot be noted waits until it can. Each kind of call must come at least once.
 
-It is run by hand and takes some ten minutes on a quiet machine; with the word `few` it takes one case of each kind. It
-prints each case that is not as it must be, and a last line with the
-numbers, and ends with 0 or 1.
+It is run by hand and takes some ten minutes on a quiet machine; with the word `few` it takes one case of each kind, and
+does not ask whether each kind came. It prints each case that is not as it must be, and a last line with the numbers, and
+ends with 0 or 1.
 
 Usage: trials/crashes.py [PROGRAM [WORKERS [few]]]. PROGRAM is named from the top folder on, as out/quick/tws.
 """
@@ -53,7 +53,7 @@ class Case:
     def __init__(self, program, kind, how, number):
         self.program, self.kind, self.how, self.number = program, kind, how, number
         self.room = tempfile.mkdtemp(prefix="tws-")
-        self.said = []
+        self.said, self.came = [], False
         with open(f"{self.room}/defs.txt", "w", encoding="utf-8") as file:
             file.write(DEFINITIONS.format(port=free_port()))
         with open(f"{self.room}/ran.txt", "w", encoding="utf-8"):
@@ -144,7 +144,7 @@ class Case:
     def first_run(self):
         """The run with the fault. Whether a plan was acknowledged, and whether the node ended by itself."""
         inject = f"inject={self.kind}:{self.how}:when={self.number}"
-        node = self.node("strace", "-qq", "-o", "/dev/null", "-e", f"trace={self.kind}", "-e", inject)
+        node = self.node("strace", "-qq", "-o", f"{self.room}/calls", "-e", f"trace={self.kind}", "-e", inject)
         planned, end = False, time.time() + 6
         while node.poll() is None and time.time() < end:
             if self.has_no_links():
@@ -156,6 +156,8 @@ class Case:
             time.sleep(0.05)
         hit = node.poll() is not None
         status = self.shut_down(node)
+        with open(f"{self.room}/calls", encoding="utf-8", errors="replace") as calls:
+            self.came = hit or "(INJECTED" in calls.read()
         if self.how.startswith("error") and self.kind in ("fsync", "pwrite64") and hit and status not in (6, 0):
             self.said.append(f"status {status} after a failed {self.kind}")
         return planned, hit
@@ -218,15 +220,22 @@ def main(words):
 
     def tried(spec):
         case = Case(program, *spec)
-        return spec, case.whole(), case.said
+        return spec, case.whole(), case
 
     hits = bad = 0
+    # a kind of call, by either of its names, and what becomes of it
+    came = {(kind.removesuffix("at"), how): few for kind, how, _ in PLANS}
     with ThreadPoolExecutor(workers) as pool:
-        for spec, hit, said in pool.map(tried, specs):
+        for (kind, how, number), hit, case in pool.map(tried, specs):
             hits += hit
-            if said:
+            came[kind.removesuffix("at"), how] |= case.came
+            if case.said:
                 bad += 1
-                print(*spec, "|", "; ".join(said), flush=True)
+                print(kind, how, number, "|", "; ".join(case.said), flush=True)
+    for (kind, how), has_come in came.items():
+        if not has_come:
+            bad += 1
+            print(kind, how, "| no such call came", flush=True)
     print(f"{len(specs)} cases, {hits} ended the node, {bad} not as they must be")
     return 1 if bad else 0
 

@@ -13,10 +13,14 @@ alone; it counts, and is told.
 
 trials/untried.txt lists the edits that wait to be tried again after a large change, a line each: a crate and an edit.
 
+Edits that change the bodies of different functions are tried by one check. One that this check does not show refused, for
+its function calls another one that failed, say, is tried by itself.
+
 Usage: trials/edits.py          says which edits were not tried on what they stand on, and ends with 1 where one was not
                                 and is not listed as waiting, or where one that was tried is listed. It proves nothing.
-       trials/edits.py NAME..   tries those of these crates, and writes the sums of those that were refused. It checks each
-                                crate first, over the libraries that `rt ci` kept on this machine, as trials/over.py does.
+       trials/edits.py NAME..   tries those of these crates, with those of before, and writes the sums of those that were
+                                refused. It works over the libraries that `rt ci` kept on this machine, as trials/over.py
+                                does, and checks the crate itself first where that is not kept.
 """
 import hashlib
 import os
@@ -181,12 +185,121 @@ def look():
     return status
 
 
+def path_of(file, signature):
+    """The path of a function below its crate, as a check prints it, by its file and its `impl`."""
+    module = file.split("/src/")[1][:-3].replace("/", "::")
+    text = "\n".join(signature)
+    owner = re.match(r"impl(?:<.*?>)? (?:.* for )?(\w+)", signature[0])
+    parts = [] if module == "lib" else [module]
+    return "::".join(parts + ([owner.group(1)] if owner else []) + [re.search(r"\bfn (\w+)", text).group(1)])
+
+
+def bodies_of(crate, edit):
+    """The functions whose bodies alone an edit changes, by their paths; none where it changes anything else."""
+    found = set()
+    for file, old in changed_by(crate, edit):
+        functions, _ = parts_of(bare(text_of(file))) if file.endswith(".rt") else ([], [])
+        changed = [signature for signature, body in functions if old in "\n".join(body)]
+        if len(changed) != 1:
+            return set()
+        found.add(path_of(file, changed[0]))
+    return found
+
+
+def joined(crate, edits):
+    """The texts of the files that edits change, one after the other, or nothing where one no longer applies."""
+    texts = {}
+    for edit in edits:
+        file = old = None
+        for line in text_of(f"{crate}/edits/{edit}").split("\n"):
+            if line.startswith("file: "):
+                file = line[6:].strip()
+            elif line.startswith("old: "):
+                old = line[5:]
+            elif line.startswith("new:"):
+                text = texts.get(file) or text_of(f"{crate}/{file}")
+                if text.count(old) != 1:
+                    return {}
+                texts[file] = text.replace(old, line[4:].removeprefix(" "))
+    return texts
+
+
+def group_of(crate, edits):
+    """Edits that one check can try, with what they change: bodies of functions, and each those that no other one does."""
+    group, taken = {}, set()
+    for edit in edits:
+        bodies = bodies_of(crate, f"{crate}/edits/{edit}")
+        if bodies and not bodies & taken and joined(crate, [*group, edit]):
+            group[edit] = bodies
+            taken |= bodies
+    return group
+
+
+def is_refused(said, crate, path):
+    """Whether a check says of one function that its body does not meet its contract. A function that may have failed for
+    one that it calls, or for a name that only a proof file has, does not count."""
+    told = [line for line in said if line.startswith(f"fn {crate}::{path}: ")]
+    if not any(re.match(r"fn \S+: (not proved|no proof)(?!.*(it calls|it passes|a call of))", line) for line in told):
+        return False
+    folder = path.replace("::", "/")
+    lines = [line for line in said if re.match(rf"(note: )?(\./)?proofs/{folder}/\S+:\d+:\d+: ", line)]
+    lost = r".*(has no field|is not in scope|has no `|was not admitted)"
+    return "did not prove" in told[0] or any(not re.match(lost, line) for line in lines)
+
+
+def refused_together(rt, crate, group):
+    """The edits of a group that one check of the functions that they change shows refused. Each of these functions is
+    proved without the edits, as the crate is."""
+    only = [f"--only={path}" for path in sorted(set().union(*group.values()))]
+    ran = rt.checked(crate, joined(crate.folder, group), ["--jobs", "1", *only], begun_of(crate))
+    said = ran.stdout.split("\n")
+    if ran.returncode != 1 or not any(line.startswith("only=") for line in said):
+        return []
+    return [edit for edit in group if any(is_refused(said, crate.name, path) for path in group[edit])]
+
+
+def refused_of(rt, crate, edits):
+    """The edits that are refused: tried in groups, then each by itself, and the others over a check of the crate."""
+    left, seen, groups = list(edits), [], []
+    while group := group_of(crate.folder, left):
+        groups.append(group)
+        left = [edit for edit in left if edit not in group]
+    for group in groups:
+        found = refused_together(rt, crate, group)
+        if 0 < len(found) < len(group):
+            missed = [edit for edit in group if edit not in found]
+            found += [edit for edit in missed if refused_together(rt, crate, {edit: group[edit]})]
+        for edit in found:
+            print(f"{crate.name}/{edit}: refused, as it must be", flush=True)
+        seen += found
+    others = [edit for edit in edits if edit not in seen]
+    if others and check(rt, crate, []):
+        print(f"{crate.name}: the crate itself is not proved")
+        return seen
+    for edit in others:
+        kind, said = rt.must_fail(crate, f"{crate.folder}/edits/{edit}", ["--jobs", "1"], begun_of(crate))
+        print(said, flush=True)
+        if kind in (rt.REFUSED, rt.AT_LIMIT):
+            seen.append(edit)
+    return seen
+
+
+def is_kept(rt, crate, crates):
+    """Whether `rt ci` proved the crate itself as it stands here."""
+    kept = rt.Kept(list(crates.values()))
+    return all([kept.is_built(library) or True for library in crate.below()]) and os.path.isdir(
+        kept.place(crate, False, kept.key(crate))
+    )
+
+
 def try_edits(name):
     crate = f"{TOP}/crates/{name}"
     if not files_below(f"{crate}/edits", ".edit"):
         print(f"the crate {name} has no edits", file=sys.stderr)
         return 1
     tried, untried = tried_and_untried(crate)
+    rows = seen_of(crate)[1]
+    untried |= {edit: tried.pop(edit) for edit in list(tried) if " " not in rows[edit]}
     if not untried:
         write_seen(crate, tried)
         print(f"{name}: all edits were tried on what they stand on")
@@ -197,15 +310,10 @@ def try_edits(name):
     if lacking:
         print("not kept yet:", *lacking)
         return 4
-    if check(rt, crates[name], []):
+    if not is_kept(rt, crates[name], crates) and check(rt, crates[name], []):
         print(f"{name}: the crate itself is not proved")
         return 1
-    refused = {}
-    for edit in untried:
-        kind, said = rt.must_fail(crates[name], f"{crate}/edits/{edit}", ["--jobs", "1"], begun_of(crates[name]))
-        print(said, flush=True)
-        if kind in (rt.REFUSED, rt.AT_LIMIT):
-            refused[edit] = untried[edit]
+    refused = {edit: untried[edit] for edit in refused_of(rt, crates[name], sorted(untried))}
     write_seen(crate, {**tried, **refused})
     return 0 if len(refused) == len(untried) else 1
 

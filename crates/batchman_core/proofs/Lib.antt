@@ -5,8 +5,6 @@ pub mod Counted
 pub mod Gatherings
 pub mod Leasts
 pub mod Lost
-pub mod Members
 pub mod Owned
 pub mod Timed
 pub mod Reruns
-mod Passed

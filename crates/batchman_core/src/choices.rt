@@ -8,7 +8,6 @@ ghost use Rattle.batchman_core.specs.Told.{IsDueLaunch, IsOwn, choice_of};
 use crate::clocks::is_clock_due;
 use crate::issuers::next_issuer;
 use crate::losses::lowest_lost;
-use crate::lowest::{lowest_to_end, lowest_to_release};
 use base_types::{JobNo, Live, Moment, Obj, StreamNo, Ws};
 use dependencies::{Readiness, late_due, until_due};
 use network_tree::Network;
@@ -69,10 +68,10 @@ pub fn turn_choice<R: Readiness>(
     if let Some((obj, i)) = late_due(net, o, me) {
         return Choice::Late(obj, i);
     }
-    if let Some(s) = lowest_to_release(net, o, me) {
+    if let Some(s) = r.lowest_to_release(net, o, me) {
         return Choice::Release(s);
     }
-    if let Some(s) = lowest_to_end(o, me) {
+    if let Some(s) = r.lowest_to_end(net, o, me) {
         return Choice::End(s);
     }
     match r.best(net, o, me) {

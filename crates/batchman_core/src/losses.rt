@@ -2,7 +2,7 @@
 ghost use Rattle.std.specs.Prelude.{◌≡◌, ◌==◌, ◌&&◌, IfSome, Some, false, not};
 ghost use Rattle.std.specs.Option.{option_map_or};
 ghost use Rattle.model.specs.Types.{Events, Job};
-ghost use Rattle.model.specs.Words.{least};
+ghost use Rattle.model.specs.Words.{least, lesser};
 ghost use Rattle.model.specs.History.{view_of};
 ghost use Rattle.model.specs.Catalogue.{owner};
 ghost use Rattle.model.specs.Facts.{open_launch};
@@ -10,7 +10,6 @@ ghost use Rattle.model.specs.Turn as spec;
 ghost use Rattle.owner_fold.specs.DocPlaces.{stream_job};
 ghost use Rattle.dependencies.specs.Planned.{IsPlannedJob};
 
-use crate::lowest::lower;
 use base_types::{JobDoc, JobNo, Live, StreamDoc, Ws};
 use owner_fold::Owners;
 
@@ -62,4 +61,14 @@ fn is_alive(live: &Live, j: JobNo, number: u32) -> bool
         }
     }
     false
+}
+
+/// The lower of a number and one that may be there.
+fn lower(lowest: Option<u32>, number: u32) -> u32
+    ensures { result ≡ lesser number lowest }
+{
+    match lowest {
+        None => number,
+        Some(before) => before.min(number),
+    }
 }

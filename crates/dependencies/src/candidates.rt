@@ -1,26 +1,31 @@
-//! The best of the ready jobs, and what keeps track of it.
-ghost use Rattle.std.specs.Prelude.{◌≡◌, ◌<◌, ◌++◌, ◌∷◌, [], IsOk, List, OnOk, ℕ};
+//! The best of the ready jobs and the lowest streams to release and to end, and what keeps track of them.
+ghost use Rattle.std.specs.Prelude.{◌≡◌, ◌<◌, ◌++◌, ◌∷◌, [], IsOk, List, OnOk, filter, ℕ};
 ghost use Rattle.model.specs.Types.{Entry as Taken, PromptDef as Prompts, Resource as Resources};
 ghost use Rattle.model.specs.Network.{node_count};
 ghost use Rattle.model.specs.History.{view_of};
+ghost use Rattle.model.specs.OwnMembers.{may_end, may_release, own_numbers};
 ghost use Rattle.model.specs.Readiness as spec;
+ghost use Rattle.model.specs.Words.{least};
 ghost use Rattle.dependencies.specs.Planned.{IsPlannedJob};
 ghost use Rattle.dependencies.specs.Ranks.{better_rank, rank_of};
 ghost use Rattle.owner_fold.specs.DocPlaces.{stream_job};
 
 use crate::launches::is_ready_in;
 use crate::priorities::{job_priority, stream_priority};
-use base_types::{Entry, JobDoc, JobNo, NoMemory, StreamDoc, Ws};
+use crate::scans::{lowest_to_end, lowest_to_release};
+use base_types::{Entry, JobDoc, JobNo, NoMemory, StreamDoc, StreamNo, Ws};
 use decision_rules::{Rank, comes_before};
 use network_tree::Network;
 use owner_fold::Owners;
 
-/// What keeps track of the best job of one workstation while a node takes entries.
+/// What keeps track of the best job of one workstation, and of its own members that may be released or end, while a node
+/// takes entries.
 ///
 /// The law: a value stands for the entries that an `Owners` took where it took each of them, by `took`, directly after
 /// the `Owners` had taken it, where all its calls named one workstation, and where the nets of all its calls had the
 /// same resources and prompts. A value that is new stands for no entries, which the call that makes it says. Where a
-/// value stands for the entries of `o`, `best` answers the best job by these entries.
+/// value stands for the entries of `o`, `best` answers the best job by these entries, and `lowest_to_release` and
+/// `lowest_to_end` the lowest streams.
 pub trait Readiness {
     /// When a value stands for these entries, this workstation, and a net with these resources and prompts.
     ghost stands_for: { Self → List Taken → ℕ → List Resources → List Prompts → Type 0 };
@@ -39,10 +44,20 @@ pub trait Readiness {
         requires { w < node_count net.now }
         ensures { stands_for self.now o.now w net.now.resources net.now.prompts
             → result ≡ spec.best net.now (view_of o.now) w };
+
+    /// The lowest own member of w that may be released. None where none may. It takes no memory.
+    fn lowest_to_release(&self, net: &Network, o: &Owners, w: Ws) -> Option<StreamNo>
+        ensures { stands_for self.now o.now w net.now.resources net.now.prompts
+            → result ≡ least (filter (may_release net.now (view_of o.now) w) (own_numbers (view_of o.now) w)) };
+
+    /// The lowest own member of w that may end. None where none may. It takes no memory.
+    fn lowest_to_end(&self, net: &Network, o: &Owners, w: Ws) -> Option<StreamNo>
+        ensures { stands_for self.now o.now w net.now.resources net.now.prompts
+            → result ≡ least (filter (may_end (view_of o.now) w) (own_numbers (view_of o.now) w)) };
 }
 
-/// The plain way: it keeps nothing, and looks at each job of the catalogue whenever it is asked. So a `Scan` stands
-/// for whatever was taken, and its `took` takes no memory.
+/// The plain way: it keeps nothing, and looks at each job of the catalogue, or each stream that waits or is under way,
+/// whenever it is asked. So a `Scan` stands for whatever was taken, and its `took` takes no memory.
 #[derive(Clone, Copy)]
 pub struct Scan;
 
@@ -61,6 +76,20 @@ impl Readiness for Scan {
         ensures { result ≡ spec.best net.now (view_of o.now) w }
     {
         best_of_all(net, o, w)
+    }
+
+    /// The lowest stream that may be released, whatever was taken.
+    fn lowest_to_release(&self, net: &Network, o: &Owners, w: Ws) -> Option<StreamNo>
+        ensures { result ≡ least (filter (may_release net.now (view_of o.now) w) (own_numbers (view_of o.now) w)) }
+    {
+        lowest_to_release(net, o, w)
+    }
+
+    /// The lowest stream that may end, whatever was taken.
+    fn lowest_to_end(&self, _net: &Network, o: &Owners, w: Ws) -> Option<StreamNo>
+        ensures { result ≡ least (filter (may_end (view_of o.now) w) (own_numbers (view_of o.now) w)) }
+    {
+        lowest_to_end(o, w)
     }
 }
 

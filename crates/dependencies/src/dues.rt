@@ -110,7 +110,7 @@ fn job_has_due(o: &Owners, w: Ws, due: Due, parent: &StreamDoc, doc: &JobDoc) ->
 }
 
 /// The lower of a number and one that may be there.
-fn lower(lowest: Option<u32>, number: u32) -> u32
+pub(crate) fn lower(lowest: Option<u32>, number: u32) -> u32
     ensures { result ≡ lesser number lowest }
 {
     match lowest {

@@ -6,15 +6,15 @@
 //! took: `model::specs::Dependencies`, `Readiness`, `OwnMembers` and `Lateness` have them. None of them takes memory. A number that
 //! the catalogue lacks is not satisfied and not ready.
 //!
-//! `Readiness` is what keeps track of the best job while entries come in, with one law for all that do so. `Scan` is
-//! the plain one, which keeps nothing and walks the jobs of the catalogue at each question.
+//! `Readiness` is what keeps track of the best job, and of the streams that may be released or end, while entries come
+//! in, with one law for all that do so. `Scan` is the plain one, which keeps nothing and walks at each question.
 //!
 //! What that costs: each fact of an `Owners` is a look-up or two. A dependency asks for a few facts, one on units for
 //! some facts of each holder and each of its dependencies. `sat` asks for one dependency; `ready` and `may_release` for
 //! those of one object, and `ready` for the open launches besides; `may_end` for the jobs of one stream; `until_due` and
 //! `late_due` for those of each object of the workstation that has a time. The `best` of a `Scan` asks for all jobs of
 //! the catalogue: it grows with them and their dependencies, and faster where many jobs are open, need units or have
-//! limits.
+//! limits. Its other answers ask for each stream of the workstation that waits, or is under way.
 //!
 //! The parts of these answers that the crates above ask for are public too: they take the document that counts for
 //! its number, which `specs/Planned` says.
@@ -28,6 +28,7 @@ mod limits;
 mod predecessors;
 mod priorities;
 mod releases;
+mod scans;
 mod supplies;
 mod untils;
 mod waits;

@@ -8,7 +8,7 @@ use Rattle.std.specs.Option.{option_map_or}
 use Rattle.std.specs.Prelude.{◌%◌, not}
 use Rattle.lemmas.proofs.Booleans.{and_left, and_right}
 use Rattle.lemmas.proofs.Numbers.{lt_told}
-use Rattle.model.specs.Types.{At, Dep, Events, Job, Net, Stream}
+use Rattle.model.specs.Types.{At, Dep, Events, Job, Net, Obj, Stream}
 use Rattle.model.specs.Types.{Deadline, FollowsJob, FollowsStream, Needs, Outside, Prompt, Until}
 use Rattle.model.specs.History.{View}
 use Rattle.model.specs.Words.{all_of}
@@ -236,33 +236,38 @@ all_has {X} f (y ∷ ys) x h (inl e) = ap f e ∙ and_left (f y) (list_all f ys)
 all_has {X} f (y ∷ ys) x h (inr k) = all_has f ys x (and_right (f y) (list_all f ys) h) k
 
 -- a dependency that is met holds nobody back
-pub met_lets_go : (net : Net) (V : View) (w j i : ℕ) (d : Dep) → is_met net V w (Job j) i d ≡ true → held_back V d ≡ None
+pub met_lets_go : (net : Net) (V : View) (w : ℕ) (o : Obj) (i : ℕ) (d : Dep) → is_met net V w o i d ≡ true
+    → held_back V d ≡ None
 unfolding is_met
-met_lets_go net V w j i (FollowsJob k) h = rw h refl
-met_lets_go net V w j i (FollowsStream s) h = rw h refl
-met_lets_go net V w j i (Needs r n) h = refl
-met_lets_go net V w j i (Prompt p) h = refl
-met_lets_go net V w j i (At t) h = refl
-met_lets_go net V w j i (Until t then_) h = refl
-met_lets_go net V w j i (Outside path) h = refl
-met_lets_go net V w j i (Deadline t) h = refl
+met_lets_go net V w o i (FollowsJob k) h = rw h refl
+met_lets_go net V w o i (FollowsStream s) h = rw h refl
+met_lets_go net V w o i (Needs r n) h = refl
+met_lets_go net V w o i (Prompt p) h = refl
+met_lets_go net V w o i (At t) h = refl
+met_lets_go net V w o i (Until t then_) h = refl
+met_lets_go net V w o i (Outside path) h = refl
+met_lets_go net V w o i (Deadline t) h = refl
+
+-- an object whose dependencies are satisfied is held back by nothing
+pub held_by_none : (net : Net) (V : View) (w : ℕ) (o : Obj) (t : Target) → all_satisfied net V w o ≡ true
+    → Among t (held_back_by V o) → ⊥
+unfolding all_satisfied held_back_by
+held_by_none net V w o t satisfied h =
+    clash (chosen_of (λ (q : NumberedDep). held_back V q.dep) (unwaived_deps V o) t h)
+  where
+    clash : (q : NumberedDep) × Among q (unwaived_deps V o) × (held_back V q.dep ≡ Some t) → ⊥
+    clash k =
+        let met : is_met net V w o k.0.number k.0.dep ≡ true =
+        all_has (λ (q : NumberedDep). is_met net V w o q.number q.dep) (unwaived_deps V o) k.0 satisfied k.1 in
+        let none : held_back V k.0.dep ≡ None = met_lets_go net V w o k.0.number k.0.dep met in
+        let some : held_back V k.0.dep ≡ Some t = k.2 in cc
 
 -- so a ready job waits for nothing
 pub waits_for_none : (net : Net) (V : View) (w : ℕ) (p : StreamJob) (t : Target) → IsOpenTo net V w p → IsAwaited V p t → ⊥
-unfolding all_satisfied held_back_by
 waits_for_none net V w p t ready (inl e) =
     let f : is_released p.parent.no (V (Events p.parent.ws)) ≡ false = e.1 in
     let g : is_released p.parent.no (V (Events p.parent.ws)) ≡ true = ready.released in cc
-waits_for_none net V w p t ready (inr h) =
-    clash (chosen_of (λ (q : NumberedDep). held_back V q.dep) (unwaived_deps V (Job p.doc.no)) t h)
-  where
-    clash : (q : NumberedDep) × Among q (unwaived_deps V (Job p.doc.no)) × (held_back V q.dep ≡ Some t) → ⊥
-    clash k =
-        let met : is_met net V w (Job p.doc.no) k.0.number k.0.dep ≡ true =
-        all_has (λ (q : NumberedDep). is_met net V w (Job p.doc.no) q.number q.dep) (unwaived_deps V (Job p.doc.no))
-        k.0 ready.satisfied k.1 in
-        let none : held_back V k.0.dep ≡ None = met_lets_go net V w p.doc.no k.0.number k.0.dep met in
-        let some : held_back V k.0.dep ≡ Some t = k.2 in cc
+waits_for_none net V w p t ready (inr h) = held_by_none net V w (Job p.doc.no) t ready.satisfied h
 
 -- the jobs of w that are ready
 abbrev pub ready_jobs : Net → View → ℕ → List StreamJob

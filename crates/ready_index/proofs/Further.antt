@@ -20,13 +20,13 @@ use Rattle.model.specs.Dependencies.{unwaived_deps}
 use Rattle.model.specs.Readiness.{job_priority, stream_priority}
 use Rattle.ready_index.specs.declared.changes.Change.{Change}
 use Rattle.ready_index.specs.declared.changes.Change.TheVariants.{At as Comes, Everything}
-use Rattle.ready_index.specs.declared.index.Index.{Index}
+use Rattle.ready_index.specs.declared.jobs.JobIndex.{JobIndex}
 use Rattle.ready_index.specs.declared.targets.Target.{Target}
 use Rattle.ready_index.specs.declared.targets.Target.TheVariants.{EndOfJob, EndOfStream}
 use Rattle.ready_index.specs.Awaited.{IsAwaited, held_back, held_back_by, is_in_play}
 use Rattle.ready_index.specs.Changes.{EntriesKeepOthers, KeepsOthers, change_by}
 use Rattle.ready_index.specs.Lists.{Among}
-use Rattle.ready_index.specs.Standing.{IsIndexBut, IsIndexOf}
+use Rattle.ready_index.specs.Standing.{IsJobIndexBut, IsJobIndexOf}
 use Rattle.ready_index.proofs.Standings.{after_entry, left_by}
 use Rattle.ready_index.proofs.Bests.{held}
 use Rattle.ready_index.proofs.Elements.{chosen_too, filter_same}
@@ -60,13 +60,13 @@ module _ (kept : List Entry) (e : Entry) where
   with_it = view_of (kept ++ e ∷ [])
 
   -- a fact that the body leaves as it was stays in each list
-  fact_same : {X : Type 0} (fact : List Body → X) → ((l : List Body) → fact (l ++ e.body ∷ []) ≡ fact l) → (v : ℕ)
+  pub fact_same : {X : Type 0} (fact : List Body → X) → ((l : List Body) → fact (l ++ e.body ∷ []) ≡ fact l) → (v : ℕ)
       → fact (with_it (Events v)) ≡ fact (before (Events v))
   fact_same fact same v =
       elim (one_further kept e v) [ inl c ↦ ap fact c ∙ same (before (Events v)) | inr c ↦ ap fact c ]
 
   -- one that holds with the body alone where it held before
-  fact_before : (fact : List Body → Bool) → ((l : List Body) → fact (l ++ e.body ∷ []) ≡ true → fact l ≡ true) → (v : ℕ)
+  pub fact_before : (fact : List Body → Bool) → ((l : List Body) → fact (l ++ e.body ∷ []) ≡ true → fact l ≡ true) → (v : ℕ)
       → fact (with_it (Events v)) ≡ true → fact (before (Events v)) ≡ true
   fact_before fact same v h =
       elim (one_further kept e v) [
@@ -81,7 +81,7 @@ module _ (kept : List Entry) (e : Entry) where
         ap (λ (ds : List StreamDoc). firsts (λ (d : StreamDoc). d.no) [] ds)
         (fact_same (λ (l : List Body). flat_map docs_in l) (docs_same e.body small) 0)
 
-    jobs_stay : jobs with_it ≡ jobs before
+    pub jobs_stay : jobs with_it ≡ jobs before
     unfolding jobs
     jobs_stay =
         ap (λ (ds : List StreamDoc). firsts (λ (p : StreamJob). p.doc.no) [] (flat_map jobs_in ds)) catalogue_stays
@@ -90,7 +90,7 @@ module _ (kept : List Entry) (e : Entry) where
     unfolding job
     job_stays j = ap (find (λ (p : StreamJob). p.doc.no == j)) jobs_stay
 
-    stream_stays : (s : ℕ) → stream with_it s ≡ stream before s
+    pub stream_stays : (s : ℕ) → stream with_it s ≡ stream before s
     unfolding stream
     stream_stays s = ap (find (λ (d : StreamDoc). d.no == s)) catalogue_stays
 
@@ -109,7 +109,7 @@ module _ (kept : List Entry) (e : Entry) where
         (unwrap_or (named_members with_it) []) (λ s. ap is_some (stream_stays s))
         ∙ ap (λ (o : Option (List ℕ)). filter (λ s. is_some (stream before s)) (unwrap_or o [])) names_stay
 
-    member_stays : (s : ℕ) → is_member with_it s ≡ is_member before s
+    pub member_stays : (s : ℕ) → is_member with_it s ≡ is_member before s
     unfolding is_member
     member_stays s = ap (λ (l : List ℕ). has l s) members_stay
 
@@ -123,7 +123,7 @@ module _ (kept : List Entry) (e : Entry) where
     commands_stay fact endures v =
         fact_same (λ (l : List Body). fact (commands l)) (commands_same fact endures e.body small) v
 
-    cancelled_stays : (o : Obj) (v : ℕ) → is_cancelled o (with_it (Events v)) ≡ is_cancelled o (before (Events v))
+    pub cancelled_stays : (o : Obj) (v : ℕ) → is_cancelled o (with_it (Events v)) ≡ is_cancelled o (before (Events v))
     cancelled_stays o v = fact_same (is_cancelled o) (cancelled_same o e.body small) v
 
     priority_stays : (o : Obj) (written v : ℕ)
@@ -263,7 +263,7 @@ module _ (kept : List Entry) (e : Entry) where
         go (Some d) h =
             ap₂ ◌||◌ (fact_same (is_ended s) (ended_same s e.body apart) d.ws) (cancelled_stays (Stream s) d.ws) ∙ h
 
-    -- what holds a job back does so then, but for what the entry tells
+    -- what holds somebody back does so then, but for what the entry tells
     held_then : (t : Target) → change_by e.body ≢ Comes t → (d : Dep) → held_back before d ≡ Some t
         → held_back with_it d ≡ Some t
     held_then t apart (FollowsJob j) h = go (job_lets_followers_go before j) refl h
@@ -291,9 +291,19 @@ module _ (kept : List Entry) (e : Entry) where
     held_then t apart (Outside path) h = cc
     held_then t apart (Deadline m) h = cc
 
+    -- so is an object by its dependencies
+    pub held_back_then : (o : Obj) (t : Target) → change_by e.body ≢ Comes t → Among t (held_back_by before o)
+        → Among t (held_back_by with_it o)
+    unfolding held_back_by
+    held_back_then o t apart h =
+        subst
+        (λ (ds : List NumberedDep). Among t (filter_map (λ (q : NumberedDep). held_back with_it q.dep) ds))
+        (sym (unwaived_stay o))
+        (chosen_too (λ (q : NumberedDep). held_back before q.dep) (λ (q : NumberedDep). held_back with_it q.dep)
+        (unwaived_deps before o) t (λ q k. held_then t apart q.dep k) h)
+
     awaited_then : (p : StreamJob) (t : Target) → change_by e.body ≢ Comes t → IsAwaited before p t
         → IsAwaited with_it p t
-    unfolding held_back_by
     awaited_then p t apart (inl h) =
         inl (
           h.0,
@@ -302,12 +312,7 @@ module _ (kept : List Entry) (e : Entry) where
               p.parent.ws
               ∙ h.1,
         )
-    awaited_then p t apart (inr h) =
-        inr (subst
-        (λ (ds : List NumberedDep). Among t (filter_map (λ (q : NumberedDep). held_back with_it q.dep) ds))
-        (sym (unwaived_stay (Job p.doc.no)))
-        (chosen_too (λ (q : NumberedDep). held_back before q.dep) (λ (q : NumberedDep). held_back with_it q.dep)
-        (unwaived_deps before (Job p.doc.no)) t (λ q k. held_then t apart q.dep k) h))
+    awaited_then p t apart (inr h) = inr (held_back_then (Job p.doc.no) t apart h)
 
 -- an entry that does not change everything leaves the rest as it was
 pub entries_keep : EntriesKeepOthers
@@ -320,11 +325,11 @@ entries_keep kept e w small = record {
 }
 
 -- an index after an entry was taken, before who watches what it tells is looked at
-pub after_taken : (taken kept : List Entry) (e : Entry) (w : ℕ) (change : Change) (index : Index)
-    → change ≡ change_by e.body → change ≢ Everything → taken ≡ kept ++ e ∷ [] → IsIndexOf (view_of kept) w index
-    → IsIndexBut (view_of taken) w (left_by change index.watches) index
+pub after_taken : (taken kept : List Entry) (e : Entry) (w : ℕ) (change : Change) (index : JobIndex)
+    → change ≡ change_by e.body → change ≢ Everything → taken ≡ kept ++ e ∷ [] → IsJobIndexOf (view_of kept) w index
+    → IsJobIndexBut (view_of taken) w (left_by change index.watches) index
 after_taken taken kept e w change index same small grown stands =
-    subst (λ (l : List Entry). IsIndexBut (view_of l) w (left_by change index.watches) index) (sym grown)
+    subst (λ (l : List Entry). IsJobIndexBut (view_of l) w (left_by change index.watches) index) (sym grown)
     (after_entry (view_of kept) (view_of (kept ++ e ∷ [])) w change index
     (subst (λ (c : Change). KeepsOthers (view_of kept) (view_of (kept ++ e ∷ [])) w c) (sym same)
     (entries_keep kept e w (subst (λ (c : Change). c ≢ Everything) same small)))

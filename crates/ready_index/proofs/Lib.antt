@@ -6,3 +6,6 @@ pub mod Quiet
 pub mod Standings
 pub mod Further
 pub mod Told
+pub mod Lowests
+pub mod Ending
+pub mod Releasing

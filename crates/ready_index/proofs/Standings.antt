@@ -13,7 +13,7 @@ use Rattle.model.specs.Facts.{is_due, is_released}
 use Rattle.dependencies.specs.Planned.{IsPlannedJob}
 use Rattle.ready_index.specs.declared.changes.Change.{Change}
 use Rattle.ready_index.specs.declared.changes.Change.TheVariants.{At, Everything, Launch, Nothing}
-use Rattle.ready_index.specs.declared.index.Index.{Index}
+use Rattle.ready_index.specs.declared.jobs.JobIndex.{JobIndex}
 use Rattle.ready_index.specs.declared.targets.Target.{Target}
 use Rattle.ready_index.specs.declared.targets.Target.TheVariants.{EndOfJob, EndOfStream, ReleaseOf}
 use Rattle.ready_index.specs.declared.watches.Watches.{Watches}
@@ -21,7 +21,7 @@ use Rattle.ready_index.specs.Awaited.{IsAwaited, first_awaited, held_back_by, is
 use Rattle.ready_index.specs.Changes.{KeepsOthers}
 use Rattle.ready_index.specs.Lists.{Among, without}
 use Rattle.ready_index.specs.Places.{IsPlaceHere, IsPlaceOf, number_at}
-use Rattle.ready_index.specs.Standing.{IsIndexBut, IsIndexOf, IsKnown, IsLookedAt, IsWatching}
+use Rattle.ready_index.specs.Standing.{IsJobIndexBut, IsJobIndexOf, IsKnown, IsLookedAt, IsWatching}
 use Rattle.ready_index.specs.Watched.{AddsOne, TakesAll, waiting_for}
 use Rattle.ready_index.proofs.Bests.{place_number}
 use Rattle.ready_index.proofs.Elements.{at_end, before_end, filter_has, filter_keeps, first_among, found_among, map_among}
@@ -68,7 +68,7 @@ one_by_number V w p q planned here same =
     let c : job V q.doc.no ≡ job V p.doc.no = ap (job V) same in cc
 
 -- what is known stays known where nobody gets lost
-known_then : (V : View) (p : StreamJob) (old new : Index)
+known_then : (V : View) (p : StreamJob) (old new : JobIndex)
     → ((place : ℕ) → Among place old.candidates → Among place new.candidates)
     → ((t : Target) (j : ℕ) → Among j (waiting_for old.watches t) → Among j (waiting_for new.watches t))
     → IsKnown V old p → IsKnown V new p
@@ -78,8 +78,8 @@ known_then V p old new candidates watches (inr k) =
     inr (record { target = k.target; watches = watches k.target p.doc.no k.watches; waits = k.waits })
 
 -- one job less is left to be looked at
-pub one_less : (V : View) (w number : ℕ) (numbers : List ℕ) (old new : Index) → IsLookedAt V w number old new
-    → IsIndexBut V w (number ∷ numbers) old → IsIndexBut V w numbers new
+pub one_less : (V : View) (w number : ℕ) (numbers : List ℕ) (old new : JobIndex) → IsLookedAt V w number old new
+    → IsJobIndexBut V w (number ∷ numbers) old → IsJobIndexBut V w numbers new
 one_less V w number numbers old new look index = record {
   known = λ p here play. go p here play (index.known p here play);
   real = λ place h. elim (look.real place h) [ inl k ↦ index.real place k | inr k ↦ k ];
@@ -92,7 +92,7 @@ one_less V w number numbers old new look index = record {
     go p here play (inr (inr k)) = inr k
 
 -- nothing is done where the job is no job of w in play
-pub nothing_looked_at : (V : View) (w number : ℕ) (index : Index)
+pub nothing_looked_at : (V : View) (w number : ℕ) (index : JobIndex)
     → ((p : StreamJob) → Among p (jobs_of V w) → p.doc.no ≡ number → is_in_play V w p ≡ true → ⊥)
     → IsLookedAt V w number index index
 nothing_looked_at V w number index none = record {
@@ -103,7 +103,7 @@ nothing_looked_at V w number index none = record {
 }
 
 -- a job becomes a candidate
-pub candidate_added : (V : View) (w place : ℕ) (p : StreamJob) (old : Index) (places : List ℕ) → IsPlannedJob V p
+pub candidate_added : (V : View) (w place : ℕ) (p : StreamJob) (old : JobIndex) (places : List ℕ) → IsPlannedJob V p
     → p.doc.ws ≡ w → IsPlaceOf V p place → places ≡ insert_once place old.candidates
     → IsLookedAt V w p.doc.no old (record { candidates = places; watches = old.watches })
 candidate_added V w place p old places planned owned placed grown = record {
@@ -126,13 +126,26 @@ candidate_added V w place p old places planned owned placed grown = record {
       });
 }
 
+-- who watches something does so still where one more does
+pub still_watched : (t : Target) (number : ℕ) (old new : Watches) → AddsOne old new t number → (u : Target) (j : ℕ)
+    → Among j (waiting_for old u) → Among j (waiting_for new u)
+still_watched t number old new added u j h = go (target_cases u t)
+  where
+    go : (u ≡ t) ⊎ (u ≢ t) → Among j (waiting_for new u)
+    go (inl e) =
+        subst (λ (v : Target). Among j (waiting_for new v)) (sym e)
+        (rw added.here
+        (before_end (waiting_for old t) number j
+        (subst (λ (v : Target). Among j (waiting_for old v)) e h)))
+    go (inr e) = rw (added.others u e) h
+
 -- a job watches something
-pub watch_added : (V : View) (w : ℕ) (p : StreamJob) (t : Target) (old : Index) (watches : Watches)
+pub watch_added : (V : View) (w : ℕ) (p : StreamJob) (t : Target) (old : JobIndex) (watches : Watches)
     → IsPlannedJob V p → IsAwaited V p t → AddsOne old.watches watches t p.doc.no
     → IsLookedAt V w p.doc.no old (record { candidates = old.candidates; watches = watches })
 watch_added V w p t old watches planned waits added = record {
   candidates = λ k h. h;
-  watches = λ u j h. kept u j h (target_cases u t);
+  watches = still_watched t p.doc.no old.watches watches added;
   real = λ k h. inl h;
   known = λ q here e play.
       inr (record {
@@ -141,20 +154,11 @@ watch_added V w p t old watches planned waits added = record {
         waits = subst (λ (r : StreamJob). IsAwaited V r t) (sym (one_by_number V w p q planned here e)) waits;
       });
 }
-  where
-    kept : (u : Target) (j : ℕ) → Among j (waiting_for old.watches u) → (u ≡ t) ⊎ (u ≢ t)
-        → Among j (waiting_for watches u)
-    kept u j h (inl e) =
-        subst (λ (v : Target). Among j (waiting_for watches v)) (sym e)
-        (rw added.here
-        (before_end (waiting_for old.watches t) p.doc.no j
-        (subst (λ (v : Target). Among j (waiting_for old.watches v)) e h)))
-    kept u j h (inr e) = rw (added.others u e) h
 
 -- who watches something is left to be looked at
-pub watchers_taken : (V : View) (w : ℕ) (t : Target) (numbers : List ℕ) (old : Index) (watches : Watches)
-    → TakesAll old.watches watches t numbers → IsIndexBut V w (waiting_for old.watches t) old
-    → IsIndexBut V w numbers (record { candidates = old.candidates; watches = watches })
+pub watchers_taken : (V : View) (w : ℕ) (t : Target) (numbers : List ℕ) (old : JobIndex) (watches : Watches)
+    → TakesAll old.watches watches t numbers → IsJobIndexBut V w (waiting_for old.watches t) old
+    → IsJobIndexBut V w numbers (record { candidates = old.candidates; watches = watches })
 watchers_taken V w t numbers old watches taken index = record {
   known = λ p here play. go p (index.known p here play);
   real = index.real;
@@ -177,9 +181,9 @@ watchers_taken V w t numbers old watches taken index = record {
     go p (inr h) = inr (pending p h)
 
 -- a job that is not due goes
-pub candidate_dropped : (V : View) (w place : ℕ) (p : StreamJob) (old : Index) (places : List ℕ)
+pub candidate_dropped : (V : View) (w place : ℕ) (p : StreamJob) (old : JobIndex) (places : List ℕ)
     → is_in_play V w p ≡ false → IsPlannedJob V p → IsPlaceOf V p place → places ≡ without place old.candidates
-    → IsIndexOf V w old → IsIndexOf V w (record { candidates = places; watches = old.watches })
+    → IsJobIndexOf V w old → IsJobIndexOf V w (record { candidates = places; watches = old.watches })
 candidate_dropped V w place p old places idle planned placed less index = record {
   known = λ q here play. go q here play (index.known q here play);
   real = λ k h. index.real k (without_has place k old.candidates (subst (λ (l : List ℕ). Among k l) less h));
@@ -205,8 +209,8 @@ candidate_dropped V w place p old places idle planned placed less index = record
     go q here play (inr h) = absurd h
 
 -- before the walk all jobs of w are left to be looked at
-pub all_left : (V : View) (w : ℕ) (index : Index) → index.candidates ≡ []
-    → IsIndexBut V w (map (λ (p : StreamJob). p.doc.no) (jobs_of V w)) index
+pub all_left : (V : View) (w : ℕ) (index : JobIndex) → index.candidates ≡ []
+    → IsJobIndexBut V w (map (λ (p : StreamJob). p.doc.no) (jobs_of V w)) index
 all_left V w index none = record {
   known = λ p here play. inr (map_among (λ (q : StreamJob). q.doc.no) (jobs_of V w) p here);
   real = λ place h. absurd (subst (λ (l : List ℕ). Among place l) none h);
@@ -231,8 +235,8 @@ place_stays V next w change p place keeps h = record {
 }
 
 -- an index after an entry, before who watches what it tells is looked at
-pub after_entry : (V next : View) (w : ℕ) (change : Change) (index : Index) → KeepsOthers V next w change
-    → IsIndexOf V w index → IsIndexBut next w (left_by change index.watches) index
+pub after_entry : (V next : View) (w : ℕ) (change : Change) (index : JobIndex) → KeepsOthers V next w change
+    → IsJobIndexOf V w index → IsJobIndexBut next w (left_by change index.watches) index
 after_entry V next w change index keeps stands = record {
   known = λ p here play.
       go p (stands.known p (subst (λ (l : List StreamJob). Among p l) keeps.jobs here) (keeps.play p play));
@@ -283,48 +287,48 @@ abbrev pub numbers_of : ℕ → List StreamJob → List ℕ
 numbers_of w left = map (λ (p : StreamJob). p.doc.no) (filter (λ (p : StreamJob). p.doc.ws == w) left)
 
 -- before the walk over the catalogue
-pub walk_begins : (V : View) (w : ℕ) (left : List StreamJob) (index : Index) → left ≡ jobs V → index.candidates ≡ []
-    → IsIndexBut V w (numbers_of w left) index
+pub walk_begins : (V : View) (w : ℕ) (left : List StreamJob) (index : JobIndex) → left ≡ jobs V → index.candidates ≡ []
+    → IsJobIndexBut V w (numbers_of w left) index
 unfolding jobs_of
 walk_begins V w left index e none = rw e (all_left V w index none)
 
 -- a job of w is looked at
-pub looked_at : (V : View) (w : ℕ) (p : StreamJob) (left : List StreamJob) (old new : Index) → p.doc.ws ≡ w
-    → IsLookedAt V w p.doc.no old new → IsIndexBut V w (numbers_of w (p ∷ left)) old
-    → IsIndexBut V w (numbers_of w left) new
+pub looked_at : (V : View) (w : ℕ) (p : StreamJob) (left : List StreamJob) (old new : JobIndex) → p.doc.ws ≡ w
+    → IsLookedAt V w p.doc.no old new → IsJobIndexBut V w (numbers_of w (p ∷ left)) old
+    → IsJobIndexBut V w (numbers_of w left) new
 looked_at V w p left old new owned look index =
     one_less V w p.doc.no (numbers_of w left) old new look
-    (subst (λ (l : List ℕ). IsIndexBut V w l old) here index)
+    (subst (λ (l : List ℕ). IsJobIndexBut V w l old) here index)
   where
     here : numbers_of w (p ∷ left) ≡ p.doc.no ∷ numbers_of w left
     here = rw (eq-eqb p.doc.ws w owned) refl
 
 -- a job of another workstation is passed
-pub passed_by : (V : View) (w : ℕ) (p : StreamJob) (left : List StreamJob) (index : Index) → (p.doc.ws == w) ≡ false
-    → IsIndexBut V w (numbers_of w (p ∷ left)) index → IsIndexBut V w (numbers_of w left) index
-passed_by V w p left index other h = subst (λ (l : List ℕ). IsIndexBut V w l index) there h
+pub passed_by : (V : View) (w : ℕ) (p : StreamJob) (left : List StreamJob) (index : JobIndex) → (p.doc.ws == w) ≡ false
+    → IsJobIndexBut V w (numbers_of w (p ∷ left)) index → IsJobIndexBut V w (numbers_of w left) index
+passed_by V w p left index other h = subst (λ (l : List ℕ). IsJobIndexBut V w l index) there h
   where
     there : numbers_of w (p ∷ left) ≡ numbers_of w left
     there = rw other refl
 
 -- and all are looked at where none is left
-pub walk_ends : (V : View) (w : ℕ) (left : List StreamJob) (index : Index) → left ≡ []
-    → IsIndexBut V w (numbers_of w left) index → IsIndexOf V w index
-walk_ends V w left index e h = subst (λ (l : List StreamJob). IsIndexBut V w (numbers_of w l) index) e h
+pub walk_ends : (V : View) (w : ℕ) (left : List StreamJob) (index : JobIndex) → left ≡ []
+    → IsJobIndexBut V w (numbers_of w left) index → IsJobIndexOf V w index
+walk_ends V w left index e h = subst (λ (l : List StreamJob). IsJobIndexBut V w (numbers_of w l) index) e h
 
 -- one of a list of numbers is looked at
-pub one_further : (V : View) (w : ℕ) (numbers : List ℕ) (i : ℕ) (old new : Index) → i < length numbers
-    → IsLookedAt V w (get_or numbers i 0) old new → IsIndexBut V w (drop i numbers) old
-    → IsIndexBut V w (drop (i + 1) numbers) new
+pub one_further : (V : View) (w : ℕ) (numbers : List ℕ) (i : ℕ) (old new : JobIndex) → i < length numbers
+    → IsLookedAt V w (get_or numbers i 0) old new → IsJobIndexBut V w (drop i numbers) old
+    → IsJobIndexBut V w (drop (i + 1) numbers) new
 one_further V w numbers i old new within look index =
     one_less V w (get_or numbers i 0) (drop (i + 1) numbers) old new look
-    (subst (λ (l : List ℕ). IsIndexBut V w l old) next index)
+    (subst (λ (l : List ℕ). IsJobIndexBut V w l old) next index)
   where
     next : drop i numbers ≡ get_or numbers i 0 ∷ drop (i + 1) numbers
     next = rw (add-one, drop-cons numbers i 0) refl
 
 -- a job that is not w's, or not in play, need not be looked at
-pub not_in_play : (V : View) (w : ℕ) (p : StreamJob) (index : Index) → IsPlannedJob V p → is_in_play V w p ≡ false
+pub not_in_play : (V : View) (w : ℕ) (p : StreamJob) (index : JobIndex) → IsPlannedJob V p → is_in_play V w p ≡ false
     → IsLookedAt V w p.doc.no index index
 not_in_play V w p index planned idle =
     nothing_looked_at V w p.doc.no index
@@ -334,14 +338,14 @@ not_in_play V w p index planned idle =
     clash : is_in_play V w p ≡ true → ⊥
     clash t = cc
 
-pub not_there : (V : View) (w number : ℕ) (index : Index) → job V number ≡ None → IsLookedAt V w number index index
+pub not_there : (V : View) (w number : ℕ) (index : JobIndex) → job V number ≡ None → IsLookedAt V w number index index
 not_there V w number index none =
     nothing_looked_at V w number index (λ q here e play. clash q e (planned_here V w q here).found)
   where
     clash : (q : StreamJob) → q.doc.no ≡ number → job V q.doc.no ≡ Some q → ⊥
     clash q e f = let g : job V number ≡ Some q = subst (λ n. job V n ≡ Some q) e f in cc
 
-pub not_owned : (V : View) (w : ℕ) (p : StreamJob) (index : Index) → IsPlannedJob V p → (p.doc.ws == w) ≡ false
+pub not_owned : (V : View) (w : ℕ) (p : StreamJob) (index : JobIndex) → IsPlannedJob V p → (p.doc.ws == w) ≡ false
     → IsLookedAt V w p.doc.no index index
 unfolding jobs_of
 not_owned V w p index planned other =
@@ -363,26 +367,17 @@ unfolding first_awaited
 first_is_awaited V p t h = go (is_released p.parent.no (V (Events p.parent.ws))) refl h
   where
     go : (b : Bool) → is_released p.parent.no (V (Events p.parent.ws)) ≡ b
-        → cond b (slice_get (held_back_by V p.doc.no) 0) (Some (ReleaseOf p.parent.no)) ≡ Some t → IsAwaited V p t
-    go true r k = inr (first_among (held_back_by V p.doc.no) t k)
+        → cond b (slice_get (held_back_by V (Job p.doc.no)) 0) (Some (ReleaseOf p.parent.no)) ≡ Some t → IsAwaited V p t
+    go true r k = inr (first_among (held_back_by V (Job p.doc.no)) t k)
     go false r k = let s : t ≡ ReleaseOf p.parent.no = cc in inl (s, r)
 
 -- the index of no entries
-pub none_known : (w : ℕ) (index : Index) → index.candidates ≡ [] → IsIndexOf (view_of []) w index
+pub none_known : (w : ℕ) (index : JobIndex) → index.candidates ≡ [] → IsJobIndexOf (view_of []) w index
 unfolding jobs_of jobs catalogue list_of
 none_known w index none = record {
   known = λ p here play. absurd here;
   real = λ place h. absurd (subst (λ (l : List ℕ). Among place l) none h);
 }
-
--- an index of no entries has no candidate
-pub none_there : (w : ℕ) (index : Index) → IsIndexOf (view_of []) w index → index.candidates ≡ []
-unfolding jobs_of jobs catalogue list_of
-none_there w index stands = go index.candidates stands.real
-  where
-    go : (l : List ℕ) → ((place : ℕ) → Among place l → IsPlaceHere (view_of []) w place) → l ≡ []
-    go [] real = refl
-    go (x ∷ xs) real = absurd (real x (inl refl)).here
 
 -- the same of a job that its owner tells to be not due
 pub idle_by_owner : (V : View) (w : ℕ) (p : StreamJob) → IsPlannedJob V p → (p.doc.ws == w) ≡ true

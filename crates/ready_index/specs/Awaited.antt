@@ -1,7 +1,7 @@
 -- Which jobs are in play, and what one of them waits for.
 use Rattle.std.specs.Prelude.{[], if◌then◌else◌, ℕ, ◌∷◌, ◌≡◌, ◌⊎◌, Bool, List, None, Option, Some, false}
 use Rattle.std.specs.Prelude.{filter_map, not, slice_get}
-use Rattle.model.specs.Types.{At, Deadline, Dep, Events, FollowsJob, FollowsStream, Job, Needs, Outside, Prompt}
+use Rattle.model.specs.Types.{At, Deadline, Dep, Events, FollowsJob, FollowsStream, Job, Needs, Obj, Outside, Prompt}
 use Rattle.model.specs.Types.{Stream, Until}
 use Rattle.model.specs.Words.{all_of}
 use Rattle.model.specs.History.{View}
@@ -32,19 +32,19 @@ held_back V (Until t then_) = None
 held_back V (Outside path) = None
 held_back V (Deadline t) = None
 
--- the jobs and streams that hold a job back, by the dependencies that are not waived
-unfoldable pub held_back_by : View → ℕ → List Target
-held_back_by V j = filter_map (λ (p : NumberedDep). held_back V p.dep) (unwaived_deps V (Job j))
+-- the jobs and streams that hold an object back, by the dependencies that are not waived
+unfoldable pub held_back_by : View → Obj → List Target
+held_back_by V o = filter_map (λ (p : NumberedDep). held_back V p.dep) (unwaived_deps V o)
 
 -- a job waits for this
 abbrev pub IsAwaited : View → StreamJob → Target → Type 0
 IsAwaited V p t =
     ((t ≡ ReleaseOf p.parent.no) × (is_released p.parent.no (V (Events p.parent.ws)) ≡ false))
-    ⊎ Among t (held_back_by V p.doc.no)
+    ⊎ Among t (held_back_by V (Job p.doc.no))
 
 -- what it waits for first
 unfoldable pub first_awaited : View → StreamJob → Option Target
 first_awaited V p =
     if is_released p.parent.no (V (Events p.parent.ws))
-    then slice_get (held_back_by V p.doc.no) 0
+    then slice_get (held_back_by V (Job p.doc.no)) 0
     else Some (ReleaseOf p.parent.no)

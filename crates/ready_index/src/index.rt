@@ -1,36 +1,35 @@
-//! The index, and what it does by an entry.
-ghost use Rattle.std.specs.Prelude.{◌≡◌, ◌++◌, ◌∷◌, [], ℕ, IfOk, IfSome, IsTrue, List, OnOk};
+//! The index of one workstation: what keeps track of the best job, and of the own members that may be released or end.
+ghost use Rattle.std.specs.Prelude.{◌≡◌, ◌++◌, ◌∷◌, [], ℕ, IfOk, IfSome, IsTrue, List, OnOk, filter};
 ghost use Rattle.model.specs.Types.{Entry as Taken};
+ghost use Rattle.model.specs.Words.{least};
 ghost use Rattle.model.specs.History.{view_of};
+ghost use Rattle.model.specs.OwnMembers.{may_end, may_release, own_numbers};
 ghost use Rattle.model.specs.Readiness as spec;
-ghost use Rattle.dependencies.specs.Planned.{IsPlannedJob};
-ghost use Rattle.owner_fold.specs.DocPlaces.{stream_job};
-ghost use Rattle.ready_index.specs.Standing.{IsIndexBut, IsIndexOf, IsLookedAt};
-ghost use Rattle.ready_index.specs.Watched.{waiting_for};
+ghost use Rattle.ready_index.specs.Standing.{IsIndexOf};
 
-use crate::candidates::{Candidates, place};
-use crate::changes::{Change, change_of};
-use crate::targets::Target;
-use crate::waits::{first_awaited, is_in_play};
-use crate::watches::Watches;
-use base_types::{Entry, JobDoc, JobNo, NoMemory, StreamDoc, Ws};
+use crate::ends::Ends;
+use crate::jobs::JobIndex;
+use crate::releases::Releases;
+use base_types::{Entry, JobNo, NoMemory, StreamNo, Ws};
 use dependencies::Readiness;
 use network_tree::Network;
 use owner_fold::Owners;
 use std::alloc::Global;
 
-/// The candidates for the best job of one workstation, and what each job that waits watches.
+/// What keeps track of the best job of one workstation, and of its own members that may be released or end.
 pub struct Index {
-    candidates: Candidates,
-    watches: Watches,
+    jobs: JobIndex,
+    releases: Releases,
+    ends: Ends,
 }
 
 /// Written out, so that dropping one is a call for whoever owns it.
 impl Drop for Index {
     fn drop(self) {
         let Index {
-            candidates: _candidates,
-            watches: _watches,
+            jobs: _jobs,
+            releases: _releases,
+            ends: _ends,
         } = self;
     }
 }
@@ -41,8 +40,9 @@ impl Index {
         ensures { (w : ℕ) → IsIndexOf (view_of []) w result }
     {
         Index {
-            candidates: Candidates::new(alloc),
-            watches: Watches::new(alloc),
+            jobs: JobIndex::new(alloc),
+            releases: Releases::new(alloc),
+            ends: Ends::new(alloc),
         }
     }
 
@@ -52,135 +52,32 @@ impl Index {
         ensures { IfOk result (λ index. IsIndexOf (view_of o.now) w index) }
     {
         let mut index = Index::new(alloc);
-        index.fill(net, o, w)?;
+        index.remake(net, o, w)?;
         Ok(index)
-    }
-
-    /// Looks at each job of w.
-    fn fill(&mut self, net: &Network, o: &Owners, w: Ws) -> Result<(), NoMemory>
-        requires { self.old.candidates ≡ [] }
-        ensures { OnOk result (IsIndexOf (view_of o.now) w self.new) }
-    {
-        for (parent, doc) in o.jobs() {
-            if doc.ws == w {
-                self.look(net, o, w, parent, doc)?;
-            }
-        }
-        Ok(())
     }
 
     /// Makes the index anew.
     fn remake(&mut self, net: &Network, o: &Owners, w: Ws) -> Result<(), NoMemory>
         ensures { OnOk result (IsIndexOf (view_of o.now) w self.new) }
     {
-        self.candidates.clear();
-        self.watches.clear();
-        self.fill(net, o, w)
-    }
-
-    /// Looks at a job of w: where it is in play, it watches something that it waits for, or is a candidate.
-    fn look(
-        &mut self,
-        net: &Network,
-        o: &Owners,
-        w: Ws,
-        parent: &StreamDoc,
-        doc: &JobDoc,
-    ) -> Result<(), NoMemory>
-        requires planned { IsPlannedJob (view_of o.now) (stream_job parent.now doc.now) }
-        requires owned { doc.now.ws ≡ w }
-        ensures { OnOk result (IsLookedAt (view_of o.now) w doc.now.no self.old self.new) }
-    {
-        if !is_in_play(o, w, parent, doc) {
-            return Ok(());
-        }
-        match first_awaited(net, o, w, parent, doc) {
-            Some(target) => self.watches.add(&target, doc.no.0),
-            None => self.candidates.add(place(o, parent, doc)),
-        }
-    }
-
-    /// Looks at the job of this number, where it is one of w.
-    fn look_at(&mut self, net: &Network, o: &Owners, w: Ws, number: u32) -> Result<(), NoMemory>
-        ensures { OnOk result (IsLookedAt (view_of o.now) w number self.old self.new) }
-    {
-        match o.planned_job(JobNo(number)) {
-            None => Ok(()),
-            Some((parent, doc)) => {
-                if doc.ws == w {
-                    self.look(net, o, w, parent, doc)
-                } else {
-                    Ok(())
-                }
-            }
-        }
-    }
-
-    /// Looks anew at each job that watches something.
-    fn look_again(
-        &mut self,
-        net: &Network,
-        o: &Owners,
-        w: Ws,
-        target: &Target,
-    ) -> Result<(), NoMemory>
-        ensures { OnOk result (
-            IsIndexBut (view_of o.now) w (waiting_for self.old.watches target.now) self.old
-            → IsIndexOf (view_of o.now) w self.new) }
-    {
-        match self.watches.take(target) {
-            None => Ok(()),
-            Some(waiting) => self.look_at_all(net, o, w, waiting.as_slice()),
-        }
-    }
-
-    /// Looks at each of these jobs.
-    fn look_at_all(
-        &mut self,
-        net: &Network,
-        o: &Owners,
-        w: Ws,
-        numbers: &[u32],
-    ) -> Result<(), NoMemory>
-        ensures { OnOk result (
-            IsIndexBut (view_of o.now) w numbers.now self.old → IsIndexOf (view_of o.now) w self.new) }
-    {
-        for number in numbers {
-            self.look_at(net, o, w, *number)?;
-        }
-        Ok(())
-    }
-
-    /// Drops a job that was launched, where it is not due any more.
-    fn drop_launched(&mut self, o: &Owners, w: Ws, number: u32)
-        ensures { IsIndexOf (view_of o.now) w self.old → IsIndexOf (view_of o.now) w self.new }
-    {
-        if let Some((parent, doc)) = o.planned_job(JobNo(number)) {
-            if doc.ws == w && !o.is_due(doc.no) {
-                self.candidates.remove(place(o, parent, doc));
-            }
-        }
+        self.jobs.remake(net, o, w)?;
+        self.releases.remake(net, o, w)?;
+        self.ends.remake(o, w)
     }
 }
 
 impl Readiness for Index {
     ghost stands_for = { λ index taken w resources prompts. IsIndexOf (view_of taken) w index };
 
-    /// Takes an entry that `o` has taken just before, as its last. After `NoMemory` some jobs may be lost to the index,
-    /// until it is made anew: `best` then answers a job that is ready, though it need not be the best, or none.
+    /// Takes an entry that `o` has taken just before, as its last. After `NoMemory` some jobs and streams may be lost to
+    /// the index, until it is made anew: `best` then answers a job that is ready, though it need not be the best, or none.
     fn took(&mut self, net: &Network, o: &Owners, w: Ws, e: &Entry) -> Result<(), NoMemory>
         ensures { OnOk result ((before : List Taken) → o.now ≡ before ++ e.now ∷ []
             → IsIndexOf (view_of before) w self.old → IsIndexOf (view_of o.now) w self.new) }
     {
-        match change_of(&e.body) {
-            Change::Everything => self.remake(net, o, w),
-            Change::Launch(number) => {
-                self.drop_launched(o, w, number);
-                Ok(())
-            }
-            Change::At(target) => self.look_again(net, o, w, &target),
-            Change::Nothing => Ok(()),
-        }
+        self.jobs.took(net, o, w, e)?;
+        self.releases.took(net, o, w, e)?;
+        self.ends.took(net, o, w, e)
     }
 
     /// The first candidate that is ready. So a job that is answered is ready, whatever the index stands for.
@@ -188,6 +85,22 @@ impl Readiness for Index {
         ensures stands { IsIndexOf (view_of o.now) w self.now → result ≡ spec.best net.now (view_of o.now) w }
         ensures ready { IfSome result (λ j. IsTrue (spec.is_ready net.now (view_of o.now) w j)) }
     {
-        self.candidates.first_ready(net, o, w)
+        self.jobs.best(net, o, w)
+    }
+
+    /// The first of the streams that watch nothing that may be released.
+    fn lowest_to_release(&self, net: &Network, o: &Owners, w: Ws) -> Option<StreamNo>
+        ensures { let V = view_of o.now in IsIndexOf V w self.now
+            → result ≡ least (filter (may_release net.now V w) (own_numbers V w)) }
+    {
+        self.releases.lowest(net, o, w)
+    }
+
+    /// The first of the streams that were seen to be able to end, and may.
+    fn lowest_to_end(&self, net: &Network, o: &Owners, w: Ws) -> Option<StreamNo>
+        ensures { let V = view_of o.now in IsIndexOf V w self.now
+            → result ≡ least (filter (may_end V w) (own_numbers V w)) }
+    {
+        self.ends.lowest(net, o, w)
     }
 }

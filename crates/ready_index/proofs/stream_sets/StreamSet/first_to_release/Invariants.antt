@@ -1,0 +1,12 @@
+use Rattle.std.proofs.Common.{◌<◌, ◌≡◌, find}
+use Rattle.model.specs.History.{view_of}
+use Rattle.model.specs.OwnMembers.{may_release}
+use Rattle.ready_index.specs.Lists.{InOrder}
+use Rattle.ready_index.proofs.stream_sets.StreamSet.first_to_release.Given as goal
+
+-- none of those before may be released
+abbrev pub invariant-loop-number : goal.invariant-loop-number
+invariant-loop-number l = record {
+  first : find (may_release l.net (view_of l.o) l.fn.w) l.self ≡ find (may_release l.net (view_of l.o) l.fn.w) l.number-iterator;
+  ordered : InOrder ◌<◌ l.self;
+}

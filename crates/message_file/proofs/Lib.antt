@@ -8,3 +8,4 @@ pub mod Attached
 pub mod Cursors
 pub mod Own
 pub mod Again
+pub mod Beginning

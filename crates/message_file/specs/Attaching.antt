@@ -72,11 +72,17 @@ abbrev pub KeepSameOf : ℕ → Option (List ℕ) → List ℕ → Type 0
 KeepSameOf owner None new = ⊤
 KeepSameOf owner (Some old) new = KeepSame owner old new
 
+-- What a stop while an empty file gets its header leaves: the header has eight bytes and its gate one, so no more than
+-- nine bytes, whichever they are. No record stands in so few.
+abbrev pub LeftBeginning : Option (List ℕ) → List ℕ → Type 0
+LeftBeginning None new = ⊤
+LeftBeginning (Some old) new = length new ≤ 9
+
 -- what a stop while a disk is attached leaves: a file that might have been left before, or one that keeps the same
--- bodies as the file that is read. The very first time, when there are none, any.
+-- bodies as the file that is read, or, of an empty file, one of so few bytes that it keeps nothing
 abbrev pub LeftAttaching : ℕ → Option (List ℕ) → (List ℕ → Type 0) → List ℕ → Type 0
 LeftAttaching owner None left file = ⊤
-LeftAttaching owner (Some old) left file = (old ≡ []) ⊎ (left file ⊎ KeepSame owner old file)
+LeftAttaching owner (Some old) left file = ((old ≡ []) × (length file ≤ 9)) ⊎ (left file ⊎ KeepSame owner old file)
 
 -- the file that is attached keeps what was there, or nothing where there was no file
 abbrev pub IsAttached : ℕ → List ℕ → List ℕ → Type 0

@@ -60,7 +60,8 @@ impl<D: Disk> MessageFile<D> {
         ensures later { IfOk result (λ m. D.faults disk ≤ D.faults m.disk) }
         ensures later_err { IfErr result (λ e. D.faults disk ≤ D.faults e.disk) }
 
-        // A stop at any moment leaves what one before could leave, or a file that keeps the same bodies.
+        // A stop at any moment leaves what one before could leave, or a file that keeps the same bodies; of an empty file
+        // one of at most nine bytes, which keeps nothing.
         ensures any_moment { IfOk result (λ m. LeavesOnly D.moment D.left_since disk m.disk
             (LeftAttaching owner (D.seen disk) (D.may_leave disk))) }
         ensures any_moment_err { IfErr result (λ e. LeavesOnly D.moment D.left_since disk e.disk

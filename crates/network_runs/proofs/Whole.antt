@@ -32,6 +32,7 @@ use Rattle.network_runs.proofs.Members.{IsIn, in_either, in_of}
 use Rattle.network_runs.proofs.Counting.{kept_next, kept_other, left_other, left_stops, made_next, place_of, refusals_next, since_begins}
 use Rattle.network_runs.proofs.Counting.{since_does, since_other, since_stops, started_next, until_does, until_other, until_stops}
 use Rattle.network_runs.proofs.Telling.{heard_stays}
+use Rattle.network_runs.proofs.Reading.{read_law}
 use Rattle.network_runs.proofs.Stories.{CameBy, Story}
 use Rattle.network_runs.proofs.Runs.{run_tells}
 
@@ -483,18 +484,27 @@ pub record IsSoFar (net : Net) (night : Night) : Type 0 where
       → (g : Frame) × IsCarried world a b g × (bytes ≡ frame_bytes g)
   pub sound : IsSound net (made night) world.starts
 
+so_far : (net : Net) (night : Night) (x : World) → Stands net x night [] → IsSoFar net night
+so_far net night x s = record {
+  world = x;
+  reached = s.reached;
+  history_ = s.history_;
+  kept_ = λ w inside. kept_of net x night w inside (s.stations w);
+  idle_ = λ w inside idle. session_of net x night w inside idle (s.stations w);
+  members = s.started_;
+  sent_ = s.sent_;
+  sound = subst (λ (G : List Entry). IsSound net G x.starts) s.history_ (invariant net x s.reached).sound;
+}
+
+-- the first happening of a night is a begin
+first_begins : (defs : Defs) (h : Happening) (night : Night) → IsNight defs (h ∷ night) → ReadLaw (net_of defs)
+first_begins defs (Begins w entries) night n = read_law (net_of defs) (n.few [] night w entries refl)
+first_begins defs (Does w event) night n = let it = n.acts [] night w event refl in not_up refl it.1
+first_begins defs (Stops w left) night n = let it = n.stops [] night w left refl in not_up refl it.1
+
 -- each night of the premises is a world, and its history is sound
-pub night_is_world : (defs : Defs) → ReadLaw (net_of defs) → (night : Night) → IsNight defs night → IsSoFar (net_of defs) night
-night_is_world defs law night n =
-    let net : Net = net_of defs in
-    let it = all_on defs law night night [] empty_world n refl (first_stands net night) in
-    record {
-      world = it.0;
-      reached = it.1.reached;
-      history_ = it.1.history_;
-      kept_ = λ w inside. kept_of net it.0 night w inside (it.1.stations w);
-      idle_ = λ w inside idle. session_of net it.0 night w inside idle (it.1.stations w);
-      members = it.1.started_;
-      sent_ = it.1.sent_;
-      sound = subst (λ (G : List Entry). IsSound net G it.0.starts) it.1.history_ (invariant net it.0 it.1.reached).sound;
-    }
+pub night_is_world : (defs : Defs) (night : Night) → IsNight defs night → IsSoFar (net_of defs) night
+night_is_world defs [] n = so_far (net_of defs) [] empty_world (first_stands (net_of defs) [])
+night_is_world defs (h ∷ night) n =
+    let it = all_on defs (first_begins defs h night n) (h ∷ night) (h ∷ night) [] empty_world n refl (first_stands (net_of defs) (h ∷ night)) in
+    so_far (net_of defs) (h ∷ night) it.0 it.1

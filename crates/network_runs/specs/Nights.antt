@@ -80,8 +80,9 @@ pub record IsWritten (e : Entry) : Type 0 where
 -- program does: it serves workstations of checked definitions (`few`, `inside`), each by runs as they are defined (`runs`,
 -- `acts`, `stops`), and keeps what its types and its keeper let it write down (`written`).
 pub record IsNight (defs : Defs) (night : Night) : Type 0 where
-  -- a frame can name each workstation of the network
-  pub few : node_count (net_of defs) ≤ 65536
+  -- where a workstation begins, a frame can name each one of the network
+  pub few : (before behind : Night) (w : ℕ) (entries : List Entry) → night ≡ before ++ Begins w entries ∷ behind
+      → node_count (net_of defs) ≤ 65536
   -- a workstation of the network begins where it does not run, and holds all that its file has
   pub inside : (before behind : Night) (w : ℕ) (entries : List Entry) → night ≡ before ++ Begins w entries ∷ behind
       → w < node_count (net_of defs)

@@ -76,7 +76,7 @@ module _ {D : Type 0} (moment : D → ℕ) (left_since : D → ℕ → List ℕ 
       (old : D) where
     one_own : (file other : List ℕ) (t : ℕ) → t ≤ moment old → IsOwn me file → AreOwn me (left_since old t)
         → LeftAttaching me (Some file) (may_leave old) other → IsOwn me other
-    one_own file other t le own all (inl empty) = absurd (own_filled me file own empty)
+    one_own file other t le own all (inl begun) = absurd (own_filled me file own begun.0)
     one_own file other t le own all (inr (inl may)) = all other (counts_now old t other le may)
     one_own file other t le own all (inr (inr same)) = (same.bodies, same.after)
 

@@ -95,7 +95,8 @@ pub fn restart_node<D: Disk>(
     ensures later { IfOk result (λ r. D.faults disk ≤ D.faults r.file.disk) }
     ensures later_err { IfErr result (λ e. D.faults disk ≤ D.faults e.disk) }
 
-    // A stop at any moment leaves what one before could leave, or a file that keeps the same bodies.
+    // A stop at any moment leaves what one before could leave, or a file that keeps the same bodies; of an empty file one
+    // that keeps nothing.
     ensures any_moment { IfOk result (λ r. LeavesOnly D.moment (KeptSince D.left_since) disk r.file.disk
         (KeptLeft (LeftAttaching me (D.seen disk) (D.may_leave disk)))) }
     ensures any_moment_err { IfErr result (λ e. LeavesOnly D.moment (KeptSince D.left_since) disk e.disk

@@ -9,6 +9,8 @@ use Rattle.model.specs.Spelling.{entry_bytes}
 use Rattle.model.specs.Types.{Entry}
 use Rattle.outside.specs.Kept.{Bodies, IsKept, size_of}
 use Rattle.outside.specs.Records.{longest_file}
+use Rattle.outside.specs.Stops.{LeavesOnly}
+use Rattle.message_file.specs.Attaching.{LeftAttaching}
 use Rattle.message_file.specs.Files.{kept_of}
 use Rattle.message_file.specs.State.{FileState, KeptLeft, kept_in}
 use Rattle.node_inputs.specs.Keeping.{IsLeft, IsLeftWith, IsRefusal, IsLeftAtEnd, IsPath, IsUnfailed, KeeperTells, bodies, kept_size, record_size}
@@ -19,7 +21,8 @@ use Rattle.node_inputs.specs.declared.ends.NodeEnd.{NodeEnd}
 use Rattle.node_inputs.specs.declared.ends.NodeEnd.TheVariants.{DiskFault, Limit, NoMemory, Shutdown, TurnsSpent}
 use Rattle.composer_parser.specs.declared.Defs.{Defs}
 use Rattle.node_service.specs.Serving.{IsFull, KeepsFront, Stands, told_kept}
-use Rattle.node_service.proofs.Serving.{end_told, keeps_front, none_is, some_is}
+use Rattle.node_restart.specs.Stopping.{KeptSince}
+use Rattle.node_service.proofs.Serving.{end_told, keeps_front, none_is, serving_left, some_is}
 
 -- the sizes of records, by their bodies and by their entries
 sum_bodies : (es : List Entry) → sum_by (λ (body : List ℕ). 5 + length body) (bodies es) ≡ sum_by record_size es
@@ -133,6 +136,11 @@ with_more front rest (Some before) left is = (
       (sym (take-append-le is.0 (tried front) (tried rest) is.2) ∙ ap (λ (l : List Entry). take is.0 l) (sym (tried-append front rest))),
 )
 
+-- before the first event nothing was to be kept
+some_of_none : (held : Option Bodies) (left : Bodies) → IsLeftWith 0 [] held left → IsLeft [] held left
+some_of_none None left is = tt
+some_of_none (Some before) left is = (is.0, is.2, is.3)
+
 module _ {D : Type 0} (seen : D → Option (List ℕ)) (faults moment : D → ℕ) (may_leave : D → List ℕ → Type 0)
     (left_since : D → ℕ → List ℕ → Type 0) (defs : Defs) (me : ℕ) where
   -- the disk at the fronts of the trace
@@ -141,8 +149,9 @@ module _ {D : Type 0} (seen : D → Option (List ℕ)) (faults moment : D → �
       → IfSome (seen old) (λ (file : List ℕ). kept_in (seen mid.disk) mid.count ≡ Some (bodies entries))
       → IsPath (λ (m : FileState D). kept_in (seen m.disk) m.count) (λ (m : FileState D). moment m.disk)
       (λ (m : FileState D). KeptLeft (may_leave m.disk)) (λ (m : FileState D) (t : ℕ). KeptLeft (left_since m.disk t)) trace mid new keeper
+      → LeavesOnly moment (KeptSince left_since) old mid.disk (KeptLeft (LeftAttaching me (seen old) (may_leave old)))
       → Stands seen faults moment may_leave left_since defs me entries trace old mid.disk new.disk (λ k. (keeper k).disk)
-  standing only_now old mid new keeper entries trace first s = record {
+  standing only_now old mid new keeper entries trace first s making = record {
     since = λ k. s.since k;
     until = λ k. s.until k;
     ordered = λ j k le. s.ordered j k le;
@@ -163,6 +172,10 @@ module _ {D : Type 0} (seen : D → Option (List ℕ)) (faults moment : D → �
         (λ w. subst (λ (whole : Trace). IsLeftWith (length (kept (take k trace))) whole (kept_in (seen mid.disk) mid.count) (kept_of left)) (take-append-drop k trace)
         (with_more (take k trace) (drop k trace) (kept_in (seen mid.disk) mid.count) (kept_of left) (at_once k left w)))
         (λ is. is) (s.later k (moment (keeper k).disk) (kept_of left) (omega arith) (left, was, refl)));
+    first =
+        serving_left moment left_since me seen may_leave old mid (keeper 0) entries [] first making (s.since 0)
+        (λ t left le was.
+        ⊎_elim (λ w. inl w) (λ none. inr (some_of_none (kept_in (seen mid.disk) mid.count) left none)) (s.first 0 t left le was));
   }
     where
       at_it : (k : ℕ) (left : List ℕ) → may_leave (keeper k).disk left → IsLeftAtEnd (take k trace) (kept_in (seen mid.disk) mid.count) (kept_of left)

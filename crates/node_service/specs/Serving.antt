@@ -5,7 +5,7 @@ use Rattle.base_types.specs.declared.LimitName.{LimitName}
 use Rattle.base_types.specs.declared.LimitName.TheVariants.{File}
 use Rattle.composer_parser.specs.declared.Defs.{Defs}
 use Rattle.model.specs.Types.{Entry}
-use Rattle.model.specs.Network.{hop}
+use Rattle.model.specs.Network.{hop, node_count}
 use Rattle.model.specs.Sessions.{restarted}
 use Rattle.outside.specs.Calls.{Begin, Begins, LinkCalls}
 use Rattle.outside.specs.Causes.{Rose}
@@ -36,9 +36,11 @@ abbrev pub begin_of : Defs → NodeState → Bool → Begin
 begin_of defs node ok =
     record { me = Some node.me; hop = hop (present_in node) node.me; peers = peers_of defs; ok = ok }
 
--- a node of the definitions that holds what its file keeps, with nothing live, linked or acknowledged
+-- a node of the definitions, of at most 256 workstations, that holds what its file keeps, with nothing live, linked or
+-- acknowledged
 pub record IsMade (defs : Defs) (me : ℕ) (told : Option (List ℕ)) (node : NodeState) : Type 0 where
   pub net_ : node.net ≡ net_of defs
+  pub few_ : node_count (net_of defs) ≤ 256
   pub me_ : node.me ≡ me
   pub session_ : session_in node ≡ restarted
   pub holds : IfSome told (Restarts (net_of defs) me node.kept)
@@ -91,7 +93,8 @@ module _ {D : Type 0} (seen : D → Option (List ℕ)) (faults moment : D → �
 
   -- The disk when so many events of the trace were over: it keeps what the node held and what they kept, and a stop then
   -- leaves that, with the entry in hand or without. A stop between two of these leaves at least all that the earlier had
-  -- kept, and no more than was to be kept up to the later; one behind leaves at least all that was kept.
+  -- kept, and no more than was to be kept up to the later; one behind leaves at least all that was kept; and one before the
+  -- first event leaves what attaching the disk leaves, or what the node held.
   pub record Stands (entries : List Entry) (trace : Trace) (old attached new : D) (at_front : ℕ → D) : Type 0 where
     pub since : (k : ℕ) → moment attached ≤ moment (at_front k)
     pub until : (k : ℕ) → moment (at_front k) ≤ moment new
@@ -103,6 +106,7 @@ module _ {D : Type 0} (seen : D → Option (List ℕ)) (faults moment : D → �
         → IsLeftWith (length (kept (take j trace))) (take k trace) (told_kept (seen old) entries) (kept_of left)
     pub later : (k : ℕ) (left : List ℕ) → left_since new (moment (at_front k)) left
         → IsLeftWith (length (kept (take k trace))) trace (told_kept (seen old) entries) (kept_of left)
+    pub first : LeavesOnly moment (KeptSince left_since) old (at_front 0) (LeftServing me (seen old) (may_leave old) entries [])
 
   -- A node is made of it and runs. Its links begin once, before all else; its run is one trace; the file keeps what it
   -- held and what it kept, and what a stop leaves follows the trace.

@@ -1,5 +1,5 @@
 //! From the disk that is handed in to the one that is handed back.
-ghost use Rattle.std.specs.Prelude.{◌<◌, ◌≡◌, Bool, IfOk};
+ghost use Rattle.std.specs.Prelude.{◌<◌, ◌≡◌, ◌≤◌, Bool, IfOk};
 ghost use Rattle.model.specs.Network.{node_count};
 ghost use Rattle.network_tree.specs.Faults.{net_fault};
 ghost use Rattle.outside.specs.Calls.{Begins};
@@ -94,7 +94,8 @@ pub fn serve_node<D: Disk, L: Link, J: Spawner, C: Clock, F: Prober>(
 
 /// The network of the definitions.
 fn network_of(alloc: Global, workload: &Workload) -> Result<Network, NoMemory>
-    ensures { IfOk result (λ network. network ≡ net_of workload.now) }
+    ensures value { IfOk result (λ network. network ≡ net_of workload.now) }
+    ensures few { IfOk result (λ network. node_count network ≤ 256) }
 {
     let net = workload.net().copy()?;
     match Network::new(alloc, net) {

@@ -1,19 +1,25 @@
 -- What the disks show with which the services of a workstation begin.
-use Rattle.std.proofs.Common.{[], take, ◌++◌, ◌≡◌, ◌≢◌, ◌≤◌, ◌∙◌, ◌∷◌, ◌⊎◌, ℕ, Bool, IfSome, List, None, Option, Some, ap, append_assoc, arith, false, inl, inr, refl, subst, sym, true, zero, suc, length}
+use Rattle.std.proofs.Common.{[], take, ◌++◌, ◌≡◌, ◌≢◌, ◌≤◌, ◌∙◌, ◌∷◌, ◌⊎◌, ℕ, Bool, IfSome, List, None, Option, Some, ap, append-nil, append_assoc, arith, false, inl, inr, refl, subst, sym, true, zero, suc, length}
 use Rattle.std.proofs.lemmas.Bool.Decides.{eqb_tells}
 use Rattle.std.specs.Prelude.{◌==◌, if◌then◌else◌}
 use Rattle.lemmas.proofs.Options.{none_some}
 use Rattle.composer_parser.specs.declared.Defs.{Defs}
-use Rattle.model.specs.Types.{Entry}
+use Rattle.model.specs.Types.{Entry, Net}
 use Rattle.outside.specs.Kept.{Bodies}
 use Rattle.message_file.specs.Attaching.{KeepSame, LeftAttaching}
 use Rattle.message_file.specs.Files.{kept_of}
 use Rattle.message_file.specs.State.{KeptLeft}
+use Rattle.message_file.proofs.Beginning.{few_keep_nothing}
 use Rattle.message_file.proofs.Reading.{kept_is}
 use Rattle.workload_defs.specs.Nets.{net_of}
+use Rattle.node_inputs.specs.Keeping.{bodies}
+use Rattle.node_inputs.specs.Tellings.{Told}
 use Rattle.node_inputs.specs.Traces.{Trace}
 use Rattle.node_restart.specs.Restarting.{Restarts}
-use Rattle.node_service.proofs.Joining.{first_held}
+use Rattle.node_service.specs.Serving.{LeftServing, Serves}
+use Rattle.node_service.specs.declared.services.ServiceEnd.{ServiceEnd}
+use Rattle.node_service.specs.declared.services.ServiceEnd.TheVariants.{Ran, Unmade}
+use Rattle.node_service.proofs.Joining.{first_held, some_held}
 use Rattle.network_runs.specs.Happenings.{since, until_stop}
 use Rattle.service_nights.specs.Services.{Acts, Fails, Leaves, Occurrence, Opens, Services, disk_left, disk_next, made_next, plain}
 use Rattle.service_nights.specs.Served.{AreServices, HasFailed, HasOnly, HasServed, IsItsDisk, LeftUnmade}
@@ -27,6 +33,15 @@ empty_keeps file none = ap kept_of none
 same_kept : (owner : ℕ) (old new : List ℕ) → KeepSame owner old new → kept_of old ≡ kept_of new
 same_kept owner old new same = kept_is owner old same.bodies same.before ∙ sym (kept_is owner new same.bodies same.after)
 
+-- a file of which a node was made keeps what the node held
+made_keeps : (net : Net) (me : ℕ) (entries : List Entry) (file : List ℕ) → Restarts net me entries file → kept_of file ≡ bodies entries
+made_keeps net me entries file (b, inl is, held) = kept_is me file b is ∙ held.are.written
+made_keeps net me entries file (b, inr none, held) = empty_keeps file none.0 ∙ sym none.1 ∙ held.are.written
+
+with_none : (n : ℕ) (b : Bodies) → b ++ bodies (take n []) ≡ b
+with_none zero b = append-nil b
+with_none (suc n) b = append-nil b
+
 pub idle_running : {X P : Type 0} {x : X} {o : Option X} → o ≡ None → o ≡ Some x → P
 idle_running none some = absurd (none_some (sym none ∙ some))
 
@@ -36,26 +51,43 @@ module _ {D : Type 0} (seen : D → Option (List ℕ)) (faults moment : D → �
   abbrev pub Shows : (Bodies → Type 0) → D → Type 0
   Shows Q disk = HasOnly seen may_leave (λ (file : List ℕ). Q (kept_of file)) disk
 
-  -- a service that failed leaves what was there
-  left_shows : (Q : Bodies → Type 0) (me : ℕ) (old new : D) (file : List ℕ) → Shows Q old
-      → LeftUnmade seen faults moment may_leave left_since defs me old new file → Q (kept_of file)
-  left_shows Q me old new file shows left =
-      subst Q (sym left.making.2) (go (subst (λ (o : Option (List ℕ)). LeftAttaching me o (may_leave old) left.making.0) shows.reads left.making.1))
+  -- attaching leaves what was there
+  attached_shows : (Q : Bodies → Type 0) (me : ℕ) (old : D) (left : Bodies) → Shows Q old
+      → KeptLeft (LeftAttaching me (seen old) (may_leave old)) left → Q left
+  attached_shows Q me old left shows by =
+      subst Q (sym by.2) (go (subst (λ (o : Option (List ℕ)). LeftAttaching me o (may_leave old) by.0) shows.reads by.1))
     where
-      go : LeftAttaching me (Some shows.file) (may_leave old) left.making.0 → Q (kept_of left.making.0)
-      go (inl none) =
-          subst Q
-          (empty_keeps shows.file none ∙ sym (left.first (shows.reads ∙ ap Some none)) ∙ left.making.2) shows.its
-      go (inr (inl may)) = shows.rest left.making.0 may
-      go (inr (inr same)) = subst Q (same_kept me shows.file left.making.0 same) shows.its
+      go : LeftAttaching me (Some shows.file) (may_leave old) by.0 → Q (kept_of by.0)
+      go (inl begun) = subst Q (empty_keeps shows.file begun.0 ∙ sym (few_keep_nothing by.0 begun.1)) shows.its
+      go (inr (inl may)) = shows.rest by.0 may
+      go (inr (inr same)) = subst Q (same_kept me shows.file by.0 same) shows.its
+
+  -- and so does a service up to the first event
+  serving_shows : (Q : Bodies → Type 0) (me : ℕ) (old : D) (entries : List Entry) (left : Bodies) → Shows Q old
+      → IfSome (seen old) (Restarts (net_of defs) me entries) → LeftServing me (seen old) (may_leave old) entries [] left → Q left
+  serving_shows Q me old entries left shows held (inl by) = attached_shows Q me old left shows by
+  serving_shows Q me old entries left shows held (inr none) =
+      let first = first_held (net_of defs) me entries (seen old) shows.file shows.reads held in
+      let by = some_held [] entries (seen old) shows.file left shows.reads none in
+      subst Q (made_keeps (net_of defs) me entries shows.file first ∙ sym (with_none by.0 (bodies entries)) ∙ sym by.3) shows.its
+
+  -- a service that failed leaves what was there
+  left_shows : (Q : Bodies → Type 0) (me turns : ℕ) (end : ServiceEnd) (old new : D) (told now : Told)
+      (serves : Serves seen faults moment may_leave left_since defs me turns end old new told now) (file : List ℕ) → Shows Q old
+      → LeftUnmade seen faults moment may_leave left_since defs me turns end old new told now serves file → Q (kept_of file)
+  left_shows Q me turns (Unmade fault) old new told now serves file shows left =
+      attached_shows Q me old (kept_of file) shows (serves.0.any_moment.each (kept_of file) (file, left, refl))
+  left_shows Q me turns (Ran why) old new told now run file shows left =
+      serving_shows Q me old run.start.kept (kept_of file) shows run.made.holds
+      (run.stands.first.each (kept_of file) (file, left, refl))
 
   failed_shows : (Q : Bodies → Type 0) (me : ℕ) (old left : D) → HasFailed seen faults moment may_leave left_since defs me old left
       → Shows Q old → Shows Q left
-  failed_shows Q me old left failed shows = record {
-    file = failed.leaves.file;
-    reads = failed.leaves.reads;
-    its = left_shows Q me old failed.new failed.leaves.file shows failed.leaves.its;
-    rest = λ file may. left_shows Q me old failed.new file shows (failed.leaves.rest file may);
+  failed_shows Q me old left f shows = record {
+    file = f.leaves.file;
+    reads = f.leaves.reads;
+    its = left_shows Q me f.turns f.end old f.new f.told f.now f.serves f.leaves.file shows f.leaves.its;
+    rest = λ file may. left_shows Q me f.turns f.end old f.new f.told f.now f.serves file shows (f.leaves.rest file may);
   }
 
   -- a node is made of a file that keeps such bodies

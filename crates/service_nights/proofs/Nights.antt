@@ -1,5 +1,5 @@
 -- The services of a network's nodes are a night.
-use Rattle.std.proofs.Common.{[], drop, take, take-append-drop, ◌++◌, ◌<◌, ◌≡◌, ◌∙◌, ◌∷◌, ◌⊎◌, ℕ, Bool, IfSome, List, None, Option, Some, ap, append-nil, append_assoc, inl, inr, refl, subst, sym, true}
+use Rattle.std.proofs.Common.{[], drop, take, take-append-drop, ◌++◌, ◌<◌, ◌≡◌, ◌≤◌, ◌∙◌, ◌∷◌, ◌⊎◌, ℕ, Bool, IfSome, List, None, Option, Some, ap, append-nil, append_assoc, arith, inl, inr, refl, subst, sym, true}
 use Rattle.std.proofs.lemmas.List.Elements.{recursion_from_All}
 use Rattle.std.specs.List.{All, AllByRecursion}
 use Rattle.std.specs.Prelude.{◌==◌, if◌then◌else◌, option_map}
@@ -396,9 +396,16 @@ module _ {D : Type 0} (seen : D → Option (List ℕ)) (faults moment : D → �
         (stop_written w l.disk e l.before l.behind l.split (ap Some (sym (of_both w v d e its)) ∙ l.left_)
         (stands w l.before (Leaves w l.disk ∷ l.behind) l.split))
 
+    few_ : (front back : Night) (w : ℕ) (entries : List Entry) → night_of services ≡ front ++ Begins w entries ∷ back
+        → node_count (net_of defs) ≤ 65536
+    few_ front back w entries e =
+        let o = opens_at front back w entries e in
+        let it = are.each o.before o.behind (Opens w o.disk entries) o.split in
+        omega (arith, it.3.run.made.few_)
+
     pub are_night : BringsWhatWasSent (night_of services) → IsNight defs (night_of services)
     are_night links = record {
-      few = are.few;
+      few = few_;
       inside = inside_;
       stood = stood_;
       files = files_;

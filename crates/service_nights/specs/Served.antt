@@ -4,9 +4,6 @@ use Rattle.std.specs.Prelude.{[], suc, ℕ, ◌++◌, ◌<◌, ◌∷◌, ◌≡
 use Rattle.composer_parser.specs.declared.Defs.{Defs}
 use Rattle.model.specs.Types.{Entry}
 use Rattle.model.specs.Network.{node_count}
-use Rattle.message_file.specs.Attaching.{LeftAttaching}
-use Rattle.message_file.specs.Files.{kept_of}
-use Rattle.message_file.specs.State.{KeptLeft}
 use Rattle.mail_frames.specs.declared.frames.Frame.{Frame}
 use Rattle.workload_defs.specs.Nets.{net_of}
 use Rattle.node_inputs.specs.Tellings.{Told}
@@ -14,6 +11,7 @@ use Rattle.node_inputs.specs.Traces.{Trace}
 use Rattle.node_inputs.specs.declared.ends.NodeEnd.{NodeEnd}
 use Rattle.node_service.specs.Serving.{HasRun, Serves}
 use Rattle.node_service.specs.declared.services.ServiceEnd.{ServiceEnd}
+use Rattle.node_service.specs.declared.services.ServiceEnd.TheVariants.{Ran, Unmade}
 use Rattle.network_runs.specs.Happenings.{Night, heard_from, since, until_stop}
 use Rattle.network_runs.specs.Nights.{IsForNodes, IsSent, StandsIn}
 use Rattle.service_nights.specs.Services.{Acts, Fails, Leaves, Occurrence, Opens, Services, disk_left, disk_next, plain}
@@ -34,12 +32,12 @@ module _ {D : Type 0} (seen : D → Option (List ℕ)) (may_leave : D → List �
 -- what a disk shows, and the definitions
 module _ {D : Type 0} (seen : D → Option (List ℕ)) (faults moment : D → ℕ) (may_leave : D → List ℕ → Type 0)
     (left_since : D → ℕ → List ℕ → Type 0) (defs : Defs) where
-  -- What a stop leaves while a node is made: what was there before is kept, as the service's clauses tell it. They tell
-  -- nothing of the very first time, when the file is empty; then nothing is kept of what a stop leaves.
-  pub record LeftUnmade (me : ℕ) (old new : D) (file : List ℕ) : Type 0 where
-    pub since_ : left_since new (moment old) file
-    pub making : KeptLeft (LeftAttaching me (seen old) (may_leave old)) (kept_of file)
-    pub first : seen old ≡ Some [] → kept_of file ≡ []
+  -- what a stop leaves before a node of the service acts: at any moment where none is made, and else at any up to the front
+  -- of its run that has no event
+  abbrev pub LeftUnmade : (me turns : ℕ) (end : ServiceEnd) (old new : D) (told now : Told)
+      → Serves seen faults moment may_leave left_since defs me turns end old new told now → List ℕ → Type 0
+  LeftUnmade me turns (Unmade fault) old new told now serves file = left_since new (moment old) file
+  LeftUnmade me turns (Ran why) old new told now run file = left_since (run.at_front 0) (moment old) file
 
   -- a service of the disk, whatever its end, that ended or was stopped before a node of it acted
   pub record HasFailed (me : ℕ) (old left : D) : Type 0 where
@@ -49,7 +47,7 @@ module _ {D : Type 0} (seen : D → Option (List ℕ)) (faults moment : D → �
     pub told : Told
     pub now : Told
     pub serves : Serves seen faults moment may_leave left_since defs me turns end old new told now
-    pub leaves : HasOnly seen may_leave (LeftUnmade me old new) left
+    pub leaves : HasOnly seen may_leave (LeftUnmade me turns end old new told now serves) left
 
   -- What is left of a run behind so many of its events: what a stop leaves from the moment of this front up to that of the
   -- next, or, behind the last event, up to the end of the service.
@@ -88,8 +86,6 @@ module _ {D : Type 0} (seen : D → Option (List ℕ)) (faults moment : D → �
 
   -- the services of the nodes of a network, in the order in which all of it came to pass
   pub record AreServices (services : Services D) : Type 0 where
-    -- a frame can name each workstation of the network
-    pub few : node_count (net_of defs) ≤ 65536
     pub each : (before behind : Services D) (one : Occurrence D) → services ≡ before ++ one ∷ behind
         → IsInPlace before one behind
 

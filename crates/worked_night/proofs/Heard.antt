@@ -82,7 +82,7 @@ one_so w x came s (Does v event) quiet so =
     if_so w x came (v == w) (option_map (λ (t : Trace). t ++ event ∷ []) s) s (does_so w x came s event quiet so) so
 one_so w x came s (Stops v left) quiet so = if_so w x came (v == w) None s tt so
 
-all_so : (w x : ℕ) (came : Bool) (s : Option Trace) (some : Night) → list_all is_quiet some ≡ true → IsHeardSo w x came s
+pub all_so : (w x : ℕ) (came : Bool) (s : Option Trace) (some : Night) → list_all is_quiet some ≡ true → IsHeardSo w x came s
     → IsHeardSo w x came (fold (since_with w) s some)
 all_so w x came s [] quiet so = so
 all_so w x came s (h ∷ some) quiet so =
@@ -128,7 +128,7 @@ front_of {X} (x ∷ xs) ys (b ∷ before) behind e = go (front_of xs ys before b
     go (inl h) same = inl (h.0, ap (λ z. z ∷ xs) same ∙ ap (λ l. b ∷ l) h.1)
     go (inr h) same = inr (h.0, ap (λ z. z ∷ before) (sym same) ∙ ap (λ l. x ∷ l) h.1, h.2)
 
-all_front : (front back : Night) → list_all is_quiet (front ++ back) ≡ true → list_all is_quiet front ≡ true
+pub all_front : (front back : Night) → list_all is_quiet (front ++ back) ≡ true → list_all is_quiet front ≡ true
 all_front [] back h = refl
 all_front (one ∷ front) back h =
     let both = and_parts (is_quiet one) (list_all is_quiet (front ++ back)) h in
@@ -138,7 +138,7 @@ all_front (one ∷ front) back h =
 is_sent : Contains before_mail (Does 0 (Event.Sends sent))
 is_sent = (14, lit< tt, refl)
 
-none_heard : (before : Night) (w x : ℕ) (past : Trace) (f : Frame) → IsHeardSo w x false (since w before) → since w before ≡ Some past
+pub none_heard : (before : Night) (w x : ℕ) (past : Trace) (f : Frame) → IsHeardSo w x false (since w before) → since w before ≡ Some past
     → StandsIn (heard_from x past) f → ⊥
 none_heard before w x past f so some stands =
     none_whole stands.frames

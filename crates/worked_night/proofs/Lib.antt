@@ -1,7 +1,8 @@
-mod Days
+pub mod Days
 mod Frames
-mod Turns
-mod Runs
-mod Heard
+pub mod Turns
+pub mod Runs
+pub mod Heard
 mod Written
+pub mod Places
 mod Whole

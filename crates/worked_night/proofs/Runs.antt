@@ -55,7 +55,7 @@ takes_with old now input e step_ same me = record {
 }
 
 -- what is behind the arrival in a turn: no process has ended, no file is looked for, nothing is advised, and then the turn
-behind_arrival : (old : Running) (t : ℕ) (trace : Trace) (end : Option NodeEnd) (new : NodeState)
+pub behind_arrival : (old : Running) (t : ℕ) (trace : Trace) (end : Option NodeEnd) (new : NodeState)
     → next_probe (view_in old.node) old.node.me old.asked ≡ None → advice (view_in old.node) old.node.me ≡ None
     → Take (Input.Local (Turn t)) old.node trace end new
     → Then (On (λ o u e n. Reports o u e n))
@@ -366,7 +366,7 @@ reads_mail =
     })))
 
 -- a turn that ends for want of memory
-turn_stops : (node : NodeState) (t : ℕ) → Take (Input.Local (Turn t)) node [] (Some NoMemory) node
+pub turn_stops : (node : NodeState) (t : ℕ) → Take (Input.Local (Turn t)) node [] (Some NoMemory) node
 turn_stops node t = inr (refl, refl, refl)
 
 agent_turn : TurnOf defs (running (node_of 1 [])) (cut_turn ++ (Event.Keeps plan ∷ none_ended ∷ [])) (Some NoMemory)

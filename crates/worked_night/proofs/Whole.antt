@@ -1,6 +1,5 @@
 -- The worked night meets each premise.
-use Rattle.std.proofs.Common.{[], lit<, lit≤, ◌++◌, ◌<◌, ◌≡◌, ◌≤◌, ◌∙◌, ◌∷◌, IfSome, List, None, Option, Some, ap, append-nil, append_assoc, option_map, refl, subst, sym, ℕ}
-use Rattle.lemmas.proofs.Lists.{no_middle, same_head, same_tail}
+use Rattle.std.proofs.Common.{[], lit<, lit≤, ◌++◌, ◌<◌, ◌≡◌, ◌≤◌, ◌∷◌, IfSome, List, None, Option, Some, ap, option_map, refl, subst, sym, ℕ}
 use Rattle.model.specs.Network.{node_count}
 use Rattle.model.specs.Types.{Entry}
 use Rattle.workload_defs.specs.Nets.{net_of}
@@ -11,6 +10,7 @@ use Rattle.worked_night.specs.Happened.{night}
 use Rattle.worked_night.specs.Workload.{defs, net}
 use Rattle.worked_night.proofs.Days.{net_is}
 use Rattle.worked_night.proofs.Heard.{links}
+use Rattle.worked_night.proofs.Places.{AllMeet, meets_at}
 use Rattle.worked_night.proofs.Runs.{agent_lives, master_lives, restarted_lives}
 use Rattle.worked_night.proofs.Written.{launched_written, plan_written, released_written}
 
@@ -22,23 +22,7 @@ Meets before (Begins w entries) behind =
 Meets before (Does w event) behind = ((past : Trace) × (since w before ≡ Some past)) × IfSome (kept_by event) IsWritten
 Meets before (Stops w left) behind = ((past : Trace) × (since w before ≡ Some past)) × IfSome left IsWritten
 
-abbrev AllMeet : Night → Night → Type 0
-AllMeet before [] = Unit {0}
-AllMeet before (h ∷ behind) = Meets before h behind × AllMeet (before ++ h ∷ []) behind
-
-meets_at : (before rest front back : Night) (h : Happening) → AllMeet before rest → rest ≡ front ++ h ∷ back
-    → Meets (before ++ front) h back
-meets_at before [] front back h all is = absurd (no_middle front back h is)
-meets_at before (one ∷ rest) [] back h all is =
-    subst (λ (g : Happening). Meets (before ++ []) g back) (same_head is)
-    (subst (λ (l : Night). Meets (before ++ []) one l) (same_tail is)
-    (subst (λ (l : Night). Meets l one rest) (sym (append-nil before)) all.0))
-meets_at before (one ∷ rest) (first ∷ front) back h all is =
-    subst (λ (l : Night). Meets l h back)
-    (append_assoc before (one ∷ []) front ∙ ap (λ (g : Happening). before ++ g ∷ front) (same_head is))
-    (meets_at (before ++ one ∷ []) rest front back h all.1 (same_tail is))
-
-all_meet : AllMeet [] night
+all_meet : AllMeet Meets [] night
 all_meet = (
   (lit< tt, refl, refl, master_lives),
   (
@@ -119,17 +103,17 @@ count_is = ap node_count net_is
 
 begins_meet : (front back : Night) (w : ℕ) (entries : List Entry) → night ≡ front ++ Begins w entries ∷ back
     → Meets front (Begins w entries) back
-begins_meet front back w entries is = meets_at [] night front back (Begins w entries) all_meet is
+begins_meet front back w entries is = meets_at Meets [] night front back (Begins w entries) all_meet is
 
 written : (front back : Night) (h : Happening) (v : ℕ) (e : Entry) → night ≡ front ++ h ∷ back → kept_in h ≡ Some (v, e)
     → IsWritten e
 written front back (Begins w entries) v e is its = cc
-written front back (Does w event) v e is its = go (kept_by event) its (meets_at [] night front back (Does w event) all_meet is).1
+written front back (Does w event) v e is its = go (kept_by event) its (meets_at Meets [] night front back (Does w event) all_meet is).1
   where
     go : (o : Option Entry) → option_map {U = ℕ × Entry} (λ (d : Entry). (w, d)) o ≡ Some (v, e) → IfSome o IsWritten → IsWritten e
     go None q h = cc
     go (Some d) q h = subst IsWritten (its_entry w v d e q) h
-written front back (Stops w left) v e is its = go left its (meets_at [] night front back (Stops w left) all_meet is).1
+written front back (Stops w left) v e is its = go left its (meets_at Meets [] night front back (Stops w left) all_meet is).1
   where
     go : (o : Option Entry) → option_map {U = ℕ × Entry} (λ (d : Entry). (w, d)) o ≡ Some (v, e) → IfSome o IsWritten → IsWritten e
     go None q h = cc
@@ -137,13 +121,13 @@ written front back (Stops w left) v e is its = go left its (meets_at [] night fr
 
 pub is_night : IsNight defs night
 is_night = record {
-  few = subst (λ (n : ℕ). n ≤ 65536) (sym count_is) (lit≤ tt);
+  few = λ front back w entries is. subst (λ (n : ℕ). n ≤ 65536) (sym count_is) (lit≤ tt);
   inside = λ front back w entries is. subst (λ (n : ℕ). w < n) (sym count_is) (begins_meet front back w entries is).0;
   stood = λ front back w entries is. (begins_meet front back w entries is).1;
   files = λ front back w entries is. (begins_meet front back w entries is).2;
   runs = λ front back w entries is. (begins_meet front back w entries is).3;
-  acts = λ front back w event is. (meets_at [] night front back (Does w event) all_meet is).0;
-  stops = λ front back w left is. (meets_at [] night front back (Stops w left) all_meet is).0;
+  acts = λ front back w event is. (meets_at Meets [] night front back (Does w event) all_meet is).0;
+  stops = λ front back w left is. (meets_at Meets [] night front back (Stops w left) all_meet is).0;
   links = links;
   written = written;
 }

@@ -1,15 +1,13 @@
-use Rattle.workload_defs.specs.Nets.{net_of}
 use Rattle.network_runs.proofs.Carrying.{brings}
 use Rattle.network_runs.proofs.Members.{in_of}
 use Rattle.network_runs.proofs.Ordered.{in_order}
-use Rattle.network_runs.proofs.Reading.{read_law}
 use Rattle.network_runs.proofs.Running.{runs_in}
 use Rattle.network_runs.proofs.Whole.{night_is_world}
 use Rattle.network_runs.proofs.laws.every_night_is_a_world.Goals as goal
 
 pub returns : goal.returns
 returns c = λ defs night n.
-    let so_far = night_is_world defs (read_law (net_of defs) n.few) night n in
+    let so_far = night_is_world defs night n in
     record {
       world = so_far.world;
       is = record {

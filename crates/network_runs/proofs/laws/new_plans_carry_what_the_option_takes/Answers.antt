@@ -1,5 +1,4 @@
 use Rattle.workload_defs.specs.Nets.{net_of}
-use Rattle.network_runs.proofs.Reading.{read_law}
 use Rattle.network_runs.specs.Happenings.{made}
 use Rattle.network_runs.proofs.Places.{carried_at}
 use Rattle.network_runs.proofs.Whole.{night_is_world}
@@ -7,4 +6,4 @@ use Rattle.network_runs.proofs.laws.new_plans_carry_what_the_option_takes.Goals 
 
 pub returns : goal.returns
 returns c = λ defs night n before behind e run cut carried docs split is.
-    carried_at (net_of defs).carry (made night) (night_is_world defs (read_law (net_of defs) n.few) night n).sound.plans before behind e run cut carried docs split is
+    carried_at (net_of defs).carry (made night) (night_is_world defs night n).sound.plans before behind e run cut carried docs split is

@@ -1,7 +1,8 @@
-use Rattle.std.proofs.Common.{[], ◌+◌, ◌++◌, ◌≡◌, ◌∙◌, ◌∷◌, ℕ, IfSome, List, Some, ap, arith, inr, refl, subst, sym, ⊎_elim}
+use Rattle.std.proofs.Common.{[], ◌+◌, ◌++◌, ◌≡◌, ◌∙◌, ◌∷◌, ◌≤◌, ℕ, IfSome, List, Some, ap, arith, inr, refl, subst, sym, ⊎_elim}
 use Rattle.base_types.specs.declared.LimitName.TheVariants.{File}
 use Rattle.node_inputs.specs.declared.ends.NodeEnd.{NodeEnd}
 use Rattle.node_inputs.specs.declared.ends.NodeEnd.TheVariants.{Limit}
+use Rattle.model.specs.Network.{node_count}
 use Rattle.model.specs.Types.{Net}
 use Rattle.message_file.specs.Files.{kept_of}
 use Rattle.message_file.specs.State.{kept_in}
@@ -39,10 +40,11 @@ returns-in-Ok-restart_node-clause-serves g c =
     (record {
       start = start;
       made = record {
-        net_ = made.net ∙ c.in-Ok.ensures;
+        net_ = made.net ∙ c.in-Ok.ensures.value;
+        few_ = subst (λ (n : Net). node_count n ≤ 256) c.in-Ok.ensures.value c.in-Ok.ensures.few;
         me_ = made.me;
         session_ = made.session;
-        holds = subst (λ (n : Net). IfSome (D.seen old) (Restarts n me start.kept)) c.in-Ok.ensures made.restarts;
+        holds = subst (λ (n : Net). IfSome (D.seen old) (Restarts n me start.kept)) c.in-Ok.ensures.value made.restarts;
       };
       begun = g.L.Link.calls c.begin_links.new.link;
       ok = c.begin_links.ensures.0;
@@ -85,7 +87,7 @@ returns-in-Ok-restart_node-clause-serves g c =
       at_front = λ k. (does.lasts.at_front k).disk;
       stands =
           standing D.seen D.faults D.moment D.may_leave D.left_since defs me g.met.D.Disk.only_now old mid new does.lasts.at_front start.kept does.trace first
-          does.lasts.path;
+          does.lasts.path made.any_moment;
       unfailed = λ other left may.
           kept_told does.trace (D.seen old) start.kept (kept_in (D.seen mid.disk) mid.count) (kept_in (D.seen new.disk) new.count) (kept_of left) first does.lasts.tells
           (does.lasts.unfailed (none_failed does.trace why forced unforced other) (kept_of left) (left, may, refl));

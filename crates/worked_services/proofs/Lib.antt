@@ -1,0 +1,4 @@
+mod Begun
+mod Run
+mod Rested
+mod Whole

@@ -1,0 +1,2 @@
+-- Two services of a workstation.
+pub mod Served

@@ -36,9 +36,11 @@ use Rattle.report_text.specs.Names.{name_of}
 use Rattle.listing_laws.specs.Listables.{IsListableDep, IsListableJob, IsResourceOn}
 use Rattle.listing_laws.proofs.DepLines.{dep_part}
 use Rattle.listing_laws.proofs.RowKinds.{deps_are, in_job, in_stream, inside_job, inside_stream, is_dep}
-use Rattle.listing_laws.proofs.ObjectLines.{IsCondLine, cond_parts, dep_rows, job_part, job_rows, logon_parts, part_rows, recovery_parts}
-use Rattle.listing_laws.proofs.ObjectLines.{stream_part, work_parts}
-use Rattle.listing_laws.proofs.Passing.{IsGoodStream, numbered_cut, prompt_named, resource_named, title_of}
+use Rattle.listing_laws.proofs.HeadLines.{job_part, stream_part}
+use Rattle.listing_laws.proofs.ObjectLines.{IsCondLine, cond_parts, dep_rows, job_rows, logon_parts, part_rows, recovery_parts}
+use Rattle.listing_laws.proofs.ObjectLines.{work_parts}
+use Rattle.listing_laws.proofs.KnownNames.{numbered_cut, prompt_named, resource_named, title_of}
+use Rattle.listing_laws.proofs.Passing.{IsGoodStream}
 use Rattle.listing_laws.proofs.Picks.{each_past, first_past, listed, until_past}
 use Rattle.listing_laws.proofs.Placed.{plan_rows}
 

@@ -2,10 +2,12 @@ pub mod Spelled
 pub mod Words
 pub mod Chars
 pub mod DepLines
+pub mod HeadLines
 pub mod ObjectLines
 pub mod Conditions
 pub mod Placed
 pub mod Walks
+pub mod KnownNames
 pub mod Passing
 pub mod Ends
 pub mod Picks

@@ -28,8 +28,8 @@ use Rattle.listing_laws.specs.Listables.{IsLineWork}
 use Rattle.listing_laws.specs.ListingReturns.{with_next}
 use Rattle.listing_laws.proofs.Chars.{flat_utf8, led_utf8, name_utf8, number_utf8, plain_utf8, quoted_utf8}
 use Rattle.listing_laws.proofs.DepLines.{IsDepLine, dep_line_is, dep_text}
-use Rattle.listing_laws.proofs.ObjectLines.{IsCondLine, IsJobText, IsStreamText, job_are_words, job_line, job_line_is, priority_words}
-use Rattle.listing_laws.proofs.ObjectLines.{stream_are_words, stream_line, stream_line_is, stream_words}
+use Rattle.listing_laws.proofs.HeadLines.{job_are_words, job_line, job_line_is, priority_words, stream_are_words, stream_line, stream_line_is, stream_words}
+use Rattle.listing_laws.proofs.ObjectLines.{IsCondLine, IsJobText, IsStreamText}
 use Rattle.listing_laws.proofs.Words.{spaced, wide}
 
 -- The network: a history of it is UTF-8, and it stands in front of one.

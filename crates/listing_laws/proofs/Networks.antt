@@ -27,7 +27,7 @@ use Rattle.record_rows.specs.declared.rows.Row.{Row}
 use Rattle.record_rows.specs.declared.rows.Row.TheVariants as row
 use Rattle.record_script.specs.Networks.{carry_in, first_or, net_of, net_with, node_of, prompt_def, resource_def}
 use Rattle.record_script.specs.Numbers.{Numbered, numbered}
-use Rattle.listing_laws.proofs.Passing.{title_of}
+use Rattle.listing_laws.proofs.KnownNames.{title_of}
 use Rattle.listing_laws.proofs.Picks.{All, all_map, listed}
 use Rattle.listing_laws.proofs.RowKinds.{front_are}
 use Rattle.listing_laws.proofs.Placed.{front_rows}

@@ -1,21 +1,18 @@
 -- The rows of a listing have no fault.
-use Rattle.std.proofs.Common.{◌≡◌, ◌≤◌, ◌<◌, ◌+◌, ℕ, zero, suc, true, false, ◌||◌, not, List, [], ◌∷◌, ◌++◌}
+use Rattle.std.proofs.Common.{◌≡◌, ◌≤◌, ◌<◌, ◌+◌, ℕ, suc, true, false, ◌||◌, not, List, [], ◌∷◌, ◌++◌}
 use Rattle.std.proofs.Common.{Option, Some, None, length, refl, ap, sym, subst, ◌∙◌, arith, map, flat_map, append-nil, append_assoc}
 use Rattle.std.proofs.Common.{bytes_eq}
 use Rattle.std.specs.Prelude.{count_by, filter_map, is_ok, nat_le, nat_lt}
 use Rattle.std.specs.List.{AllByRecursion, list_any}
-use Rattle.std.specs.Option.{option_map_or}
 use Rattle.std.proofs.lemmas.List.{map-append}
-use Rattle.lemmas.proofs.Booleans.{or_made_left, or_true}
 use Rattle.lemmas.proofs.Lists.{all_append}
 use Rattle.lemmas.proofs.Numbers.{le_refused}
-use Rattle.lemmas.proofs.Texts.{text_itself}
 use Rattle.base_types.specs.declared.Recovery.TheVariants.{Stop, Continue, Rerun}
 use Rattle.history_laws.proofs.Accepted.{Accepted}
-use Rattle.history_laws.proofs.Named.{cut, key_of, known_name, title}
+use Rattle.history_laws.proofs.Named.{key_of, known_name}
 use Rattle.history_laws.proofs.Walking.{not_last}
 use Rattle.model.specs.Network.{node_count}
-use Rattle.model.specs.Types.{CondOp, DraftDep, JobDraft, Net, PromptDef, Recovery, Resource, StreamDraft, Work, Command, Script}
+use Rattle.model.specs.Types.{CondOp, DraftDep, JobDraft, Net, PromptDef, Recovery, StreamDraft, Work, Command, Script}
 use Rattle.model.specs.Types.{FollowsJob, FollowsStream, Needs, Prompt, At, Until, Outside, Deadline, Global, Own, Follows, Plain}
 use Rattle.model.specs.Words.{nth}
 use Rattle.plan_listing.specs.Conditions.{cond_text}
@@ -32,47 +29,12 @@ use Rattle.report_text.specs.Names.{name_of}
 use Rattle.listing_laws.specs.Listables.{IsListableDep, IsListableJob, IsListableStream, IsResourceOn}
 use Rattle.listing_laws.specs.Listables.{StandOnce, job_names, stream_keys}
 use Rattle.listing_laws.proofs.DepLines.{dep_row}
-use Rattle.listing_laws.proofs.ObjectLines.{IsCondLine, body_parts, cond_parts, dep_rows, job_part, job_rows, logon_parts, part_rows, recovery_parts}
-use Rattle.listing_laws.proofs.ObjectLines.{stream_part, stream_rows, work_parts}
+use Rattle.listing_laws.proofs.HeadLines.{job_part, stream_part}
+use Rattle.listing_laws.proofs.ObjectLines.{IsCondLine, body_parts, cond_parts, dep_rows, job_rows, logon_parts, part_rows, recovery_parts}
+use Rattle.listing_laws.proofs.ObjectLines.{stream_rows, work_parts}
 use Rattle.listing_laws.proofs.Placed.{plan_rows}
 use Rattle.listing_laws.proofs.Walks.{Clear, Stand, clear_both, clear_none, clear_row, counted_since, cut_since, kept_since, new_ws, same_ws}
-
-abbrev pub title_of : PromptDef → List ℕ
-title_of p = p.name
-
--- What is found in a list.
-
-pub key_there : (keys : List Key) (before behind : List Key) (k : Key) → keys ≡ before ++ k ∷ behind → has_key keys k ≡ true
-key_there keys before behind k is = ap (λ l. has_key l k) is ∙ go before
-  where
-    here : key_eq k k ≡ true
-    here = rw (text_itself k.0, text_itself k.1) refl
-
-    go : (before : List Key) → has_key (before ++ k ∷ behind) k ≡ true
-    go [] = or_made_left (key_eq k k) (has_key behind k) here
-    go (x ∷ xs) = ap (λ b. key_eq k x || b) (go xs) ∙ or_true (key_eq k x)
-
-pub name_among : (before behind : List (List ℕ)) (n : List ℕ) → has_name (before ++ n ∷ behind) n ≡ true
-name_among [] behind n = or_made_left (bytes_eq n n) (has_name behind n) (text_itself n)
-name_among (x ∷ before) behind n = ap (λ b. bytes_eq n x || b) (name_among before behind n) ∙ or_true (bytes_eq n x)
-
--- both sides of what stands at a number from 1
-pub numbered_cut : {A : Type 0} (xs : List A) (k : ℕ) (x : A) → nth xs k ≡ Some x
-    → (before : List A) × (behind : List A) × (xs ≡ before ++ x ∷ behind) × (suc (length before) ≡ k)
-numbered_cut xs zero x e = absurd (cc)
-numbered_cut xs (suc k) x e = let c = cut xs k x e in (c.0, c.1, c.2, ap suc c.3)
-
-pub resource_named : (net : Net) (r : ℕ) (x : Resource) → nth net.resources r ≡ Some x → resource_name net r ≡ x.name
-resource_named net r x there = ap (λ o. option_map_or (λ (y : Resource). y.name) o []) there
-
-pub prompt_named : (net : Net) (p : ℕ) (x : PromptDef) → nth net.prompts p ≡ Some x → prompt_name net p ≡ x.name
-prompt_named net p x there = ap (λ o. option_map_or (λ (y : PromptDef). y.name) o []) there
-
--- what a record names
-pub record Names (net : Net) (n : Named) : Type 0 where
-  pub stations : n.stations ≡ map (title net) net.nodes
-  pub resources : n.resources ≡ map (key_of net) net.resources
-  pub prompts : n.prompts ≡ map title_of net.prompts
+use Rattle.listing_laws.proofs.KnownNames.{Names, key_there, name_among, numbered_cut, prompt_named, resource_named, title_of}
 
 -- a stream, whose conditions are read
 pub record IsGoodStream (net : Net) (s : StreamDraft) : Type 0 where

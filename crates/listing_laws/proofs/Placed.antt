@@ -17,8 +17,9 @@ use Rattle.record_rows.specs.declared.rows.Row.{Row}
 use Rattle.record_rows.specs.declared.rows.Row.TheVariants as row
 use Rattle.record_rows.specs.declared.rows.StepRow.TheVariants as step
 use Rattle.listing_laws.proofs.DepLines.{dep_row}
-use Rattle.listing_laws.proofs.ObjectLines.{cond_parts, dep_rows, job_part, job_rows, logon_parts, part_rows, recovery_parts}
-use Rattle.listing_laws.proofs.ObjectLines.{stream_part, stream_rows, work_parts}
+use Rattle.listing_laws.proofs.HeadLines.{job_part, stream_part}
+use Rattle.listing_laws.proofs.ObjectLines.{cond_parts, dep_rows, job_rows, logon_parts, part_rows, recovery_parts}
+use Rattle.listing_laws.proofs.ObjectLines.{stream_rows, work_parts}
 use Rattle.listing_laws.proofs.Spelled.{Keeps, Stands, keeps_each, keeps_map, stands_both, stands_map, stands_none, stands_row}
 
 -- The rows of a listing.

@@ -47,7 +47,8 @@ use Rattle.listing_laws.proofs.RowKinds.{front_are, in_plan, rows_in_plan}
 use Rattle.listing_laws.proofs.ListingChars.{listing_chars}
 use Rattle.listing_laws.proofs.Networks.{IsSilent, front_spelled, keys_here, names_here, net_here, network_clear, prompts_here, stations_here}
 use Rattle.listing_laws.proofs.ObjectLines.{IsCondLine, streams_spelled}
-use Rattle.listing_laws.proofs.Passing.{IsGoodStream, Names, plan_clear}
+use Rattle.listing_laws.proofs.KnownNames.{Names}
+use Rattle.listing_laws.proofs.Passing.{IsGoodStream, plan_clear}
 use Rattle.listing_laws.proofs.Picks.{all_map, each_past, filter_past, first_past, listed, steps_past, until_past}
 use Rattle.listing_laws.proofs.Placed.{all_rows, all_stand, end_rows, front_rows, plan_rows, tail_rows}
 use Rattle.listing_laws.proofs.Spelled.{Spells, spells_both, spells_line}

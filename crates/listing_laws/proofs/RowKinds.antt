@@ -6,8 +6,9 @@ use Rattle.history_laws.proofs.Sections.{prompt_row, resource_row, station_row}
 use Rattle.record_rows.specs.declared.rows.Row.{Row}
 use Rattle.record_rows.specs.declared.rows.Row.TheVariants as row
 use Rattle.listing_laws.proofs.DepLines.{dep_row}
-use Rattle.listing_laws.proofs.ObjectLines.{cond_parts, dep_rows, job_part, job_rows, logon_parts, part_rows, recovery_parts}
-use Rattle.listing_laws.proofs.ObjectLines.{stream_part, stream_rows, work_parts}
+use Rattle.listing_laws.proofs.HeadLines.{job_part, stream_part}
+use Rattle.listing_laws.proofs.ObjectLines.{cond_parts, dep_rows, job_rows, logon_parts, part_rows, recovery_parts}
+use Rattle.listing_laws.proofs.ObjectLines.{stream_rows, work_parts}
 use Rattle.listing_laws.proofs.Picks.{All, all_both, all_each, all_map, all_row}
 use Rattle.listing_laws.proofs.Placed.{front_rows, plan_rows}
 

@@ -12,7 +12,8 @@ use Rattle.plan_listing.specs.Dependencies.{prompt_name, resource_name}
 use Rattle.listing_laws.specs.Listables.{AreListable, IsListableDep, IsListableJob, IsResourceOn}
 use Rattle.listing_laws.proofs.DepLines.{IsDepLine}
 use Rattle.listing_laws.proofs.ObjectLines.{IsCondLine, IsJobText, IsStreamText}
-use Rattle.listing_laws.proofs.Passing.{IsGoodStream, numbered_cut, prompt_named, resource_named}
+use Rattle.listing_laws.proofs.KnownNames.{numbered_cut, prompt_named, resource_named}
+use Rattle.listing_laws.proofs.Passing.{IsGoodStream}
 
 module _ (net : Net) (p : IsPrintable net) where
   resource_kept : (ws r : ℕ) → IsResourceOn net ws r → IsKeptName (resource_name net r)

@@ -5,6 +5,7 @@ use Rattle.lemmas.proofs.Options.{none_some}
 use Rattle.node_commands.specs.Forms.{Request, request_of, requested, service_in, service_of}
 use Rattle.node_commands.specs.declared.forms.Service.{Service}
 use Rattle.input_commands.specs.Words.{asked_of, sample_of_words}
+use Rattle.input_commands.specs.declared.words.Asked.{Asked}
 use Rattle.tws_top.proofs.InputRows.{IsOfTexts, IsSaid, said_0, said_1, said_10, said_11, said_2, said_3}
 
 -- without a service there is no request
@@ -48,6 +49,17 @@ no_input (a ∷ []) service e = absurd (none_some e)
 no_input (a ∷ b ∷ []) service e = absurd (none_some e)
 no_input (word ∷ name ∷ last ∷ []) service e = asks_nothing word name last service e
 no_input (a ∷ b ∷ c ∷ d ∷ more) service e = absurd (none_some e)
+
+-- so the three cannot be otherwise
+pub never_requested : (words : List (List ℕ)) {request : Request} → service_in words ≡ None → request_of words ≡ Some request → ⊥
+never_requested words none requests = none_some (sym (no_request words none) ∙ requests)
+
+pub always_requested : (words : List (List ℕ)) (service : Service) → service_in words ≡ Some service → request_of words ≡ None → ⊥
+always_requested words service is none = none_some (sym none ∙ (has_request words service is).1)
+
+pub never_input : (words : List (List ℕ)) (service : Service) {asked : Asked} → service_in words ≡ Some service
+    → asked_of words ≡ Some asked → ⊥
+never_input words service is asked_ = none_some (sym (no_input words service is) ∙ asked_)
 
 -- the numbers of words that the input alone answers
 pub of_texts : (n : ℕ) → IsOfTexts n → (n < 6) ⊎ ((8 < n) × (n < 12))

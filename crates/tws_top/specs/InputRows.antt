@@ -1,5 +1,5 @@
 -- The statuses one by one, of words that the input alone answers.
-use Rattle.std.specs.Prelude.{◌<◌, ◌≡◌, ◌≤◌, ℕ, List, Option, Some, None, Ok, Err, length}
+use Rattle.std.specs.Prelude.{◌≡◌, ◌≤◌, ℕ, List, Option, Some, None, Ok, Err, length}
 use Rattle.std.specs.Io.KnownBytes.{Appends}
 use Rattle.base_types.specs.declared.LimitName.TheVariants as limit
 use Rattle.composer_parser.specs.declared.Defs.{Defs}
@@ -27,16 +27,13 @@ use Rattle.plan_listing.specs.Listings.{listing_of}
 use Rattle.record_faults.specs.declared.kinds.ScriptKind.{ScriptKind}
 use Rattle.record_runs.specs.Causes.{Cause, told}
 use Rattle.record_runs.specs.Runs as runs
-use Rattle.replies.specs.declared.statuses.Status.{Status}
 use Rattle.replies.specs.declared.statuses.Status.TheVariants.{RecordRefused, LimitPassed}
 use Rattle.input_commands.specs.declared.words.Telling.{Telling}
-use Rattle.input_commands.specs.declared.words.Wanted.{Wanted}
 use Rattle.replies.specs.Texts.{definitions_line, limit_line, limit_word}
 use Rattle.input_commands.specs.Lines.{refused_line, kind_word, stop_status, stop_line}
 use Rattle.input_commands.specs.Lines.{history_word, sound_line, not_sound_line}
 use Rattle.input_commands.specs.Audits.{AreHistory}
-use Rattle.input_commands.specs.Dues.{CallsFor}
-use Rattle.input_commands.specs.Nights.{AreRead, IsRun, Night, told_at}
+use Rattle.input_commands.specs.Nights.{AreRead, IsRun, told_at}
 use Rattle.workload_defs.specs.Nets.{net_of}
 
 -- The input was read to its end as a record whose steps all were taken; what is told of that run was written and nothing

@@ -7,6 +7,7 @@ ghost use Rattle.input_commands.specs.declared.Wish.{Wish as Wishes};
 ghost use Rattle.input_commands.specs.declared.Wish.TheVariants as wishes;
 ghost use Rattle.definition_texts.specs.Refusals.{AreChecked};
 ghost use Rattle.history_script.specs.declared.histories.HistoryText.{HistoryText as Histories};
+ghost use Rattle.listing_runs.specs.Listings.{WritesRecord};
 ghost use Rattle.model.specs.Sound.{IsSound};
 ghost use Rattle.model.specs.World as model;
 ghost use Rattle.night_records.specs.declared.Record.{Record as Records};
@@ -186,6 +187,10 @@ pub fn tws<I: Source, O: Sink, D: Disk, L: Link, J: Spawner, C: Clock, F: Prober
     ensures planned { result.status ≡ 0 → (day : ℕ)
         → asked_of words.now ≡ Some (asks.Input (wants.Definitions (wishes.Plan day)))
         → Plans day (I.stream input.old) (I.stream input.new) (O.written out.old) (O.written out.new) }
+    // With `$STEPS` and `next` behind it, what `plan` writes is a record that makes the plan of the day.
+    ensures planned_record { result.status ≡ 0 → (day : ℕ)
+        → asked_of words.now ≡ Some (asks.Input (wants.Definitions (wishes.Plan day)))
+        → WritesRecord day (I.stream input.old) (I.stream input.new) (O.written out.old) (O.written out.new) }
     ensures audited { result.status ≡ 0 → asked_of words.now ≡ Some (asks.Input wants.Audit)
         → FindsSound (I.stream input.old) (I.stream input.new) (O.written out.old) (O.written out.new) }
     ensures sampled { result.status ≡ 0 → (jobs seed : ℕ) → asked_of words.now ≡ Some (asks.Sample jobs seed)

@@ -1,13 +1,12 @@
 use Rattle.std.proofs.Common.{◌≡◌, ◌∙◌, ◌⊎◌, ℕ, None, Option, Some, ap, arith, false, inl, inr, refl, subst, sym, true, ⊎_elim}
 use Rattle.std.specs.Prelude.{IsSome}
-use Rattle.lemmas.proofs.Options.{none_some}
 use Rattle.history_script.specs.declared.histories.HistoryText.{HistoryText}
 use Rattle.model.specs.Sound.{IsSound}
 use Rattle.node_commands.specs.Forms.{AskOf, NodeFor, Request, request_of, service_in}
 use Rattle.input_commands.specs.Words.{asked_of, asks_input, asks_record}
 use Rattle.input_commands.proofs.Saying.{apart}
 use Rattle.tws_top.specs.ServiceRows.{PassesLimit}
-use Rattle.tws_top.proofs.CanonicalTexts.{writes_canonical, writes_same_plans}
+use Rattle.tws_top.proofs.CanonicalTexts.{writes_canonical, writes_record, writes_same_plans}
 use Rattle.tws_top.proofs.Completeness.{ask_done, node_done, node_ends, two_requests}
 use Rattle.tws_top.proofs.Disks.{disk_rose, ends_at_limit, no_answer_given, other_file_found, run_passes_limit}
 use Rattle.tws_top.proofs.InputDues.{audit_said, compiles_said, complete_said, exact_said, plans_said, sample_said}
@@ -16,7 +15,8 @@ use Rattle.tws_top.proofs.InputRows.{refused_said, sink_said, sound_said, text_n
 use Rattle.tws_top.proofs.Numbers.{came, row_0, row_1, row_10, row_11, row_12, row_2, row_3, row_4, row_5, row_6, row_7, row_8, row_silent, service_numbers}
 use Rattle.tws_top.proofs.Services.{exact_of, left_untouched, service_answer, service_due, text_answer}
 use Rattle.tws_top.proofs.Untouched.{ask_alone, early_alone, node_alone, unmade_alone}
-use Rattle.tws_top.proofs.Words.{five_among, has_request, no_input, no_request, not_of_texts, of_texts, services_among, texts_among}
+use Rattle.tws_top.proofs.Words.{always_requested, five_among, has_request, never_input, never_requested, no_input, no_request, not_of_texts}
+use Rattle.tws_top.proofs.Words.{of_texts, services_among, texts_among}
 use Rattle.tws_top.proofs.Worlds.{WorldIsFor, no_world}
 use Rattle.tws_top.proofs.top.tws.Goals as goal
 
@@ -31,23 +31,19 @@ returns-in-None-clause-due g c = λ other_4 other_9.
 
 pub returns-in-None-clause-service : goal.returns-in-None-clause-service
 returns-in-None-clause-service g c = λ request requests.
-    let none : request_of c.args.words.now ≡ None = no_request c.args.words.now (sym c.asked_service.ensures ∙ c.in-None.is) in
-    absurd (none_some (sym none ∙ requests))
+    absurd (never_requested c.args.words.now (sym c.asked_service.ensures ∙ c.in-None.is) requests)
 
 pub returns-in-None-clause-exact_service : goal.returns-in-None-clause-exact_service
 returns-in-None-clause-exact_service g c = λ source request told requests.
-    let none : request_of c.args.words.now ≡ None = no_request c.args.words.now (sym c.asked_service.ensures ∙ c.in-None.is) in
-    absurd (none_some (sym none ∙ requests))
+    absurd (never_requested c.args.words.now (sym c.asked_service.ensures ∙ c.in-None.is) requests)
 
 pub returns-in-None-clause-complete_node : goal.returns-in-None-clause-complete_node
 returns-in-None-clause-complete_node g c = λ source name turns me d told requests.
-    let none : request_of c.args.words.now ≡ None = no_request c.args.words.now (sym c.asked_service.ensures ∙ c.in-None.is) in
-    absurd (none_some (sym none ∙ requests))
+    absurd (never_requested c.args.words.now (sym c.asked_service.ensures ∙ c.in-None.is) requests)
 
 pub returns-in-None-clause-complete_ask : goal.returns-in-None-clause-complete_ask
 returns-in-None-clause-complete_ask g c = λ source name command me d told requests.
-    let none : request_of c.args.words.now ≡ None = no_request c.args.words.now (sym c.asked_service.ensures ∙ c.in-None.is) in
-    absurd (none_some (sym none ∙ requests))
+    absurd (never_requested c.args.words.now (sym c.asked_service.ensures ∙ c.in-None.is) requests)
 
 pub returns-in-None-clause-definitions_refused : goal.returns-in-None-clause-definitions_refused
 returns-in-None-clause-definitions_refused g c = λ e.
@@ -103,13 +99,11 @@ returns-in-None-clause-outside_untouched g c = λ requests.
 
 pub returns-in-None-clause-ask_untouched : goal.returns-in-None-clause-ask_untouched
 returns-in-None-clause-ask_untouched g c = λ name command requests.
-    let none : request_of c.args.words.now ≡ None = no_request c.args.words.now (sym c.asked_service.ensures ∙ c.in-None.is) in
-    absurd (none_some (sym none ∙ requests))
+    absurd (never_requested c.args.words.now (sym c.asked_service.ensures ∙ c.in-None.is) requests)
 
 pub returns-in-None-clause-node_untouched : goal.returns-in-None-clause-node_untouched
 returns-in-None-clause-node_untouched g c = λ name turns requests early.
-    let none : request_of c.args.words.now ≡ None = no_request c.args.words.now (sym c.asked_service.ensures ∙ c.in-None.is) in
-    absurd (none_some (sym none ∙ requests))
+    absurd (never_requested c.args.words.now (sym c.asked_service.ensures ∙ c.in-None.is) requests)
 
 pub returns-in-None-clause-unserved_untouched : goal.returns-in-None-clause-unserved_untouched
 returns-in-None-clause-unserved_untouched g c = λ early.
@@ -121,18 +115,15 @@ returns-in-None-clause-left_untouched g c = λ source request status text told r
 
 pub returns-in-None-clause-unmade_untouched : goal.returns-in-None-clause-unmade_untouched
 returns-in-None-clause-unmade_untouched g c = λ name turns requests.
-    let none : request_of c.args.words.now ≡ None = no_request c.args.words.now (sym c.asked_service.ensures ∙ c.in-None.is) in
-    absurd (none_some (sym none ∙ requests))
+    absurd (never_requested c.args.words.now (sym c.asked_service.ensures ∙ c.in-None.is) requests)
 
 pub returns-in-None-clause-shut_down : goal.returns-in-None-clause-shut_down
 returns-in-None-clause-shut_down g c = λ e name turns requests.
-    let none : request_of c.args.words.now ≡ None = no_request c.args.words.now (sym c.asked_service.ensures ∙ c.in-None.is) in
-    absurd (none_some (sym none ∙ requests))
+    absurd (never_requested c.args.words.now (sym c.asked_service.ensures ∙ c.in-None.is) requests)
 
 pub returns-in-None-clause-replied : goal.returns-in-None-clause-replied
 returns-in-None-clause-replied g c = λ e name command requests.
-    let none : request_of c.args.words.now ≡ None = no_request c.args.words.now (sym c.asked_service.ensures ∙ c.in-None.is) in
-    absurd (none_some (sym none ∙ requests))
+    absurd (never_requested c.args.words.now (sym c.asked_service.ensures ∙ c.in-None.is) requests)
 
 pub returns-in-None-clause-memory : goal.returns-in-None-clause-memory
 returns-in-None-clause-memory g c = λ e asked requests.
@@ -218,6 +209,11 @@ returns-in-None-clause-planned g c = λ e day asked.
     let due = c.answer_words-status.ensures.due (apart _ 0 4 e (λ f. omega arith)) (apart _ 0 9 e (λ f. omega arith)) in
     planned_said _ _ _ _ _ _ _ _ _ due e day asked
 
+pub returns-in-None-clause-planned_record : goal.returns-in-None-clause-planned_record
+returns-in-None-clause-planned_record g c = λ e day asked.
+    let due = c.answer_words-status.ensures.due (apart _ 0 4 e (λ f. omega arith)) (apart _ 0 9 e (λ f. omega arith)) in
+    writes_record _ _ _ _ c.args.words.now day asked (planned_said _ _ _ _ _ _ _ _ _ due e day asked)
+
 pub returns-in-None-clause-sampled : goal.returns-in-None-clause-sampled
 returns-in-None-clause-sampled g c = λ e jobs seed asked.
     let due = c.answer_words-status.ensures.due (apart _ 0 4 e (λ f. omega arith)) (apart _ 0 9 e (λ f. omega arith)) in
@@ -262,16 +258,13 @@ returns-in-None-clause-world g c =
 -- words with one
 pub returns-in-Some-clause-due : goal.returns-in-Some-clause-due
 returns-in-Some-clause-due g c = λ other_4 other_9.
-    let is : service_in c.args.words.now ≡ Some c.in-Some.service = sym c.asked_service.ensures ∙ c.in-Some.is in
-    let r = has_request c.args.words.now c.in-Some.service is in
+    let r = has_request c.args.words.now c.in-Some.service (sym c.asked_service.ensures ∙ c.in-Some.is) in
     let h = c.serve-status.ensures.service r.0 r.1 in
     service_answer _ _ _ _ r.0 _ _ _ _ _ _ _ _ _ c.args.words.now None r.1 refl h other_4 other_9
 
 pub returns-in-Some-clause-exact : goal.returns-in-Some-clause-exact
 returns-in-Some-clause-exact g c = λ source wanted told asked.
-    let is : service_in c.args.words.now ≡ Some c.in-Some.service = sym c.asked_service.ensures ∙ c.in-Some.is in
-    let none : asked_of c.args.words.now ≡ None = no_input c.args.words.now c.in-Some.service is in
-    absurd (none_some (sym none ∙ asked))
+    absurd (never_input c.args.words.now c.in-Some.service (sym c.asked_service.ensures ∙ c.in-Some.is) asked)
 
 pub returns-in-Some-clause-exact_service : goal.returns-in-Some-clause-exact_service
 returns-in-Some-clause-exact_service g c = λ source request told requests status text left other_4 other_9.
@@ -280,27 +273,19 @@ returns-in-Some-clause-exact_service g c = λ source request told requests statu
 
 pub returns-in-Some-clause-complete : goal.returns-in-Some-clause-complete
 returns-in-Some-clause-complete g c = λ source telling r x told asked.
-    let is : service_in c.args.words.now ≡ Some c.in-Some.service = sym c.asked_service.ensures ∙ c.in-Some.is in
-    let none : asked_of c.args.words.now ≡ None = no_input c.args.words.now c.in-Some.service is in
-    absurd (none_some (sym none ∙ asked))
+    absurd (never_input c.args.words.now c.in-Some.service (sym c.asked_service.ensures ∙ c.in-Some.is) asked)
 
 pub returns-in-Some-clause-complete_compile : goal.returns-in-Some-clause-complete_compile
 returns-in-Some-clause-complete_compile g c = λ source d told asked.
-    let is : service_in c.args.words.now ≡ Some c.in-Some.service = sym c.asked_service.ensures ∙ c.in-Some.is in
-    let none : asked_of c.args.words.now ≡ None = no_input c.args.words.now c.in-Some.service is in
-    absurd (none_some (sym none ∙ asked))
+    absurd (never_input c.args.words.now c.in-Some.service (sym c.asked_service.ensures ∙ c.in-Some.is) asked)
 
 pub returns-in-Some-clause-complete_plan : goal.returns-in-Some-clause-complete_plan
 returns-in-Some-clause-complete_plan g c = λ source day d told asked.
-    let is : service_in c.args.words.now ≡ Some c.in-Some.service = sym c.asked_service.ensures ∙ c.in-Some.is in
-    let none : asked_of c.args.words.now ≡ None = no_input c.args.words.now c.in-Some.service is in
-    absurd (none_some (sym none ∙ asked))
+    absurd (never_input c.args.words.now c.in-Some.service (sym c.asked_service.ensures ∙ c.in-Some.is) asked)
 
 pub returns-in-Some-clause-complete_audit : goal.returns-in-Some-clause-complete_audit
 returns-in-Some-clause-complete_audit g c = λ source h told asked.
-    let is : service_in c.args.words.now ≡ Some c.in-Some.service = sym c.asked_service.ensures ∙ c.in-Some.is in
-    let none : asked_of c.args.words.now ≡ None = no_input c.args.words.now c.in-Some.service is in
-    absurd (none_some (sym none ∙ asked))
+    absurd (never_input c.args.words.now c.in-Some.service (sym c.asked_service.ensures ∙ c.in-Some.is) asked)
 
 pub returns-in-Some-clause-complete_node : goal.returns-in-Some-clause-complete_node
 returns-in-Some-clause-complete_node g c = λ source name turns me d told requests short are there calm_source calm_sink calm_disk.
@@ -316,132 +301,105 @@ returns-in-Some-clause-complete_ask g c = λ source name command me d told reque
 
 pub returns-in-Some-clause-complete_sample : goal.returns-in-Some-clause-complete_sample
 returns-in-Some-clause-complete_sample g c = λ jobs seed asked.
-    let is : service_in c.args.words.now ≡ Some c.in-Some.service = sym c.asked_service.ensures ∙ c.in-Some.is in
-    let none : asked_of c.args.words.now ≡ None = no_input c.args.words.now c.in-Some.service is in
-    absurd (none_some (sym none ∙ asked))
+    absurd (never_input c.args.words.now c.in-Some.service (sym c.asked_service.ensures ∙ c.in-Some.is) asked)
 
 pub returns-in-Some-clause-done : goal.returns-in-Some-clause-done
 returns-in-Some-clause-done g c = λ e telling asked.
-    let is : service_in c.args.words.now ≡ Some c.in-Some.service = sym c.asked_service.ensures ∙ c.in-Some.is in
-    let none : asked_of c.args.words.now ≡ None = no_input c.args.words.now c.in-Some.service is in
-    absurd (none_some (sym none ∙ asked))
+    absurd (never_input c.args.words.now c.in-Some.service (sym c.asked_service.ensures ∙ c.in-Some.is) asked)
 
 pub returns-in-Some-clause-history : goal.returns-in-Some-clause-history
 returns-in-Some-clause-history g c = λ e asked.
-    let is : service_in c.args.words.now ≡ Some c.in-Some.service = sym c.asked_service.ensures ∙ c.in-Some.is in
-    let none : asked_of c.args.words.now ≡ None = no_input c.args.words.now c.in-Some.service is in
-    absurd (none_some (sym none ∙ asked))
+    absurd (never_input c.args.words.now c.in-Some.service (sym c.asked_service.ensures ∙ c.in-Some.is) asked)
 
 pub returns-in-Some-clause-compiled : goal.returns-in-Some-clause-compiled
 returns-in-Some-clause-compiled g c = λ e asked.
-    let is : service_in c.args.words.now ≡ Some c.in-Some.service = sym c.asked_service.ensures ∙ c.in-Some.is in
-    let none : asked_of c.args.words.now ≡ None = no_input c.args.words.now c.in-Some.service is in
-    absurd (none_some (sym none ∙ asked))
+    absurd (never_input c.args.words.now c.in-Some.service (sym c.asked_service.ensures ∙ c.in-Some.is) asked)
 
 pub returns-in-Some-clause-compiled_again : goal.returns-in-Some-clause-compiled_again
 returns-in-Some-clause-compiled_again g c = λ e asked.
-    let is : service_in c.args.words.now ≡ Some c.in-Some.service = sym c.asked_service.ensures ∙ c.in-Some.is in
-    let none : asked_of c.args.words.now ≡ None = no_input c.args.words.now c.in-Some.service is in
-    absurd (none_some (sym none ∙ asked))
+    absurd (never_input c.args.words.now c.in-Some.service (sym c.asked_service.ensures ∙ c.in-Some.is) asked)
 
 pub returns-in-Some-clause-planned_again : goal.returns-in-Some-clause-planned_again
 returns-in-Some-clause-planned_again g c = λ e asked.
-    let is : service_in c.args.words.now ≡ Some c.in-Some.service = sym c.asked_service.ensures ∙ c.in-Some.is in
-    let none : asked_of c.args.words.now ≡ None = no_input c.args.words.now c.in-Some.service is in
-    absurd (none_some (sym none ∙ asked))
+    absurd (never_input c.args.words.now c.in-Some.service (sym c.asked_service.ensures ∙ c.in-Some.is) asked)
 
 pub returns-in-Some-clause-planned : goal.returns-in-Some-clause-planned
 returns-in-Some-clause-planned g c = λ e day asked.
-    let is : service_in c.args.words.now ≡ Some c.in-Some.service = sym c.asked_service.ensures ∙ c.in-Some.is in
-    let none : asked_of c.args.words.now ≡ None = no_input c.args.words.now c.in-Some.service is in
-    absurd (none_some (sym none ∙ asked))
+    absurd (never_input c.args.words.now c.in-Some.service (sym c.asked_service.ensures ∙ c.in-Some.is) asked)
+
+pub returns-in-Some-clause-planned_record : goal.returns-in-Some-clause-planned_record
+returns-in-Some-clause-planned_record g c = λ e day asked.
+    absurd (never_input c.args.words.now c.in-Some.service (sym c.asked_service.ensures ∙ c.in-Some.is) asked)
 
 pub returns-in-Some-clause-audited : goal.returns-in-Some-clause-audited
 returns-in-Some-clause-audited g c = λ e asked.
-    let is : service_in c.args.words.now ≡ Some c.in-Some.service = sym c.asked_service.ensures ∙ c.in-Some.is in
-    let none : asked_of c.args.words.now ≡ None = no_input c.args.words.now c.in-Some.service is in
-    absurd (none_some (sym none ∙ asked))
+    absurd (never_input c.args.words.now c.in-Some.service (sym c.asked_service.ensures ∙ c.in-Some.is) asked)
 
 pub returns-in-Some-clause-sampled : goal.returns-in-Some-clause-sampled
 returns-in-Some-clause-sampled g c = λ e jobs seed asked.
-    let is : service_in c.args.words.now ≡ Some c.in-Some.service = sym c.asked_service.ensures ∙ c.in-Some.is in
-    let none : asked_of c.args.words.now ≡ None = no_input c.args.words.now c.in-Some.service is in
-    absurd (none_some (sym none ∙ asked))
+    absurd (never_input c.args.words.now c.in-Some.service (sym c.asked_service.ensures ∙ c.in-Some.is) asked)
 
 pub returns-in-Some-clause-definitions_refused : goal.returns-in-Some-clause-definitions_refused
 returns-in-Some-clause-definitions_refused g c = λ e.
-    let is : service_in c.args.words.now ≡ Some c.in-Some.service = sym c.asked_service.ensures ∙ c.in-Some.is in
-    let r = has_request c.args.words.now c.in-Some.service is in
+    let r = has_request c.args.words.now c.in-Some.service (sym c.asked_service.ensures ∙ c.in-Some.is) in
     let h = c.serve-status.ensures.service r.0 r.1 in
     let row = row_1 _ _ _ _ r.0 _ _ _ _ _ _ _ _ _ (came _ _ _ _ r.0 _ _ _ _ _ _ _ _ _ h (λ five. omega (arith, e, five))) e in
     inr (record { request = r.0; refusal = row.0; asked = r.1; refused = row.1; wrote = row.2 })
 
 pub returns-in-Some-clause-words : goal.returns-in-Some-clause-words
 returns-in-Some-clause-words g c = λ e.
-    let is : service_in c.args.words.now ≡ Some c.in-Some.service = sym c.asked_service.ensures ∙ c.in-Some.is in
-    let r = has_request c.args.words.now c.in-Some.service is in
+    let r = has_request c.args.words.now c.in-Some.service (sym c.asked_service.ensures ∙ c.in-Some.is) in
     let h = c.serve-status.ensures.service r.0 r.1 in
     let row = row_2 _ _ _ _ r.0 _ _ _ _ _ _ _ _ _ (came _ _ _ _ r.0 _ _ _ _ _ _ _ _ _ h (λ five. omega (arith, e, five))) e in
     inr (record { request = r.0; defs = row.0; asked = r.1; read = row.1; none = row.2 })
 
 pub returns-in-Some-clause-no_words : goal.returns-in-Some-clause-no_words
 returns-in-Some-clause-no_words g c = λ asked requests.
-    let is : service_in c.args.words.now ≡ Some c.in-Some.service = sym c.asked_service.ensures ∙ c.in-Some.is in
-    let r = has_request c.args.words.now c.in-Some.service is in
-    absurd (none_some (sym requests ∙ r.1))
+    absurd (always_requested c.args.words.now c.in-Some.service (sym c.asked_service.ensures ∙ c.in-Some.is) requests)
 
 pub returns-in-Some-clause-refused : goal.returns-in-Some-clause-refused
 returns-in-Some-clause-refused g c = λ e other.
-    let is : service_in c.args.words.now ≡ Some c.in-Some.service = sym c.asked_service.ensures ∙ c.in-Some.is in
-    let r = has_request c.args.words.now c.in-Some.service is in
+    let r = has_request c.args.words.now c.in-Some.service (sym c.asked_service.ensures ∙ c.in-Some.is) in
     let h = c.serve-status.ensures.service r.0 r.1 in
     absurd (row_3 _ _ _ _ r.0 _ _ _ _ _ _ _ _ _ (came _ _ _ _ r.0 _ _ _ _ _ _ _ _ _ h (λ five. omega (arith, e, five))) e)
 
 pub returns-in-Some-clause-history_refused : goal.returns-in-Some-clause-history_refused
 returns-in-Some-clause-history_refused g c = λ e asked.
-    let is : service_in c.args.words.now ≡ Some c.in-Some.service = sym c.asked_service.ensures ∙ c.in-Some.is in
-    let none : asked_of c.args.words.now ≡ None = no_input c.args.words.now c.in-Some.service is in
-    absurd (none_some (sym none ∙ asked))
+    absurd (never_input c.args.words.now c.in-Some.service (sym c.asked_service.ensures ∙ c.in-Some.is) asked)
 
 pub returns-in-Some-clause-source_failed : goal.returns-in-Some-clause-source_failed
 returns-in-Some-clause-source_failed g c = λ e.
-    let is : service_in c.args.words.now ≡ Some c.in-Some.service = sym c.asked_service.ensures ∙ c.in-Some.is in
-    let r = has_request c.args.words.now c.in-Some.service is in
+    let r = has_request c.args.words.now c.in-Some.service (sym c.asked_service.ensures ∙ c.in-Some.is) in
     let h = c.serve-status.ensures.service r.0 r.1 in
     (row_4 _ _ _ _ r.0 _ _ _ _ _ _ _ _ _ (came _ _ _ _ r.0 _ _ _ _ _ _ _ _ _ h (λ five. omega (arith, e, five))) e).0
 
 pub returns-in-Some-clause-source_asked : goal.returns-in-Some-clause-source_asked
 returns-in-Some-clause-source_asked g c = λ e.
-    let is : service_in c.args.words.now ≡ Some c.in-Some.service = sym c.asked_service.ensures ∙ c.in-Some.is in
-    let r = has_request c.args.words.now c.in-Some.service is in
+    let r = has_request c.args.words.now c.in-Some.service (sym c.asked_service.ensures ∙ c.in-Some.is) in
     inr (subst (λ (o : Option Request). IsSome o) (sym r.1) refl)
 
 pub returns-in-Some-clause-sink_failed : goal.returns-in-Some-clause-sink_failed
 returns-in-Some-clause-sink_failed g c = λ e.
-    let is : service_in c.args.words.now ≡ Some c.in-Some.service = sym c.asked_service.ensures ∙ c.in-Some.is in
-    let r = has_request c.args.words.now c.in-Some.service is in
+    let r = has_request c.args.words.now c.in-Some.service (sym c.asked_service.ensures ∙ c.in-Some.is) in
     let h = c.serve-status.ensures.service r.0 r.1 in
     row_5 _ _ _ _ r.0 _ _ _ _ _ _ _ _ _ h e
 
 pub returns-in-Some-clause-disk_failed : goal.returns-in-Some-clause-disk_failed
 returns-in-Some-clause-disk_failed g c = λ e.
-    let is : service_in c.args.words.now ≡ Some c.in-Some.service = sym c.asked_service.ensures ∙ c.in-Some.is in
-    let r = has_request c.args.words.now c.in-Some.service is in
+    let r = has_request c.args.words.now c.in-Some.service (sym c.asked_service.ensures ∙ c.in-Some.is) in
     let h = c.serve-status.ensures.service r.0 r.1 in
     disk_rose _ _ _ _ _ _ _ _ _ _ r.0 _ _ (row_6 _ _ _ _ r.0 _ _ _ _ _ _ _ _ _ (came _ _ _ _ r.0 _ _ _ _ _ _ _ _ _ h (λ five. omega (arith, e, five))) e)
 
 pub returns-in-Some-clause-other_file : goal.returns-in-Some-clause-other_file
 returns-in-Some-clause-other_file g c = λ e.
-    let is : service_in c.args.words.now ≡ Some c.in-Some.service = sym c.asked_service.ensures ∙ c.in-Some.is in
-    let r = has_request c.args.words.now c.in-Some.service is in
+    let r = has_request c.args.words.now c.in-Some.service (sym c.asked_service.ensures ∙ c.in-Some.is) in
     let h = c.serve-status.ensures.service r.0 r.1 in
     let row = row_7 _ _ _ _ r.0 _ _ _ _ _ _ _ _ _ (came _ _ _ _ r.0 _ _ _ _ _ _ _ _ _ h (λ five. omega (arith, e, five))) e in
     other_file_found _ _ _ _ _ _ _ _ _ _ r.0 _ _ c.args.words.now _ _ row.0 r.1 row.1 row.2
 
 pub returns-in-Some-clause-turns_spent : goal.returns-in-Some-clause-turns_spent
 returns-in-Some-clause-turns_spent g c = λ e.
-    let is : service_in c.args.words.now ≡ Some c.in-Some.service = sym c.asked_service.ensures ∙ c.in-Some.is in
-    let r = has_request c.args.words.now c.in-Some.service is in
+    let r = has_request c.args.words.now c.in-Some.service (sym c.asked_service.ensures ∙ c.in-Some.is) in
     let h = c.serve-status.ensures.service r.0 r.1 in
     let s = row_8 _ _ _ _ r.0 _ _ _ _ _ _ _ _ _ (came _ _ _ _ r.0 _ _ _ _ _ _ _ _ _ h (λ five. omega (arith, e, five))) e in
     record { request = r.0; asked = r.1; served = s }
@@ -464,15 +422,13 @@ returns-in-Some-clause-replied g c = λ e name command requests.
 
 pub returns-in-Some-clause-no_answer : goal.returns-in-Some-clause-no_answer
 returns-in-Some-clause-no_answer g c = λ e.
-    let is : service_in c.args.words.now ≡ Some c.in-Some.service = sym c.asked_service.ensures ∙ c.in-Some.is in
-    let r = has_request c.args.words.now c.in-Some.service is in
+    let r = has_request c.args.words.now c.in-Some.service (sym c.asked_service.ensures ∙ c.in-Some.is) in
     let h = c.serve-status.ensures.service r.0 r.1 in
     no_answer_given c.args.words.now r.0 _ _ _ _ _ _ r.1 (row_12 _ _ _ _ r.0 _ _ _ _ _ _ _ _ _ (came _ _ _ _ r.0 _ _ _ _ _ _ _ _ _ h (λ five. omega (arith, e, five))) e)
 
 pub returns-in-Some-clause-limit : goal.returns-in-Some-clause-limit
 returns-in-Some-clause-limit g c = λ e.
-    let is : service_in c.args.words.now ≡ Some c.in-Some.service = sym c.asked_service.ensures ∙ c.in-Some.is in
-    let r = has_request c.args.words.now c.in-Some.service is in
+    let r = has_request c.args.words.now c.in-Some.service (sym c.asked_service.ensures ∙ c.in-Some.is) in
     let h = c.serve-status.ensures.service r.0 r.1 in
     inr (⊎_elim (λ row. PassesLimit.of_input r.0 r.1 row.0 row.1)
     (λ row. run_passes_limit _ _ _ _ _ _ _ _ _ _ r.0 _ _ c.args.words.now _ _ row.0 r.1 row.1 row.2)
@@ -480,23 +436,20 @@ returns-in-Some-clause-limit g c = λ e.
 
 pub returns-in-Some-clause-not_sound : goal.returns-in-Some-clause-not_sound
 returns-in-Some-clause-not_sound g c = λ e.
-    let is : service_in c.args.words.now ≡ Some c.in-Some.service = sym c.asked_service.ensures ∙ c.in-Some.is in
-    let r = has_request c.args.words.now c.in-Some.service is in
+    let r = has_request c.args.words.now c.in-Some.service (sym c.asked_service.ensures ∙ c.in-Some.is) in
     let h = c.serve-status.ensures.service r.0 r.1 in
     absurd (row_11 _ _ _ _ r.0 _ _ _ _ _ _ _ _ _ (came _ _ _ _ r.0 _ _ _ _ _ _ _ _ _ h (λ five. omega (arith, e, five))) e)
 
 pub returns-in-Some-clause-statuses : goal.returns-in-Some-clause-statuses
 returns-in-Some-clause-statuses g c =
-    let is : service_in c.args.words.now ≡ Some c.in-Some.service = sym c.asked_service.ensures ∙ c.in-Some.is in
-    let r = has_request c.args.words.now c.in-Some.service is in
+    let r = has_request c.args.words.now c.in-Some.service (sym c.asked_service.ensures ∙ c.in-Some.is) in
     let h = c.serve-status.ensures.service r.0 r.1 in
     ⊎_elim (λ five. five_among c.serve-status.result.status five)
     (λ ten. services_among c.serve-status.result.status ten) (service_numbers _ _ _ _ r.0 _ _ _ _ _ _ _ _ _ h)
 
 pub returns-in-Some-clause-silent : goal.returns-in-Some-clause-silent
 returns-in-Some-clause-silent g c = λ e.
-    let is : service_in c.args.words.now ≡ Some c.in-Some.service = sym c.asked_service.ensures ∙ c.in-Some.is in
-    let r = has_request c.args.words.now c.in-Some.service is in
+    let r = has_request c.args.words.now c.in-Some.service (sym c.asked_service.ensures ∙ c.in-Some.is) in
     let h = c.serve-status.ensures.service r.0 r.1 in
     row_silent _ _ _ _ r.0 _ _ _ _ _ _ _ _ _ h e
 
@@ -509,15 +462,11 @@ returns-in-Some-clause-world g c =
 
 pub returns-in-Some-clause-input_untouched : goal.returns-in-Some-clause-input_untouched
 returns-in-Some-clause-input_untouched g c = λ e requests.
-    let is : service_in c.args.words.now ≡ Some c.in-Some.service = sym c.asked_service.ensures ∙ c.in-Some.is in
-    let r = has_request c.args.words.now c.in-Some.service is in
-    absurd (none_some (sym requests ∙ r.1))
+    absurd (always_requested c.args.words.now c.in-Some.service (sym c.asked_service.ensures ∙ c.in-Some.is) requests)
 
 pub returns-in-Some-clause-outside_untouched : goal.returns-in-Some-clause-outside_untouched
 returns-in-Some-clause-outside_untouched g c = λ requests.
-    let is : service_in c.args.words.now ≡ Some c.in-Some.service = sym c.asked_service.ensures ∙ c.in-Some.is in
-    let r = has_request c.args.words.now c.in-Some.service is in
-    absurd (none_some (sym requests ∙ r.1))
+    absurd (always_requested c.args.words.now c.in-Some.service (sym c.asked_service.ensures ∙ c.in-Some.is) requests)
 
 pub returns-in-Some-clause-ask_untouched : goal.returns-in-Some-clause-ask_untouched
 returns-in-Some-clause-ask_untouched g c = λ name command requests.
@@ -530,8 +479,7 @@ returns-in-Some-clause-node_untouched g c = λ name turns requests early.
 
 pub returns-in-Some-clause-unserved_untouched : goal.returns-in-Some-clause-unserved_untouched
 returns-in-Some-clause-unserved_untouched g c = λ early.
-    let is : service_in c.args.words.now ≡ Some c.in-Some.service = sym c.asked_service.ensures ∙ c.in-Some.is in
-    let r = has_request c.args.words.now c.in-Some.service is in
+    let r = has_request c.args.words.now c.in-Some.service (sym c.asked_service.ensures ∙ c.in-Some.is) in
     let h = c.serve-status.ensures.service r.0 r.1 in
     early_alone r.0 h early
 
@@ -546,6 +494,4 @@ returns-in-Some-clause-unmade_untouched g c = λ name turns requests.
 
 pub returns-in-Some-clause-memory : goal.returns-in-Some-clause-memory
 returns-in-Some-clause-memory g c = λ e asked requests.
-    let is : service_in c.args.words.now ≡ Some c.in-Some.service = sym c.asked_service.ensures ∙ c.in-Some.is in
-    let r = has_request c.args.words.now c.in-Some.service is in
-    none_some (sym requests ∙ r.1)
+    always_requested c.args.words.now c.in-Some.service (sym c.asked_service.ensures ∙ c.in-Some.is) requests

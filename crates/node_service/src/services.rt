@@ -99,7 +99,11 @@ fn network_of(alloc: Global, workload: &Workload) -> Result<Network, NoMemory>
 {
     let net = workload.net().copy()?;
     match Network::new(alloc, net) {
-        Ok(network) => Ok(network),
+        Ok(network) => {
+            // for the prover: a network has at most 256 workstations
+            let _count = network.count();
+            Ok(network)
+        }
         Err(NetFault::NoMemory) => Err(NoMemory),
         Err(_) => unreachable!(),
     }

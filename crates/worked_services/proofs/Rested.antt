@@ -166,6 +166,7 @@ run = record {
     no_refusal (inr is) = cc
 
 pub second_serves : HasServed seen faults moment may_leave left_since defs 1 found [] turn (Some rested)
+unfolding run
 second_serves = record {
   turns = 1;
   why = NoMemory;

@@ -1,5 +1,5 @@
 -- The services meet each premise.
-use Rattle.std.proofs.Common.{[], lit<, ◌<◌, ◌≡◌, None, refl, subst, sym, true}
+use Rattle.std.proofs.Common.{[], lit<, ◌<◌, ◌≡◌, None, false, refl, subst, sym, true}
 use Rattle.std.specs.List.{list_all}
 use Rattle.model.specs.Network.{node_count}
 use Rattle.model.specs.Types.{Net}

@@ -15,7 +15,7 @@ ghost use Rattle.view_words.specs.declared.replies.Unsaid.TheVariants.{SourceFai
 
 use crate::forms::Look;
 use crate::replies::{Reply, Unsaid, no_words, other_file};
-use base_types::{Bytes, Copied, Items, Net, NoMemory, Text, Ws};
+use base_types::{Bytes, Copied, Items, NoMemory, Text, Ws};
 use entry_files::{FileFault, read_entries};
 use entry_lines::print_entries;
 use folders::Folder;
@@ -23,6 +23,7 @@ use network_tree::Network;
 use owner_fold::Owners;
 use replies::Status;
 use std::alloc::Global;
+use waiting_lines::print_waits;
 use workload_defs::Workload;
 
 /// The name of the file of a workstation.
@@ -45,11 +46,19 @@ fn network(alloc: Global, workload: &Workload) -> Result<Network, NoMemory>
 }
 
 /// What is shown of the entries of a workstation.
-fn shown(alloc: Global, look: Look, net: &Net, entries: &Owners) -> Result<Bytes, NoMemory>
-    ensures { IfOk result (λ text. text ≡ text_of look net.now entries.now) }
+fn shown(
+    alloc: Global,
+    look: Look,
+    net: &Network,
+    me: Ws,
+    entries: &Owners,
+) -> Result<Bytes, NoMemory>
+    requires { me < node_count net.now }
+    ensures { IfOk result (λ text. text ≡ text_of look net.now me entries.now) }
 {
     match look {
-        Look::Kept => print_entries(alloc, net, entries.kept().entries()),
+        Look::Kept => print_entries(alloc, net.net(), entries.kept().entries()),
+        Look::Why => print_waits(alloc, net, entries, me),
     }
 }
 
@@ -73,7 +82,7 @@ fn reply_of_file<F: Folder>(
     let file = file_name(alloc, name)?;
     match read_entries(alloc, folder, file.as_str(), &net, me) {
         Ok(entries) => {
-            let text = shown(alloc, look, workload.net(), &entries)?;
+            let text = shown(alloc, look, &net, me, &entries)?;
             Ok(Reply {
                 status: Status::Success,
                 text,

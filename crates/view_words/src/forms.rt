@@ -7,6 +7,8 @@ ghost use Rattle.view_words.specs.Forms as spec;
 pub(crate) enum Look {
     /// The entries that its file keeps.
     Kept,
+    /// Why the jobs and streams of its plan wait.
+    Why,
 }
 
 /// What the first of two words asks for. None where it is no such word.
@@ -16,6 +18,9 @@ pub(crate) fn asked(word: &str) -> Option<Look>
 {
     if word == "kept" {
         return Some(Look::Kept);
+    }
+    if word == "why" {
+        return Some(Look::Why);
     }
     None
 }

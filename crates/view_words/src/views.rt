@@ -71,10 +71,11 @@ fn reply<I: Source, F: Folder>(
 
 /// Does all that the program does, and ends with its exit status.
 ///
-/// The words are `kept NAME`. It reads definitions from the input, finds their workstation NAME, reads its message file
-/// `NAME.msg` in the folder, and writes a line for each entry that the file keeps, in the order kept: the line that the
-/// report of a run has for it. A node may be writing the file: what is shown is then all that the file kept when the
-/// reading began, and perhaps more.
+/// The words are `kept NAME` or `why NAME`. It reads definitions from the input, finds their workstation NAME, and reads
+/// its message file `NAME.msg` in the folder. `kept` writes a line for each entry that the file keeps, in the order kept:
+/// the line that the report of a run has for it. `why` writes what each stream that is not released or not ended and each
+/// job that has not begun lacks, by these entries. A node may be writing the file: what is shown is then that of all that
+/// the file kept when the reading began, and perhaps of more.
 ///
 /// The statuses are 0 where that was written, 1 for an input that is no definitions, 2 for other words and for a NAME that
 /// is not defined, 4, 5 and 6 where the source, the sink or the folder failed, as it does for a file that is not there, 7

@@ -1,6 +1,6 @@
 -- The line of each thing that is lacking.
 use Rattle.std.specs.Fmt.{decimal}
-use Rattle.std.specs.Prelude.{[], ℕ, ◌++◌, ◌-◌, Bool, List, Option, codes}
+use Rattle.std.specs.Prelude.{[], ℕ, ◌++◌, Bool, List, Option, codes}
 use Rattle.model.specs.Types.{Net, Obj}
 use Rattle.model.specs.History.{View}
 use Rattle.model.specs.Dependencies.{dep}
@@ -52,11 +52,11 @@ unfoldable pub own_prompt_line : ℕ → List ℕ → Option Bool → List ℕ
 own_prompt_line i text reply =
     codes "  " ++ decimal i ++ codes " prompt \"" ++ text ++ codes "\": " ++ reply_text reply ++ codes "\n"
 
--- `  I at T: S seconds to go, by the clock of its workstation`
+-- `  I at T: its workstation has clock N`
 unfoldable pub time_line : ℕ → ℕ → ℕ → List ℕ
 time_line i due now =
-    codes "  " ++ decimal i ++ codes " at " ++ decimal due ++ codes ": " ++ decimal (due - now)
-    ++ codes " seconds to go by the clock of its workstation\n"
+    codes "  " ++ decimal i ++ codes " at " ++ decimal due ++ codes ": its workstation has clock " ++ decimal now
+    ++ codes "\n"
 
 -- `  I file "PATH": not seen`
 unfoldable pub file_line : ℕ → List ℕ → List ℕ

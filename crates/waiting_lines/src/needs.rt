@@ -104,17 +104,12 @@ pub(crate) fn write_own_prompt(
     write!(out, "  {i} prompt \"{text}\": {reply}\n")
 }
 
-/// `I at T: S seconds to go by the clock of its workstation`.
+/// `I at T: its workstation has clock N`.
 #[tactic(auto, unfolding(crate::specs::Lines::time_line))]
 pub(crate) fn write_time(out: &mut Vec<u8>, i: u16, due: &Moment, now: &Moment) -> io::Result<()>
     ensures { OnOk result (out.new.items ≡ out.old.items ++ spec.time_line i due.now now.now) }
 {
-    let left = due.0.saturating_sub(now.0);
-    write!(
-        out,
-        "  {i} at {}: {left} seconds to go by the clock of its workstation\n",
-        due.0
-    )
+    write!(out, "  {i} at {}: its workstation has clock {}\n", due.0, now.0)
 }
 
 /// `I file "PATH": not seen`.

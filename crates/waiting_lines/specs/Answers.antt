@@ -30,7 +30,7 @@ unfoldable pub ahead_line : Net → View → ℕ → Option ℕ → List ℕ
 ahead_line net V j None = codes "  lacks nothing\n"
 ahead_line net V j (Some next) =
     if next == j then codes "  lacks nothing, and is launched next\n" else
-    (codes "  lacks nothing, and waits for its turn behind " ++ job_name net V next ++ codes "\n")
+    (codes "  lacks nothing, behind " ++ job_name net V next ++ codes "\n")
 
 -- what it lacks
 unfoldable pub job_lines : Net → View → ℕ → Option ℕ → List Lack → List ℕ

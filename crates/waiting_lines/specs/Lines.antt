@@ -26,10 +26,10 @@ unfoldable pub follows_job_line : Net → View → ℕ → ℕ → List ℕ
 follows_job_line net V i j =
     codes "  " ++ decimal i ++ codes " follows " ++ job_name net V j ++ codes ": " ++ state_of_job net V j ++ codes "\n"
 
--- `  I follows stream W#STREAM`
+-- `  I follows stream W#STREAM, not ended`
 unfoldable pub follows_stream_line : Net → View → ℕ → ℕ → List ℕ
 follows_stream_line net V i s =
-    codes "  " ++ decimal i ++ codes " follows stream " ++ stream_name net V s ++ codes ", which has not ended\n"
+    codes "  " ++ decimal i ++ codes " follows stream " ++ stream_name net V s ++ codes ", not ended\n"
 
 -- `  I needs N of W#RESOURCE: U of T are in use`
 unfoldable pub units_line : Net → ℕ → ℕ → ℕ → ℕ → ℕ → List ℕ
@@ -37,10 +37,10 @@ units_line net i r n in_use total =
     codes "  " ++ decimal i ++ codes " needs " ++ decimal n ++ codes " of " ++ resource_name net r ++ codes ": "
     ++ decimal in_use ++ codes " of " ++ decimal total ++ codes " are in use\n"
 
--- `  I needs units of W#RESOURCE, which the workstation has not`
+-- `  I needs W#RESOURCE, which is elsewhere`
 unfoldable pub no_units_line : Net → ℕ → ℕ → List ℕ
 no_units_line net i r =
-    codes "  " ++ decimal i ++ codes " needs units of " ++ resource_name net r ++ codes ", which its workstation has not\n"
+    codes "  " ++ decimal i ++ codes " needs " ++ resource_name net r ++ codes ", which is elsewhere\n"
 
 -- `  I prompt NAME "TEXT": no reply`
 unfoldable pub prompt_line : Net → ℕ → ℕ → Option Bool → List ℕ
@@ -52,10 +52,10 @@ unfoldable pub own_prompt_line : ℕ → List ℕ → Option Bool → List ℕ
 own_prompt_line i text reply =
     codes "  " ++ decimal i ++ codes " prompt \"" ++ text ++ codes "\": " ++ reply_text reply ++ codes "\n"
 
--- `  I at T: its workstation has clock N`
+-- `  I at T: its clock is N`, that of its workstation
 unfoldable pub time_line : ℕ → ℕ → ℕ → List ℕ
 time_line i due now =
-    codes "  " ++ decimal i ++ codes " at " ++ decimal due ++ codes ": its workstation has clock " ++ decimal now
+    codes "  " ++ decimal i ++ codes " at " ++ decimal due ++ codes ": its clock is " ++ decimal now
     ++ codes "\n"
 
 -- `  I file "PATH": not seen`

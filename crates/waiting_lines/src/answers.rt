@@ -65,7 +65,7 @@ fn write_ahead(
     if first == j.0 {
         return write!(out, "  lacks nothing, and is launched next\n");
     }
-    write!(out, "  lacks nothing, and waits for its turn behind ")?;
+    write!(out, "  lacks nothing, behind ")?;
     write_job_name(out, net, o, &JobNo(first))?;
     write!(out, "\n")
 }

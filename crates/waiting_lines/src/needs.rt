@@ -28,7 +28,7 @@ pub(crate) fn write_follows_job(
     write!(out, ": {state}\n")
 }
 
-/// `I follows stream W#STREAM, which has not ended`.
+/// `I follows stream W#STREAM, not ended`.
 #[tactic(auto, unfolding(crate::specs::Lines::follows_stream_line))]
 pub(crate) fn write_follows_stream(
     out: &mut Vec<u8>,
@@ -42,7 +42,7 @@ pub(crate) fn write_follows_stream(
 {
     write!(out, "  {i} follows stream ")?;
     write_stream_name(out, net, o, s)?;
-    write!(out, ", which has not ended\n")
+    write!(out, ", not ended\n")
 }
 
 /// `I needs N of W#RESOURCE: U of T are in use`.
@@ -63,14 +63,14 @@ pub(crate) fn write_units(
     write!(out, ": {used} of {total} are in use\n")
 }
 
-/// `I needs units of W#RESOURCE, which its workstation has not`.
+/// `I needs W#RESOURCE, which is elsewhere`.
 #[tactic(auto, unfolding(crate::specs::Lines::no_units_line))]
 pub(crate) fn write_no_units(out: &mut Vec<u8>, net: &Network, i: u16, r: u16) -> io::Result<()>
     ensures { OnOk result (out.new.items ≡ out.old.items ++ spec.no_units_line net.now i r) }
 {
-    write!(out, "  {i} needs units of ")?;
+    write!(out, "  {i} needs ")?;
     write_resource(out, net, r)?;
-    write!(out, ", which its workstation has not\n")
+    write!(out, ", which is elsewhere\n")
 }
 
 /// `I prompt NAME "TEXT": no reply`.
@@ -104,12 +104,12 @@ pub(crate) fn write_own_prompt(
     write!(out, "  {i} prompt \"{text}\": {reply}\n")
 }
 
-/// `I at T: its workstation has clock N`.
+/// `I at T: its clock is N`, that of its workstation.
 #[tactic(auto, unfolding(crate::specs::Lines::time_line))]
 pub(crate) fn write_time(out: &mut Vec<u8>, i: u16, due: &Moment, now: &Moment) -> io::Result<()>
     ensures { OnOk result (out.new.items ≡ out.old.items ++ spec.time_line i due.now now.now) }
 {
-    write!(out, "  {i} at {}: its workstation has clock {}\n", due.0, now.0)
+    write!(out, "  {i} at {}: its clock is {}\n", due.0, now.0)
 }
 
 /// `I file "PATH": not seen`.

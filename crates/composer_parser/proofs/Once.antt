@@ -3,7 +3,8 @@ use Rattle.std.proofs.Common.{◌≡◌, ◌∙◌, ◌&&◌, ◌||◌, not, Boo
 use Rattle.std.specs.Prelude.{codes}
 use Rattle.std.specs.List.{list_any}
 use Rattle.composer_parser.specs.Kinds.{Spelled, keyword, is}
-use Rattle.composer_parser.specs.Clauses.{may_clause, has_clause, is_at, is_until, is_deadline, is_priority, is_limit, is_carry}
+use Rattle.lemmas.proofs.Booleans.{and_made, neither}
+use Rattle.composer_parser.specs.Clauses.{may_clause, is_single, has_clause, is_at, is_until, is_deadline, is_priority, is_limit, is_carry}
 use Rattle.composer_parser.specs.declared.definitions.Lined.{Lined}
 use Rattle.composer_parser.specs.declared.clauses.Clause.{Clause}
 
@@ -69,3 +70,23 @@ pub once_among : (stream : Bool) (cs : List (Lined Clause)) (t : Spelled) → (s
     → may_clause stream cs t ≡ not (list_any (λ c. not (may_clause true (c ∷ []) t)) cs)
 once_among stream cs t had =
     once_each stream cs t ∙ ap (λ b. b && not (list_any (λ c. not (may_clause true (c ∷ []) t)) cs)) had
+
+-- what does not begin a clause that stands once may follow any clauses
+unforbidden : (b i : Bool) → i ≡ false → not (b && i) ≡ true
+unforbidden true i is = ap not is
+unforbidden false i is = refl
+
+pub never_again : (stream : Bool) (cs : List (Lined Clause)) (t : Spelled) → is_single t ≡ false → may_clause stream cs t ≡ true
+never_again stream cs t h =
+    let at_ = neither (is (keyword (codes "AT")) t) _ h in
+    let until_ = neither (is (keyword (codes "UNTIL")) t) _ at_.1 in
+    let deadline_ = neither (is (keyword (codes "DEADLINE")) t) _ until_.1 in
+    let priority_ = neither (is (keyword (codes "PRIORITY")) t) _ deadline_.1 in
+    let limit_ = neither (is (keyword (codes "LIMIT")) t) _ priority_.1 in
+    let carry_ = neither (is (keyword (codes "CARRYFORWARD")) t) false limit_.1 in
+    and_made _ _ (unforbidden (has_clause is_at cs) (is (keyword (codes "AT")) t) at_.0)
+    (and_made _ _ (unforbidden (has_clause is_until cs) (is (keyword (codes "UNTIL")) t) until_.0)
+    (and_made _ _ (unforbidden (has_clause is_deadline cs) (is (keyword (codes "DEADLINE")) t) deadline_.0)
+    (and_made _ _ (unforbidden (has_clause is_priority cs) (is (keyword (codes "PRIORITY")) t) priority_.0)
+    (and_made _ _ (unforbidden (not stream || has_clause is_limit cs) (is (keyword (codes "LIMIT")) t) limit_.0)
+    (unforbidden (not stream || has_clause is_carry cs) (is (keyword (codes "CARRYFORWARD")) t) carry_.0)))))

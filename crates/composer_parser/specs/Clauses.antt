@@ -3,7 +3,7 @@ use Rattle.std.specs.Prelude.{ℕ, Bool, true, false, ◌&&◌, ◌||◌, not, L
 use Rattle.std.specs.List.{list_any}
 use Rattle.base_types.specs.declared.documents.OnUntil.{OnUntil}
 use Rattle.base_types.specs.declared.documents.OnUntil.TheVariants as until
-use Rattle.composer_parser.specs.Kinds.{a_mark, a_scoped, Spelled}
+use Rattle.composer_parser.specs.Kinds.{a_mark, a_scoped, is, keyword, Spelled}
 use Rattle.composer_parser.specs.Grammars.{Grammar, one, left_out, many}
 use Rattle.composer_parser.specs.Parts.{◌⊛◌, ◌⊲◌, ◌or◌, made, key, name, text, number, time, plus, bytes_of, ws_of, own_of, pred, lined, once, put, comma, with_commas}
 use Rattle.composer_parser.specs.declared.definitions.Lined.{Lined}
@@ -150,6 +150,12 @@ may_clause stream cs t =
     && (once (has_clause is_deadline cs) (codes "DEADLINE") t && (once (has_clause is_priority cs) (codes "PRIORITY") t
     && (once (not stream || has_clause is_limit cs) (codes "LIMIT") t
     && once (not stream || has_clause is_carry cs) (codes "CARRYFORWARD") t))))
+
+-- the token begins one of those
+abbrev pub is_single : Spelled → Bool
+is_single t =
+    is (keyword (codes "AT")) t || (is (keyword (codes "UNTIL")) t || (is (keyword (codes "DEADLINE")) t
+    || (is (keyword (codes "PRIORITY")) t || (is (keyword (codes "LIMIT")) t || (is (keyword (codes "CARRYFORWARD")) t || false)))))
 
 -- clause...                                                                            (any order)
 unfoldable pub clauses : Bool → Grammar (List (Lined Clause))

@@ -262,12 +262,35 @@ fn is_had(stream: bool, text: &str, token: &Token) -> bool
     !is_keyword(text, token, "LIMIT") && !is_keyword(text, token, "CARRYFORWARD")
 }
 
-/// Whether what stands once does not stand already.
-#[tactic(auto, using(crate::proofs::Once::once_each))]
+/// The words with which those clauses begin that stand at most once.
+const SINGLE_WORDS: [&str; 6] = [
+    "AT",
+    "UNTIL",
+    "DEADLINE",
+    "PRIORITY",
+    "LIMIT",
+    "CARRYFORWARD",
+];
+
+/// Whether the token begins what stands once.
+fn is_single(text: &str, token: &Token) -> bool
+    ensures { result ≡ spec.is_single (spelled text.now token.now) }
+{
+    is_word_of(text, token, &SINGLE_WORDS)
+}
+
+/// Whether what stands once does not stand already. The clauses are looked at only where the token begins what stands once,
+/// which it does a few times in an object.
 fn may_stand(stream: bool, all: &[Lined<Clause>], text: &str, token: &Token) -> bool
     ensures { result ≡ may_clause stream all.now (spelled text.now token.now) }
 {
-    is_had(stream, text, token) && !stands(all, text, token)
+    if !is_had(stream, text, token) {
+        return false;
+    }
+    if !is_single(text, token) {
+        return true;
+    }
+    !stands(all, text, token)
 }
 
 /// The clauses of a stream, or of an entry, as far as they were read.

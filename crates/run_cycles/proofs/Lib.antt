@@ -1,5 +1,7 @@
 pub mod Walks
-pub mod Far
+pub mod Moves
+pub mod Clips
+pub mod Beside
 pub mod Nexts
 pub mod Prevs
 pub mod Shifted

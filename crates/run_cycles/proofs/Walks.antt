@@ -3,7 +3,7 @@ use Rattle.std.proofs.Common.{◌≡◌, ℕ, zero, suc, ◌+◌, ◌-◌, ◌<�
 use Rattle.std.proofs.Common.{refl, sym, ap, ◌∙◌, arith, inl, inr}
 use Rattle.std.proofs.lemmas.Bool.Decides.{eqb_tells}
 use Rattle.std.proofs.lemmas.List.Sums.{take_while-cons}
-use Rattle.std.specs.List.{list_any, range_with_len}
+use Rattle.std.specs.List.{list_any}
 use Rattle.calendars.specs.Nth.{below}
 
 pub below-zero : (q : ℕ → Bool) → list_any q (below zero) ≡ false
@@ -74,29 +74,3 @@ module _ (free dated : ℕ → Bool) where
   unfolding below
   run_none zero h = refl
   run_none (suc n) h = absurd (omega (arith, h))
-
--- a run of free days behind a day, one day further
-module _ (free dated : ℕ → Bool) (all : Bool) (day end : ℕ) (low : day < end)
-    (h : all ≡ list_any dated (take_while free (range_with_len day (end - day)))) where
-  abbrev behind : List ℕ
-  behind = take_while free (range_with_len (day + 1) (end - (day + 1)))
-
-  opened : all ≡ list_any dated (cond (free day) (day ∷ behind) [])
-  opened =
-      let one : end - day ≡ suc (end - (day + 1)) = omega (arith, low) in
-      h
-      ∙ (ap (λ (k : ℕ). list_any dated (take_while free (range_with_len day k))) one
-      ∙ ap (list_any dated) (take_while-cons free day (range_with_len (day + 1) (end - (day + 1)))))
-
-  pub run_ends : free day ≡ false → all ≡ false
-  run_ends ends = opened ∙ ap (λ (b : Bool). list_any dated (cond b (day ∷ behind) [])) ends
-
-  seen : free day ≡ true → all ≡ (dated day || list_any dated behind)
-  seen goes = opened ∙ ap (λ (b : Bool). list_any dated (cond b (day ∷ behind) [])) goes
-
-  pub run_hits : free day ≡ true → dated day ≡ true → all ≡ true
-  run_hits goes hits = seen goes ∙ ap (λ (b : Bool). b || list_any dated behind) hits
-
-  pub run_further : free day ≡ true → dated day ≡ false
-      → all ≡ list_any dated (take_while free (range_with_len (day + 1) (end - (day + 1))))
-  run_further goes misses = seen goes ∙ ap (λ (b : Bool). b || list_any dated behind) misses

@@ -1,3 +1,5 @@
 pub mod Items
+pub mod Steps
+pub mod Clips
 pub mod Shifts
 pub mod Runs

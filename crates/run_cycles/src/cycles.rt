@@ -8,8 +8,9 @@ ghost use Rattle.run_cycles.specs.Shifts.{gives as gives_day};
 
 use crate::shifts::gives;
 use base_types::NoMemory;
-use calendars::{DaySet, FreeDays, LAST_DAY};
+use calendars::{DaySet, LAST_DAY};
 use composer_parser::{Lined, OnDef};
+use day_counts::CountedDays;
 use std::alloc::Global;
 use workload_defs::Workload;
 
@@ -25,12 +26,12 @@ pub fn runs_on(w: &Workload, stream: u32, day: u32) -> bool
     }
     match w.defs().schedules.get(stream as usize) {
         None => false,
-        Some(schedule) => runs_by(w, w.free_days(stream), schedule.item.ons.as_slice(), day),
+        Some(schedule) => runs_by(w, w.counted_days(stream), schedule.item.ons.as_slice(), day),
     }
 }
 
 /// Whether one of the ONs gives a day, and none of the EXCEPTs.
-fn runs_by(w: &Workload, free: &FreeDays, ons: &[Lined<OnDef>], day: u32) -> bool
+fn runs_by(w: &Workload, free: &CountedDays, ons: &[Lined<OnDef>], day: u32) -> bool
     requires { IsDay day }
     ensures { result ≡ (spec.any_gives w.now free.now ons.now false day
         && not (spec.any_gives w.now free.now ons.now true day)) }
@@ -39,7 +40,7 @@ fn runs_by(w: &Workload, free: &FreeDays, ons: &[Lined<OnDef>], day: u32) -> boo
 }
 
 /// Whether one of the ONs, or of the EXCEPTs, gives a day.
-fn any_gives(w: &Workload, free: &FreeDays, ons: &[Lined<OnDef>], except: bool, day: u32) -> bool
+fn any_gives(w: &Workload, free: &CountedDays, ons: &[Lined<OnDef>], except: bool, day: u32) -> bool
     requires { IsDay day }
     ensures { result ≡ spec.any_gives w.now free.now ons.now except day }
 {
@@ -52,7 +53,7 @@ fn any_gives(w: &Workload, free: &FreeDays, ons: &[Lined<OnDef>], except: bool, 
 }
 
 /// Whether a statement is an ON, or an EXCEPT, and gives a day.
-fn statement_gives(w: &Workload, free: &FreeDays, on: &OnDef, except: bool, day: u32) -> bool
+fn statement_gives(w: &Workload, free: &CountedDays, on: &OnDef, except: bool, day: u32) -> bool
     requires { IsDay day }
     ensures { result ≡ (spec.is_of except on.now && gives_day w.now free.now day on.now) }
 {

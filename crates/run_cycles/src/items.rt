@@ -1,48 +1,47 @@
 //! The days that an item of ON and EXCEPT gives, before they are shifted.
-ghost use Rattle.std.specs.Prelude.{◌≡◌, ◌==◌};
+ghost use Rattle.std.specs.Prelude.{◌≡◌, ◌≤◌, ◌+◌, ◌&&◌, nat_le, nat_lt};
 ghost use Rattle.std.specs.List.{list_any};
-ghost use Rattle.calendars.specs.Dates.{weekday};
+ghost use Rattle.std.specs.Option.{option_copied};
+ghost use Rattle.calendars.specs.Dates.{IsDay, last_day};
+ghost use Rattle.day_counts.specs.Runs.{days_between};
+ghost use Rattle.run_rules.specs.Days.{rule_has};
+ghost use Rattle.workload_defs.specs.Days.{days_in};
+ghost use Rattle.run_cycles.specs.Clips as clips;
 ghost use Rattle.run_cycles.specs.Items as spec;
+ghost use Rattle.run_cycles.specs.Steps as offsets;
 
-use calendars::{DayKind, FreeDays, is_free, is_workday, nth_day};
+use calendars::{DayKind, LAST_DAY};
 use composer_parser::{CycleDef, Offset, OffsetUnit, OnDef, OnItem};
+use day_counts::{CountedDays, SortedDays, Step, has_weekday};
 use workload_defs::Workload;
 
 /// Whether a statement gives a day before its shift.
-pub(crate) fn is_dated(w: &Workload, free: &FreeDays, on: &OnDef, day: u32) -> bool
+pub(crate) fn is_dated(w: &Workload, free: &CountedDays, on: &OnDef, day: u32) -> bool
+    requires { IsDay day }
     ensures { result ≡ spec.is_dated w.now free.now on.now day }
 {
-    is_valid(&on.cycle, day) && gives_any(w, free, first_of(&on.cycle), on.items.as_slice(), day)
+    is_dated_within(w, free, on, day, day + 1)
 }
 
-/// Whether a day is within the bounds of a run cycle, both included.
-fn is_valid(cycle: &Option<CycleDef>, day: u32) -> bool
-    ensures { result ≡ spec.is_valid cycle.now day }
+/// Whether a statement gives, before its shift, a day from one on and before another.
+pub(crate) fn is_dated_within(
+    w: &Workload,
+    free: &CountedDays,
+    on: &OnDef,
+    from: u32,
+    end: u32,
+) -> bool
+    requires from { from ≤ last_day + 1 }
+    requires end { end ≤ last_day + 1 }
+    ensures { result ≡ list_any (spec.is_dated w.now free.now on.now) (days_between from end) }
 {
-    match cycle {
-        Some(cycle) => is_from(cycle.first, day) && is_to(cycle.last, day),
-        None => true,
-    }
+    let first = first_of(&on.cycle);
+    let low = later_of(first, from);
+    let high = earlier_of(last_of(&on.cycle), end);
+    gives_any(w, free, first, on.items.as_slice(), low, high)
 }
 
-fn is_from(first: Option<u32>, day: u32) -> bool
-    ensures { result ≡ spec.is_from first day }
-{
-    match first {
-        Some(first) => first <= day,
-        None => true,
-    }
-}
-
-fn is_to(last: Option<u32>, day: u32) -> bool
-    ensures { result ≡ spec.is_to last day }
-{
-    match last {
-        Some(last) => day <= last,
-        None => true,
-    }
-}
-
+/// The first day within the bounds of a run cycle.
 fn first_of(cycle: &Option<CycleDef>) -> Option<u32>
     ensures { result ≡ spec.first_of cycle.now }
 {
@@ -52,93 +51,143 @@ fn first_of(cycle: &Option<CycleDef>) -> Option<u32>
     }
 }
 
-fn gives_any(w: &Workload, free: &FreeDays, first: Option<u32>, items: &[OnItem], day: u32) -> bool
-    ensures { result ≡ list_any (spec.gives w.now free.now first day) items.now }
+/// The last day within the bounds of a run cycle.
+fn last_of(cycle: &Option<CycleDef>) -> Option<u32>
+    ensures { result ≡ clips.last_of cycle.now }
+{
+    match cycle {
+        Some(cycle) => cycle.last,
+        None => None,
+    }
+}
+
+/// The first day from which on a range and the bounds of a run cycle go.
+fn later_of(first: Option<u32>, from: u32) -> u32
+    requires { from ≤ last_day + 1 }
+    ensures value { result ≡ clips.later_of first from }
+    ensures within { result ≤ last_day + 1 }
+{
+    match first {
+        Some(first) => from.max(first.min(LAST_DAY + 1)),
+        None => from,
+    }
+}
+
+/// The day before which a range and the bounds of a run cycle end.
+fn earlier_of(last: Option<u32>, end: u32) -> u32
+    requires { end ≤ last_day + 1 }
+    ensures value { result ≡ clips.earlier_of last end }
+    ensures within { result ≤ last_day + 1 }
+{
+    match last {
+        Some(last) => end.min(last.min(LAST_DAY) + 1),
+        None => end,
+    }
+}
+
+/// Whether one of the items gives a day from one on and before another, where rules count from this first day on.
+fn gives_any(
+    w: &Workload,
+    free: &CountedDays,
+    first: Option<u32>,
+    items: &[OnItem],
+    from: u32,
+    end: u32,
+) -> bool
+    requires from { from ≤ last_day + 1 }
+    requires end { end ≤ last_day + 1 }
+    ensures { result ≡ list_any (clips.gives_within w.now free.now first from end) items.now }
 {
     for item in items {
-        if gives(w, free, first, item, day) {
+        if gives(w, free, first, item, from, end) {
             return true;
         }
     }
     false
 }
 
-/// Whether an item gives a day, where rules count from this first day on.
-fn gives(w: &Workload, free: &FreeDays, first: Option<u32>, item: &OnItem, day: u32) -> bool
-    ensures { result ≡ spec.gives w.now free.now first day item.now }
+/// Whether an item gives a day from one on and before another, where rules count from this first day on.
+fn gives(
+    w: &Workload,
+    free: &CountedDays,
+    first: Option<u32>,
+    item: &OnItem,
+    from: u32,
+    end: u32,
+) -> bool
+    requires from { from ≤ last_day + 1 }
+    requires end { end ≤ last_day + 1 }
+    ensures { result ≡ clips.gives_within w.now free.now first from end item.now }
 {
     match item {
-        OnItem::Weekday(number) => weekday_of(day) == u32::from(*number),
-        OnItem::EveryDay => true,
-        OnItem::Weekdays => weekday_of(day) < 5,
-        OnItem::Workdays => is_workday(free, day),
-        OnItem::FreeDays => is_free(free, day),
+        OnItem::Weekday(number) => has_weekday(*number, from, end),
+        OnItem::EveryDay => from < end,
+        OnItem::Weekdays => free.has_kind(DayKind::Weekdays, from, end),
+        OnItem::Workdays => free.has_kind(DayKind::Workdays, from, end),
+        OnItem::FreeDays => free.has_free(from, end),
         OnItem::Request => false,
-        OnItem::Date(date) => day == *date,
-        OnItem::Rule(rule) => run_rules::rule_has(rule.as_str(), first, day),
-        OnItem::Calendar(name, offset) => gives_calendar(w.calendar_days(name), free, offset, day),
+        OnItem::Date(date) => is_between(*date, from, end),
+        OnItem::Rule(rule) => rule_gives(rule.as_str(), first, from, end),
+        OnItem::Calendar(name, offset) => {
+            gives_calendar(w.sorted_days(name), free, offset, from, end)
+        }
     }
 }
 
-/// The day of the week, 0 for Monday to 6 for Sunday.
-fn weekday_of(day: u32) -> u32
-    ensures { result ≡ weekday day }
+/// Whether a day stands from one on and before another.
+fn is_between(day: u32, from: u32, end: u32) -> bool
+    ensures { result ≡ (nat_le from day && nat_lt day end) }
 {
-    ((u64::from(day) + 3) % 7) as u32
+    from <= day && day < end
 }
 
-/// Whether a day is one of these dates, or the one so many days after or before one of them.
-fn gives_calendar(dates: &[u32], free: &FreeDays, offset: &Option<Offset>, day: u32) -> bool
-    ensures { result ≡ spec.gives_calendar free.now offset.now day dates.now }
+/// Whether a rule has a day from one on and before another.
+fn rule_gives(rule: &str, first: Option<u32>, from: u32, end: u32) -> bool
+    ensures { result ≡ list_any (rule_has rule.now first) (days_between from end) }
+{
+    for day in from..end {
+        if run_rules::rule_has(rule, first, day) {
+            return true;
+        }
+    }
+    false
+}
+
+/// Whether one of these dates, or the day so many days after or before one of them, stands from a day on and before
+/// another.
+#[tactic(auto, using(crate::proofs::Moves::by_step, crate::proofs::Moves::no_dates))]
+fn gives_calendar(
+    dates: Option<&SortedDays>,
+    free: &CountedDays,
+    offset: &Option<Offset>,
+    from: u32,
+    end: u32,
+) -> bool
+    requires from { from ≤ last_day + 1 }
+    requires end { end ≤ last_day + 1 }
+    ensures { result ≡ clips.calendar_gives free.now offset.now from end (days_in (option_copied dates.entry)) }
+{
+    match dates {
+        Some(dates) => free.moves_within(&step_of(offset), from, end, dates),
+        None => false,
+    }
+}
+
+/// The step from a date to the day that it gives. Without an offset that is the date itself.
+fn step_of(offset: &Option<Offset>) -> Step
+    ensures { result ≡ offsets.step_of offset.now }
 {
     match offset {
-        None => has(dates, day),
-        Some(offset) => gives_shifted(dates, free, offset, day),
-    }
-}
-
-fn has(dates: &[u32], day: u32) -> bool
-    ensures { result ≡ list_any (λ date. date == day) dates.now }
-{
-    for date in dates {
-        if *date == day {
-            return true;
-        }
-    }
-    false
-}
-
-fn gives_shifted(dates: &[u32], free: &FreeDays, offset: &Offset, day: u32) -> bool
-    ensures { result ≡ list_any (spec.moves_to free.now offset.now day) dates.now }
-{
-    for date in dates {
-        if moves_to(free, offset, day, *date) {
-            return true;
-        }
-    }
-    false
-}
-
-fn moves_to(free: &FreeDays, offset: &Offset, day: u32, date: u32) -> bool
-    ensures { result ≡ spec.moves_to free.now offset.now day date }
-{
-    moved(free, offset, date) == Some(day)
-}
-
-/// The nth day of a kind after a date, or before it.
-#[tactic(auto, using(crate::proofs::Far::too_far))]
-fn moved(free: &FreeDays, offset: &Offset, date: u32) -> Option<u32>
-    ensures { result ≡ spec.moved free.now offset.now date }
-{
-    // The calendar has fewer days than such a number.
-    let Ok(count) = i32::try_from(offset.n) else {
-        return None;
-    };
-    let kind = kind_of(offset.unit);
-    if offset.plus {
-        nth_day(free, date, count, kind)
-    } else {
-        nth_day(free, date, -count, kind)
+        None => Step {
+            plus: true,
+            n: 0,
+            kind: DayKind::Days,
+        },
+        Some(offset) => Step {
+            plus: offset.plus,
+            n: offset.n,
+            kind: kind_of(offset.unit),
+        },
     }
 }
 

@@ -8,7 +8,7 @@ pub mod DefinedNets
 pub mod Fits
 pub mod Faultless
 pub mod Puts
-pub mod Sets
+pub mod Orders
 pub mod Frees
 pub mod Told
 pub mod Checks

@@ -1,5 +1,5 @@
 -- The days of calendars, and the free days of streams.
-use Rattle.std.specs.Prelude.{◌≡◌, ℕ, ◌+◌, ◌*◌, Bool, true, not, List, [], slice_get, option_map, option_and_then, codes}
+use Rattle.std.specs.Prelude.{◌≡◌, ℕ, ◌+◌, ◌*◌, Bool, true, not, List, [], slice_get, option_map, option_and_then, unwrap_or, codes}
 use Rattle.std.specs.Prelude.{Option, if◌then◌else◌}
 use Rattle.std.specs.List.{position_from}
 use Rattle.std.specs.Option.{option_map_or}
@@ -22,6 +22,13 @@ days_at d place =
 -- the days of the calendar of a name; none where it is not defined
 abbrev pub days_of : Defs → List ℕ → List ℕ
 days_of d name = days_at d (calendar_at d name)
+
+-- the days of a calendar in ascending order, and none where there is no calendar
+abbrev pub ascending_days : Lined CalendarDef → List ℕ
+ascending_days c = ascending c.item.days
+
+abbrev pub days_in : Option (List ℕ) → List ℕ
+days_in days = unwrap_or days []
 
 -- the calendar of free days: that of FREEDAYS, and HOLIDAYS where the stream has none
 abbrev pub free_calendar : ScheduleDef → List ℕ

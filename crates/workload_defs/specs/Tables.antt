@@ -12,7 +12,7 @@ use Rattle.definition_faults.specs.Faults.{IsFaultless}
 use Rattle.workload_defs.specs.Stations.{stations, number_among}
 use Rattle.workload_defs.specs.Nets.{net_of, peers_of}
 use Rattle.calendars.specs.declared.FreeDays.{FreeDays}
-use Rattle.workload_defs.specs.Days.{free_of, free_of_kind, key_of}
+use Rattle.workload_defs.specs.Days.{ascending_days, free_of, free_of_kind, key_of}
 use Rattle.workload_defs.specs.declared.days.FreeKind.{FreeKind}
 use Rattle.workload_defs.specs.declared.days.FreeTable.{FreeTable}
 use Rattle.workload_defs.specs.declared.days.DayTables.{DayTables}
@@ -65,6 +65,7 @@ pub record AreHosts (d : Defs) (hosts : Hosts) : Type 0 where
 -- the calendars and the free days of definitions
 pub record AreDayTables (d : Defs) (days : DayTables) : Type 0 where
   pub calendars_ : IsCalendarTable days.calendars.entries d.calendars
+  pub sorted_ : days.sorted.items ≡ map ascending_days d.calendars
   pub free_ : AreFreeDays d days.free
 
 -- definitions without a fault, with what they give

@@ -1,12 +1,15 @@
 //! Free days, and the calendars by their names.
-ghost use Rattle.std.specs.Prelude.{◌≡◌, ◌<◌, ◌==◌, ◌++◌, ◌∷◌, [], ℕ, List, IfOk, OnOk, Some, if◌then◌else◌, length, slice_get, slice_index};
+ghost use Rattle.std.specs.Prelude.{◌≡◌, ◌<◌, ◌==◌, ◌++◌, ◌∷◌, [], ℕ, List, IfOk, OnOk, Some, if◌then◌else◌, length, map, option_and_then, slice_get, slice_index};
+ghost use Rattle.std.specs.Option.{option_copied};
 ghost use Rattle.std.specs.Str.{bytes_eq};
+ghost use Rattle.composer_parser.specs.declared.Defs.{Defs as Definitions};
+ghost use Rattle.model.specs.Words.{ascending};
 ghost use Rattle.workload_defs.specs.Days as spec;
 ghost use Rattle.workload_defs.specs.Tables.{IsCalendarTable, AreDayTables, AreFreeDays, AreMade, StaysIn, number_at, number_in};
 
 use base_types::{Copied, NoMemory, Text};
-use calendars::{DaySet, FreeDays};
 use composer_parser::{CalendarDef, Defs, Lined, ScheduleDef};
+use day_counts::{CountedDays, SortedDays};
 use definition_names::Names;
 use indexmap::IndexMap;
 use std::alloc::Global;
@@ -16,7 +19,7 @@ pub(crate) type CalendarTable = IndexMap<Text, usize>;
 
 /// The free days of all streams. Streams with the same free days share them.
 pub(crate) struct FreeTable {
-    kinds: Vec<FreeDays>,
+    kinds: Vec<CountedDays>,
     /// Which of these each stream has.
     places: Vec<usize>,
 }
@@ -31,9 +34,10 @@ impl Drop for FreeTable {
     }
 }
 
-/// The calendars by their names, and the free days of all streams.
+/// The calendars by their names, their days in ascending order, and the free days of all streams.
 pub(crate) struct DayTables {
     pub(crate) calendars: CalendarTable,
+    pub(crate) sorted: Vec<SortedDays>,
     pub(crate) free: FreeTable,
 }
 
@@ -42,6 +46,7 @@ impl Drop for DayTables {
     fn drop(self) {
         let DayTables {
             calendars: _calendars,
+            sorted: _sorted,
             free: _free,
         } = self;
     }
@@ -51,8 +56,35 @@ pub(crate) fn day_tables<'a>(alloc: Global, names: &Names<'a>) -> Result<DayTabl
     ensures { IfOk result (λ tables. AreDayTables names.now tables) }
 {
     let calendars = calendar_table(alloc, names.defs().calendars.as_slice())?;
+    let sorted = sorted_calendars(alloc, names.defs().calendars.as_slice())?;
     let free = FreeTable::of(alloc, names)?;
-    Ok(DayTables { calendars, free })
+    Ok(DayTables {
+        calendars,
+        sorted,
+        free,
+    })
+}
+
+/// The days of each calendar in ascending order.
+fn sorted_calendars(
+    alloc: Global,
+    calendars: &[Lined<CalendarDef>],
+) -> Result<Vec<SortedDays>, NoMemory>
+    ensures { IfOk result (λ sorted. sorted.items ≡ map spec.ascending_days calendars.now) }
+{
+    let mut sorted = Vec::new(alloc);
+    for calendar in calendars {
+        sorted.push(days_in_order(alloc, &calendar.item)?)?;
+    }
+    Ok(sorted)
+}
+
+/// The days of a calendar in ascending order.
+fn days_in_order(alloc: Global, calendar: &CalendarDef) -> Result<SortedDays, NoMemory>
+    ensures { IfOk result (λ sorted. sorted ≡ ascending calendar.now.days) }
+{
+    let sorted = SortedDays::of(alloc, calendar.days.as_slice())?;
+    Ok(sorted)
 }
 
 fn calendar_table(
@@ -139,14 +171,11 @@ fn key_of(kind: &FreeKind) -> Result<usize, NoMemory>
 }
 
 /// The free days of a kind.
-fn free_days(alloc: Global, defs: &Defs, kind: &FreeKind) -> Result<FreeDays, NoMemory>
+fn free_days(alloc: Global, defs: &Defs, kind: &FreeKind) -> Result<CountedDays, NoMemory>
     ensures { IfOk result (λ free. free ≡ spec.free_of_kind defs.now kind.now) }
 {
-    Ok(FreeDays {
-        dates: DaySet::of(alloc, days_at(defs, kind.calendar))?,
-        sa: kind.sa,
-        su: kind.su,
-    })
+    let free = CountedDays::of(alloc, days_at(defs, kind.calendar), kind.sa, kind.su)?;
+    Ok(free)
 }
 
 /// The days of the calendar at a place, and none where there is no calendar.
@@ -173,6 +202,35 @@ pub(crate) fn days_of<'a>(defs: &'a Defs, table: &CalendarTable, name: &Text) ->
     }
 }
 
+/// The days of the calendar of this name in ascending order. None where it is not defined.
+pub(crate) fn sorted_days_of<'a>(tables: &'a DayTables, name: &Text) -> Option<&'a SortedDays>
+    ensures { (d : Definitions) → IsCalendarTable tables.now.calendars.entries d.calendars
+        → tables.now.sorted.items ≡ map spec.ascending_days d.calendars
+        → spec.days_in (option_copied result) ≡ ascending (spec.days_of d name.now) }
+{
+    sorted_at(tables.sorted.as_slice(), place_in(&tables.calendars, name))
+}
+
+/// The place of the calendar of a name.
+fn place_in(table: &CalendarTable, name: &Text) -> Option<usize>
+    ensures { result ≡ number_in table.now.entries name.now }
+{
+    table.get(name).copied()
+}
+
+/// What stands at a place.
+fn sorted_at<'a>(sorted: &'a [SortedDays], place: Option<usize>) -> Option<&'a SortedDays>
+    ensures { option_copied result ≡ option_and_then (slice_get sorted.now) place }
+{
+    match place {
+        None => None,
+        Some(place) => match sorted.get(place) {
+            Some(days) => Some(days),
+            None => None,
+        },
+    }
+}
+
 impl FreeTable {
     /// The free days of the streams of these definitions.
     pub(crate) fn of<'a>(alloc: Global, names: &Names<'a>) -> Result<FreeTable, NoMemory>
@@ -195,7 +253,7 @@ impl FreeTable {
     }
 
     /// Those of the stream at a place.
-    pub(crate) fn at(&self, stream: usize) -> &FreeDays
+    pub(crate) fn at(&self, stream: usize) -> &CountedDays
         requires each { stream < length self.now.places.items }
         requires there { slice_index self.now.places.items stream < length self.now.kinds.items }
         ensures { slice_get self.now.kinds.items (slice_index self.now.places.items stream) ≡ Some result.now }
@@ -207,7 +265,7 @@ impl FreeTable {
 /// The place of the free days of a kind, which are added where they are not there yet.
 fn place_of(
     alloc: Global,
-    kinds: &mut Vec<FreeDays>,
+    kinds: &mut Vec<CountedDays>,
     defs: &Defs,
     kind: &FreeKind,
     made: &mut IndexMap<usize, usize>,
@@ -234,7 +292,7 @@ fn place_at(made: &IndexMap<usize, usize>, key: usize) -> Option<usize>
 /// Adds the free days of a kind, and answers their place.
 fn add(
     alloc: Global,
-    kinds: &mut Vec<FreeDays>,
+    kinds: &mut Vec<CountedDays>,
     defs: &Defs,
     kind: &FreeKind,
     key: usize,

@@ -8,15 +8,18 @@ ghost use Rattle.network_tree.specs.Faults.{net_fault};
 ghost use Rattle.workload_defs.specs.Answers.{IsAnswer, IsGiven};
 ghost use Rattle.workload_defs.specs.Nets as spec;
 ghost use Rattle.workload_defs.specs.Tables.{IsWorkload};
-ghost use Rattle.workload_defs.specs.Days.{free_of, days_of as days_of_calendar};
+ghost use Rattle.std.specs.Option.{option_copied};
+ghost use Rattle.model.specs.Words.{ascending};
+ghost use Rattle.workload_defs.specs.Days.{free_of, days_in, days_of as days_of_calendar};
 ghost use Rattle.workload_defs.specs.Stations.{number_of as number_of_station};
 
-use crate::days::{DayTables, day_tables, days_of};
+use crate::days::{DayTables, day_tables, days_of, sorted_days_of};
 use crate::hosts::{Hosts, hosts_of};
 use crate::nets::number_of;
 use base_types::{Copied, Net, NoMemory, Peers, Text, Ws};
 use calendars::FreeDays;
 use composer_parser::Defs;
+use day_counts::{CountedDays, SortedDays};
 use definition_faults::{DefFault, first_fault};
 use definition_names::Names;
 use std::alloc::Global;
@@ -206,6 +209,14 @@ impl Workload {
         requires { stream < length self.now.schedules }
         ensures { Some result.now ≡ free_of self.now stream }
     {
+        self.days.free.at(stream as usize).free()
+    }
+
+    /// The same with their counts.
+    pub fn counted_days(&self, stream: u32) -> &CountedDays
+        requires { stream < length self.now.schedules }
+        ensures { Some result.now ≡ free_of self.now stream }
+    {
         self.days.free.at(stream as usize)
     }
 
@@ -215,5 +226,12 @@ impl Workload {
         ensures { result.now ≡ days_of_calendar self.now name.now }
     {
         days_of(&self.defs, &self.days.calendars, name)
+    }
+
+    /// The same in ascending order, each day once. None where the calendar is not defined.
+    pub fn sorted_days(&self, name: &Text) -> Option<&SortedDays>
+        ensures { days_in (option_copied result) ≡ ascending (days_of_calendar self.now name.now) }
+    {
+        sorted_days_of(&self.days, name)
     }
 }

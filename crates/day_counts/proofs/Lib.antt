@@ -1,0 +1,9 @@
+pub mod Sets
+pub mod Counting
+pub mod Weekdays
+pub mod Ranks
+pub mod Frees
+pub mod Nths
+pub mod Searching
+pub mod Ranges
+pub mod Runs

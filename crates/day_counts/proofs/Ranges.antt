@@ -3,8 +3,9 @@ use Rattle.std.proofs.Common.{◌≡◌, ℕ, zero, suc, ◌+◌, ◌-◌, ◌<�
 use Rattle.std.proofs.Common.{Option, Some, None, refl, sym, ap, subst, ◌∙◌, arith, inl, inr, eqb, le-ltb, lt-ltb}
 use Rattle.std.proofs.lemmas.Bool.{cases_lt}
 use Rattle.std.proofs.lemmas.Bool.Decides.{nat_tests}
+use Rattle.std.specs.Cmp.{both_ways}
 use Rattle.std.specs.List.{list_any, range_with_len}
-use Rattle.lemmas.proofs.Booleans.{or_cases, or_false, or_regroup, or_true}
+use Rattle.lemmas.proofs.Booleans.{or_cases, or_false, or_middles, or_regroup, or_true}
 use Rattle.lemmas.proofs.Numbers.{number_itself, number_tells}
 use Rattle.model.specs.Words.{some_is}
 use Rattle.day_counts.specs.Counts.{is_between, is_within}
@@ -59,12 +60,6 @@ there q from end h =
 
 pub made : (q : ℕ → Bool) (from end day : ℕ) → from ≤ day → day < end → q day ≡ true → list_any q (days_between from end) ≡ true
 made q from end day low high is = made_by_len q (end - from) from day low (omega (arith, low, high)) is
-
--- tests that pass together
-pub same_tests : (a b : Bool) → (a ≡ true → b ≡ true) → (b ≡ true → a ≡ true) → a ≡ b
-same_tests true b f g = sym (f refl)
-same_tests false true f g = g refl
-same_tests false false f g = refl
 
 -- a number that rises by one exactly where a day passes
 module _ (u : ℕ → ℕ) (q : ℕ → Bool) (step : (n : ℕ) → u (suc n) ≡ u n + one_if (q n)) where
@@ -127,10 +122,10 @@ any_last q (suc len) from =
 pub some_in_range : (found : Option ℕ) (from end : ℕ)
     → is_within from end found ≡ list_any (λ day. some_is found day) (days_between from end)
 some_in_range None from end =
-    same_tests false (list_any (λ day. false) (days_between from end)) (λ h. cc)
+    both_ways false (list_any (λ day. false) (days_between from end)) (λ h. cc)
     (λ h. let one : IsThere (λ day. false) from end = there (λ day. false) from end h in absurd (let e : false ≡ true = one.passes in cc))
 some_in_range (Some one) from end =
-    same_tests (is_between from end one) (list_any (λ day. eqb one day) (days_between from end)) (λ h. forth h) (λ h. back h)
+    both_ways (is_between from end one) (list_any (λ day. eqb one day) (days_between from end)) (λ h. forth h) (λ h. back h)
   where
     forth : is_between from end one ≡ true → list_any (λ day. eqb one day) (days_between from end) ≡ true
     forth h =
@@ -150,17 +145,10 @@ pub nothing : {Y : Type 0} (ys : List Y) → list_any (λ y. false) ys ≡ false
 nothing [] = refl
 nothing (y ∷ ys) = nothing ys
 
-mixed : (a b c d : Bool) → ((a || b) || (c || d)) ≡ ((a || c) || (b || d))
-mixed true b c d = refl
-mixed false true true d = refl
-mixed false true false d = refl
-mixed false false true d = refl
-mixed false false false d = refl
-
 joined : {Y : Type 0} (p q : Y → Bool) (ys : List Y) → (list_any p ys || list_any q ys) ≡ list_any (λ y. p y || q y) ys
 joined p q [] = refl
 joined p q (y ∷ ys) =
-    mixed (p y) (list_any p ys) (q y) (list_any q ys) ∙ ap (λ b. (p y || q y) || b) (joined p q ys)
+    or_middles (p y) (list_any p ys) (q y) (list_any q ys) ∙ ap (λ b. (p y || q y) || b) (joined p q ys)
 
 -- some of one list with some of another, in either order
 pub any_swapped : {X Y : Type 0} (f : X → Y → Bool) (xs : List X) (ys : List Y)

@@ -2,6 +2,7 @@
 use Rattle.std.proofs.Common.{◌≡◌, ℕ, ◌+◌, ◌-◌, ◌<◌, ◌≤◌, ◌&&◌, ◌==◌, Bool, true, false, nat_le, nat_lt, max, min, List, [], ◌∷◌}
 use Rattle.std.proofs.Common.{Option, Some, None, refl, sym, ap, ◌∙◌, arith, le-leb}
 use Rattle.std.proofs.lemmas.Bool.Decides.{nat_tests}
+use Rattle.std.specs.Cmp.{both_ways}
 use Rattle.std.specs.List.{list_any, range_with_len}
 use Rattle.lemmas.proofs.Booleans.{and_made, and_parts, or_false}
 use Rattle.lemmas.proofs.Numbers.{eqb_turned}
@@ -12,7 +13,7 @@ use Rattle.composer_parser.specs.declared.Defs.{Defs}
 use Rattle.composer_parser.specs.declared.OnDef.{OnDef}
 use Rattle.composer_parser.specs.declared.OnItem.{OnItem}
 use Rattle.day_counts.specs.Runs.{days_between}
-use Rattle.day_counts.proofs.Ranges.{IsThere, any_swapped, made, same_tests, some_in_range, there}
+use Rattle.day_counts.proofs.Ranges.{IsThere, any_swapped, made, some_in_range, there}
 use Rattle.run_cycles.specs.Clips.{earlier_of, gives_within, last_of, later_of}
 use Rattle.run_cycles.specs.Items.{first_of, gives, is_dated, is_from, is_to, is_valid}
 
@@ -22,7 +23,7 @@ one_day q day = let one : day + 1 - day ≡ 1 = omega arith in ap (λ n. list_an
 
 pub any_day : (from end : ℕ) → nat_lt from end ≡ list_any (λ day. true) (days_between from end)
 any_day from end =
-    same_tests (nat_lt from end) (list_any (λ day. true) (days_between from end))
+    both_ways (nat_lt from end) (list_any (λ day. true) (days_between from end))
     (λ h. let low : from < end = grind (arith, nat_tests) in made (λ day. true) from end from (omega arith) low refl)
     (λ h.
     let one : IsThere (λ day. true) from end = there (λ day. true) from end h in
@@ -81,7 +82,7 @@ clipped : (q : ℕ → Bool) (cycle : Option CycleDef) (from end : ℕ) → end 
     → list_any (λ day. is_valid cycle day && q day) (days_between from end)
     ≡ list_any q (days_between (later_of (first_of cycle) from) (earlier_of (last_of cycle) end))
 clipped q cycle from end within =
-    same_tests (list_any (λ day. is_valid cycle day && q day) (days_between from end))
+    both_ways (list_any (λ day. is_valid cycle day && q day) (days_between from end))
     (list_any q (days_between (later_of (first_of cycle) from) (earlier_of (last_of cycle) end))) forth back
   where
     forth : list_any (λ day. is_valid cycle day && q day) (days_between from end) ≡ true

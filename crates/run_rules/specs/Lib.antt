@@ -2,3 +2,4 @@ pub mod Parts
 pub mod Ranges
 pub mod Months
 pub mod Days
+pub mod Spans

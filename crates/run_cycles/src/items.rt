@@ -4,6 +4,7 @@ ghost use Rattle.std.specs.List.{list_any};
 ghost use Rattle.std.specs.Option.{option_copied};
 ghost use Rattle.calendars.specs.Dates.{IsDay, last_day};
 ghost use Rattle.day_counts.specs.Runs.{days_between};
+ghost use Rattle.run_rules.specs.Days.{rule_has};
 ghost use Rattle.workload_defs.specs.Days.{days_in};
 ghost use Rattle.run_cycles.specs.Clips as clips;
 ghost use Rattle.run_cycles.specs.Items as spec;
@@ -12,7 +13,6 @@ ghost use Rattle.run_cycles.specs.Steps as offsets;
 use calendars::{DayKind, LAST_DAY};
 use composer_parser::{CycleDef, Offset, OffsetUnit, OnDef, OnItem};
 use day_counts::{CountedDays, SortedDays, Step, has_weekday};
-use run_rules::has_within;
 use workload_defs::Workload;
 
 /// Whether a statement gives a day before its shift.
@@ -127,7 +127,7 @@ fn gives(
         OnItem::FreeDays => free.has_free(from, end),
         OnItem::Request => false,
         OnItem::Date(date) => is_between(*date, from, end),
-        OnItem::Rule(rule) => has_within(rule.as_str(), first, from, end),
+        OnItem::Rule(rule) => rule_gives(rule.as_str(), first, from, end),
         OnItem::Calendar(name, offset) => {
             gives_calendar(w.sorted_days(name), free, offset, from, end)
         }
@@ -139,6 +139,18 @@ fn is_between(day: u32, from: u32, end: u32) -> bool
     ensures { result ≡ (nat_le from day && nat_lt day end) }
 {
     from <= day && day < end
+}
+
+/// Whether a rule has a day from one on and before another.
+fn rule_gives(rule: &str, first: Option<u32>, from: u32, end: u32) -> bool
+    ensures { result ≡ list_any (rule_has rule.now first) (days_between from end) }
+{
+    for day in from..end {
+        if run_rules::rule_has(rule, first, day) {
+            return true;
+        }
+    }
+    false
 }
 
 /// Whether one of these dates, or the day so many days after or before one of them, stands from a day on and before

@@ -2,4 +2,3 @@ pub mod Parts
 pub mod Ranges
 pub mod Months
 pub mod Days
-pub mod Spans

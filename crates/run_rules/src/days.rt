@@ -34,7 +34,7 @@ fn is_counted(n: u32, from: u32, to: u32) -> bool
 }
 
 /// The week of a day, which begins on a Monday.
-pub(crate) fn week_of(day: u32) -> u32
+fn week_of(day: u32) -> u32
     ensures value { result ≡ spec.week_of day }
     ensures small { result < 2 ^ 32 }
 {
@@ -63,7 +63,7 @@ fn is_weekday(word: &str, weekday: u32) -> bool
 
 /// Whether the day is one of these days of a month that counts.
 #[tactic(auto, using(crate::proofs::Places::in_month, crate::proofs::Places::no_first, crate::proofs::Places::no_month))]
-pub(crate) fn has_in_month(n: u32, list: &str, from: u32, day: u32) -> bool
+fn has_in_month(n: u32, list: &str, from: u32, day: u32) -> bool
     ensures { result ≡ spec.has_in_month n (slice_split (λ b. b == 44) list.now) from day }
 {
     let Some(first) = place_of(from) else {

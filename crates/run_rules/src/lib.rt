@@ -9,8 +9,6 @@ mod days;
 mod months;
 mod parts;
 mod ranges;
-mod spans;
 
 pub use days::rule_has;
 pub use ranges::is_in_range;
-pub use spans::has_within;

@@ -1,5 +1,5 @@
 -- Dates of calendars and the days that they give, as steps.
-use Rattle.std.proofs.Common.{◌≡◌, ℕ, ◌==◌, false, List, [], ◌∷◌, Option, Some, None, refl, sym, ap, ◌∙◌}
+use Rattle.std.proofs.Common.{◌≡◌, ℕ, ◌==◌, false, List, [], ◌∷◌, Option, Some, None, refl, ap, ◌∙◌}
 use Rattle.std.specs.List.{list_any}
 use Rattle.calendars.specs.declared.FreeDays.{FreeDays}
 use Rattle.composer_parser.specs.declared.Offset.{Offset}

@@ -1,0 +1,4 @@
+//! Nights of running nodes come to rest.
+#![tactic(auto)]
+
+pub mod frames;

@@ -121,7 +121,7 @@ module _ (net : Net) (reads : ℕ → ℕ) (x y : World) (r : IsFrameRound net r
           (no_gain net x y (kept_run net steps_of x y inv taken_of) rises_of (outside_run net steps_of x y each_of taken_of) h))
 
 -- how far entries can come from here
-few_left : (net : Net) (readings : ℕ → List ℕ) (steps : List WorldStep) (x z : World) → Invariant net x
+pub few_left : (net : Net) (readings : ℕ → List ℕ) (steps : List WorldStep) (x z : World) → Invariant net x
     → AllByRecursion (λ s. keeps_to readings s ≡ true) steps → AreTaken net x steps z → gained net z ≤ bound_of net readings x
 unfolding bound_of
 few_left net readings steps x z inv keep taken =
@@ -159,16 +159,14 @@ few_from net reads first tree inv (suc k) n steps x z keep taken low r =
         all_append (λ s. keeps_to (λ w. reads w ∷ []) s ≡ true) steps (steps_of net reads x r.0 r.1) keep
         (keep_of net reads x r.0 r.1)
 
-    abbrev Later : Type 0
-    Later = (n : ℕ) → bound_of net (λ w. reads w ∷ []) first ≤ gained net r.0 + n → BeginAtRestBut n net reads k r.0 z r.2
-
     rested : IsAtRest net reads x → Rested net reads x
     rested rest = (rest, works.done net reads x tree here rest)
 
     more : gained net x ≤ gained net r.0
     more = gained_more net x r.0 (rises_of net reads x r.0 r.1)
 
-    go : Later → (n : ℕ) → bound_of net (λ w. reads w ∷ []) first ≤ gained net x + n
+    go : ((n : ℕ) → bound_of net (λ w. reads w ∷ []) first ≤ gained net r.0 + n → BeginAtRestBut n net reads k r.0 z r.2)
+        → (n : ℕ) → bound_of net (λ w. reads w ∷ []) first ≤ gained net x + n
         → (gained net x < gained net r.0) ⊎ IsAtRest net reads x → BeginAtRestBut n net reads (suc k) x z r
     go later zero low (inl gain) =
         absurd (omega (

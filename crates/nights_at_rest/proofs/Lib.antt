@@ -1,2 +1,4 @@
 mod Coming
 mod Few
+mod Playing
+mod Standing

@@ -1,0 +1,544 @@
+-- A still pass is a quiet turn.
+use Rattle.std.proofs.Common.{[], ◌++◌, ◌<◌, ◌≤◌, ◌≡◌, ◌≢◌, ◌∙◌, ◌∷◌, ◌⊎◌, ℕ, Bool, List, None, Option, Some, ap, arith, false, inl, inr, length, refl, subst, suc, sym, take, true, zero}
+use Rattle.std.proofs.lemmas.Bool.{eq-eqb}
+use Rattle.std.proofs.lemmas.List.{append-nil, length-take}
+use Rattle.std.specs.List.{AllByRecursion, list_all}
+use Rattle.std.specs.Option.{option_to_list}
+use Rattle.std.specs.Prelude.{◌&&◌, Err, nat_lt, Ok, Result, not, option_map, slice_get}
+use Rattle.lemmas.proofs.Booleans.{and_left, and_right}
+use Rattle.lemmas.proofs.Lists.{all_left, all_right, same_head}
+use Rattle.composer_parser.specs.declared.Defs.{Defs}
+use Rattle.model.specs.Types.{Ack, Body, Cmd, Entry, Feed, Input, Launch, LimitName, Local, Mail, Net, Out, Packet, Send, Take, Turn, Typed}
+use Rattle.model.specs.Words.{below, has, nth, some_is}
+use Rattle.model.specs.FreeSteps.{free_run, free_step, recounted}
+use Rattle.model.specs.History.{View, list_of, view_of}
+use Rattle.model.specs.Invariant.{Invariant, IsBacked}
+use Rattle.model.specs.Kept.{HasKept}
+use Rattle.model.specs.Network.{IsTree, are_neighbours, node_count}
+use Rattle.model.specs.NewEntry.{makes, own_entry}
+use Rattle.model.specs.PresentNet.{present_net}
+use Rattle.model.specs.Sessions.{Session}
+use Rattle.model.specs.StepFaults as faults
+use Rattle.model.specs.StepFaults.{is_next, is_place_spent, is_too_long, lacks_dep, lacks_process, step_fault}
+use Rattle.model.specs.Workstations.{peer_of, ws_in}
+use Rattle.model.specs.Step.{Effect, effect, node_step, unless_fault}
+use Rattle.model.specs.World.{Origin, StepRefused, World, apply_effect, as_refusal, empty_world, node_effect, reached_limit, result_map, step, view_at, within_limits}
+use Rattle.model_laws.proofs.FreeRuns.{free_always, free_kept, nothing_reached}
+use Rattle.model_laws.proofs.Keeps.{at_start}
+use Rattle.model_laws.proofs.NoPackets.{there_within}
+use Rattle.model_laws.proofs.Options.{slice_get_all, there_if}
+use Rattle.outside.specs.Calls.{Asked}
+use Rattle.outside.specs.declared.Failed.{Failed}
+use Rattle.outside.specs.declared.links.Arrival.{Arrival}
+use Rattle.outside.specs.declared.links.Arrival.TheVariants as arrival
+use Rattle.outside.specs.declared.spawners.End.{End}
+use Rattle.workload_defs.specs.Nets.{net_of}
+use Rattle.file_watch.specs.Circle.{DepPlace}
+use Rattle.file_watch.specs.Probes.{next_probe}
+use Rattle.recovery_watch.specs.Advice.{advice}
+use Rattle.mail_frames.specs.declared.frames.Frame.{Frame}
+use Rattle.mail_frames.specs.declared.frames.Frame.TheVariants as frame
+use Rattle.model.specs.Spelling.{entry_bytes}
+use Rattle.carry_forward.specs.declared.CarryFault.TheVariants as carry
+use Rattle.agent_core.specs.Nodes.{NodeState, present_in, session_in, view_in}
+use Rattle.agent_core.specs.Steps.{IsDue, IsTaken, effect_in, step_at}
+use Rattle.agent_core.specs.declared.faults.Step.{Step}
+use Rattle.agent_core.specs.declared.faults.StepFault.{StepFault}
+use Rattle.agent_core.specs.declared.faults.StepFault.TheVariants as fault
+use Rattle.node_inputs.specs.Actions.{Action, Both, Nothing, Stop, Then, Wants, If, IfThere, Each}
+use Rattle.node_inputs.specs.Inputs.{Carried, Carry, CarryOut, Follow, Give, Gives, IsKeeping, Keep, PassOver, Raise, RaiseNew, Refused, SendFrame, SendIt, Take as TakeIt, Takes, frame_of, is_new_neighbour, nothing_carried}
+use Rattle.node_inputs.specs.Traces.{Event, Trace, readings}
+use Rattle.node_inputs.specs.declared.ends.NodeEnd.{NodeEnd}
+use Rattle.node_loop.specs.Runs.{Advise, Arrive, Come, Comes, EndOf, Found, Looks, On, Probing, Reports, Running, TurnOf, running_with}
+use Rattle.network_world.specs.Standing.{NodeStandsFor}
+use Rattle.network_runs.specs.Happenings.{Night, kept_at, made, since}
+use Rattle.network_runs.specs.Nights.{IsBegun, IsWorldOf}
+use Rattle.rest_laws.specs.Leads.{next_packet}
+use Rattle.rest_laws.specs.Rest.{HasDoneItsWork, IsAtRest, IsKeptWhole, IsQuiet, leaves, net_at}
+use Rattle.rest_laws.specs.Short.{are_answers_short, can_count, has_short_answer}
+use Rattle.rest_laws.specs.ToRest.{AlwaysShort, HasRoom, Reaches, names_inside, would_keep}
+use Rattle.rest_laws.proofs.Done as works
+use Rattle.rest_laws.proofs.KeptWhole.{kept_whole}
+use Rattle.rest_laws.proofs.Leads.{sent_first}
+use Rattle.rest_laws.proofs.Named.{named_free}
+use Rattle.rest_laws.proofs.Shorts.{always_short}
+use Rattle.rest_laws.proofs.Taken.{all_low, count_at, turn_taken}
+use Rattle.nights_at_rest.specs.Still.{HasItsLinks, IsStill, Nodes, NodesStandFor, RestsIn, StandStill, have_short_answers, is_still}
+
+abbrev AreStill : Trace → Type 0
+AreStill trace = AllByRecursion (λ event. is_still event ≡ true) trace
+
+no_end : {P : Type 0} {why : NodeEnd} → None ≡ Some why → P
+no_end q = cc
+
+-- an action that goes on, and one behind it
+both_of : {S : Type 0} (first second : Action S) (old : S) (trace : Trace) (new : S) → Then first second old trace None new
+    → Both first second old trace None new
+both_of first second old trace new (inl b) = b
+both_of first second old trace new (inr e) = no_end e.for_that_cause
+
+wanted : {S : Type 0} (act : Action S) (old : S) (trace : Trace) (new : S) → Wants act old trace None new
+    → act old trace None new
+wanted act old trace new (inl h) = h
+wanted act old trace new (inr h) = no_end h.1
+
+-- the parts of a still trace are still
+front_still : (trace front back : Trace) → trace ≡ front ++ back → AreStill trace → AreStill front
+front_still trace front back split each =
+    all_left (λ event. is_still event ≡ true) front back (subst AreStill split each)
+
+back_still : (trace front back : Trace) → trace ≡ front ++ back → AreStill trace → AreStill back
+back_still trace front back split each =
+    all_right (λ event. is_still event ≡ true) front back (subst AreStill split each)
+
+not_still : {P : Type 0} → false ≡ true → P
+not_still q = cc
+
+-- what comes in it is nothing
+arrives : (defs : Defs) (a : Arrival) (old : Running) (rest : Trace) (new : Running) → is_still (Event.Comes a) ≡ true
+    → Arrive defs a old rest None new → new ≡ old
+arrives defs (arrival.Bytes x bytes) old rest new still h = not_still still
+arrives defs (arrival.Up x) old rest new still h = not_still still
+arrives defs (arrival.Down x) old rest new still h = not_still still
+arrives defs (arrival.Client bytes) old rest new still h = not_still still
+arrives defs arrival.Nothing old rest new still h = h.2
+arrives defs arrival.NoMemory old rest new still h = not_still still
+
+comes : (defs : Defs) (old : Running) (trace : Trace) (new : Running) → AreStill trace → Come defs old trace None new
+    → new ≡ old
+comes defs old trace new each h =
+    let c : Comes defs old trace None new = wanted (λ o t e n. Comes defs o t e n) old trace new h in
+    arrives defs c.arrived old c.rest new (subst AreStill c.split each).0 c.arrives
+
+-- so is what is told of ends
+ended : (answer : Result (Option End) Failed) (old : NodeState) (rest : Trace) (new : NodeState)
+    → is_still (Event.Reports answer) ≡ true → EndOf answer old rest None new → new ≡ old
+ended (Ok None) old rest new still h = h.2
+ended (Ok (Some e)) old rest new still h = not_still still
+ended (Err failed) old rest new still h = not_still still
+
+reports : (old : NodeState) (trace : Trace) (new : NodeState) → AreStill trace → Reports old trace None new → new ≡ old
+reports old trace new each h = ended h.answer old h.rest new (subst AreStill h.split each).0 h.acts
+
+-- and what is found
+found : (path : List ℕ) (place : DepPlace) (answer : Result Bool Failed) (old : NodeState) (rest : Trace) (new : NodeState)
+    → is_still (Event.Looks path answer) ≡ true → Found place answer old rest None new → new ≡ old
+found path place (Ok true) old rest new still h = not_still still
+found path place (Ok false) old rest new still h = h.2
+found path place (Err failed) old rest new still h = not_still still
+
+probes : (o : Option DepPlace) (old : Running) (trace : Trace) (new : Running) → AreStill trace
+    → IfThere o (λ (place : DepPlace). λ o t e n. Looks place o t e n) Nothing old trace None new → new.node ≡ old.node
+probes None old trace new each h = ap (λ (s : Running). s.node) h.2
+probes (Some place) old trace new each h =
+    found h.path place h.answer old.node h.rest new.node (subst AreStill h.split each).0 h.acts.acts
+
+-- an input that is taken, with nothing kept
+pub record TookStill (input : Input) (old new : NodeState) : Type 0 where
+  pub step_ : Step
+  pub taken : IsTaken old input step_ new
+  pub none : step_.kept ≡ None
+  pub outs : (o : Out) (os : List Out) → step_.outs ≡ o ∷ os
+      → (to : ℕ) × (p : Packet) × (o ≡ Send to p) × (frame_of new p ≡ None)
+
+-- or refused, for another cause than a spent place
+abbrev Passed : Input → NodeState → NodeState → Type 0
+Passed input old new = (f : StepFault) × (f ≢ fault.NoMemory) × (f ≢ fault.PlaceSpent) × IsDue old input f × (new ≡ old)
+
+kept_still : (m : Option Entry) (trace : Trace) → AreStill trace → IsKeeping m trace None → (m ≡ None) × (trace ≡ [])
+kept_still None trace each h = (refl, h.0)
+kept_still (Some e) trace each (inl h) = not_still (subst AreStill h.0 each).0
+kept_still (Some e) trace each (inr (inl h)) = no_end h.3
+kept_still (Some e) trace each (inr (inr h)) = no_end h.1
+
+raises : (before now : NodeState) (ws : List ℕ) (old : NodeState) (trace : Trace) (new : NodeState) → AreStill trace
+    → Each (RaiseNew before now) ws old trace None new → new ≡ old
+raises before now [] old trace new each h = h.2
+raises before now (w ∷ ws) old trace new each h =
+    let b = both_of (RaiseNew before now w) (Each (RaiseNew before now) ws) old trace new h in
+    raises before now ws b.middle b.back new (back_still trace b.front b.back b.split each) b.goes_on
+    ∙ one (is_new_neighbour before now w) b.front b.middle (front_still trace b.front b.back b.split each) b.begins
+  where
+    one : (c : Bool) (front : Trace) (middle : NodeState) → AreStill front
+        → If c (λ o t e n. (t ≡ Event.Asks (Asked.Raise w) ∷ []) × (e ≡ None) × (n ≡ o)) Nothing old front None middle
+        → middle ≡ old
+    one true front middle still k = not_still (subst AreStill k.0 still).0
+    one false front middle still k = k.2
+
+-- of outputs nothing goes out but a packet whose entry the node lacks
+carried : (node : NodeState) (o : Out) (os : List Out) (trace : Trace) (new : Carried) → AreStill trace
+    → Carry node (o ∷ os) nothing_carried trace None new
+    → (to : ℕ) × (p : Packet) × (o ≡ Send to p) × (frame_of node p ≡ None)
+carried node o os trace new each h =
+    let b = both_of (CarryOut node o) (Each (CarryOut node) os) nothing_carried trace new h in
+    one o b.front b.middle (front_still trace b.front b.back b.split each) b.begins
+  where
+    sent : (to : ℕ) (p : Packet) (f : Option Frame) → frame_of node p ≡ f → (front : Trace) (middle : Carried) → AreStill front
+        → IfThere f (SendFrame to) Nothing nothing_carried front None middle
+        → (v : ℕ) × (q : Packet) × (Send to p ≡ Send v q) × (frame_of node q ≡ None)
+    sent to p None is front middle still k = (to, p, refl, is)
+    sent to p (Some f) is front middle still k = not_still (subst AreStill k.1 still).0
+
+    one : (o : Out) (front : Trace) (middle : Carried) → AreStill front → CarryOut node o nothing_carried front None middle
+        → (to : ℕ) × (p : Packet) × (o ≡ Send to p) × (frame_of node p ≡ None)
+    one (Launch j n work) front middle still k = not_still (subst AreStill k.1 still).0
+    one (Out.Kill j n) front middle still k = not_still (subst AreStill k.0 still).0
+    one (Send to p) front middle still k =
+        sent to p (frame_of node p) refl front middle still
+        (wanted (IfThere (frame_of node p) (SendFrame to) Nothing) nothing_carried front middle k)
+
+-- an input that is taken, with nothing kept; what it gives out then is packets whose entries the node lacks
+pub record TookStill (input : Input) (old : NodeState) : Type 0 where
+  pub step_ : Step
+  pub after : NodeState
+  pub taken : IsTaken old input step_ after
+  pub none : step_.kept ≡ None
+  pub outs : (o : Out) (os : List Out) → step_.outs ≡ o ∷ os
+      → (to : ℕ) × (p : Packet) × (o ≡ Send to p) × (frame_of after p ≡ None)
+
+-- or refused, for another cause than a spent place
+pub record PassedOver (input : Input) (old new : NodeState) : Type 0 where
+  pub cause : faults.StepFault
+  pub due : step_at old input ≡ Err cause
+  pub other : cause ≡ faults.StepFault.PlaceSpent → ⊥
+  pub same : new ≡ old
+
+is_place : faults.StepFault → Bool
+is_place faults.StepFault.PlaceSpent = true
+is_place _ = false
+
+passes_over : (input : Input) (f : StepFault) (old : NodeState) (trace : Trace) (new : NodeState) → f ≢ fault.NoMemory
+    → IsDue old input f → PassOver f old trace None new → PassedOver input old new
+unfolding is_place
+passes_over input fault.NotInNetwork old trace new known due h =
+    record { cause = faults.StepFault.NotInNetwork; due = due; other = λ q. not_still (ap is_place q); same = h.2 }
+passes_over input fault.NotNeighbour old trace new known due h =
+    record { cause = faults.StepFault.NotNeighbour; due = due; other = λ q. not_still (ap is_place q); same = h.2 }
+passes_over input fault.NotMaster old trace new known due h =
+    record { cause = faults.StepFault.NotMaster; due = due; other = λ q. not_still (ap is_place q); same = h.2 }
+passes_over input fault.NoProcess old trace new known due h =
+    record { cause = faults.StepFault.NoProcess; due = due; other = λ q. not_still (ap is_place q); same = h.2 }
+passes_over input fault.NoDep old trace new known due h =
+    record { cause = faults.StepFault.NoDep; due = due; other = λ q. not_still (ap is_place q); same = h.2 }
+passes_over input fault.PlaceSpent old trace new known due h = no_end h.1
+passes_over input (fault.Carry carry.RunsSpent) old trace new known due h =
+    record { cause = faults.StepFault.Carry faults.CarryFault.RunsSpent; due = due; other = λ q. not_still (ap is_place q); same = h.2 }
+passes_over input (fault.Carry carry.NumbersSpent) old trace new known due h =
+    record { cause = faults.StepFault.Carry faults.CarryFault.NumbersSpent; due = due; other = λ q. not_still (ap is_place q); same = h.2 }
+passes_over input (fault.Carry (carry.PlanFull most)) old trace new known due h =
+    record { cause = faults.StepFault.Carry (faults.CarryFault.PlanFull most); due = due; other = λ q. not_still (ap is_place q); same = h.2 }
+passes_over input (fault.Carry carry.NoMemory) old trace new known due h = absurd due
+passes_over input fault.TooLong old trace new known due h =
+    record { cause = faults.StepFault.TooLong; due = due; other = λ q. not_still (ap is_place q); same = h.2 }
+passes_over input fault.NoMemory old trace new known due h = absurd (known refl)
+
+takes_still : (input : Input) (old : NodeState) (trace : Trace) (new : NodeState) → AreStill trace
+    → TakeIt input old trace None new → TookStill input old ⊎ PassedOver input old new
+takes_still input old trace new each (inr stop) = no_end stop.1
+takes_still input old trace new each (inl (inr r)) = inr (passes_over input r.0 old trace new r.1 r.2 r.3)
+takes_still input old trace new each (inl (inl t)) =
+    let b = both_of (Keep t.step.kept) (Follow old t.step) t.after trace new t.acts in
+    let kept = kept_still t.step.kept b.front (front_still trace b.front b.back b.split each) b.begins.0 in
+    inl (record {
+      step_ = t.step;
+      after = t.after;
+      taken = t.taken;
+      none = kept.0;
+      outs = λ o os is.
+          follows o os is b.middle b.back (back_still trace b.front b.back b.split each) b.begins.1 b.goes_on;
+    })
+  where
+    follows : (o : Out) (os : List Out) → t.step.outs ≡ o ∷ os → (middle : NodeState) (back : Trace) → AreStill back
+        → middle ≡ t.after → Follow old t.step middle back None new
+        → (to : ℕ) × (p : Packet) × (o ≡ Send to p) × (frame_of t.after p ≡ None)
+    follows o os is middle back still same h = gives (both_of (Raise old) (Give t.step.outs) middle back new h)
+      where
+        gives : Both (Raise old) (Give t.step.outs) middle back None new
+            → (to : ℕ) × (p : Packet) × (o ≡ Send to p) × (frame_of t.after p ≡ None)
+        gives b =
+            let raised : b.middle ≡ middle =
+            raises old middle (below (node_count middle.net)) middle b.front b.middle (front_still back b.front b.back b.split still)
+            b.begins in
+            let here : b.middle ≡ t.after = raised ∙ same in
+            goes b.middle b.back here (back_still back b.front b.back b.split still) b.goes_on
+          where
+            goes : (now : NodeState) (rest : Trace) → now ≡ t.after → AreStill rest → Give t.step.outs now rest None new
+                → (to : ℕ) × (p : Packet) × (o ≡ Send to p) × (frame_of t.after p ≡ None)
+            goes now rest here quiet (inr g) = no_end g.for_want_of_memory
+            goes now rest here quiet (inl g) =
+                subst (λ (n : NodeState). (to : ℕ) × (p : Packet) × (o ≡ Send to p) × (frame_of n p ≡ None)) here
+                (carried now o os g.front g.carried (front_still rest g.front g.back g.split quiet)
+                (subst (λ (l : List Out). Carry now l nothing_carried g.front None g.carried) is g.carries))
+
+-- what the node advises itself would be kept
+made_of : Result Effect faults.StepFault → Option Entry
+made_of (Ok d) = d.made
+made_of (Err f) = None
+
+some_none : {P : Type 0} {X : Type 0} {a : X} → Some a ≡ None → P
+some_none q = cc
+
+typed_makes : (net : Net) (me : ℕ) (V : View) (s : Session) (to : ℕ) (c : Cmd) (d : Effect)
+    → node_step net me V s (Input.Local (Typed to c)) ≡ Ok d → d.made ≡ None → ⊥
+unfolding node_step effect makes own_entry made_of
+typed_makes net me V s to c d e none =
+    go (step_fault (present_net net V) me V s (Input.Local (Typed to c))) (ap made_of e ∙ none) e
+  where
+    go : (f : Option faults.StepFault) → made_of (unless_fault f (effect net me V s (Input.Local (Typed to c)))) ≡ None
+        → unless_fault f (effect net me V s (Input.Local (Typed to c))) ≡ Ok d → ⊥
+    go None none whole = some_none none
+    go (Some f) none whole = cc
+
+advises : (o : Option Cmd) (old : NodeState) (trace : Trace) (new : NodeState) → AreStill trace
+    → IfThere o (λ (c : Cmd). TakeIt (Input.Local (Typed old.me c))) Nothing old trace None new → new ≡ old
+advises None old trace new each h = h.2
+advises (Some c) old trace new each h = go (takes_still (Input.Local (Typed old.me c)) old trace new each h)
+  where
+    go : TookStill (Input.Local (Typed old.me c)) old ⊎ PassedOver (Input.Local (Typed old.me c)) old new → new ≡ old
+    go (inl t) =
+        absurd (typed_makes old.net old.me (view_in old) (session_in old) old.me c (effect_in t.step_ t.after) t.taken.effect t.none)
+    go (inr p) = p.same
+
+-- what a still pass says of the turn in it
+turn_of : (defs : Defs) (t : ℕ) (now : Running) → IsStill defs t now
+    → TookStill (Input.Local (Turn t)) now.node ⊎ ((new : NodeState) × PassedOver (Input.Local (Turn t)) now.node new)
+turn_of defs t now s = go (both_of (Come defs) _ now s.turn.rest s.after s.turn.acts)
+  where
+    still : AreStill s.turn.rest
+    still = (subst AreStill s.turn.split s.each).1
+
+    reading : s.turn.reading ≡ t
+    reading = same_head (sym (ap readings s.turn.split) ∙ s.reads)
+
+    ends : (c : Running) (trace : Trace) → c.node ≡ now.node → AreStill trace
+        → On (TakeIt (Input.Local (Turn s.turn.reading))) c trace None s.after
+        → TookStill (Input.Local (Turn t)) now.node ⊎ ((new : NodeState) × PassedOver (Input.Local (Turn t)) now.node new)
+    ends c trace same each h =
+        subst (λ (n : NodeState). TookStill (Input.Local (Turn t)) n ⊎ ((new : NodeState) × PassedOver (Input.Local (Turn t)) n new))
+        same
+        (subst (λ (r : ℕ). TookStill (Input.Local (Turn r)) c.node ⊎ ((new : NodeState) × PassedOver (Input.Local (Turn r)) c.node new))
+        reading (sort (takes_still (Input.Local (Turn s.turn.reading)) c.node trace s.after.node each h.acts)))
+      where
+        sort : TookStill (Input.Local (Turn s.turn.reading)) c.node
+            ⊎ PassedOver (Input.Local (Turn s.turn.reading)) c.node s.after.node
+            → TookStill (Input.Local (Turn s.turn.reading)) c.node
+            ⊎ ((new : NodeState) × PassedOver (Input.Local (Turn s.turn.reading)) c.node new)
+        sort (inl k) = inl k
+        sort (inr k) = inr (s.after.node, k)
+
+    advised : (c : Running) (trace : Trace) → c.node ≡ now.node → AreStill trace
+        → Then (On Advise) (On (TakeIt (Input.Local (Turn s.turn.reading)))) c trace None s.after
+        → TookStill (Input.Local (Turn t)) now.node ⊎ ((new : NodeState) × PassedOver (Input.Local (Turn t)) now.node new)
+    advised c trace same each h =
+        let b = both_of (On Advise) (On (TakeIt (Input.Local (Turn s.turn.reading)))) c trace s.after h in
+        ends b.middle b.back
+        (advises (advice (view_in c.node) c.node.me) c.node b.front b.middle.node (front_still trace b.front b.back b.split each)
+        b.begins.acts ∙ same) (back_still trace b.front b.back b.split each) b.goes_on
+
+    probed : (c : Running) (trace : Trace) → c.node ≡ now.node → AreStill trace
+        → Then Probing (Then (On Advise) (On (TakeIt (Input.Local (Turn s.turn.reading))))) c trace None s.after
+        → TookStill (Input.Local (Turn t)) now.node ⊎ ((new : NodeState) × PassedOver (Input.Local (Turn t)) now.node new)
+    probed c trace same each h =
+        let b = both_of Probing (Then (On Advise) (On (TakeIt (Input.Local (Turn s.turn.reading))))) c trace s.after h in
+        advised b.middle b.back
+        (probes (next_probe (view_in c.node) c.node.me c.asked) c b.front b.middle (front_still trace b.front b.back b.split each)
+        b.begins ∙ same) (back_still trace b.front b.back b.split each) b.goes_on
+
+    reported : (c : Running) (trace : Trace) → c.node ≡ now.node → AreStill trace
+        → Then (On (λ o t e n. Reports o t e n))
+        (Then Probing (Then (On Advise) (On (TakeIt (Input.Local (Turn s.turn.reading)))))) c trace None s.after
+        → TookStill (Input.Local (Turn t)) now.node ⊎ ((new : NodeState) × PassedOver (Input.Local (Turn t)) now.node new)
+    reported c trace same each h =
+        let b = both_of (On (λ o t e n. Reports o t e n))
+        (Then Probing (Then (On Advise) (On (TakeIt (Input.Local (Turn s.turn.reading)))))) c trace s.after h in
+        probed b.middle b.back
+        (reports c.node b.front b.middle.node (front_still trace b.front b.back b.split each) b.begins.acts ∙ same)
+        (back_still trace b.front b.back b.split each) b.goes_on
+
+    go : Both (Come defs) (Then (On (λ o t e n. Reports o t e n))
+        (Then Probing (Then (On Advise) (On (TakeIt (Input.Local (Turn s.turn.reading))))))) now s.turn.rest None s.after
+        → TookStill (Input.Local (Turn t)) now.node ⊎ ((new : NodeState) × PassedOver (Input.Local (Turn t)) now.node new)
+    go b =
+        reported b.middle b.back
+        (ap (λ (r : Running). r.node) (comes defs now b.front b.middle (front_still s.turn.rest b.front b.back b.split still) b.begins))
+        (back_still s.turn.rest b.front b.back b.split still) b.goes_on
+
+-- the node of a workstation in the world
+at_node : (net : Net) (x : World) (w : ℕ) (n : NodeState) (input : Input) → NodeStandsFor net x w n
+    → step_at n input ≡ node_step net w (view_at x w) (x.sessions w) input
+at_node net x w n input h = λ i. node_step (h.net_ i) (h.me_ i) (same i) (h.session_ i) input
+  where
+    same : view_in n ≡ view_at x w
+    same = λ i f. h.kept_.holds_them f i
+
+nth_all : {A : Type 0} (P : A → Type 0) (xs : List A) (k : ℕ) (a : A) → AllByRecursion P xs → nth xs k ≡ Some a → P a
+nth_all P xs zero a h e = cc
+nth_all P xs (suc k) a h e = there_if P (slice_get xs k) a (slice_get_all P xs k h) e
+
+place_fault : (N : Net) (me : ℕ) (V : View) (s : Session) (i : Input)
+    → list_all (λ w. nat_lt w (node_count N)) (me ∷ ws_in i) ≡ true → some_is (peer_of i) me ≡ false → is_next i ≡ false
+    → lacks_process s.live i ≡ false → lacks_dep me V i ≡ false → is_place_spent V (makes N me V s i) ≡ true
+    → step_fault N me V s i ≡ Some faults.StepFault.PlaceSpent
+unfolding step_fault
+place_fault N me V s i inside peer next process dep place = rw (inside, peer, next, process, dep, place) refl
+
+refused_then : (net : Net) (x : World) (w t : ℕ) → w < node_count net
+    → is_place_spent (view_at x w) (would_keep net x w t) ≡ true
+    → node_step net w (view_at x w) (x.sessions w) (Input.Local (Turn t)) ≡ Err faults.StepFault.PlaceSpent
+unfolding node_step
+refused_then net x w t w_in spent = rw spent_there refl
+  where
+    spent_there : step_fault (net_at net x w) w (view_at x w) (x.sessions w) (Input.Local (Turn t)) ≡ Some faults.StepFault.PlaceSpent
+    spent_there =
+        place_fault (net_at net x w) w (view_at x w) (x.sessions w) (Input.Local (Turn t))
+        (all_low (node_count (net_at net x w)) (w ∷ []) (subst (λ n. w < n) (sym (count_at net x w)) w_in, tt)) refl refl refl refl
+        spent
+
+cause_of : Result Effect faults.StepFault → faults.StepFault
+cause_of (Ok d) = faults.StepFault.NotInNetwork
+cause_of (Err f) = f
+
+taken_then : (net : Net) (x z : World) (w t : ℕ) (g : faults.StepFault)
+    → node_step net w (view_at x w) (x.sessions w) (Input.Local (Turn t)) ≡ Err g
+    → free_step net x (Take w (Turn t)) ≡ Ok z → ⊥
+unfolding free_step step node_effect
+taken_then net x z w t g e k = clash (sym refused ∙ k)
+  where
+    refused : free_step net x (Take w (Turn t)) ≡ Err (StepRefused.Step g)
+    refused = rw (nothing_reached x, e) refl
+
+    clash : Err (StepRefused.Step g) ≡ Ok z → ⊥
+    clash q = cc
+
+module _ (net : Net) (x : World) (w t : ℕ) (inv : Invariant net x) (w_in : w < node_count net)
+    (old : NodeState) (stands : NodeStandsFor net x w old) where
+  -- with nothing kept, it holds what it held
+  holds : (d : Effect) → d.made ≡ None → (f : Feed) → (apply_effect (recounted x) w Origin.Own d).holdings w f ≡ x.holdings w f
+  unfolding apply_effect
+  holds d none f = rw (eq-eqb w w refl, none) refl
+
+  stepped : (d : Effect) → node_step net w (view_at x w) (x.sessions w) (Input.Local (Turn t)) ≡ Ok d
+      → free_step net x (Take w (Turn t)) ≡ Ok (apply_effect (recounted x) w Origin.Own d)
+  unfolding free_step step node_effect
+  stepped d e = rw (nothing_reached x, e) refl
+
+  -- what it sends it has
+  has_it : (d : Effect) (after : NodeState) → node_step net w (view_at x w) (x.sessions w) (Input.Local (Turn t)) ≡ Ok d
+      → d.made ≡ None → view_in after ≡ view_at x w → (to : ℕ) (p : Packet) (os : List Out) → d.outs ≡ Send to p ∷ os
+      → frame_of after p ≡ None → ⊥
+  has_it d after e none same to p os outs lacks =
+      go p
+      (nth_all (IsBacked (y.holdings w)) (y.packets w to) (next_packet (recounted x) w to) p
+      ((free_kept net x y (Take w (Turn t)) inv (stepped d e)).backed w to) (sent_first (recounted x) w Origin.Own d to p os outs)) lacks
+    where
+      y : World
+      y = apply_effect (recounted x) w Origin.Own d
+
+      absent : {X Y : Type 0} (f : X → Y) (o : Option X) (a : X) → o ≡ Some a → option_map f o ≡ None → ⊥
+      absent f o a is none = some_none (sym (ap (option_map f) is) ∙ none)
+
+      go : (p : Packet) → IsBacked ((apply_effect (recounted x) w Origin.Own d).holdings w) p → frame_of after p ≡ None → ⊥
+      go (Mail f k) backed lacks =
+          let few : length (view_at x w f) ≡ x.holdings w f =
+          (let l = length-take (x.holdings w f) (list_of x.history f) in omega (arith, l, inv.within w f)) in
+          let there = there_within (view_at x w f) k backed.0 (omega (arith, backed.1, holds d none f, few)) in
+          absent (λ (body : Body). frame.Mail (entry_bytes (record { feed = f; place = k; body = body }))) (nth (view_in after f) k) there.0 (ap (λ (V : View). nth (V f) k) same ∙ there.1) lacks
+      go (Ack f n) backed lacks = some_none lacks
+
+  -- where the turn is taken
+  quiet_taken : TookStill (Input.Local (Turn t)) old → IsQuiet net x w t
+  quiet_taken k = go k.step_.outs refl
+    where
+      e : node_step net w (view_at x w) (x.sessions w) (Input.Local (Turn t)) ≡ Ok (effect_in k.step_ k.after)
+      e = sym (at_node net x w old (Input.Local (Turn t)) stands) ∙ k.taken.effect
+
+      kept : k.after.kept ≡ old.kept
+      kept =
+          k.taken.kept ∙ ap (λ (m : Option Entry). old.kept ++ option_to_list m) k.none
+          ∙ append-nil old.kept
+
+      same : view_in k.after ≡ view_at x w
+      same = ap (λ (l : List Entry). view_of l) kept ∙ (λ i f. stands.kept_.holds_them f i)
+
+      go : (outs : List Out) → k.step_.outs ≡ outs → IsQuiet net x w t
+      go [] is = ap (result_map leaves) e ∙ (λ i. Ok (k.none i, is i))
+      go (o ∷ os) is =
+          let h = k.outs o os is in
+          absurd (has_it (effect_in k.step_ k.after) k.after e k.none same h.0 h.1 os (is ∙ ap (λ (p : Out). p ∷ os) h.2) h.3)
+
+  -- it is not refused for another cause than a spent place
+  not_refused : is_too_long (would_keep net x w t) ≡ false → (new : NodeState) → PassedOver (Input.Local (Turn t)) old new → ⊥
+  unfolding cause_of
+  not_refused short new p = go (is_place_spent (view_at x w) (would_keep net x w t)) refl
+    where
+      e : node_step net w (view_at x w) (x.sessions w) (Input.Local (Turn t)) ≡ Err p.cause
+      e = sym (at_node net x w old (Input.Local (Turn t)) stands) ∙ p.due
+
+      go : (c : Bool) → is_place_spent (view_at x w) (would_keep net x w t) ≡ c → ⊥
+      go true spent = p.other (ap cause_of (sym e ∙ refused_then net x w t w_in spent))
+      go false room =
+          taken_then net x _ w t p.cause e
+          (turn_taken net x w t w_in (record { place = room; length_ = short }))
+
+-- the network of the night
+pub rests : (defs : Defs) (night : Night) (x : World) (reads : ℕ → ℕ) (nodes : Nodes) → IsTree (net_of defs)
+    → IsWorldOf defs night x → have_short_answers defs night ≡ true → NodesStandFor defs nodes x
+    → StandStill defs reads nodes → RestsIn defs reads night x
+unfolding are_answers_short
+rests defs night x reads nodes tree is short stands still = record {
+  rest = rest;
+  work = works.done (net_of defs) reads x tree inv rest;
+  disks = kept_whole (net_of defs) x (λ w. kept_at w night) reads tree inv rest is.kept_;
+}
+  where
+    inv : Invariant (net_of defs) x
+    inv =
+        subst (λ (y : World). Invariant (net_of defs) y) (sym is.by_them)
+        (free_always (net_of defs) is.steps empty_world (at_start (net_of defs)))
+
+    names : names_inside (net_of defs) x ≡ true
+    names =
+        subst (λ (y : World). names_inside (net_of defs) y ≡ true) (sym is.by_them) (named_free (net_of defs) is.steps)
+
+    shorts : are_answers_short (net_of defs) x ≡ true
+    shorts =
+        subst
+        (λ (G : List Entry). (can_count (node_count (net_of defs)) && list_all (λ (e : Entry). has_short_answer e.body) G) ≡ true)
+        (sym is.history_) short
+
+    always : AlwaysShort (net_of defs) (λ w. reads w ∷ []) x
+    always = always_short (net_of defs) (λ w. reads w ∷ []) x inv names shorts
+
+    short_at : (w : ℕ) → w < node_count (net_of defs) → is_too_long (would_keep (net_of defs) x w (reads w)) ≡ false
+    short_at w w_in = always x (record { steps = []; keep = tt; taken = refl }) w (reads w) w_in (rw (eq-eqb (reads w) (reads w) refl) refl)
+
+    quiet : (w : ℕ) → w < node_count (net_of defs) → IsQuiet (net_of defs) x w (reads w)
+    quiet w w_in = go (turn_of defs (reads w) (nodes w) (still.still w w_in))
+      where
+        go : TookStill (Input.Local (Turn (reads w))) (nodes w).node
+            ⊎ ((new : NodeState) × PassedOver (Input.Local (Turn (reads w))) (nodes w).node new)
+            → IsQuiet (net_of defs) x w (reads w)
+        go (inl k) = quiet_taken (net_of defs) x w (reads w) inv w_in (nodes w).node (stands w w_in) k
+        go (inr k) =
+            absurd (not_refused (net_of defs) x w (reads w) inv w_in (nodes w).node (stands w w_in) (short_at w w_in) k.0 k.1)
+
+    rest : IsAtRest (net_of defs) reads x
+    rest = record {
+      linked = λ n m n_in m_in near.
+          let h : NodeStandsFor (net_of defs) x n (nodes n).node = stands n n_in in
+          let same : view_in (nodes n).node ≡ view_at x n = (λ i f. h.kept_.holds_them f i) in
+          subst (λ (s : Session). s.links m ≡ true) h.session_
+          (still.linked n n_in m m_in ((λ i. are_neighbours (present_net (h.net_ i) (same i)) (h.me_ i) m) ∙ near));
+      quiet = quiet;
+    }
+
+-- a node that has just begun
+pub begun_stands : (defs : Defs) (night : Night) (x : World) (w : ℕ) (node : NodeState) → IsWorldOf defs night x
+    → w < node_count (net_of defs) → since w night ≡ None → IsBegun (net_of defs) w (kept_at w night) node
+    → NodeStandsFor (net_of defs) x w node
+begun_stands defs night x w node is w_in idle begun = record {
+  net_ = begun.net_;
+  me_ = begun.me_;
+  kept_ = subst (λ (k : List Entry). HasKept (net_of defs) x w k) (sym begun.kept_) (is.kept_ w w_in);
+  session_ = begun.session_ ∙ sym (is.idle_ w w_in idle);
+}

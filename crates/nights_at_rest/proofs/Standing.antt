@@ -133,18 +133,7 @@ probes None old trace new each h = ap (λ (s : Running). s.node) h.2
 probes (Some place) old trace new each h =
     found h.path place h.answer old.node h.rest new.node (subst AreStill h.split each).0 h.acts.acts
 
--- an input that is taken, with nothing kept
-pub record TookStill (input : Input) (old new : NodeState) : Type 0 where
-  pub step_ : Step
-  pub taken : IsTaken old input step_ new
-  pub none : step_.kept ≡ None
-  pub outs : (o : Out) (os : List Out) → step_.outs ≡ o ∷ os
-      → (to : ℕ) × (p : Packet) × (o ≡ Send to p) × (frame_of new p ≡ None)
-
--- or refused, for another cause than a spent place
-abbrev Passed : Input → NodeState → NodeState → Type 0
-Passed input old new = (f : StepFault) × (f ≢ fault.NoMemory) × (f ≢ fault.PlaceSpent) × IsDue old input f × (new ≡ old)
-
+-- what is kept in a still trace is nothing
 kept_still : (m : Option Entry) (trace : Trace) → AreStill trace → IsKeeping m trace None → (m ≡ None) × (trace ≡ [])
 kept_still None trace each h = (refl, h.0)
 kept_still (Some e) trace each (inl h) = not_still (subst AreStill h.0 each).0
@@ -488,7 +477,7 @@ unfolding are_answers_short
 rests defs night x reads nodes tree is short stands still = record {
   rest = rest;
   work = works.done (net_of defs) reads x tree inv rest;
-  disks = kept_whole (net_of defs) x (λ w. kept_at w night) reads tree inv rest is.kept_;
+  disks = kept_whole (net_of defs) x (λ w. kept_at w night) is.kept_ reads tree inv rest;
 }
   where
     inv : Invariant (net_of defs) x

@@ -3,7 +3,8 @@ use Rattle.std.proofs.Common.{◌≡◌, ◌≢◌, ℕ, zero, suc, ◌+◌, ◌
 use Rattle.std.proofs.Common.{List, [], ◌∷◌, ◌++◌, length, refl, ap, sym, subst, ◌∙◌, arith, Option, Some, None}
 use Rattle.std.proofs.Common.{length-append}
 use Rattle.std.specs.List.{AllByRecursion}
-use Rattle.std.specs.Prelude.{Ok, slice_get}
+use Rattle.std.specs.Prelude.{Ok}
+use Rattle.lemmas.proofs.Lists.{get_in_front}
 use Rattle.model.specs.Types.{Ack, Deliver, Entry, Events, Feed, Input, Mail, Net}
 use Rattle.model.specs.Types.{Out, Packet, Take, Turn, WorldStep}
 use Rattle.model.specs.Words.{nth}
@@ -28,23 +29,18 @@ use Rattle.rest_laws.proofs.Rises.{rises_recounted, stays_recounted, step_moves}
 use Rattle.nights_at_rest.specs.Frames.{Comes, ComesIn, IsFrameRound, Stretch}
 
 -- packets that are there stay at their numbers
-nth_more : {A : Type 0} (xs rest : List A) (k : ℕ) (a : A) → nth xs k ≡ Some a → nth (xs ++ rest) k ≡ Some a
-nth_more xs rest zero a e = cc
-nth_more xs rest (suc k) a e = go xs k e
-  where
-    go : (xs : List _) (k : ℕ) → slice_get xs k ≡ Some a → slice_get (xs ++ rest) k ≡ Some a
-    go [] k e = cc
-    go (x ∷ xs) zero e = e
-    go (x ∷ xs) (suc k) e = go xs k e
-
-pub there_then : (x y : World) → Rises x y → (a b k : ℕ) (p : Packet) → nth (x.packets a b) k ≡ Some p
+pub still_there : (a b k : ℕ) (p : Packet) (x y : World) → nth (x.packets a b) k ≡ Some p → Rises x y
     → nth (y.packets a b) k ≡ Some p
-there_then x y h a b k p e =
+still_there a b k p x y e h =
     let q = h.packets a b in
-    subst (λ ps. nth ps k ≡ Some p) (sym q.1) (nth_more (x.packets a b) q.0 k p e)
+    subst (λ ps. nth ps k ≡ Some p) (sym q.1) (go k e q.0)
+  where
+    go : (k : ℕ) → nth (x.packets a b) k ≡ Some p → (rest : List Packet) → nth (x.packets a b ++ rest) k ≡ Some p
+    go zero e rest = cc
+    go (suc i) e rest = get_in_front (x.packets a b) rest i p e
 
-length_more : (x z : World) → Rises x z → (a b : ℕ) → next_packet x a b ≤ next_packet z a b
-length_more x z h a b =
+no_fewer : (a b : ℕ) (x z : World) → Rises x z → next_packet x a b ≤ next_packet z a b
+no_fewer a b x z h =
     let q = h.packets a b in
     let l : length (z.packets a b) ≡ length (x.packets a b) + length q.0 =
     ap length q.1 ∙ length-append (x.packets a b) q.0 in
@@ -171,7 +167,7 @@ module _ (net : Net) (x0 y : World) (none : BringsNoMore x0 y) (tree : IsTree ne
   unfolding free_step
   no_answer m k f len u rises low there more here =
       let d : Delivered net x0 m n (Ack f len) y =
-      ack m k (Ack f len) low (there_then u arrived rises m n k (Ack f len) there) in
+      ack m k (Ack f len) low (still_there m n k (Ack f len) u arrived there rises) in
       no_more net x0 y none x0 d.after_ (same_self x0)
       (answer_brings net x0 n m inv0 (recounted d.before) (stays_recounted x0 d.before d.same.stays) d.number f len d.there
       more here d.after_ d.step_) d.rises
@@ -191,7 +187,7 @@ module _ (net : Net) (x0 y : World) (none : BringsNoMore x0 y) (tree : IsTree ne
           → HasMore x0 d.after_ ⊎ Answers net x0 n m inv0 (recounted d.before) d.after_ f → ⊥
       go d (inl h) = no_more net x0 y none x0 d.after_ (same_self x0) h (rises_on d.after_ arrived y d.rises to_end)
       go d (inr a) =
-          no_answer m (next_packet d.before m n) f a.len d.after_ d.rises (length_more x0 d.before d.rose m n) a.there a.more here
+          no_answer m (next_packet d.before m n) f a.len d.after_ d.rises (no_fewer m n x0 d.before d.rose) a.there a.more here
 
   module _ (x z : World) (same : Same x0 x) (rose : Rises x0 x) (inv : Invariant net x) (back : IsLinkedBack net x n)
       (is : after net x n t tree inv back ≡ z) (rises : Rises z turned) where
@@ -226,9 +222,9 @@ module _ (net : Net) (x0 y : World) (none : BringsNoMore x0 y) (tree : IsTree ne
         (sent_first x n Origin.Own (turn net x n t tree inv back) s.to
         (Mail s.feed (1 + (x.sessions n).acked s.to s.feed)) os (outs ∙ ap (λ p. p ∷ os) s.is)) in
         no_packet s.to (next_packet x n s.to) s.feed (sym (same.stays.links s.to n) ∙ back s.to near.0 near.1)
-        (length_more x0 x rose n s.to)
+        (no_fewer n s.to x0 x rose)
         (subst (λ (a : ℕ). nth (turned.packets n s.to) (next_packet x n s.to) ≡ Some (Mail s.feed (1 + a))) knows
-        (there_then z turned rises n s.to (next_packet x n s.to) (Mail s.feed (1 + (x.sessions n).acked s.to s.feed)) there))
+        (still_there n s.to (next_packet x n s.to) (Mail s.feed (1 + (x.sessions n).acked s.to s.feed)) z turned there rises))
         (let l : length (view_at x n s.feed) ≡ length (view_at x0 n s.feed) =
         ap length (view_stays x0 x same.stays n s.feed) in
         omega (arith, s.more, l, knows))

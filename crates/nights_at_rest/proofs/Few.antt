@@ -24,11 +24,11 @@ use Rattle.rest_laws.proofs.Rounds.{taken_append}
 use Rattle.nights_at_rest.specs.Frames.{AreFrameRounds, BeginAtRestBut, IsFrameRound}
 use Rattle.nights_at_rest.proofs.Coming.{found_rest}
 
-sum_over_each : {X : Type 0} (f g : X → ℕ) (xs : List X) → ((a : X) → f a ≤ g a) → sum_over g xs ≤ sum_over f xs
+each_low : {X : Type 0} (xs : List X) (f g : X → ℕ) → sum_over g xs ≤ sum_over f xs → ((a : X) → f a ≤ g a)
     → AllByRecursion (λ a. g a ≤ f a) xs
-sum_over_each f g [] h k = tt
-sum_over_each f g (x ∷ xs) h k =
-    (omega (arith, h x, sum_over_low f g xs h, k), sum_over_each f g xs h (omega (arith, h x, sum_over_low f g xs h, k)))
+each_low [] f g k h = tt
+each_low (x ∷ xs) f g k h =
+    (omega (arith, h x, sum_over_low f g xs h, k), each_low xs f g (omega (arith, h x, sum_over_low f g xs h, k)) h)
 
 -- where no more is gained, nobody has more
 no_gain : (net : Net) (x y : World) → Invariant net y → Rises x y → Outside net x y → gained net y ≤ gained net x
@@ -48,12 +48,12 @@ no_gain net x y inv rises out low = record { held = held; acked = acked }
     of_feed : (f : Feed) → IsFeed net f → (w : ℕ) → w < node_count net → gained_at net y f w ≤ gained_at net x f w
     of_feed f f_in w w_in =
         below_holds (λ w. gained_at net y f w ≤ gained_at net x f w) (node_count net) w
-        (sum_over_each (gained_at net x f) (gained_at net y f) (below (node_count net)) (low_at f)
+        (each_low (below (node_count net)) (gained_at net x f) (gained_at net y f)
         (feeds_hold (λ f. sum_over (gained_at net y f) (below (node_count net))
         ≤ sum_over (gained_at net x f) (below (node_count net))) net f
-        (sum_over_each (λ f. sum_over (gained_at net x f) (below (node_count net)))
-        (λ f. sum_over (gained_at net y f) (below (node_count net))) (feeds net)
-        (λ f. sum_over_low (gained_at net x f) (gained_at net y f) (below (node_count net)) (low_at f)) low) f_in))
+        (each_low (feeds net) (λ f. sum_over (gained_at net x f) (below (node_count net)))
+        (λ f. sum_over (gained_at net y f) (below (node_count net))) low
+        (λ f. sum_over_low (gained_at net x f) (gained_at net y f) (below (node_count net)) (low_at f))) f_in) (low_at f))
         w_in
 
     held : (w : ℕ) (f : Feed) → y.holdings w f ≤ x.holdings w f
@@ -81,8 +81,8 @@ no_gain net x y inv rises out low = record { held = held; acked = acked }
         go (inl h) (inl l) (inr k) = omega (arith, inv.acked_here w m f, inv.within w f, k)
         go (inl h) (inl l) (inl k) =
             below_holds (λ m. (y.sessions w).acked m f ≤ (x.sessions w).acked m f) (node_count net) m
-            (sum_over_each (λ m. (x.sessions w).acked m f) (λ m. (y.sessions w).acked m f) (below (node_count net))
-            (λ m. rises.acked w m f) (omega (arith, of_feed f k w h, rises.held w f))) l
+            (each_low (below (node_count net)) (λ m. (x.sessions w).acked m f) (λ m. (y.sessions w).acked m f)
+            (omega (arith, of_feed f k w h, rises.held w f)) (λ m. rises.acked w m f)) l
 
 -- the steps of a round, one after another
 module _ (net : Net) (reads : ℕ → ℕ) (x y : World) (r : IsFrameRound net reads x y) where

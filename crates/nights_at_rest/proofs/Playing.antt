@@ -273,7 +273,10 @@ rest_from net reads first tree inv (suc k) n steps z x s t keep taken alike e st
     rested : IsAtRest net reads x → IsWorldAtRest reads s
     rested rest =
         let there : IsAtRest s.net reads x = subst (λ (N : Net). IsAtRest N reads x) (sym e) rest in (
-          x, stands, there, works.done s.net reads x (subst IsTree (sym e) tree) (meets s x stands) there,
+          x,
+          stands,
+          there,
+          works.done s.net reads x (subst IsTree (sym e) tree) (meets s x stands) there,
         )
 
     go : ((n : ℕ) → bound_of net (λ w. reads w ∷ []) first ≤ gained net one.there + n → WorldsRestBut n reads k r.0 t r.2)

@@ -11,7 +11,7 @@ use Rattle.composer_parser.specs.declared.Defs.{Defs}
 use Rattle.model.specs.Types.{Ack, Body, Cmd, Entry, Feed, Input, Launch, LimitName, Local, Mail, Net, Out, Packet, Send, Take, Turn, Typed}
 use Rattle.model.specs.Words.{below, has, nth, some_is}
 use Rattle.model.specs.FreeSteps.{free_run, free_step, recounted}
-use Rattle.model.specs.History.{View, list_of, view_of}
+use Rattle.model.specs.History.{Holding, View, list_of, view_of}
 use Rattle.model.specs.Invariant.{Invariant, IsBacked}
 use Rattle.model.specs.Kept.{HasKept}
 use Rattle.model.specs.Network.{IsTree, are_neighbours, node_count}
@@ -360,9 +360,10 @@ at_node net x w n input h = λ i. node_step (h.net_ i) (h.me_ i) (same i) (h.ses
     same : view_in n ≡ view_at x w
     same = λ i f. h.kept_.holds_them f i
 
-nth_all : {A : Type 0} (P : A → Type 0) (xs : List A) (k : ℕ) (a : A) → AllByRecursion P xs → nth xs k ≡ Some a → P a
-nth_all P xs zero a h e = cc
-nth_all P xs (suc k) a h e = there_if P (slice_get xs k) a (slice_get_all P xs k h) e
+backed_at : (held : Holding) (ps : List Packet) (p : Packet) (k : ℕ) → nth ps k ≡ Some p → AllByRecursion (IsBacked held) ps
+    → IsBacked held p
+backed_at held ps p zero e h = cc
+backed_at held ps p (suc k) e h = there_if (IsBacked held) (slice_get ps k) p (slice_get_all (IsBacked held) ps k h) e
 
 place_fault : (N : Net) (me : ℕ) (V : View) (s : Session) (i : Input)
     → list_all (λ w. nat_lt w (node_count N)) (me ∷ ws_in i) ≡ true → some_is (peer_of i) me ≡ false → is_next i ≡ false
@@ -417,8 +418,9 @@ module _ (net : Net) (x : World) (w t : ℕ) (inv : Invariant net x) (w_in : w <
       → frame_of after p ≡ None → ⊥
   has_it d after e none same to p os outs lacks =
       go p
-      (nth_all (IsBacked (y.holdings w)) (y.packets w to) (next_packet (recounted x) w to) p
-      ((free_kept net x y (Take w (Turn t)) inv (stepped d e)).backed w to) (sent_first (recounted x) w Origin.Own d to p os outs)) lacks
+      (backed_at (y.holdings w) (y.packets w to) p (next_packet (recounted x) w to)
+      (sent_first (recounted x) w Origin.Own d to p os outs)
+      ((free_kept net x y (Take w (Turn t)) inv (stepped d e)).backed w to)) lacks
     where
       y : World
       y = apply_effect (recounted x) w Origin.Own d

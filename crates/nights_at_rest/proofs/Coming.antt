@@ -1,5 +1,5 @@
 -- A round in which what was sent comes, by what it brings, and which brings no more, finds the network at rest.
-use Rattle.std.proofs.Common.{◌≡◌, ◌≢◌, ℕ, zero, suc, ◌+◌, ◌<◌, ◌≤◌, true, ◌⊎◌, inl, inr}
+use Rattle.std.proofs.Common.{◌≡◌, ℕ, zero, suc, ◌+◌, ◌<◌, ◌≤◌, true, ◌⊎◌, inl, inr}
 use Rattle.std.proofs.Common.{List, [], ◌∷◌, ◌++◌, length, refl, ap, sym, subst, ◌∙◌, arith, Option, Some, None}
 use Rattle.std.proofs.Common.{length-append}
 use Rattle.std.specs.List.{AllByRecursion}
@@ -22,11 +22,11 @@ use Rattle.model_laws.proofs.Steps.{step_of}
 use Rattle.rest_laws.specs.Leads.{HasMore, IsLinkedBack, next_packet}
 use Rattle.rest_laws.specs.Rest.{IsAtRest, IsQuiet, leaves, net_at}
 use Rattle.rest_laws.specs.Rounds.{AreLinked, AreTaken, BringsNoMore, IsAmong, is_of_round}
-use Rattle.rest_laws.proofs.Leads.{Answers, FirstSent, IsNear, Stays, answer_brings, both_parts}
+use Rattle.rest_laws.proofs.Leads.{Answers, FirstSent, IsNear, answer_brings, both_parts}
 use Rattle.rest_laws.proofs.Leads.{after, packet_brings, raised_here, sends_first, sent_first, took, turn, view_stays}
 use Rattle.rest_laws.proofs.Rises.{Moves, Rises, Same, rises_on, run_rises, same_on, same_recounted, same_self}
 use Rattle.rest_laws.proofs.Rises.{rises_recounted, stays_recounted, step_moves}
-use Rattle.nights_at_rest.specs.Frames.{Comes, ComesIn, IsFrameRound, Stretch}
+use Rattle.nights_at_rest.specs.Frames.{Comes, ComesIn, IsFrameRound}
 
 -- packets that are there stay at their numbers
 pub still_there : (a b k : ℕ) (p : Packet) (x y : World) → nth (x.packets a b) k ≡ Some p → Rises x y

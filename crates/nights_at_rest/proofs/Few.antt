@@ -1,6 +1,6 @@
 -- All rounds but a few begin at rest.
 use Rattle.std.proofs.Common.{◌≡◌, ℕ, zero, suc, ◌+◌, ◌*◌, ◌<◌, ◌≤◌, true, ◌⊎◌, inl, inr, List, [], ◌∷◌, ◌++◌}
-use Rattle.std.proofs.Common.{refl, subst, sym, arith}
+use Rattle.std.proofs.Common.{refl, arith}
 use Rattle.std.specs.List.{AllByRecursion}
 use Rattle.lemmas.proofs.Lists.{all_append}
 use Rattle.model.specs.Types.{Feed, Net, WorldStep}
@@ -9,7 +9,7 @@ use Rattle.model.specs.Network.{IsTree, node_count}
 use Rattle.model.specs.Forwarding.{feeds}
 use Rattle.model.specs.World.{World}
 use Rattle.model.specs.Invariant.{Invariant}
-use Rattle.rest_laws.specs.Gains.{gained, gained_at, most, sum_over}
+use Rattle.rest_laws.specs.Gains.{gained, gained_at, sum_over}
 use Rattle.rest_laws.specs.Left.{bound_of, caps_of, entries, keeps_to, left}
 use Rattle.rest_laws.specs.Rest.{HasDoneItsWork, IsAtRest, count_of}
 use Rattle.rest_laws.specs.Rounds.{AreTaken, BringsNoMore, is_of_round}

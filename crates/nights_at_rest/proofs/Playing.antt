@@ -14,11 +14,11 @@ use Rattle.model.specs.World as model
 use Rattle.model.specs.World.{Origin, World, apply_effect, as_refusal, delivery, empty_world, mark_delivered, node_effect, packet_input, reached_limit, result_map, run, step, view_at, within_limits}
 use Rattle.model_laws.proofs.FreeRuns.{nothing_reached, taken_free}
 use Rattle.model_laws.proofs.Keeps.{always_invariant}
-use Rattle.rest_laws.specs.Gains.{gained, gained_at}
+use Rattle.rest_laws.specs.Gains.{gained}
 use Rattle.rest_laws.specs.Leads.{next_packet}
 use Rattle.rest_laws.specs.Left.{bound_of, keeps_to}
-use Rattle.rest_laws.specs.Rest.{HasDoneItsWork, IsAtRest}
-use Rattle.rest_laws.specs.Rounds.{AreLinked, AreTaken, IsAmong, IsOpenRound, is_of_round}
+use Rattle.rest_laws.specs.Rest.{IsAtRest}
+use Rattle.rest_laws.specs.Rounds.{AreLinked, AreTaken, IsOpenRound, is_of_round}
 use Rattle.rest_laws.specs.ToRest.{names_inside}
 use Rattle.rest_laws.proofs.Busy.{gained_more}
 use Rattle.rest_laws.proofs.Done as works
@@ -27,9 +27,8 @@ use Rattle.rest_laws.proofs.Named.{named_run}
 use Rattle.rest_laws.proofs.Rises.{run_rises}
 use Rattle.rest_laws.proofs.Rounds.{open_taken, taken_append}
 use Rattle.carry_forward.specs.declared.CarryFault.TheVariants as carry
-use Rattle.agent_core.specs.declared.StepFault.{StepFault}
 use Rattle.agent_core.specs.declared.StepFault.TheVariants as fault
-use Rattle.network_world.specs.Standing.{IsRefusalDue, StandsFor, Steps}
+use Rattle.network_world.specs.Standing.{IsRefusalDue, StandsFor}
 use Rattle.network_world.specs.Stations.{WorldState}
 use Rattle.network_world.specs.declared.refusals.StepRefused.{StepRefused}
 use Rattle.network_world.specs.declared.refusals.StepRefused.TheVariants.{Limit, NoMemory, NoPacket, Step}

@@ -1,16 +1,15 @@
 -- A still pass is a quiet turn.
-use Rattle.std.proofs.Common.{[], ◌++◌, ◌<◌, ◌≤◌, ◌≡◌, ◌≢◌, ◌∙◌, ◌∷◌, ◌⊎◌, ℕ, Bool, List, None, Option, Some, ap, arith, false, inl, inr, length, refl, subst, suc, sym, take, true, zero}
+use Rattle.std.proofs.Common.{[], ◌++◌, ◌<◌, ◌≡◌, ◌≢◌, ◌∙◌, ◌∷◌, ◌⊎◌, ℕ, Bool, List, None, Option, Some, ap, arith, false, inl, inr, length, refl, subst, suc, sym, true, zero}
 use Rattle.std.proofs.lemmas.Bool.{eq-eqb}
 use Rattle.std.proofs.lemmas.List.{append-nil, length-take}
 use Rattle.std.specs.List.{AllByRecursion, list_all}
 use Rattle.std.specs.Option.{option_to_list}
-use Rattle.std.specs.Prelude.{◌&&◌, Err, nat_lt, Ok, Result, not, option_map, slice_get}
-use Rattle.lemmas.proofs.Booleans.{and_left, and_right}
+use Rattle.std.specs.Prelude.{◌&&◌, Err, nat_lt, Ok, Result, option_map, slice_get}
 use Rattle.lemmas.proofs.Lists.{all_left, all_right, same_head}
 use Rattle.composer_parser.specs.declared.Defs.{Defs}
-use Rattle.model.specs.Types.{Ack, Body, Cmd, Entry, Feed, Input, Launch, LimitName, Local, Mail, Net, Out, Packet, Send, Take, Turn, Typed}
-use Rattle.model.specs.Words.{below, has, nth, some_is}
-use Rattle.model.specs.FreeSteps.{free_run, free_step, recounted}
+use Rattle.model.specs.Types.{Ack, Body, Cmd, Entry, Feed, Input, Launch, Mail, Net, Out, Packet, Send, Take, Turn, Typed}
+use Rattle.model.specs.Words.{below, nth, some_is}
+use Rattle.model.specs.FreeSteps.{free_step, recounted}
 use Rattle.model.specs.History.{Holding, View, list_of, view_of}
 use Rattle.model.specs.Invariant.{Invariant, IsBacked}
 use Rattle.model.specs.Kept.{HasKept}
@@ -22,7 +21,7 @@ use Rattle.model.specs.StepFaults as faults
 use Rattle.model.specs.StepFaults.{is_next, is_place_spent, is_too_long, lacks_dep, lacks_process, step_fault}
 use Rattle.model.specs.Workstations.{peer_of, ws_in}
 use Rattle.model.specs.Step.{Effect, effect, node_step, unless_fault}
-use Rattle.model.specs.World.{Origin, StepRefused, World, apply_effect, as_refusal, empty_world, node_effect, reached_limit, result_map, step, view_at, within_limits}
+use Rattle.model.specs.World.{Origin, StepRefused, World, apply_effect, empty_world, node_effect, result_map, step, view_at}
 use Rattle.model_laws.proofs.FreeRuns.{free_always, free_kept, nothing_reached}
 use Rattle.model_laws.proofs.Keeps.{at_start}
 use Rattle.model_laws.proofs.NoPackets.{there_within}
@@ -40,30 +39,30 @@ use Rattle.mail_frames.specs.declared.frames.Frame.{Frame}
 use Rattle.mail_frames.specs.declared.frames.Frame.TheVariants as frame
 use Rattle.model.specs.Spelling.{entry_bytes}
 use Rattle.carry_forward.specs.declared.CarryFault.TheVariants as carry
-use Rattle.agent_core.specs.Nodes.{NodeState, present_in, session_in, view_in}
+use Rattle.agent_core.specs.Nodes.{NodeState, session_in, view_in}
 use Rattle.agent_core.specs.Steps.{IsDue, IsTaken, effect_in, step_at}
 use Rattle.agent_core.specs.declared.faults.Step.{Step}
 use Rattle.agent_core.specs.declared.faults.StepFault.{StepFault}
 use Rattle.agent_core.specs.declared.faults.StepFault.TheVariants as fault
-use Rattle.node_inputs.specs.Actions.{Action, Both, Nothing, Stop, Then, Wants, If, IfThere, Each}
-use Rattle.node_inputs.specs.Inputs.{Carried, Carry, CarryOut, Follow, Give, Gives, IsKeeping, Keep, PassOver, Raise, RaiseNew, Refused, SendFrame, SendIt, Take as TakeIt, Takes, frame_of, is_new_neighbour, nothing_carried}
+use Rattle.node_inputs.specs.Actions.{Action, Both, Nothing, Then, Wants, If, IfThere, Each}
+use Rattle.node_inputs.specs.Inputs.{Carried, Carry, CarryOut, Follow, Give, IsKeeping, Keep, PassOver, Raise, RaiseNew, SendFrame, Take as TakeIt, frame_of, is_new_neighbour, nothing_carried}
 use Rattle.node_inputs.specs.Traces.{Event, Trace, readings}
 use Rattle.node_inputs.specs.declared.ends.NodeEnd.{NodeEnd}
-use Rattle.node_loop.specs.Runs.{Advise, Arrive, Come, Comes, EndOf, Found, Looks, On, Probing, Reports, Running, TurnOf, running_with}
+use Rattle.node_loop.specs.Runs.{Advise, Arrive, Come, Comes, EndOf, Found, Looks, On, Probing, Reports, Running}
 use Rattle.network_world.specs.Standing.{NodeStandsFor}
-use Rattle.network_runs.specs.Happenings.{Night, kept_at, made, since}
+use Rattle.network_runs.specs.Happenings.{Night, kept_at, since}
 use Rattle.network_runs.specs.Nights.{IsBegun, IsWorldOf}
 use Rattle.rest_laws.specs.Leads.{next_packet}
-use Rattle.rest_laws.specs.Rest.{HasDoneItsWork, IsAtRest, IsKeptWhole, IsQuiet, leaves, net_at}
+use Rattle.rest_laws.specs.Rest.{IsAtRest, IsQuiet, leaves, net_at}
 use Rattle.rest_laws.specs.Short.{are_answers_short, can_count, has_short_answer}
-use Rattle.rest_laws.specs.ToRest.{AlwaysShort, HasRoom, Reaches, names_inside, would_keep}
+use Rattle.rest_laws.specs.ToRest.{AlwaysShort, names_inside, would_keep}
 use Rattle.rest_laws.proofs.Done as works
 use Rattle.rest_laws.proofs.KeptWhole.{kept_whole}
 use Rattle.rest_laws.proofs.Leads.{sent_first}
 use Rattle.rest_laws.proofs.Named.{named_free}
 use Rattle.rest_laws.proofs.Shorts.{always_short}
 use Rattle.rest_laws.proofs.Taken.{all_low, count_at, turn_taken}
-use Rattle.nights_at_rest.specs.Still.{HasItsLinks, IsStill, Nodes, NodesStandFor, RestsIn, StandStill, have_short_answers, is_still}
+use Rattle.nights_at_rest.specs.Still.{IsStill, Nodes, NodesStandFor, RestsIn, StandStill, have_short_answers, is_still}
 
 abbrev AreStill : Trace → Type 0
 AreStill trace = AllByRecursion (λ event. is_still event ≡ true) trace

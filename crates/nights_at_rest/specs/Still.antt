@@ -1,6 +1,6 @@
 -- Running nodes that stand still: a whole pass of each in which nothing comes, nothing is kept and nothing goes out.
 use Rattle.std.specs.List.{AllByRecursion, list_all}
-use Rattle.std.specs.Prelude.{[], ℕ, ◌&&◌, ◌<◌, ◌∷◌, ◌≡◌, Bool, IsTrue, List, None, Ok, false, true}
+use Rattle.std.specs.Prelude.{[], ℕ, ◌&&◌, ◌<◌, ◌∷◌, ◌≡◌, Bool, IsTrue, None, Ok, false, true}
 use Rattle.composer_parser.specs.declared.Defs.{Defs}
 use Rattle.model.specs.Types.{Entry}
 use Rattle.model.specs.Network.{are_neighbours, node_count}

@@ -42,8 +42,8 @@ PLANS = [
     ("mkdirat", "signal=KILL", 1),
     ("pwrite64", "error=EIO", 26), ("fsync", "error=EIO", 28), ("pwrite64", "error=ENOSPC", 26),
     ("clone3", "error=EAGAIN", 3), ("sendto", "error=EPIPE", 4), ("accept4", "error=EMFILE", 8),
-    ("fsync", "error=EINTR", 8), ("pwrite64", "error=EINTR", 8), ("ftruncate", "error=EIO", 2),
-    ("flock", "error=EWOULDBLOCK", 1), ("openat", "error=EACCES", 24), ("openat", "error=EMFILE", 24),
+    ("fsync", "error=EINTR", 8), ("pwrite64", "error=EINTR", 8), ("flock", "error=EAGAIN", 1),
+    ("openat", "error=EACCES", 24), ("openat", "error=EMFILE", 24),
     ("write", "error=ENOSPC", 24), ("mkdir", "error=EACCES", 1), ("mkdirat", "error=EACCES", 1),
     ("unlink", "error=EACCES", 3), ("unlinkat", "error=EACCES", 3), ("getrandom", "error=EAGAIN", 2),
 ]

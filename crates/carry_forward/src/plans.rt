@@ -56,8 +56,8 @@ fn fresh_documents(
 }
 
 /// The plan of a new day: its run, the counts of events at which it cuts, the unfinished streams that the network's
-/// option takes, and the drafts as documents. The faults are tested in the order of `CarryFault`. Want of memory may come in place of a plan and of
-/// `PlanFull`, and of no other answer.
+/// option takes, and the drafts as documents. The faults are tested in the order of `CarryFault`. Want of memory may come
+/// in place of any answer.
 #[tactic(auto, using(crate::proofs::Causes::runs_first))]
 pub fn next_plan(
     alloc: Global,
@@ -90,7 +90,7 @@ pub fn next_plan(
 }
 
 /// The document of a submitted stream: the only fresh one, over the members of the plan. `RunsSpent` does not come.
-/// Want of memory may come in place of a document and of `PlanFull`, and of no other answer.
+/// Want of memory may come in place of any answer.
 pub fn numbered(alloc: Global, o: &Owners, draft: &StreamDraft) -> Result<StreamDoc, CarryFault>
     ensures value { IfOk result (λ doc. doc ≡ spec.numbered (view_of o.now) draft.now) }
     ensures accepted { IsOk result → submit_fault (view_of o.now) draft.now ≡ None }

@@ -416,9 +416,8 @@ fn row(
 /// The command that a line gives, and the workstation that it goes to, where it is typed at the workstation `me`, which
 /// took these entries. Names are looked up in the network as it stands for it.
 ///
-/// Unless memory runs out, the answer is exactly the one that is due. Only the text of an own prompt and a submitted
-/// stream take memory; that a line gives no command is told without any. Of a line that was read, the command is one that
-/// an entry may have: its texts have at most 4,096 bytes each.
+/// Unless memory runs out, the answer is exactly the one that is due; that a line gives no command is told without memory.
+/// Of a line that was read, the command is one that an entry may have: its texts have at most 4,096 bytes each.
 pub fn resolve(
     alloc: Global,
     network: &Network,

@@ -50,7 +50,7 @@ IsFrameIn G (Mail g k) f =
     × (f ≡ frame.Mail (entry_bytes (record { feed = g; place = k; body = body })))
 IsFrameIn G (Ack g n) f = (f ≡ frame.Ack g n) × FeedInRange g
 
-frame_grows : (G H : List Entry) (p : Packet) (f : Frame) → IsFrameIn G p f → IsFrameIn (G ++ H) p f
+pub frame_grows : (G H : List Entry) (p : Packet) (f : Frame) → IsFrameIn G p f → IsFrameIn (G ++ H) p f
 frame_grows G H (Mail g k) f h =
     (h.0, ap (λ (l : List Body). nth l k) (list_of-append G H g) ∙ nth_more (list_of G g) (list_of H g) k h.0 h.1, h.2)
 frame_grows G H (Ack g n) f h = h

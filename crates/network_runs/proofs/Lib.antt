@@ -1,15 +1,15 @@
-mod Members
-mod Worlds
-mod Stories
-mod Telling
+pub mod Members
+pub mod Worlds
+pub mod Stories
+pub mod Telling
 mod Runs
-mod Growing
-mod Counting
+pub mod Growing
+pub mod Counting
 mod Acks
-mod Carrying
+pub mod Carrying
 mod Advancing
 mod Whole
-mod Reading
+pub mod Reading
 mod Leaving
 mod Places
 mod Uniques

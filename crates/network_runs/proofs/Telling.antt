@@ -133,7 +133,7 @@ deaf_of : (node : NodeState) (outs : List Out) (trace : Trace) → AllByRecursio
 deaf_of node outs [] h = tt
 deaf_of node outs (e ∷ trace) h = (h.0.1, deaf_of node outs trace h.1)
 
-given_out : (node : NodeState) (outs : List Out) (trace : Trace) (end : Option NodeEnd) (new : NodeState)
+pub given_out : (node : NodeState) (outs : List Out) (trace : Trace) (end : Option NodeEnd) (new : NodeState)
     → (g : GivesOut outs node trace end new) → AllByRecursion (IsOutput node outs) trace
 given_out node outs trace end new g =
     subst (AllByRecursion (IsOutput node outs)) (sym g.split)

@@ -1,4 +1,16 @@
+mod Arriving
+mod Beginning
 mod Coming
+mod Doing
 mod Few
+mod Going
+mod Hearing
+mod Meeting
+mod Passing
 mod Playing
+mod Posts
 mod Standing
+mod Staying
+mod Taken
+mod Waiting
+mod Ways

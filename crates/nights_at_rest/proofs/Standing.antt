@@ -64,25 +64,25 @@ use Rattle.rest_laws.proofs.Shorts.{always_short}
 use Rattle.rest_laws.proofs.Taken.{all_low, count_at, turn_taken}
 use Rattle.nights_at_rest.specs.Still.{IsStill, Nodes, NodesStandFor, RestsIn, StandStill, have_short_answers, is_still}
 
-abbrev AreStill : Trace → Type 0
+abbrev pub AreStill : Trace → Type 0
 AreStill trace = AllByRecursion (λ event. is_still event ≡ true) trace
 
-no_end : {P : Type 0} {why : NodeEnd} → None ≡ Some why → P
+pub no_end : {P : Type 0} {why : NodeEnd} → None ≡ Some why → P
 no_end q = cc
 
 -- an action that goes on, and one behind it
-both_of : {S : Type 0} (first second : Action S) (old : S) (trace : Trace) (new : S) → Then first second old trace None new
+pub both_of : {S : Type 0} (first second : Action S) (old : S) (trace : Trace) (new : S) → Then first second old trace None new
     → Both first second old trace None new
 both_of first second old trace new (inl b) = b
 both_of first second old trace new (inr e) = no_end e.for_that_cause
 
-wanted : {S : Type 0} (act : Action S) (old : S) (trace : Trace) (new : S) → Wants act old trace None new
+pub wanted : {S : Type 0} (act : Action S) (old : S) (trace : Trace) (new : S) → Wants act old trace None new
     → act old trace None new
 wanted act old trace new (inl h) = h
 wanted act old trace new (inr h) = no_end h.1
 
 -- the parts of a still trace are still
-front_still : (trace front back : Trace) → trace ≡ front ++ back → AreStill trace → AreStill front
+pub front_still : (trace front back : Trace) → trace ≡ front ++ back → AreStill trace → AreStill front
 front_still trace front back split each =
     all_left (λ event. is_still event ≡ true) front back (subst AreStill split each)
 
@@ -90,7 +90,7 @@ back_still : (trace front back : Trace) → trace ≡ front ++ back → AreStill
 back_still trace front back split each =
     all_right (λ event. is_still event ≡ true) front back (subst AreStill split each)
 
-not_still : {P : Type 0} → false ≡ true → P
+pub not_still : {P : Type 0} → false ≡ true → P
 not_still q = cc
 
 -- what comes in it is nothing
@@ -103,7 +103,7 @@ arrives defs (arrival.Client bytes) old rest new still h = not_still still
 arrives defs arrival.Nothing old rest new still h = h.2
 arrives defs arrival.NoMemory old rest new still h = not_still still
 
-comes : (defs : Defs) (old : Running) (trace : Trace) (new : Running) → AreStill trace → Come defs old trace None new
+pub comes : (defs : Defs) (old : Running) (trace : Trace) (new : Running) → AreStill trace → Come defs old trace None new
     → new ≡ old
 comes defs old trace new each h =
     let c : Comes defs old trace None new = wanted (λ o t e n. Comes defs o t e n) old trace new h in
@@ -195,7 +195,7 @@ is_place : faults.StepFault → Bool
 is_place faults.StepFault.PlaceSpent = true
 is_place _ = false
 
-passes_over : (input : Input) (f : StepFault) (old : NodeState) (trace : Trace) (new : NodeState) → f ≢ fault.NoMemory
+pub passes_over : (input : Input) (f : StepFault) (old : NodeState) (trace : Trace) (new : NodeState) → f ≢ fault.NoMemory
     → IsDue old input f → PassOver f old trace None new → PassedOver input old new
 unfolding is_place
 passes_over input fault.NotInNetwork old trace new known due h =
@@ -457,7 +457,7 @@ module _ (net : Net) (x : World) (w t : ℕ) (inv : Invariant net x) (w_in : w <
           absurd (has_it (effect_in k.step_ k.after) k.after e k.none same h.0 h.1 os (is ∙ ap (λ (p : Out). p ∷ os) h.2) h.3)
 
   -- it is not refused for another cause than a spent place
-  not_refused : is_too_long (would_keep net x w t) ≡ false → (new : NodeState) → PassedOver (Input.Local (Turn t)) old new → ⊥
+  pub not_refused : is_too_long (would_keep net x w t) ≡ false → (new : NodeState) → PassedOver (Input.Local (Turn t)) old new → ⊥
   unfolding cause_of
   not_refused short new p = go (is_place_spent (view_at x w) (would_keep net x w t)) refl
     where

@@ -185,13 +185,25 @@ def look():
     return status
 
 
+def module_of(file):
+    module = file.split("/src/")[1][:-3].replace("/", "::")
+    return [] if module == "lib" else [module]
+
+
+def module_of_type(file, owner):
+    """The module that declares a type, by which a check names its methods; that of the file where the crate has none."""
+    declared = re.compile(rf"^(pub(\([a-z]+\))? )?(struct|enum) {owner}\b", re.M)
+    found = [path for path in files_below(f"{file.split('/src/')[0]}/src", ".rt") if declared.search(text_of(path))]
+    return module_of(found[0] if found else file)
+
+
 def path_of(file, signature):
     """The path of a function below its crate, as a check prints it, by its file and its `impl`."""
-    module = file.split("/src/")[1][:-3].replace("/", "::")
-    text = "\n".join(signature)
+    name = re.search(r"\bfn (\w+)", "\n".join(signature)).group(1)
     owner = re.match(r"impl(?:<.*?>)? (?:.* for )?(\w+)", signature[0])
-    parts = [] if module == "lib" else [module]
-    return "::".join(parts + ([owner.group(1)] if owner else []) + [re.search(r"\bfn (\w+)", text).group(1)])
+    if not owner:
+        return "::".join([*module_of(file), name])
+    return "::".join([*module_of_type(file, owner.group(1)), owner.group(1), name])
 
 
 def bodies_of(crate, edit):

@@ -1,0 +1,96 @@
+-- Why the members of a plan and their jobs wait, as one text.
+use Rattle.std.specs.Option.{option_map_or}
+use Rattle.std.specs.Prelude.{[], if◌then◌else◌, ℕ, ◌++◌, ◌==◌, ◌∷◌, Bool, List, None, Option, Some, codes, false, flat_map, true}
+use Rattle.model.specs.Types.{Job, JobDoc, Net, Obj, Stream, StreamDoc}
+use Rattle.model.specs.History.{View}
+use Rattle.model.specs.Catalogue.{StreamJob, job, members, stream}
+use Rattle.model.specs.Readiness.{best}
+use Rattle.model.specs.States as model
+use Rattle.symphony_view.specs.Words.{job_word, stream_word}
+use Rattle.waiting.specs.Lacks.{end_lacks, job_lacks, release_lacks}
+use Rattle.waiting.specs.declared.lacks.Lack.{Lack}
+use Rattle.waiting_lines.specs.Lines.{lack_line}
+use Rattle.waiting_lines.specs.Names.{job_name, job_text, stream_text}
+
+-- Jobs.
+
+-- a job that has not begun
+abbrev pub has_not_begun : model.JobState → Bool
+has_not_begun model.JobState.Hold = true
+has_not_begun model.JobState.Fence = true
+has_not_begun model.JobState.Ready = true
+has_not_begun _ = false
+
+-- `W#STREAM.JOB STATE`
+unfoldable pub job_head : Net → StreamJob → model.JobState → List ℕ
+job_head net p state = job_text net p ++ codes " " ++ job_word state ++ codes "\n"
+
+-- a job that lacks nothing, where the next of its workstation is known
+unfoldable pub ahead_line : Net → View → ℕ → Option ℕ → List ℕ
+ahead_line net V j None = codes "  lacks nothing\n"
+ahead_line net V j (Some next) =
+    if next == j then codes "  lacks nothing, and is launched next\n" else
+    (codes "  lacks nothing, behind " ++ job_name net V next ++ codes "\n")
+
+-- what it lacks
+unfoldable pub job_lines : Net → View → ℕ → Option ℕ → List Lack → List ℕ
+job_lines net V j next [] = ahead_line net V j next
+job_lines net V j next (lack ∷ lacks) = flat_map (lack_line net V (Job j)) (lack ∷ lacks)
+
+-- a job of this number that has not begun, asked at w
+unfoldable pub job_answer : Net → View → ℕ → Option ℕ → ℕ → StreamJob → List ℕ
+job_answer net V w next j p =
+    if has_not_begun (model.job_state net V p)
+    then job_head net p (model.job_state net V p) ++ job_lines net V j next (job_lacks net V w j) else []
+
+-- the job of a number
+unfoldable pub numbered_job_answer : Net → View → ℕ → Option ℕ → ℕ → List ℕ
+numbered_job_answer net V w next j = option_map_or (job_answer net V w next j) (job V j) []
+
+-- Streams.
+
+-- `stream W#STREAM STATE, to be released`, or `ended`
+unfoldable pub stream_head : Net → StreamDoc → model.StreamState → List ℕ → List ℕ
+stream_head net d state what =
+    codes "stream " ++ stream_text net d ++ codes " " ++ stream_word state ++ codes ", to be " ++ what ++ codes "\n"
+
+-- what it lacks
+unfoldable pub stream_lines : Net → View → ℕ → List Lack → List ℕ
+stream_lines net V s [] = codes "  lacks nothing\n"
+stream_lines net V s (lack ∷ lacks) = flat_map (lack_line net V (Stream s)) (lack ∷ lacks)
+
+-- a stream of this number that is not released, and one that is released and has not ended, asked at w
+unfoldable pub release_answer : Net → View → ℕ → ℕ → StreamDoc → model.StreamState → List ℕ
+release_answer net V w s d state =
+    stream_head net d state (codes "released") ++ stream_lines net V s (release_lacks net V w s)
+
+unfoldable pub end_answer : Net → View → ℕ → ℕ → StreamDoc → model.StreamState → List ℕ
+end_answer net V w s d state = stream_head net d state (codes "ended") ++ stream_lines net V s (end_lacks V w s)
+
+-- by its state
+abbrev pub answer_in_state : Net → View → ℕ → ℕ → StreamDoc → model.StreamState → List ℕ
+answer_in_state net V w s d model.StreamState.Hold = release_answer net V w s d model.StreamState.Hold
+answer_in_state net V w s d model.StreamState.Ready = release_answer net V w s d model.StreamState.Ready
+answer_in_state net V w s d model.StreamState.Exec = end_answer net V w s d model.StreamState.Exec
+answer_in_state net V w s d model.StreamState.Stuck = end_answer net V w s d model.StreamState.Stuck
+answer_in_state net V w s d model.StreamState.Abend = end_answer net V w s d model.StreamState.Abend
+answer_in_state net V w s d model.StreamState.Succ = []
+answer_in_state net V w s d model.StreamState.Cancel = []
+
+unfoldable pub stream_answer : Net → View → ℕ → ℕ → StreamDoc → List ℕ
+stream_answer net V w s d = answer_in_state net V w s d (model.stream_state net V d)
+
+-- The plan.
+
+-- a stream of this number and its jobs
+unfoldable pub stream_answers : Net → View → ℕ → Option ℕ → ℕ → StreamDoc → List ℕ
+stream_answers net V w next s d =
+    stream_answer net V w s d ++ flat_map (λ (j : JobDoc). numbered_job_answer net V w next j.no) d.jobs
+
+-- those of a member
+unfoldable pub member_answers : Net → View → ℕ → Option ℕ → ℕ → List ℕ
+member_answers net V w next s = option_map_or (stream_answers net V w next s) (stream V s) []
+
+-- all members, asked at w
+unfoldable pub waits_of : Net → View → ℕ → List ℕ
+waits_of net V w = flat_map (member_answers net V w (best net V w)) (members V)

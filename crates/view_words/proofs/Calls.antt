@@ -1,5 +1,6 @@
 -- What inputs and files call for, by their parts.
-use Rattle.std.proofs.Common.{[], ◌<◌, ◌≡◌, ◌∙◌, ℕ, IfSome, List, None, Option, Some, ap, arith, bytes_eq, codes, length, subst, sym}
+use Rattle.std.proofs.Common.{[], ◌<◌, ◌≡◌, ◌∙◌, ℕ, IfSome, List, None, Option, Some, ap, arith, bytes_eq, codes}
+use Rattle.std.proofs.Common.{length, subst, sym}
 use Rattle.std.proofs.lemmas.List.{length-map}
 use Rattle.std.proofs.lemmas.Option.{slice_get_within}
 use Rattle.base_types.specs.declared.LimitName.TheVariants as limit
@@ -14,7 +15,8 @@ use Rattle.model.specs.Network.{node_count}
 use Rattle.model.specs.Types.{Entry, Net}
 use Rattle.outside.specs.Streams.{Stream}
 use Rattle.replies.specs.Texts.{definitions_line, limit_line, limit_word}
-use Rattle.replies.specs.declared.statuses.Status.TheVariants.{DefinitionsRefused, DiskFailed, LimitPassed, OtherFile, Success, WordsRefused}
+use Rattle.replies.specs.declared.statuses.Status.TheVariants.{DefinitionsRefused, DiskFailed, LimitPassed}
+use Rattle.replies.specs.declared.statuses.Status.TheVariants.{OtherFile, Success, WordsRefused}
 use Rattle.whole_io.specs.Whole.{TakesCount}
 use Rattle.workload_defs.specs.Nets.{net_of, node_of}
 use Rattle.workload_defs.specs.Stations.{number_of, stations}

@@ -41,8 +41,8 @@ pub data UnreadCallsFor (old new : Option Stream) : Status → List ℕ → Type
 
 -- Files.
 
--- What a folder tells: the bytes of the file of a name when the reading began and as the last call found them, what others
--- may make of them meanwhile, and its count of faults at both times.
+-- What a folder tells: the bytes of the file of a name when the reading began and as the last call found them, what
+-- others may make of them meanwhile, and its count of faults at both times.
 pub record Sight : Type 1 where
   pub seen : List ℕ → Option (List ℕ)
   pub seen_then : List ℕ → Option (List ℕ)
@@ -59,8 +59,8 @@ sight seen becomes faults old new =
 abbrev pub file_of : List ℕ → List ℕ
 file_of name = name ++ codes ".msg"
 
--- These entries were read of the file of workstation me. Where others only keep more in it, they are what the file keeps as
--- the last call found it, and all that it kept when the reading began stands at their front.
+-- These entries were read of the file of workstation me. Where others only keep more in it, they are what the file
+-- keeps as the last call found it, and all that it kept when the reading began stands at their front.
 pub record HasRead (S : Sight) (defs : Defs) (me : ℕ) (name : List ℕ) (entries : List Entry) : Type 0 where
   pub last :
       OnlyKeepsMore S.becomes me (file_of name)

@@ -71,17 +71,17 @@ fn reply<I: Source, F: Folder>(
 
 /// Does all that the program does, and ends with its exit status.
 ///
-/// The words are `kept NAME` or `why NAME`. It reads definitions from the input, finds their workstation NAME, and reads
-/// its message file `NAME.msg` in the folder. `kept` writes a line for each entry that the file keeps, in the order kept:
-/// the line that the report of a run has for it. `why` writes what each stream that is not released or not ended and each
-/// job that has not begun lacks, by these entries. A node may be writing the file: what is shown is then that of all that
-/// the file kept when the reading began, and perhaps of more.
+/// The words are `kept NAME` or `why NAME`. It reads definitions from the input, finds their workstation NAME, and
+/// reads its message file `NAME.msg` in the folder. `kept` writes a line for each entry that the file keeps, in the
+/// order kept: the line that the report of a run has for it. `why` writes what each stream that is not released or
+/// not ended and each job in HOLD, FENCE or READY lacks, by these entries. A node may be writing the file: what is
+/// shown is then that of all that the file kept when the reading began, and perhaps of more.
 ///
-/// The statuses are 0 where that was written, 1 for an input that is no definitions, 2 for other words and for a NAME that
-/// is not defined, 4, 5 and 6 where the source, the sink or the folder failed, as it does for a file that is not there, 7
-/// for a file that a node of NAME would refuse, with the place that shows it, 9 for want of memory, and 10 where the input
-/// passes its limit. Nothing is written before all is done. With 4, 6 and 9 nothing is written at all, and with 5 a front
-/// of the text that is due. The folder has no call that writes.
+/// The statuses are 0 where that was written, 1 for an input that is no definitions, 2 for other words and for a NAME
+/// that is not defined, 4, 5 and 6 where the source, the sink or the folder failed, as it does for a file that is not
+/// there, 7 for a file that a node of NAME would refuse, with the place that shows it, 9 for want of memory, and 10
+/// where the input passes its limit. Nothing is written before all is done. With 4, 6 and 9 nothing is written at
+/// all, and with 5 a front of the text that is due. The folder has no call that writes.
 pub fn view<I: Source, O: Sink, F: Folder>(
     alloc: Global,
     words: &[Text],

@@ -1,6 +1,7 @@
 -- Why the members of a plan and their jobs wait, as one text.
 use Rattle.std.specs.Option.{option_map_or}
-use Rattle.std.specs.Prelude.{[], if◌then◌else◌, ℕ, ◌++◌, ◌==◌, ◌∷◌, Bool, List, None, Option, Some, codes, false, flat_map, true}
+use Rattle.std.specs.Prelude.{[], if◌then◌else◌, ℕ, ◌++◌, ◌==◌, ◌∷◌, Bool, List, None, Option, Some, codes, false}
+use Rattle.std.specs.Prelude.{flat_map, true}
 use Rattle.model.specs.Types.{Job, JobDoc, Net, Obj, Stream, StreamDoc}
 use Rattle.model.specs.History.{View}
 use Rattle.model.specs.Catalogue.{StreamJob, job, members, stream}
@@ -14,12 +15,12 @@ use Rattle.waiting_lines.specs.Names.{job_name, job_text, stream_text}
 
 -- Jobs.
 
--- a job that has not begun
-abbrev pub has_not_begun : model.JobState → Bool
-has_not_begun model.JobState.Hold = true
-has_not_begun model.JobState.Fence = true
-has_not_begun model.JobState.Ready = true
-has_not_begun _ = false
+-- HOLD, FENCE and READY: it is still to be launched
+abbrev pub is_waiting_state : model.JobState → Bool
+is_waiting_state model.JobState.Hold = true
+is_waiting_state model.JobState.Fence = true
+is_waiting_state model.JobState.Ready = true
+is_waiting_state _ = false
 
 -- `W#STREAM.JOB STATE`
 unfoldable pub job_head : Net → StreamJob → model.JobState → List ℕ
@@ -37,10 +38,10 @@ unfoldable pub job_lines : Net → View → ℕ → Option ℕ → List Lack →
 job_lines net V j next [] = ahead_line net V j next
 job_lines net V j next (lack ∷ lacks) = flat_map (lack_line net V (Job j)) (lack ∷ lacks)
 
--- a job of this number that has not begun, asked at w
+-- a job of this number that is still to be launched, asked at w
 unfoldable pub job_answer : Net → View → ℕ → Option ℕ → ℕ → StreamJob → List ℕ
 job_answer net V w next j p =
-    if has_not_begun (model.job_state net V p)
+    if is_waiting_state (model.job_state net V p)
     then job_head net p (model.job_state net V p) ++ job_lines net V j next (job_lacks net V w j) else []
 
 -- the job of a number

@@ -7,7 +7,8 @@ use Rattle.model.specs.Dependencies.{dep}
 use Rattle.report_text.specs.Names.{name_of}
 use Rattle.waiting.specs.declared.lacks.Lack.{Lack}
 use Rattle.waiting.specs.declared.lacks.Lack.TheVariants as lack
-use Rattle.waiting_lines.specs.Names.{job_name, path_in, prompt_name, reply_text, resource_name, state_of_job, stream_name, text_in}
+use Rattle.waiting_lines.specs.Names.{job_name, path_in, prompt_name, reply_text, resource_name, state_of_job}
+use Rattle.waiting_lines.specs.Names.{stream_name, text_in}
 
 -- `  WHAT`, and a number between two words
 unfoldable pub number_line : List ℕ → ℕ → List ℕ → List ℕ

@@ -11,7 +11,7 @@ ghost use Rattle.waiting_lines.specs.Answers as spec;
 
 use crate::lines::write_lacks;
 use crate::names::{write_job, write_job_name, write_stream};
-use crate::states::{has_not_begun, word_of_job, word_of_stream};
+use crate::states::{is_waiting_state, word_of_job, word_of_stream};
 use base_types::{Bytes, Items, JobDoc, JobNo, NoMemory, Obj, StreamDoc, StreamNo, Ws};
 use dependencies::{Readiness, Scan};
 use network_tree::Network;
@@ -89,7 +89,7 @@ fn write_job_lines(
     }
 }
 
-/// Writes why a job of the catalogue waits, where it has not begun.
+/// Writes why a job of the catalogue waits, where it is still to be launched.
 #[tactic(auto, unfolding(crate::specs::Answers::job_answer))]
 fn write_job_answer(
     alloc: Global,
@@ -107,7 +107,7 @@ fn write_job_answer(
         ++ spec.job_answer net.now (view_of o.now) w next j (stream_job parent.now doc.now)) }
 {
     let state = job_state(net, o, j);
-    if !has_not_begun(state) {
+    if !is_waiting_state(state) {
         return Ok(());
     }
     or_no_memory(write_job_head(out, net, parent, doc, state))?;
@@ -324,10 +324,11 @@ fn next_job(net: &Network, o: &Owners, w: Ws) -> Option<u32>
     }
 }
 
-/// Why the members of the plan and their jobs wait, by the entries that workstation w holds: for each stream that is not
-/// released, or not ended, and each job that has not begun, a line with its name and its state, and a line for each thing
-/// that it lacks. One that another workstation decides is told so first, and then what it lacks by what is held here. A job
-/// of w that lacks nothing tells which job w launches before it.
+/// Why the members of the plan and their jobs wait, by the entries that workstation w holds: for each stream that is
+/// not released, or not ended, and each job in HOLD, FENCE or READY, a line with its name and its state, and a line
+/// for each thing that it lacks. What is cancelled is not told. Of what another workstation decides, that is told
+/// first, and then what it lacks by what is held here. A job of w that lacks nothing tells which job w launches
+/// before it.
 ///
 /// `NoMemory` where memory runs out.
 #[tactic(auto, unfolding(crate::specs::Answers::waits_of))]

@@ -37,9 +37,9 @@ pub(crate) fn word_of_stream(state: StreamState) -> &'static str
     }
 }
 
-/// Whether a job of this state has not begun.
-pub(crate) fn has_not_begun(state: JobState) -> bool
-    ensures { result ≡ spec.has_not_begun (told_job state) }
+/// Whether a job of this state is still to be launched.
+pub(crate) fn is_waiting_state(state: JobState) -> bool
+    ensures { result ≡ spec.is_waiting_state (told_job state) }
 {
     match state {
         JobState::Hold | JobState::Fence | JobState::Ready => true,

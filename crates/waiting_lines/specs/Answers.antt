@@ -26,12 +26,15 @@ is_waiting_state _ = false
 unfoldable pub job_head : Net → StreamJob → model.JobState → List ℕ
 job_head net p state = job_text net p ++ codes " " ++ job_word state ++ codes "\n"
 
+-- a job that lacks nothing, where this one is launched before it
+unfoldable pub behind_line : Net → View → ℕ → List ℕ
+behind_line net V next = codes "  lacks nothing, behind " ++ job_name net V next ++ codes "\n"
+
 -- a job that lacks nothing, where the next of its workstation is known
 unfoldable pub ahead_line : Net → View → ℕ → Option ℕ → List ℕ
 ahead_line net V j None = codes "  lacks nothing\n"
 ahead_line net V j (Some next) =
-    if next == j then codes "  lacks nothing, and is launched next\n" else
-    (codes "  lacks nothing, behind " ++ job_name net V next ++ codes "\n")
+    if next == j then codes "  lacks nothing, and is launched next\n" else behind_line net V next
 
 -- what it lacks
 unfoldable pub job_lines : Net → View → ℕ → Option ℕ → List Lack → List ℕ

@@ -48,6 +48,17 @@ fn write_job_head(
     write!(out, " {word}\n")
 }
 
+/// Writes which job is launched before one that lacks nothing.
+#[tactic(auto, unfolding(crate::specs::Answers::behind_line))]
+fn write_behind(out: &mut Vec<u8>, net: &Network, o: &Owners, first: &JobNo) -> io::Result<()>
+    ensures { OnOk result (out.new.items ≡ out.old.items
+        ++ spec.behind_line net.now (view_of o.now) first.now) }
+{
+    write!(out, "  lacks nothing, behind ")?;
+    write_job_name(out, net, o, first)?;
+    write!(out, "\n")
+}
+
 /// Writes that a job lacks nothing, and which job is launched before it.
 #[tactic(auto, unfolding(crate::specs::Answers::ahead_line))]
 fn write_ahead(
@@ -65,9 +76,7 @@ fn write_ahead(
     if first == j.0 {
         return write!(out, "  lacks nothing, and is launched next\n");
     }
-    write!(out, "  lacks nothing, behind ")?;
-    write_job_name(out, net, o, &JobNo(first))?;
-    write!(out, "\n")
+    write_behind(out, net, o, &JobNo(first))
 }
 
 /// Writes what a job lacks.

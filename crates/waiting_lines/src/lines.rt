@@ -101,7 +101,7 @@ fn write_lack(
         Lack::Prompt(i, p, reply) => write_prompt_line(out, net, *i, *p, *reply),
         Lack::NoPrompt(i, p) => write_two(out, "", *i, " prompt ", u64::from(*p)),
         Lack::OwnPrompt(i, reply) => write_own_prompt(out, *i, text_of(o, obj, *i), *reply),
-        Lack::Time(i, due, now) => write_time(out, *i, due, now),
+        Lack::Time(i, due, now) => write_time(out, *i, due.0, now.0),
         Lack::Before(i, t) => write_two(out, "", *i, " until, which has passed: ", t.0),
         Lack::File(i) => write_file(out, *i, path_of(o, obj, *i)),
         Lack::Nothing(i) => write_number(out, "", u32::from(*i), " deadline"),

@@ -6,7 +6,7 @@ ghost use Rattle.waiting_lines.specs.Lines as spec;
 use crate::names::{
     reply_text, state_word, write_job_name, write_prompt, write_resource, write_stream_name,
 };
-use base_types::{JobNo, Moment, StreamNo};
+use base_types::{JobNo, StreamNo};
 use network_tree::Network;
 use owner_fold::Owners;
 use std::io::{self, Write};
@@ -104,12 +104,13 @@ pub(crate) fn write_own_prompt(
     write!(out, "  {i} prompt \"{text}\": {reply}\n")
 }
 
-/// `I at T: its clock is N`, that of its workstation.
+/// `I at T: its clock is N`, that of its workstation. Both are in seconds since 1970.
 #[tactic(auto, unfolding(crate::specs::Lines::time_line))]
-pub(crate) fn write_time(out: &mut Vec<u8>, i: u16, due: &Moment, now: &Moment) -> io::Result<()>
-    ensures { OnOk result (out.new.items ≡ out.old.items ++ spec.time_line i due.now now.now) }
+pub(crate) fn write_time(out: &mut Vec<u8>, i: u16, due: u64, now: u64) -> io::Result<()>
+    ensures { OnOk result (out.new.items ≡ out.old.items ++ spec.time_line i due now) }
 {
-    write!(out, "  {i} at {}: its clock is {}\n", due.0, now.0)
+    write!(out, "  {i} at {due}")?;
+    write!(out, ": its clock is {now}\n")
 }
 
 /// `I file "PATH": not seen`.

@@ -2,7 +2,7 @@
 use Rattle.std.specs.Option.{option_map_or}
 use Rattle.std.specs.Prelude.{[], if◌then◌else◌, ℕ, ◌++◌, ◌==◌, ◌∷◌, Bool, List, None, Option, Some, codes, false}
 use Rattle.std.specs.Prelude.{flat_map, true}
-use Rattle.model.specs.Types.{Job, JobDoc, Net, Obj, Stream, StreamDoc}
+use Rattle.model.specs.Types.{Job, JobDoc, Net, Stream, StreamDoc}
 use Rattle.model.specs.History.{View}
 use Rattle.model.specs.Catalogue.{StreamJob, job, members, stream}
 use Rattle.model.specs.Readiness.{best}

@@ -1,7 +1,7 @@
 -- Jobs, streams, resources and prompts by their names, and their states by their words. What is not there has no name.
 use Rattle.std.specs.Prelude.{[], ℕ, ◌++◌, Bool, List, None, Option, Some, codes, false, true}
 use Rattle.std.specs.Option.{option_map_or}
-use Rattle.model.specs.Types.{Dep, Net, Obj, Outside, Own, Prompt, PromptDef, PromptRef, Resource, StreamDoc}
+use Rattle.model.specs.Types.{Dep, Net, Outside, Own, Prompt, PromptDef, Resource, StreamDoc}
 use Rattle.model.specs.Words.{nth}
 use Rattle.model.specs.History.{View}
 use Rattle.model.specs.Catalogue.{StreamJob, job, stream}

@@ -117,9 +117,10 @@ entry_at G f (suc i) b each there = entry_from [] G f i (suc i) b each there (om
 
 -- So each entry of a history of fit files is fit.
 
-placed_of : (before G : List Entry) → EachFrom StandsBehindItsCauses before G → EachFrom HasItsPlace before G
-placed_of before [] h = tt
-placed_of before (e ∷ G) h = (h.0.placed, placed_of (before ++ e ∷ []) G h.1)
+placed_of : (files : List NodeFile) (before G : List Entry) → EachFrom (StandsBehindItsCauses files) before G
+    → EachFrom HasItsPlace before G
+placed_of files before [] h = tt
+placed_of files before (e ∷ G) h = (h.0.placed, placed_of files (before ++ e ∷ []) G h.1)
 
 fit_there : (G : List Entry) (j : ℕ) (e : Entry) → AreFitEntries G → slice_get G j ≡ Some e → IsFit e
 fit_there G j e fit there =
@@ -128,10 +129,10 @@ fit_there G j e fit there =
     (fit j e (got_less G j e there))
 
 pub fit_from : (files : List NodeFile) (G : List Entry) → ArePlaced files → AreFitFiles files → AreFromFiles files G
-    → Each StandsBehindItsCauses G → AreFitEntries G
+    → Each (StandsBehindItsCauses files) G → AreFitEntries G
 fit_from files G placed fit from ordered k d less =
     let e = slice_index_or G k d in
     let there : slice_get G k ≡ Some e = slice_get-get_or G k d less in
-    let kept = from e.feed e.place e.body (stands_at G k e (placed_of [] G ordered) there) in
+    let kept = from e.feed e.place e.body (stands_at G k e (placed_of files [] G ordered) there) in
     let found = entry_at kept.file.kept e.feed e.place e.body (placed kept.number kept.file kept.given) kept.kept in
     fit_there kept.file.kept found.0 e (fit kept.number kept.file kept.given) found.1

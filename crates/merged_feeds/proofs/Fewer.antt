@@ -10,9 +10,8 @@ use Rattle.lemmas.proofs.Options.{some_same}
 use Rattle.model.specs.Types.{Body, Entry, Feed}
 use Rattle.model.specs.History.{list_of}
 use Rattle.model.specs.Words.{nth}
-use Rattle.merged_feeds.specs.Causes.{HasItsCauses}
-use Rattle.merged_feeds.specs.Walks.{AreStill, IsNoLess, IsPut, IsStep, IsStill, Moves, Runs, RunsSoFar, TakesNext}
-use Rattle.merged_feeds.specs.Walks.{left, left_in, next_in}
+use Rattle.merged_feeds.specs.Walks.{AreStill, IsNoLess, IsPut, IsStep, IsStill, Moves, Runs, RunsSoFar, StandsStill}
+use Rattle.merged_feeds.specs.Walks.{TakesNext, left, left_in}
 use Rattle.merged_feeds.specs.declared.files.NodeFile.{NodeFile}
 use Rattle.merged_feeds.specs.declared.heads.Head.{Head}
 use Rattle.merged_feeds.proofs.Lists.{got_less, nth_next}
@@ -48,13 +47,13 @@ no_less_same a b e f = subst (λ (l : List Entry). length (list_of a f) ≤ leng
 
 -- the list of which one more was taken
 pub fewer_next : (files : List NodeFile) (head : Head) (file : NodeFile) (old new : List Entry)
-    → slice_get files head.file ≡ Some file → TakesNext file.kept head.feed old new
+    → slice_get files head.file ≡ Some file → TakesNext files file.kept head.feed old new
     → left_in files new head < left_in files old head
 fewer_next files head file old new given t =
     omega (
       arith,
       ap (λ (o : Option NodeFile). option_map_or (λ (x : NodeFile). length (list_of x.kept head.feed)) o 0) given,
-      one_more_next file.kept head.feed old new t,
+      one_more_next files file.kept head.feed old new t,
       got_less (list_of file.kept head.feed) (length (list_of old head.feed)) t.body
           (sym (nth_next (list_of file.kept head.feed) (length (list_of old head.feed))) ∙ t.next),
     )
@@ -68,11 +67,11 @@ run_begins files head old put =
 
 -- one entry more
 pub run_further : (files : List NodeFile) (head : Head) (file : NodeFile) (old now new : List Entry) (some : Bool)
-    → RunsSoFar files head old some now → slice_get files head.file ≡ Some file → IsStep file.kept head.feed now true new
+    → RunsSoFar files head old some now → slice_get files head.file ≡ Some file → IsStep files file.kept head.feed now true new
     → RunsSoFar files head old true new
 run_further files head file old now new some r given s =
-    let t : TakesNext file.kept head.feed now new = s.takes refl in
-    let more : IsNoLess now new = no_less_next file.kept head.feed now new t in
+    let t : TakesNext files file.kept head.feed now new = s.takes refl in
+    let more : IsNoLess now new = no_less_next files file.kept head.feed now new t in
     record {
       put = put_next files head.file file head.feed now new r.put given t;
       no_less = no_less_on old now new r.no_less more;
@@ -82,7 +81,7 @@ run_further files head file old now new some r given s =
 
 -- the list stands still
 pub run_ends : (files : List NodeFile) (head : Head) (file : NodeFile) (old now new : List Entry) (some : Bool)
-    → RunsSoFar files head old some now → slice_get files head.file ≡ Some file → IsStep file.kept head.feed now false new
+    → RunsSoFar files head old some now → slice_get files head.file ≡ Some file → IsStep files file.kept head.feed now false new
     → Runs files head old some new
 run_ends files head file old now new some r given s =
     subst (Runs files head old some) (sym (s.stays refl))
@@ -91,11 +90,9 @@ run_ends files head file old now new some r given s =
       no_less = r.no_less;
       fewer = r.fewer;
       stays = r.stays;
-      still = λ e other given_ b next causes. s.still refl b
-          (subst (λ (x : NodeFile). next_in x.kept head.feed now ≡ Some b)
-          (some_same other file (sym given_ ∙ given))
-          (subst (λ (l : List Entry). next_in other.kept head.feed l ≡ Some b) (sym (r.stays e)) next))
-          (subst (λ (l : List Entry). HasItsCauses l head.feed b) (sym (r.stays e)) causes);
+      still = λ e. subst (λ (l : List Entry). IsStill files l head) (r.stays e)
+          (λ other given_. subst (λ (x : NodeFile). StandsStill files x.kept head.feed now)
+          (some_same file other (sym given ∙ given_)) (s.still refl));
     })
 
 -- there is no such list

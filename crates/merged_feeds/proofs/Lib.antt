@@ -8,3 +8,4 @@ pub mod Alike
 pub mod Listed
 pub mod Steps
 pub mod Entries
+pub mod Made

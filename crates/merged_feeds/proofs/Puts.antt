@@ -23,27 +23,28 @@ put_nothing files = record { from = from_nothing files; ordered = tt }
 
 -- what a list has next, taken behind its causes
 pub put_next : (files : List NodeFile) (i : ℕ) (file : NodeFile) (f : Feed) (old new : List Entry) → IsPut files old
-    → slice_get files i ≡ Some file → TakesNext file.kept f old new → IsPut files new
+    → slice_get files i ≡ Some file → TakesNext files file.kept f old new → IsPut files new
 put_next files i file f old new put given t =
     subst (IsPut files) (sym t.taken)
     (record {
       from = from_push files old e put.from (kept_by files i file f (length (list_of old f) + 1) t.body given t.next);
       ordered =
-          each_push StandsBehindItsCauses old e put.ordered (record { placed = omega arith; causes = t.causes });
+          each_push (StandsBehindItsCauses files) old e put.ordered
+          (record { placed = omega arith; causes = t.causes; made = t.made });
     })
   where
     e : Entry
     e = record { feed = f; place = length (list_of old f) + 1; body = t.body }
 
 -- of no feed less was taken, and of its own one more
-pub no_less_next : (kept : List Entry) (f : Feed) (old new : List Entry) → TakesNext kept f old new → IsNoLess old new
-no_less_next kept f old new t g =
+pub no_less_next : (files : List NodeFile) (kept : List Entry) (f : Feed) (old new : List Entry) → TakesNext files kept f old new → IsNoLess old new
+no_less_next files kept f old new t g =
     subst (λ (l : List Entry). length (list_of old g) ≤ length (list_of l g)) (sym t.taken)
     (pushed-length old (record { feed = f; place = length (list_of old f) + 1; body = t.body }) g)
 
-pub one_more_next : (kept : List Entry) (f : Feed) (old new : List Entry) → TakesNext kept f old new
+pub one_more_next : (files : List NodeFile) (kept : List Entry) (f : Feed) (old new : List Entry) → TakesNext files kept f old new
     → length (list_of new f) ≡ length (list_of old f) + 1
-one_more_next kept f old new t =
+one_more_next files kept f old new t =
     ap (λ (l : List Entry). length (list_of l f)) t.taken ∙ go (pushed_cases old e f)
   where
     e : Entry

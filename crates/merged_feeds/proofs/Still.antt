@@ -13,7 +13,8 @@ use Rattle.model.specs.Sound.{EachFrom}
 use Rattle.model.specs.Words.{nth}
 use Rattle.model_laws.proofs.Feeds.{pushed_cases}
 use Rattle.model_laws.proofs.Growth.{Grows, owned_grows}
-use Rattle.merged_feeds.specs.Causes.{HasItsCauses, IsInOrderOfCauses, OrderAt, StandsBehindItsCauses, counts_in}
+use Rattle.merged_feeds.specs.Causes.{HasItsCauses, IsBehindItsMakers, IsInOrderOfCauses, OrderAt}
+use Rattle.merged_feeds.specs.Causes.{StandsBehindItsCauses, counts_in}
 use Rattle.merged_feeds.specs.Causes.{has_document, is_order_there, objects_in, order_of}
 use Rattle.merged_feeds.specs.Files.{AreAlike, AreFromFiles, IsKept}
 use Rattle.merged_feeds.specs.Merges.{BeginsWith}
@@ -63,29 +64,36 @@ causes_on G H f b less grows c =
           (λ o h. document_on (view_of H) (view_of G) o grows h) c.documented;
     }
 
+makers_on : (files : List NodeFile) (H G : List Entry) (e : Entry) → IsNoLess H G → IsBehindItsMakers files H e
+    → IsBehindItsMakers files G e
+makers_on files H G e less h i file k g given its there mine =
+    omega (arith, less g, h i file k g given its there mine)
+
 module _ (files : List NodeFile) (heads : List Head) (G : List Entry) (alike : AreAlike files)
     (from_G : AreFromFiles files G) (are : AreHeads files heads) (still : AreStill files G heads) where
 
   -- what is next of a feed does not stand behind its causes
   no_next : (f : Feed) (place : ℕ) (b : Body) → place ≡ length (list_of G f) + 1 → IsKept files f place b
-      → HasItsCauses G f b → ⊥
-  no_next f place b at_ k causes = go (are k.number k.file k.given f)
+      → HasItsCauses G f b → IsBehindItsMakers files G (record { feed = f; place = place; body = b }) → ⊥
+  no_next f place b at_ k causes made = go (are k.number k.file k.given f)
     where
       go : (list_of k.file.kept f ≡ []) ⊎ IsAmong heads k.number f → ⊥
       go (inl none) = none_there (list_of k.file.kept f) place b ⊥ none k.kept
       go (inr h) =
           still h.0 (record { file = k.number; feed = f }) h.1 k.file k.given b
           (subst (λ (n : ℕ). nth (list_of k.file.kept f) n ≡ Some b) at_ k.kept) causes
+          (subst (λ (n : ℕ). IsBehindItsMakers files G (record { feed = f; place = n; body = b })) at_ made)
 
   -- one entry more of an order is not more than what was taken
   no_more_with : (before : List Entry) (e : Entry) → AreFromFiles files (before ++ e ∷ []) → IsNoLess before G
-      → StandsBehindItsCauses before e → IsNoLess (before ++ e ∷ []) G
+      → StandsBehindItsCauses files before e → IsNoLess (before ++ e ∷ []) G
   no_more_with before e from less stands f =
       elim (pushed_cases before e f) [
         | inl c ↦ elim (cases_lt (length (list_of before f)) (length (list_of G f))) [
             | inl lower ↦ omega (arith, ap length c.1, length-append (list_of before f) (e.body ∷ []), lower)
             | inr full ↦ absurd (no_next e.feed (length (list_of before e.feed) + 1) e.body
-                (same f c.0 full) (last_kept files before e from) (causes_on G before e.feed e.body less grows stands.causes))
+                (same f c.0 full) (last_kept files before e from) (causes_on G before e.feed e.body less grows stands.causes)
+                (subst (IsBehindItsMakers files G) its_own (makers_on files before G e less stands.made)))
           ]
         | inr c ↦ subst (λ (l : List Body). length l ≤ length (list_of G f)) (sym c.1) (less f)
       ]
@@ -95,13 +103,16 @@ module _ (files : List NodeFile) (heads : List Head) (G : List Entry) (alike : A
       same f at_ full =
           subst (λ (g : Feed). length (list_of before g) + 1 ≡ length (list_of G g) + 1) at_ (omega (arith, full, less f))
 
+      its_own : e ≡ record { feed = e.feed; place = length (list_of before e.feed) + 1; body = e.body }
+      its_own = ap (λ (n : ℕ). record e { place = n }) (let at_ : e.place ≡ 1 + length (list_of before e.feed) = stands.placed in omega (arith, at_))
+
       grows : Grows (view_of before) (view_of G)
       grows =
           let front = fronts_of files before G (Events 0) alike (from_front files before (e ∷ []) from) from_G (less (Events 0)) in
           record { rest = front.0; more = front.1 }
 
   no_more_from : (before rest : List Entry) → AreFromFiles files (before ++ rest) → IsNoLess before G
-      → EachFrom StandsBehindItsCauses before rest → IsNoLess (before ++ rest) G
+      → EachFrom (StandsBehindItsCauses files) before rest → IsNoLess (before ++ rest) G
   no_more_from before [] from less each =
       subst (λ (l : List Entry). IsNoLess l G) (sym (append-nil before)) less
   no_more_from before (e ∷ rest) from less each =
@@ -112,7 +123,7 @@ module _ (files : List NodeFile) (heads : List Head) (G : List Entry) (alike : A
       from_here : AreFromFiles files (before ++ e ∷ [] ++ rest)
       from_here = subst (AreFromFiles files) (sym (append_assoc before (e ∷ []) rest)) from
 
-  pub no_more : (H : List Entry) → AreFromFiles files H → IsInOrderOfCauses H → IsNoLess H G
+  pub no_more : (H : List Entry) → AreFromFiles files H → IsInOrderOfCauses files H → IsNoLess H G
   unfolding list_of
   no_more H from ordered = no_more_from [] H from none ordered
     where

@@ -1,15 +1,17 @@
--- What an entry stands behind, and when entries are in an order of causes.
+-- What an entry stands behind, and when entries of files are in an order of causes.
 use Rattle.std.specs.List.{list_all}
 use Rattle.std.specs.Option.{option_map_or}
-use Rattle.std.specs.Prelude.{[], ℕ, ◌&&◌, ◌≡◌, ◌∷◌, Bool, IsTrue, List, None, Option, Some, is_some, length, map, nat_le, true}
+use Rattle.std.specs.Prelude.{[], ℕ, ◌≡◌, ◌≤◌, ◌∷◌, Bool, IsTrue, List, None, Option, Some, is_some, length, map, nat_le}
+use Rattle.std.specs.Prelude.{slice_get, take, true}
 use Rattle.model.specs.Types.{AddDep, Added, AltPri, At, Body, Cancel, Clock, Cmd, Confirm, Deadline, Declined, DelDep}
 use Rattle.model.specs.Types.{Dep, Ended, Entry, Events, Failed, Feed, Fence, FollowsJob, FollowsStream, Fulfilled, Job}
 use Rattle.model.specs.Types.{Kill, Late, Launched, Limit, Lost, Needs, NewPlan, Obeyed, Obj, Order, Orders, Outside}
 use Rattle.model.specs.Types.{Prompt, Release, Released, ReplyGlobal, ReplyOwn, Rerun, Started, Stop, Stream, StreamEnded}
 use Rattle.model.specs.Types.{StreamLimit, Submit, SwitchMgr, Total, Until, UntilPassed}
 use Rattle.model.specs.Catalogue.{owner}
-use Rattle.model.specs.History.{Seen, View, list_of, view_of}
+use Rattle.model.specs.History.{Seen, View, list_of, maker, view_of}
 use Rattle.model.specs.Sound.{Each, HasItsPlace}
+use Rattle.merged_feeds.specs.declared.files.NodeFile.{NodeFile}
 
 -- Counts.
 
@@ -136,17 +138,26 @@ are_documented before objects = list_all (has_document (view_of before)) objects
 
 -- Causes.
 
--- all that the next entry of a feed stands behind stands there, but for what its maker made before it
+-- all that the next entry of a feed names stands there: what it counts, the order that it answers, and documents
 pub record HasItsCauses (before : List Entry) (f : Feed) (b : Body) : Type 0 where
   pub counted : IsTrue (are_counts_there before (counts_in b))
   pub answered : IsTrue (is_order_there before f b)
   pub documented : IsTrue (are_documented before (objects_in b))
 
--- an entry stands behind the earlier ones of its feed, and behind its causes
-pub record StandsBehindItsCauses (before : List Entry) (e : Entry) : Type 0 where
+-- As a file of its maker has it, all that the maker made before an entry stands there, in whichever feeds. Of an entry that
+-- the file lacks nothing is told.
+abbrev pub IsBehindItsMakers : List NodeFile → List Entry → Entry → Type 0
+IsBehindItsMakers files before e =
+    (i : ℕ) (file : NodeFile) (k : ℕ) (g : Feed) → slice_get files i ≡ Some file → maker e.feed ≡ file.owner
+    → slice_get file.kept k ≡ Some e → maker g ≡ file.owner
+    → length (list_of (take k file.kept) g) ≤ length (list_of before g)
+
+-- an entry stands behind the earlier ones of its feed, behind its causes, and behind what its maker made before it
+pub record StandsBehindItsCauses (files : List NodeFile) (before : List Entry) (e : Entry) : Type 0 where
   pub placed : HasItsPlace before e
   pub causes : HasItsCauses before e.feed e.body
+  pub made : IsBehindItsMakers files before e
 
 -- each entry does
-abbrev pub IsInOrderOfCauses : List Entry → Type 0
-IsInOrderOfCauses G = Each StandsBehindItsCauses G
+abbrev pub IsInOrderOfCauses : List NodeFile → List Entry → Type 0
+IsInOrderOfCauses files G = Each (StandsBehindItsCauses files) G

@@ -33,3 +33,8 @@ AreAlike files = (f : Feed) (place : ℕ) → AreAlikeAt files f place
 -- each entry of a history is one that a file keeps at its place
 abbrev pub AreFromFiles : List NodeFile → List Entry → Type 0
 AreFromFiles files G = (f : Feed) (place : ℕ) (b : Body) → nth (list_of G f) place ≡ Some b → IsKept files f place b
+
+-- files whose history is due: each entry at its place, and no two files with another at one place
+pub record AreMergeable (files : List NodeFile) : Type 0 where
+  pub placed : ArePlaced files
+  pub alike : AreAlike files

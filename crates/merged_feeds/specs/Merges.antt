@@ -24,7 +24,7 @@ pub record HasTheLongest (files : List NodeFile) (G : List Entry) : Type 0 where
 -- the history of the files: each entry once, in an order of causes
 pub record IsHistoryOf (files : List NodeFile) (G : List Entry) : Type 0 where
   pub feeds : HasTheLongest files G
-  pub ordered : IsInOrderOfCauses G
+  pub ordered : IsInOrderOfCauses files G
 
 -- the first that a file lacks of a feed of its own workstation
 abbrev pub lacks_first : Entry → NodeFile → Bool
@@ -55,6 +55,6 @@ pub record DifferFirstAt (files : List NodeFile) (at_ : FeedPlace) : Type 0 wher
 pub record HasNoOrder (files : List NodeFile) (at_ : FeedPlace) : Type 0 where
   pub body : Body
   pub kept : IsKept files at_.feed at_.place body
-  pub none : (G : List Entry) → AreFromFiles files G → IsInOrderOfCauses G → length (list_of G at_.feed) < at_.place
+  pub none : (G : List Entry) → AreFromFiles files G → IsInOrderOfCauses files G → length (list_of G at_.feed) < at_.place
   -- what stands before it in its feed can be put into one
-  pub first : (G : List Entry) × AreFromFiles files G × IsInOrderOfCauses G × (length (list_of G at_.feed) + 1 ≡ at_.place)
+  pub first : (G : List Entry) × AreFromFiles files G × IsInOrderOfCauses files G × (length (list_of G at_.feed) + 1 ≡ at_.place)

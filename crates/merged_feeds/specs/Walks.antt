@@ -1,11 +1,11 @@
 -- The walks over the lists of feeds: what was taken of them, and where they stand still.
 use Rattle.std.specs.Option.{option_map_or}
-use Rattle.std.specs.Prelude.{[], ℕ, ◌++◌, ◌+◌, ◌-◌, ◌<◌, ◌∷◌, ◌≡◌, ◌≢◌, ◌≤◌, ◌⊎◌, Bool, List, Option, Some, false, length}
-use Rattle.std.specs.Prelude.{slice_get, sum_by, true}
+use Rattle.std.specs.Prelude.{[], ℕ, ◌++◌, ◌+◌, ◌-◌, ◌<◌, ◌∷◌, ◌≡◌, ◌≢◌, ◌≤◌, ◌⊎◌, Bool, IfSome, List, Option, Some, false}
+use Rattle.std.specs.Prelude.{length, slice_get, slice_index, sum_by, take, true}
 use Rattle.model.specs.Types.{Body, Entry, Feed}
-use Rattle.model.specs.History.{list_of}
+use Rattle.model.specs.History.{list_of, maker}
 use Rattle.model.specs.Words.{nth}
-use Rattle.merged_feeds.specs.Causes.{HasItsCauses, IsInOrderOfCauses}
+use Rattle.merged_feeds.specs.Causes.{HasItsCauses, IsBehindItsMakers, IsInOrderOfCauses}
 use Rattle.merged_feeds.specs.Files.{AreFromFiles, IsKept}
 use Rattle.merged_feeds.specs.declared.files.FeedPlace.{FeedPlace}
 use Rattle.merged_feeds.specs.declared.files.NodeFile.{NodeFile}
@@ -43,32 +43,116 @@ left files heads taken = sum_by (left_in files taken) heads
 -- what was taken is from the files, and in an order of causes
 pub record IsPut (files : List NodeFile) (taken : List Entry) : Type 0 where
   pub from : AreFromFiles files taken
-  pub ordered : IsInOrderOfCauses taken
+  pub ordered : IsInOrderOfCauses files taken
 
 -- what a list has next
 abbrev pub next_in : List Entry → Feed → List Entry → Option Body
 next_in kept f taken = nth (list_of kept f) (length (list_of taken f) + 1)
 
--- it is taken behind its causes
-pub record TakesNext (kept : List Entry) (f : Feed) (old new : List Entry) : Type 0 where
+-- the entry that a list has next, by its body
+abbrev pub entry_next : Feed → Body → List Entry → Entry
+entry_next f b taken = record { feed = f; place = length (list_of taken f) + 1; body = b }
+
+-- it is taken behind its causes, and behind what its maker made before it
+pub record TakesNext (files : List NodeFile) (kept : List Entry) (f : Feed) (old new : List Entry) : Type 0 where
   pub body : Body
   pub next : next_in kept f old ≡ Some body
   pub causes : HasItsCauses old f body
-  pub taken : new ≡ old ++ record { feed = f; place = length (list_of old f) + 1; body = body } ∷ []
+  pub made : IsBehindItsMakers files old (entry_next f body old)
+  pub taken : new ≡ old ++ entry_next f body old ∷ []
 
--- it does not stand behind its causes
-abbrev pub StandsStill : List Entry → Feed → List Entry → Type 0
-StandsStill kept f taken = (b : Body) → next_in kept f taken ≡ Some b → HasItsCauses taken f b → ⊥
+-- it does not stand behind all that
+abbrev pub StandsStill : List NodeFile → List Entry → Feed → List Entry → Type 0
+StandsStill files kept f taken =
+    (b : Body) → next_in kept f taken ≡ Some b → HasItsCauses taken f b
+    → IsBehindItsMakers files taken (entry_next f b taken) → ⊥
 
-pub record IsStep (kept : List Entry) (f : Feed) (old : List Entry) (some : Bool) (new : List Entry) : Type 0 where
-  pub takes : some ≡ true → TakesNext kept f old new
+pub record IsStep (files : List NodeFile) (kept : List Entry) (f : Feed) (old : List Entry) (some : Bool)
+    (new : List Entry) : Type 0 where
+  pub takes : some ≡ true → TakesNext files kept f old new
   pub stays : some ≡ false → new ≡ old
-  pub still : some ≡ false → StandsStill kept f old
+  pub still : some ≡ false → StandsStill files kept f old
+
+-- of a list, by its file
+abbrev pub IsStepOf : List NodeFile → Head → List Entry → Bool → List Entry → Type 0
+IsStepOf files head old some new =
+    (file : NodeFile) → slice_get files head.file ≡ Some file → IsStep files file.kept head.feed old some new
+
+-- Makers.
+
+-- of what the file's own workstation made, all that stands before this place of the file was taken
+abbrev pub IsMadeBefore : NodeFile → List Entry → ℕ → Type 0
+IsMadeBefore file taken at_ =
+    (g : Feed) → maker g ≡ file.owner → length (list_of (take at_ file.kept) g) ≤ length (list_of taken g)
+
+-- it is of the workstation's making, and was not taken
+pub record IsWaiting (file : NodeFile) (taken : List Entry) (e : Entry) : Type 0 where
+  pub made : maker e.feed ≡ file.owner
+  pub not_taken : length (list_of taken e.feed) < e.place
+
+-- the place of the first such entry, or behind all
+pub record IsNextMade (file : NodeFile) (taken : List Entry) (at_ : ℕ) : Type 0 where
+  pub before : IsMadeBefore file taken at_
+  pub waits : IfSome (slice_get file.kept at_) (IsWaiting file taken)
+
+-- places of the files before which that is so
+abbrev pub AreMadeBefore : List NodeFile → List Entry → List ℕ → Type 0
+AreMadeBefore files taken places =
+    (i : ℕ) (file : NodeFile) → slice_get files i ≡ Some file
+    → IsMadeBefore file taken (slice_index places i)
+
+-- Where the file has an entry of its own workstation's making at this place of a feed, all that the workstation made before
+-- it was taken.
+abbrev pub IsBehindIn : NodeFile → List Entry → Feed → ℕ → Type 0
+IsBehindIn file taken f place =
+    (k : ℕ) (e : Entry) (g : Feed) → e.feed ≡ f → e.place ≡ place → maker f ≡ file.owner
+    → slice_get file.kept k ≡ Some e → maker g ≡ file.owner
+    → length (list_of (take k file.kept) g) ≤ length (list_of taken g)
+
+-- the file has such an entry, and something that its workstation made before it was not taken
+pub record IsAheadIn (file : NodeFile) (taken : List Entry) (f : Feed) (place : ℕ) : Type 0 where
+  pub spot : ℕ
+  pub entry : Entry
+  pub other : Feed
+  pub feed_ : entry.feed ≡ f
+  pub place_ : entry.place ≡ place
+  pub made : maker f ≡ file.owner
+  pub there : slice_get file.kept spot ≡ Some entry
+  pub other_made : maker other ≡ file.owner
+  pub lacks : length (list_of taken other) < length (list_of (take spot file.kept) other)
+
+-- so in the file of this number
+abbrev pub IsBehindAt : List NodeFile → ℕ → List Entry → Feed → ℕ → Type 0
+IsBehindAt files i taken f place = (file : NodeFile) → slice_get files i ≡ Some file → IsBehindIn file taken f place
+
+-- in each of them
+abbrev pub AreBehind : List NodeFile → List Entry → Feed → ℕ → Type 0
+AreBehind files taken f place = (i : ℕ) → IsBehindAt files i taken f place
+
+-- what the file has at this place, if anything, is of this feed
+abbrev pub IsNoOther : NodeFile → ℕ → Feed → Type 0
+IsNoOther file at_ f = (e : Entry) → slice_get file.kept at_ ≡ Some e → e.feed ≡ f
+
+-- it has something of another feed there
+abbrev pub IsOther : NodeFile → ℕ → Feed → Type 0
+IsOther file at_ f = (e : Entry) × (slice_get file.kept at_ ≡ Some e) × (e.feed ≢ f)
+
+-- one of the files is ahead so
+pub record IsAhead (files : List NodeFile) (taken : List Entry) (f : Feed) (place : ℕ) : Type 0 where
+  pub number : ℕ
+  pub file : NodeFile
+  pub given : slice_get files number ≡ Some file
+  pub ahead : IsAheadIn file taken f place
+
+-- what was taken, and the places of the files
+pub record IsWalked (files : List NodeFile) (taken : List Entry) (places : List ℕ) : Type 0 where
+  pub put : IsPut files taken
+  pub before : AreMadeBefore files taken places
 
 -- a list stands still
 abbrev pub IsStill : List NodeFile → List Entry → Head → Type 0
 IsStill files taken head =
-    (file : NodeFile) → slice_get files head.file ≡ Some file → StandsStill file.kept head.feed taken
+    (file : NodeFile) → slice_get files head.file ≡ Some file → StandsStill files file.kept head.feed taken
 
 -- all do
 abbrev pub AreStill : List NodeFile → List Entry → List Head → Type 0

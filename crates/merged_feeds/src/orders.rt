@@ -1,11 +1,13 @@
 //! The most entries that can be put into an order of causes, and what is left.
 ghost use Rattle.std.specs.Prelude.{◌≡◌, IfOk, IfSome, IsNone, Some, slice_get, ℕ};
+ghost use Rattle.merged_feeds.specs.Files.{AreMergeable};
 ghost use Rattle.merged_feeds.specs.Walks.{AreStill, IsAllTaken, IsLeft, IsPut};
 ghost use Rattle.merged_feeds.specs.declared.heads.Head.{Head as Listed};
 
 use crate::files::{FeedPlace, NodeFile};
 use crate::heads::Head;
 use crate::hints::Hints;
+use crate::makers::Makers;
 use crate::sweeps::sweep;
 use base_types::NoMemory;
 use owner_fold::Owners;
@@ -17,13 +19,15 @@ pub(crate) fn put_in_order(
     files: &[NodeFile],
     heads: &[Head],
 ) -> Result<Owners, NoMemory>
+    requires { AreMergeable files.now }
     ensures put { IfOk result (IsPut files.now) }
     ensures still { IfOk result (λ taken. AreStill files.now taken heads.now) }
 {
     let mut taken = Owners::new(alloc);
+    let mut makers = Makers::new(alloc, files)?;
     let mut hints = Hints::new(alloc);
     'sweeps: loop {
-        if !sweep(files, heads, &mut taken, &mut hints)? {
+        if !sweep(files, heads, &mut makers, &mut taken, &mut hints)? {
             return Ok(taken);
         }
     }

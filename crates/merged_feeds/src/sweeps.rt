@@ -1,12 +1,14 @@
 //! Entries are taken from the lists of feeds, each behind its causes.
-ghost use Rattle.std.specs.Prelude.{◌≡◌, ◌+◌, ◌++◌, ◌||◌, ◌∷◌, [], IfOk, OnOk, false, length};
+ghost use Rattle.std.specs.Prelude.{◌≡◌, ◌+◌, ◌++◌, ◌<◌, ◌||◌, ◌∷◌, [], IfOk, OnOk, false, length};
 ghost use Rattle.model.specs.History.{list_of};
-ghost use Rattle.merged_feeds.specs.Walks.{AreStill, IsPut, IsStep, Moves, Runs};
+ghost use Rattle.merged_feeds.specs.Files.{AreMergeable};
+ghost use Rattle.merged_feeds.specs.Walks.{AreMadeBefore, AreStill, IsStepOf, IsWalked, Moves, Runs};
 
 use crate::causes::missing_cause;
 use crate::files::NodeFile;
 use crate::heads::Head;
 use crate::hints::Hints;
+use crate::makers::{Makers, missing_made};
 use base_types::{Body, Copied, Entry, Feed, NoMemory};
 use owner_fold::Owners;
 
@@ -24,30 +26,41 @@ fn take_body(taken: &mut Owners, feed: &Feed, place: u32, body: &Body) -> Result
     })
 }
 
-/// Takes what a list has next, where it stands behind its causes, and says whether it does. Else the list waits.
+/// Takes what a list has next, where it stands behind its causes and behind what its maker made before it, and says whether
+/// it does. Else the list waits.
 fn take_next(
-    kept: &Owners,
-    feed: &Feed,
+    files: &[NodeFile],
+    head: &Head,
     list: usize,
+    makers: &mut Makers,
     taken: &mut Owners,
     hints: &mut Hints,
 ) -> Result<bool, NoMemory>
-    ensures { IfOk result (λ some. IsStep kept.now feed.now taken.old some taken.new) }
+    requires within { head.now.file < length files.now }
+    requires due { AreMergeable files.now }
+    requires before { AreMadeBefore files.now taken.old makers.old.places }
+    ensures before { IfOk result (λ _. AreMadeBefore files.now taken.new makers.new.places) }
+    ensures step { IfOk result (λ some. IsStepOf files.now head.now taken.old some taken.new) }
 {
-    let count = taken.count(*feed);
-    if count >= kept.count(*feed) {
+    let kept = &files[head.file].kept;
+    let count = taken.count(head.feed);
+    if count >= kept.count(head.feed) {
         return Ok(false);
     }
     let place = count + 1;
-    let Some(body) = kept.entry(*feed, place) else {
+    let Some(body) = kept.entry(head.feed, place) else {
         return Ok(false);
     };
-    if let Some(cause) = missing_cause(taken, feed, body) {
+    if let Some(cause) = missing_cause(taken, &head.feed, body) {
         hints.wait(&cause, list)?;
         return Ok(false);
     }
-    take_body(taken, feed, place, body)?;
-    hints.wake(feed, place, body)?;
+    if let Some(cause) = missing_made(files, makers, taken, &head.feed, place) {
+        hints.wait(&cause, list)?;
+        return Ok(false);
+    }
+    take_body(taken, &head.feed, place, body)?;
+    hints.wake(&head.feed, place, body)?;
     Ok(true)
 }
 
@@ -56,18 +69,21 @@ fn run_list(
     files: &[NodeFile],
     head: &Head,
     list: usize,
+    makers: &mut Makers,
     taken: &mut Owners,
     hints: &mut Hints,
 ) -> Result<bool, NoMemory>
-    requires { IsPut files.now taken.old }
-    ensures { IfOk result (λ some. Runs files.now head.now taken.old some taken.new) }
+    requires due { AreMergeable files.now }
+    requires walked { IsWalked files.now taken.old makers.old.places }
+    ensures before { IfOk result (λ _. AreMadeBefore files.now taken.new makers.new.places) }
+    ensures runs { IfOk result (λ some. Runs files.now head.now taken.old some taken.new) }
 {
     if head.file >= files.len() {
         return Ok(false);
     }
     let mut some = false;
     'steps: loop {
-        if !take_next(&files[head.file].kept, &head.feed, list, taken, hints)? {
+        if !take_next(files, head, list, makers, taken, hints)? {
             return Ok(some);
         }
         some = true;
@@ -86,16 +102,19 @@ fn run_numbered(
     files: &[NodeFile],
     heads: &[Head],
     list: usize,
+    makers: &mut Makers,
     taken: &mut Owners,
     hints: &mut Hints,
 ) -> Result<bool, NoMemory>
-    requires { IsPut files.now taken.old }
-    ensures { IfOk result (λ some. Moves files.now heads.now taken.old some taken.new) }
+    requires due { AreMergeable files.now }
+    requires walked { IsWalked files.now taken.old makers.old.places }
+    ensures before { IfOk result (λ _. AreMadeBefore files.now taken.new makers.new.places) }
+    ensures moves { IfOk result (λ some. Moves files.now heads.now taken.old some taken.new) }
 {
     if list >= heads.len() {
         return Ok(false);
     }
-    run_list(files, &heads[list], list, taken, hints)
+    run_list(files, &heads[list], list, makers, taken, hints)
 }
 
 /// Takes from the lists of these numbers what it can, and says whether that is anything.
@@ -103,15 +122,18 @@ fn run_lists(
     files: &[NodeFile],
     heads: &[Head],
     lists: &[usize],
+    makers: &mut Makers,
     taken: &mut Owners,
     hints: &mut Hints,
 ) -> Result<bool, NoMemory>
-    requires { IsPut files.now taken.old }
-    ensures { IfOk result (λ some. Moves files.now heads.now taken.old some taken.new) }
+    requires due { AreMergeable files.now }
+    requires walked { IsWalked files.now taken.old makers.old.places }
+    ensures before { IfOk result (λ _. AreMadeBefore files.now taken.new makers.new.places) }
+    ensures moves { IfOk result (λ some. Moves files.now heads.now taken.old some taken.new) }
 {
     let mut some = false;
     for list in lists {
-        let more = run_numbered(files, heads, *list, taken, hints)?;
+        let more = run_numbered(files, heads, *list, makers, taken, hints)?;
         some = either(some, more);
     }
     Ok(some)
@@ -121,16 +143,19 @@ fn run_lists(
 fn run_all(
     files: &[NodeFile],
     heads: &[Head],
+    makers: &mut Makers,
     taken: &mut Owners,
     hints: &mut Hints,
 ) -> Result<bool, NoMemory>
-    requires { IsPut files.now taken.old }
+    requires due { AreMergeable files.now }
+    requires walked { IsWalked files.now taken.old makers.old.places }
+    ensures before { IfOk result (λ _. AreMadeBefore files.now taken.new makers.new.places) }
     ensures moves { IfOk result (λ some. Moves files.now heads.now taken.old some taken.new) }
     ensures still { IfOk result (λ some. some ≡ false → AreStill files.now taken.old heads.now) }
 {
     let mut some = false;
     for i in 0..heads.len() {
-        let more = run_list(files, &heads[i], i, taken, hints)?;
+        let more = run_list(files, &heads[i], i, makers, taken, hints)?;
         some = either(some, more);
     }
     Ok(some)
@@ -140,16 +165,19 @@ fn run_all(
 pub(crate) fn sweep(
     files: &[NodeFile],
     heads: &[Head],
+    makers: &mut Makers,
     taken: &mut Owners,
     hints: &mut Hints,
 ) -> Result<bool, NoMemory>
-    requires { IsPut files.now taken.old }
+    requires due { AreMergeable files.now }
+    requires walked { IsWalked files.now taken.old makers.old.places }
+    ensures before { IfOk result (λ _. AreMadeBefore files.now taken.new makers.new.places) }
     ensures moves { IfOk result (λ some. Moves files.now heads.now taken.old some taken.new) }
     ensures still { IfOk result (λ some. some ≡ false → AreStill files.now taken.old heads.now) }
 {
     let woken = hints.take_woken();
-    if run_lists(files, heads, woken.as_slice(), taken, hints)? {
+    if run_lists(files, heads, woken.as_slice(), makers, taken, hints)? {
         return Ok(true);
     }
-    run_all(files, heads, taken, hints)
+    run_all(files, heads, makers, taken, hints)
 }

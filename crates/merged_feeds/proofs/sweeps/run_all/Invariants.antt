@@ -1,4 +1,4 @@
-use Rattle.merged_feeds.specs.Walks.{Moves}
+use Rattle.merged_feeds.specs.Walks.{AreMadeBefore, Moves}
 use Rattle.merged_feeds.proofs.Fewer.{AreStillBelow}
 use Rattle.merged_feeds.proofs.sweeps.run_all.Given as goal
 
@@ -7,4 +7,5 @@ invariant-loop-i l =
     record {
       moves : Moves l.files l.heads l.initial.taken l.some l.taken;
       below : AreStillBelow l.files l.heads l.initial.taken l.some l.i;
+      before : AreMadeBefore l.files l.taken l.makers.places;
     }

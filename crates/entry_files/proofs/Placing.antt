@@ -15,17 +15,20 @@ use Rattle.model_laws.proofs.Restored.{IsRestored}
 places_from : (net : Net) (before : List Entry) (i : ℕ) (es : List Entry) → first_wrong_from net before i es ≡ None
     → EachFrom HasItsPlace before es
 places_from net before i [] h = tt
-places_from net before i (e ∷ es) h = go (follows_on net before e) refl h
+places_from net before i (e ∷ es) h =
+    go (follows_on net before e) refl h (λ n. places_from net (before ++ e ∷ []) (i + 1) es n)
   where
     go : (b : Bool) → follows_on net before e ≡ b
-        → cond b (first_wrong_from net (before ++ e ∷ []) (i + 1) es) (Some i) ≡ None → EachFrom HasItsPlace before (e ∷ es)
-    go true y n = (
+        → cond b (first_wrong_from net (before ++ e ∷ []) (i + 1) es) (Some i) ≡ None
+        → (first_wrong_from net (before ++ e ∷ []) (i + 1) es ≡ None → EachFrom HasItsPlace (before ++ e ∷ []) es)
+        → EachFrom HasItsPlace before (e ∷ es)
+    go true y n rest = (
       eq_tells e.place (1 + length (list_of before e.feed))
           (and_left (e.place == 1 + length (list_of before e.feed))
           (list_all (λ w. nat_lt w (node_count net)) (ws_in_feed e.feed ++ ws_in_body e.body)) y),
-      places_from net (before ++ e ∷ []) (i + 1) es n,
+      rest n,
     )
-    go false y n = cc
+    go false y n rest = cc
 
 pub places_restored : (net : Net) (owner : ℕ) (kept : List Entry) → IsRestored net owner kept → Each HasItsPlace kept
 unfolding first_wrong

@@ -71,9 +71,14 @@ first_elsewhere : (G : List Entry) (e : Entry) (f : Feed) → feed_eq f e.feed �
 first_elsewhere G e f other =
     list_of-append (e ∷ []) G f ∙ ap (λ (l : List Body). l ++ list_of G f) (list_of_elsewhere e f other)
 
-same_entry : (e : Entry) (f : Feed) (n : ℕ) (b : Body) → f ≡ e.feed → n ≡ e.place → e.body ≡ b
+abbrev entry_of : Feed → ℕ → Body → Entry
+entry_of f n b = record { feed = f; place = n; body = b }
+
+pub same_entry : (e : Entry) (f : Feed) (n : ℕ) (b : Body) → f ≡ e.feed → n ≡ e.place → e.body ≡ b
     → e ≡ record { feed = f; place = n; body = b }
-same_entry e f n b feed at_ body = cc
+same_entry e f n b feed at_ body =
+    ap (λ (g : Feed). entry_of g e.place e.body) (sym feed) ∙ ap (λ (m : ℕ). entry_of f m e.body) (sym at_)
+    ∙ ap (entry_of f n) body
 
 -- an entry that is there, by its place among them
 abbrev IsThere : List Entry → Feed → ℕ → Body → Type 0

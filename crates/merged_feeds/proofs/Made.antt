@@ -15,7 +15,7 @@ use Rattle.merged_feeds.specs.Files.{AreAlike, ArePlaced, IsKept}
 use Rattle.merged_feeds.specs.Walks.{AreBehind, AreMadeBefore, IsAhead, IsAheadIn, IsBehindIn, IsMadeBefore, IsNextMade}
 use Rattle.merged_feeds.specs.Walks.{IsNoLess, IsOther, IsWaiting, entry_next}
 use Rattle.merged_feeds.specs.declared.files.NodeFile.{NodeFile}
-use Rattle.merged_feeds.proofs.Entries.{entry_at, stands_at}
+use Rattle.merged_feeds.proofs.Entries.{entry_at, same_entry, stands_at}
 use Rattle.merged_feeds.proofs.Kept.{kept_by}
 use Rattle.merged_feeds.proofs.Listed.{placed_at}
 use Rattle.merged_feeds.proofs.Lists.{got_less, nth_next}
@@ -71,10 +71,6 @@ front_behind G k n e each there less =
 some_of : {X : Type 0} (P : X → Type 0) (o : Option X) (x : X) → o ≡ Some x → IfSome o P → P x
 some_of P None x e h = cc
 some_of P (Some y) x e h = subst P (some_same y x e) h
-
-alike_entry : (e : Entry) (f : Feed) (n : ℕ) (b : Body) → e.feed ≡ f → e.place ≡ n → e.body ≡ b
-    → e ≡ record { feed = f; place = n; body = b }
-alike_entry e f n b feed at_ body = cc
 
 -- Places of files.
 
@@ -243,4 +239,4 @@ ahead_of files taken f place b alike placed kept next a h =
         kept
 
     its : a.ahead.entry ≡ entry_next f b taken
-    its = alike_entry a.ahead.entry f (length (list_of taken f) + 1) b a.ahead.feed_ (a.ahead.place_ ∙ next) same
+    its = same_entry a.ahead.entry f (length (list_of taken f) + 1) b (sym a.ahead.feed_) (sym (a.ahead.place_ ∙ next)) same

@@ -144,8 +144,8 @@ pub record HasItsCauses (before : List Entry) (f : Feed) (b : Body) : Type 0 whe
   pub answered : IsTrue (is_order_there before f b)
   pub documented : IsTrue (are_documented before (objects_in b))
 
--- As a file of its maker has it, all that the maker made before an entry stands there, in whichever feeds. Of an entry that
--- the file lacks nothing is told.
+-- As a file of its maker has it, all that the maker made before an entry stands there, in whichever feeds. Of an
+-- entry that the file lacks nothing is told.
 abbrev pub IsBehindItsMakers : List NodeFile → List Entry → Entry → Type 0
 IsBehindItsMakers files before e =
     (i : ℕ) (file : NodeFile) (k : ℕ) (g : Feed) → slice_get files i ≡ Some file → maker e.feed ≡ file.owner

@@ -13,8 +13,8 @@ use Rattle.merged_feeds.specs.declared.files.NodeFile.{NodeFile}
 abbrev pub BeginsWith : {X : Type 0} → List X → List X → Type 0
 BeginsWith {X} front whole = (more : List X) × (whole ≡ front ++ more)
 
--- Each feed of the history is the longest of the lists that the files have of it: each of these is its front, and where it
--- is not empty, one of them is all of it.
+-- Each feed of the history is the longest of the lists that the files have of it: each of these is its front, and
+-- where it is not empty, one of them is all of it.
 pub record HasTheLongest (files : List NodeFile) (G : List Entry) : Type 0 where
   pub fronts : (i : ℕ) (file : NodeFile) (f : Feed) → slice_get files i ≡ Some file
       → BeginsWith (list_of file.kept f) (list_of G f)
@@ -50,11 +50,13 @@ pub record DifferFirstAt (files : List NodeFile) (at_ : FeedPlace) : Type 0 wher
   pub differ : one ≢ other
   pub first : (place : ℕ) → place < at_.place → AreAlikeAt files at_.feed place
 
--- A file keeps the entry at this place of a feed, and no order of causes has it: whatever entries of the files are put into
--- such an order, they have fewer of the feed.
+-- A file keeps the entry at this place of a feed, and no order of causes has it: whatever entries of the files are
+-- put into such an order, they have fewer of the feed.
 pub record HasNoOrder (files : List NodeFile) (at_ : FeedPlace) : Type 0 where
   pub body : Body
   pub kept : IsKept files at_.feed at_.place body
-  pub none : (G : List Entry) → AreFromFiles files G → IsInOrderOfCauses files G → length (list_of G at_.feed) < at_.place
+  pub none : (G : List Entry) → AreFromFiles files G → IsInOrderOfCauses files G
+      → length (list_of G at_.feed) < at_.place
   -- what stands before it in its feed can be put into one
-  pub first : (G : List Entry) × AreFromFiles files G × IsInOrderOfCauses files G × (length (list_of G at_.feed) + 1 ≡ at_.place)
+  pub first : (G : List Entry) × AreFromFiles files G × IsInOrderOfCauses files G
+      × (length (list_of G at_.feed) + 1 ≡ at_.place)

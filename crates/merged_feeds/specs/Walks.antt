@@ -101,8 +101,8 @@ AreMadeBefore files taken places =
     (i : ℕ) (file : NodeFile) → slice_get files i ≡ Some file
     → IsMadeBefore file taken (slice_index places i)
 
--- Where the file has an entry of its own workstation's making at this place of a feed, all that the workstation made before
--- it was taken.
+-- Where the file has an entry of its own workstation's making at this place of a feed, all that the workstation made
+-- before it was taken.
 abbrev pub IsBehindIn : NodeFile → List Entry → Feed → ℕ → Type 0
 IsBehindIn file taken f place =
     (k : ℕ) (e : Entry) (g : Feed) → e.feed ≡ f → e.place ≡ place → maker f ≡ file.owner
@@ -163,14 +163,16 @@ abbrev pub IsNoLess : List Entry → List Entry → Type 0
 IsNoLess old new = (f : Feed) → length (list_of old f) ≤ length (list_of new f)
 
 -- how far a walk over one list came
-pub record RunsSoFar (files : List NodeFile) (head : Head) (old : List Entry) (some : Bool) (new : List Entry) : Type 0 where
+pub record RunsSoFar (files : List NodeFile) (head : Head) (old : List Entry) (some : Bool)
+    (new : List Entry) : Type 0 where
   pub put : IsPut files new
   pub no_less : IsNoLess old new
   pub fewer : some ≡ true → left_in files new head < left_in files old head
   pub stays : some ≡ false → new ≡ old
 
 -- what a walk over one list does
-pub record Runs (files : List NodeFile) (head : Head) (old : List Entry) (some : Bool) (new : List Entry) : Type 0 where
+pub record Runs (files : List NodeFile) (head : Head) (old : List Entry) (some : Bool)
+    (new : List Entry) : Type 0 where
   pub put : IsPut files new
   pub no_less : IsNoLess old new
   pub fewer : some ≡ true → left_in files new head < left_in files old head
@@ -178,7 +180,8 @@ pub record Runs (files : List NodeFile) (head : Head) (old : List Entry) (some :
   pub still : some ≡ false → IsStill files old head
 
 -- what walks over several of the lists do
-pub record Moves (files : List NodeFile) (heads : List Head) (old : List Entry) (some : Bool) (new : List Entry) : Type 0 where
+pub record Moves (files : List NodeFile) (heads : List Head) (old : List Entry) (some : Bool)
+    (new : List Entry) : Type 0 where
   pub put : IsPut files new
   pub no_less : IsNoLess old new
   pub fewer : some ≡ true → left files heads new < left files heads old

@@ -1,9 +1,10 @@
 //! One history of the files of several workstations of a network.
 //!
-//! Each feed of the history is the longest of the lists that the files have of it, and each entry stands behind its causes:
-//! behind all that it counts, the order that it answers, the documents of the jobs and streams that it names, and what its
-//! maker made before it (`specs/Causes`). Files that have another entry at one place of a feed are refused with the first
-//! such place, and entries that no order of causes has with the first of a feed (`specs/Merges`).
+//! Each feed of the history is the longest of the lists that the files have of it, and each entry stands behind its
+//! causes: behind all that it counts, the order that it answers, the documents of the jobs and streams that it names,
+//! and what its maker made before it (`specs/Causes`). Files that have another entry at one place of a feed are
+//! refused with the first such place, and entries that no order of causes has with the first of a feed
+//! (`specs/Merges`).
 #![tactic(auto)]
 
 mod causes;

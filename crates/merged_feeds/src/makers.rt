@@ -1,5 +1,6 @@
 //! What the maker of an entry made before it, as files of its maker have it.
-ghost use Rattle.std.specs.Prelude.{◌≡◌, ◌==◌, ◌⊎◌, ◌<◌, ◌≤◌, ◌+◌, ℕ, IfOk, IsNone, IsSome, false, length, slice_index, true};
+ghost use Rattle.std.specs.Prelude.{◌≡◌, ◌==◌, ◌⊎◌, ◌<◌, ◌≤◌, ◌+◌, ℕ, IfOk, IsNone, IsSome, false, length};
+ghost use Rattle.std.specs.Prelude.{slice_index, true};
 ghost use Rattle.model.specs.History.{list_of, maker};
 ghost use Rattle.model.specs.Sound.{Each, HasItsPlace};
 ghost use Rattle.merged_feeds.specs.Files.{ArePlaced};
@@ -100,8 +101,8 @@ fn other_feed_at(file: &NodeFile, at: usize, feed: &Feed) -> Option<Cause>
     Some(Cause::Count(entries[at].feed, entries[at].place))
 }
 
-/// What a file's own workstation made before the entry at this place of a feed, and was not taken. None where it made none,
-/// or where the file has no such entry.
+/// What a file's own workstation made before the entry at this place of a feed, and was not taken. None where it made
+/// none, or where the file has no such entry.
 fn missing_in(
     files: &[NodeFile],
     number: usize,
@@ -130,8 +131,8 @@ fn missing_in(
     other_feed_at(file, at, feed)
 }
 
-/// What the maker of the next entry of a feed made before it, as a file of its maker has it, and was not taken. None where
-/// there is no such.
+/// What the maker of the next entry of a feed made before it, as a file of its maker has it, and was not taken. None
+/// where there is no such.
 pub(crate) fn missing_made(
     files: &[NodeFile],
     makers: &mut Makers,

@@ -16,9 +16,9 @@ use std::alloc::Global;
 
 /// The history of files: of each feed the longest list, all entries in an order of causes.
 ///
-/// The entries of a file stand at their places, as a node takes them. `Differ` tells the first place of a feed at which two
-/// files keep another entry. `NoOrder` tells the first entry of a feed that no order of causes has: it waits for another
-/// that waits too, or for what no file keeps. `NoMemory` where memory runs out.
+/// The entries of a file stand at their places, as a node takes them. `Differ` tells the first place of a feed at
+/// which two files keep another entry. `NoOrder` tells the first entry of a feed that no order of causes has: it
+/// waits for another that waits too, or for what no file keeps. `NoMemory` where memory runs out.
 pub fn merge_feeds(alloc: Global, files: &[NodeFile]) -> Result<Owners, MergeFault>
     requires { ArePlaced files.now }
     ensures history { IfOk result (IsHistoryOf files.now) }

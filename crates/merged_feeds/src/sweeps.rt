@@ -26,8 +26,8 @@ fn take_body(taken: &mut Owners, feed: &Feed, place: u32, body: &Body) -> Result
     })
 }
 
-/// Takes what a list has next, where it stands behind its causes and behind what its maker made before it, and says whether
-/// it does. Else the list waits.
+/// Takes what a list has next, where it stands behind its causes and behind what its maker made before it, and says
+/// whether it does. Else the list waits.
 fn take_next(
     files: &[NodeFile],
     head: &Head,

@@ -3,3 +3,4 @@ pub mod Stamps
 pub mod KeptLines
 pub mod Times
 pub mod Tables
+pub mod Known

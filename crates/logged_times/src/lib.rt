@@ -5,10 +5,13 @@
 //! that is none of these gives no time, so a log that is missing, cut or another's only leaves times unknown.
 #![tactic(auto)]
 
+mod known;
 mod lines;
 mod stamps;
 mod tables;
 mod times;
 
+pub use known::EntryTimes;
+pub use lines::KeptLine;
 pub use tables::KeptTimes;
 pub use times::times_in;

@@ -39,6 +39,11 @@ impl KeptTimes {
         }
     }
 
+    /// Whether no line told of a record.
+    pub fn is_empty(&self) -> bool {
+        self.rows.is_empty()
+    }
+
     /// Takes one more line that tells of a record.
     fn put(&mut self, line: KeptLine) -> Result<(), NoMemory>
         ensures { OnOk result ((before : List Line) → Knows before self.old → Knows (before ++ line ∷ []) self.new) }

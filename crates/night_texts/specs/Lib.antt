@@ -8,3 +8,4 @@ pub mod Lines
 pub mod Marks
 pub mod Runs
 pub mod Tables
+pub mod Days

@@ -1,7 +1,7 @@
 -- Moments as people read them.
 use Rattle.std.specs.Fmt.{decimal}
 use Rattle.std.specs.Prelude.{ℕ, ◌%◌, ◌++◌, ◌/◌, List, None, Option, Some, codes}
-use Rattle.composer_print.specs.Days.{Date, date_of_day, two_digits}
+use Rattle.night_texts.specs.Days.{Date, date_of_day, two_digits}
 
 -- `YYYY-MM-DD`
 abbrev pub day_text : Date → List ℕ

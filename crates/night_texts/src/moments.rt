@@ -2,7 +2,7 @@
 ghost use Rattle.std.specs.Prelude.{◌≡◌, ◌++◌, ◌≤◌, ◌<◌, ◌≤ℤ◌, IfSome, OnOk, Some, pos};
 ghost use Rattle.jiff_core.specs.Date.{epoch_day};
 ghost use Rattle.calendars.specs.Dates.{last_day};
-ghost use Rattle.composer_print.specs.Days as days;
+ghost use Rattle.night_texts.specs.Days as days;
 ghost use Rattle.night_texts.specs.Moments as spec;
 
 use calendars::LAST_DAY;
@@ -62,7 +62,7 @@ fn parts_of(date: Date, day: u32) -> (u16, u8, u8)
 }
 
 /// Year, month and day of a day, counted from 01/01/1970 as 0.
-#[tactic(auto, unfolding(composer_print::specs::Days::date_of_day))]
+#[tactic(auto, unfolding(crate::specs::Days::date_of_day))]
 fn date_of_day(day: u32) -> Option<(u16, u8, u8)>
     ensures value { result ≡ days.date_of_day day }
     ensures small { IfSome result (λ d. d.0 < 10000) }
@@ -77,7 +77,7 @@ fn date_of_day(day: u32) -> Option<(u16, u8, u8)>
 }
 
 /// The same of a day of any number.
-#[tactic(auto, unfolding(composer_print::specs::Days::date_of_day))]
+#[tactic(auto, unfolding(crate::specs::Days::date_of_day))]
 fn date_of(day: u64) -> Option<(u16, u8, u8)>
     ensures value { result ≡ days.date_of_day day }
     ensures small { IfSome result (λ d. d.0 < 10000) }

@@ -4,8 +4,12 @@ ghost use Rattle.std.specs.Option.{option_copied};
 ghost use Rattle.indexmap.specs.IndexMap.{get};
 ghost use Rattle.model.specs.History.{maker as made};
 ghost use Rattle.model.specs.Types.{Entry as Kept, Feed as Feeds};
+ghost use Rattle.logged_times.specs.KeptLines.{kept_lines};
+ghost use Rattle.logged_times.specs.Times.{times_in as times_by};
 ghost use Rattle.logged_times.specs.Known.{Tells, Timed, is_at, known_time, made_by, row_of, same_event, same_order};
 
+use crate::tables::KeptTimes;
+use crate::times::times_in;
 use base_types::{Entry, Feed, Items, NoMemory, Ws};
 use indexmap::IndexMap;
 use std::alloc::Global;
@@ -97,9 +101,8 @@ impl EntryTimes {
         }
     }
 
-    /// Takes when the entries that w made were kept, of those that its file keeps, whose times these are. `NoMemory` where
-    /// memory runs out; then some may have been taken.
-    pub fn tell(
+    /// Takes when the entries that w made were kept, of those that its file keeps, whose times these are.
+    fn tell(
         &mut self,
         w: Ws,
         entries: &[Entry],
@@ -115,6 +118,25 @@ impl EntryTimes {
             }
         }
         Ok(())
+    }
+
+    /// Takes when the entries that w made were kept, of all these that its message file keeps, in order, by its log and the
+    /// one before it. `NoMemory` where memory runs out; then some may have been taken.
+    pub fn tell_by_logs(
+        &mut self,
+        w: Ws,
+        entries: &[Entry],
+        former: &[u8],
+        last: &[u8],
+    ) -> Result<(), NoMemory>
+        ensures { OnOk result ((before : List Timed) → Tells before self.old → Tells (before
+            ++ made_by w entries.now (times_by (kept_lines former.now ++ kept_lines last.now) entries.now)) self.new) }
+    {
+        let mut table = KeptTimes::new(self.alloc);
+        table.read(former)?;
+        table.read(last)?;
+        let times = times_in(self.alloc, entries, &table)?;
+        self.tell(w, entries, times.as_slice())
     }
 
     /// When an entry was kept. None where that is not known.

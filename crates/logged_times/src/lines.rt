@@ -10,13 +10,13 @@ use syntax::{number_u64, words};
 
 /// What a line of a log tells of a record.
 #[derive(Clone, Copy)]
-pub struct KeptLine {
+pub(crate) struct KeptLine {
     /// The place of the record's gate in the file.
-    pub gate: u64,
+    pub(crate) gate: u64,
     /// How many bytes its body has.
-    pub length: u64,
+    pub(crate) length: u64,
     /// When it was kept, in seconds since 1970, UTC.
-    pub moment: u64,
+    pub(crate) moment: u64,
 }
 
 /// What stands before the first `=` and behind it. Where there is none, that is all and nothing.

@@ -13,7 +13,7 @@ use std::alloc::Global;
 use syntax::lines;
 
 /// When the records of one file were kept, by the lines of its logs. Of several lines of one gate the last counts.
-pub struct KeptTimes {
+pub(crate) struct KeptTimes {
     alloc: Global,
     rows: IndexMap<u64, KeptLine>,
 }
@@ -30,18 +30,13 @@ impl Drop for KeptTimes {
 
 impl KeptTimes {
     /// No times, which takes no memory yet.
-    pub fn new(alloc: Global) -> KeptTimes
+    pub(crate) fn new(alloc: Global) -> KeptTimes
         ensures { Knows [] result }
     {
         KeptTimes {
             alloc,
             rows: IndexMap::new(alloc),
         }
-    }
-
-    /// Whether no line told of a record.
-    pub fn is_empty(&self) -> bool {
-        self.rows.is_empty()
     }
 
     /// Takes one more line that tells of a record.
@@ -78,7 +73,7 @@ impl KeptTimes {
     /// Takes what the lines of a log tell, behind those of earlier logs. `NoMemory` where memory runs out; then some of
     /// its lines may have been taken.
     #[tactic(auto, unfolding(crate::specs::KeptLines::kept_lines))]
-    pub fn read(&mut self, log: &[u8]) -> Result<(), NoMemory>
+    pub(crate) fn read(&mut self, log: &[u8]) -> Result<(), NoMemory>
         ensures { OnOk result ((before : List Line) → Knows before self.old
             → Knows (before ++ kept_lines log.now) self.new) }
     {
@@ -88,7 +83,7 @@ impl KeptTimes {
     }
 
     /// When the record of this gate was kept, whose body has so many bytes. None where no line tells it.
-    pub fn time(&self, gate: u64, bytes: u64) -> Option<u64>
+    pub(crate) fn time(&self, gate: u64, bytes: u64) -> Option<u64>
         ensures { (lines : List Line) → Knows lines self.now → result ≡ kept_at lines gate bytes }
     {
         match self.rows.get(&gate) {

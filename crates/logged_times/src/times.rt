@@ -1,5 +1,5 @@
 //! When the entries of a file were kept.
-ghost use Rattle.std.specs.Prelude.{◌≡◌, IfOk, List, OnOk};
+ghost use Rattle.std.specs.Prelude.{◌≡◌, IfOk, List, length};
 ghost use Rattle.logged_times.specs.Tables.{Knows};
 ghost use Rattle.logged_times.specs.Times as spec;
 ghost use Rattle.logged_times.specs.declared.lines.KeptLine.{KeptLine as Line};
@@ -14,12 +14,14 @@ use std::alloc::Global;
 ///
 /// `NoMemory` where memory runs out, or where the entries have more bytes than any file.
 #[tactic(auto, unfolding(crate::specs::Times::times_in))]
-pub fn times_in(
+pub(crate) fn times_in(
     alloc: Global,
     entries: &[Entry],
     table: &KeptTimes,
 ) -> Result<Items<Option<u64>>, NoMemory>
-    ensures { (lines : List Line) → Knows lines table.now → IfOk result (λ times. times ≡ spec.times_in lines entries.now) }
+    ensures value { (lines : List Line) → Knows lines table.now
+        → IfOk result (λ times. times ≡ spec.times_in lines entries.now) }
+    ensures each { IfOk result (λ times. length times ≡ length entries.now) }
 {
     let mut times = Items::new(alloc);
     let mut gate = 8u64;

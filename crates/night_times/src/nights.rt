@@ -1,14 +1,14 @@
 //! When the entries of a night were kept.
-ghost use Rattle.std.specs.Prelude.{◌≡◌, ◌++◌, ◌<◌, IfOk, OnOk, length};
+ghost use Rattle.std.specs.Prelude.{◌≡◌, ◌++◌, ◌<◌, IfOk, length};
 ghost use Rattle.std.specs.String.{string_bytes};
 ghost use Rattle.kept_files.specs.Looking.{OnlyLooks};
 ghost use Rattle.model.specs.Network.{node_count};
 
 use crate::logs::read_log;
-use base_types::{Entry, Items, NoMemory, Ws};
+use base_types::{Items, NoMemory, Ws};
 use entry_files::{FileFault, read_entries};
 use folders::Folder;
-use logged_times::{EntryTimes, KeptTimes, times_in};
+use logged_times::EntryTimes;
 use network_tree::Network;
 use owner_fold::Owners;
 use report_text::name;
@@ -23,28 +23,17 @@ fn file_name(alloc: Global, name: &str, ending: &str) -> Result<String, NoMemory
     Ok(file)
 }
 
-/// What the log of a workstation tells, behind what the one before it tells.
-fn read_logs<F: Folder>(alloc: Global, folder: &mut F, name: &str) -> Result<KeptTimes, NoMemory>
+/// The log of a workstation whose name ends so.
+fn log_of<F: Folder>(
+    alloc: Global,
+    folder: &mut F,
+    name: &str,
+    ending: &str,
+) -> Result<Vec<u8>, NoMemory>
     ensures looks { OnlyLooks F.seen F.becomes F.faults folder.old folder.new }
 {
-    let mut told = KeptTimes::new(alloc);
-    let former = file_name(alloc, name, ".log.1")?;
-    told.read(read_log(alloc, folder, former.as_str())?.as_slice())?;
-    let last = file_name(alloc, name, ".log")?;
-    told.read(read_log(alloc, folder, last.as_str())?.as_slice())?;
-    Ok(told)
-}
-
-/// Takes when the entries that w made were kept, of those that its file keeps.
-fn tell_entries(
-    alloc: Global,
-    w: Ws,
-    entries: &[Entry],
-    told: &KeptTimes,
-    known: &mut EntryTimes,
-) -> Result<(), NoMemory> {
-    let times = times_in(alloc, entries, told)?;
-    known.tell(w, entries, times.as_slice())
+    let file = file_name(alloc, name, ending)?;
+    read_log(alloc, folder, file.as_str())
 }
 
 /// The entries that the file of w keeps. None where the file is missing, or is none of w.
@@ -65,25 +54,26 @@ fn entries_of<F: Folder>(
     }
 }
 
-/// Takes when the entries of another workstation were kept.
+/// Takes when the entries of another workstation were kept, by its logs.
 fn tell_other<F: Folder>(
     alloc: Global,
     folder: &mut F,
     net: &Network,
     w: Ws,
-    told: &KeptTimes,
+    former: &[u8],
+    last: &[u8],
     known: &mut EntryTimes,
 ) -> Result<(), NoMemory>
     requires { w < node_count net.now }
     ensures looks { OnlyLooks F.seen F.becomes F.faults folder.old folder.new }
 {
     match entries_of(alloc, folder, net, w)? {
-        Some(entries) => tell_entries(alloc, w, entries.kept().entries(), told, known),
+        Some(entries) => known.tell_by_logs(w, entries.kept().entries(), former, last),
         None => Ok(()),
     }
 }
 
-/// Takes when the entries of a workstation were kept, where its log tells any.
+/// Takes when the entries of a workstation were kept, where its log is in the folder.
 fn tell_station<F: Folder>(
     alloc: Global,
     folder: &mut F,
@@ -96,15 +86,16 @@ fn tell_station<F: Folder>(
     requires { w < node_count net.now }
     ensures looks { OnlyLooks F.seen F.becomes F.faults folder.old folder.new }
 {
-    let told = read_logs(alloc, folder, name(net.net(), &w))?;
-    if told.is_empty() {
+    let name = name(net.net(), &w);
+    let former = log_of(alloc, folder, name, ".log.1")?;
+    let last = log_of(alloc, folder, name, ".log")?;
+    if former.is_empty() && last.is_empty() {
         return Ok(());
     }
     if w.0 == me.0 {
-        tell_entries(alloc, w, entries.kept().entries(), &told, known)
-    } else {
-        tell_other(alloc, folder, net, w, &told, known)
+        return known.tell_by_logs(w, entries.kept().entries(), &former, &last);
     }
+    tell_other(alloc, folder, net, w, &former, &last, known)
 }
 
 /// When each of the entries that workstation `me` keeps was kept by its own maker, in order, in seconds since 1970, UTC.

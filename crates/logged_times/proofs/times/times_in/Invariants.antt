@@ -1,4 +1,4 @@
-use Rattle.std.proofs.Common.{ℕ, ◌≡◌, List, map, take}
+use Rattle.std.proofs.Common.{ℕ, ◌≡◌, List, length, map, take}
 use Rattle.model.specs.Words.{below}
 use Rattle.logged_times.specs.Tables.{Knows}
 use Rattle.logged_times.specs.Times.{gate_behind, time_at}
@@ -8,4 +8,5 @@ use Rattle.logged_times.proofs.times.times_in.Given as goal
 abbrev pub invariant-loop-entry : goal.invariant-loop-entry
 invariant-loop-entry l =
     (l.gate ≡ gate_behind (take l.entry-index l.entries))
+    × (length l.times ≡ l.entry-index)
     × ((lines : List KeptLine) → Knows lines l.table → l.times ≡ map (time_at lines l.entries) (below l.entry-index))

@@ -1,6 +1,7 @@
 -- The lines of a log that tell of a record of the message file: `STAMP kept at=PLACE bytes=LENGTH`.
 use Rattle.std.specs.List.{after_first, before_first}
-use Rattle.std.specs.Prelude.{[], ℕ, ◌==◌, ◌∷◌, List, None, Option, Some, codes, filter_map, if◌then◌else◌, option_and_then}
+use Rattle.std.specs.Prelude.{[], ℕ, ◌==◌, ◌∷◌, List, None, Option, Some, codes, filter_map, if◌then◌else◌}
+use Rattle.std.specs.Prelude.{option_and_then}
 use Rattle.std.specs.Str.{bytes_eq}
 use Rattle.std.specs.Str.Lossy.{utf8_lossy}
 use Rattle.syntax.specs.Numbers.{number_of}

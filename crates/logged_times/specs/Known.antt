@@ -1,6 +1,7 @@
 -- When entries were kept that several files tell of.
 use Rattle.std.specs.List.{zip}
-use Rattle.std.specs.Prelude.{ℕ, ◌&&◌, ◌==◌, ◌≡◌, Bool, List, None, Option, Some, filter, filter_map, if◌then◌else◌, unwrap_or}
+use Rattle.std.specs.Prelude.{ℕ, ◌&&◌, ◌==◌, ◌≡◌, Bool, List, None, Option, Some, filter, filter_map, if◌then◌else◌}
+use Rattle.std.specs.Prelude.{unwrap_or}
 use Rattle.model.specs.Equalities.{feed_eq}
 use Rattle.model.specs.History.{maker}
 use Rattle.model.specs.Types.{Entry, Events, Feed, Orders}

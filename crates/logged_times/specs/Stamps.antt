@@ -1,6 +1,7 @@
 -- Moments as a log writes them: `YYYY-MM-DDTHH:MM:SS.mmmZ`, 24 bytes.
 use Rattle.std.specs.Char.{is_ascii_digit}
-use Rattle.std.specs.Prelude.{ℕ, ◌&&◌, ◌*◌, ◌+◌, ◌==◌, Bool, List, None, Option, Some, if◌then◌else◌, length, nat_lt, option_and_then, slice_index}
+use Rattle.std.specs.Prelude.{ℕ, ◌&&◌, ◌*◌, ◌+◌, ◌==◌, Bool, List, None, Option, Some, if◌then◌else◌, length, nat_lt}
+use Rattle.std.specs.Prelude.{option_and_then, slice_index}
 use Rattle.calendars.specs.Dates.{day_of}
 use Rattle.plan_times.specs.Zones.{two_digits}
 

@@ -1,5 +1,6 @@
 -- When the entries of a file were kept.
-use Rattle.std.specs.Prelude.{ℕ, ◌+◌, ◌==◌, List, None, Option, Some, filter, find, if◌then◌else◌, length, map, option_and_then, position, slice_get, sum_by, take}
+use Rattle.std.specs.Prelude.{ℕ, ◌+◌, ◌==◌, List, None, Option, Some, filter, find, if◌then◌else◌, length, map}
+use Rattle.std.specs.Prelude.{option_and_then, position, slice_get, sum_by, take}
 use Rattle.model.specs.Equalities.{feed_eq}
 use Rattle.model.specs.Sizes.{entry_size}
 use Rattle.model.specs.Types.{Entry, Feed}

@@ -1,5 +1,5 @@
 //! When entries were kept that several files tell of.
-ghost use Rattle.std.specs.Prelude.{◌≡◌, ◌++◌, [], IfOk, List, None, OnOk, cond, length, map, unwrap_or, ℕ};
+ghost use Rattle.std.specs.Prelude.{◌≡◌, ◌++◌, ◌∷◌, [], IfOk, List, None, OnOk, cond, length, map, unwrap_or, ℕ};
 ghost use Rattle.std.specs.Option.{option_copied};
 ghost use Rattle.indexmap.specs.IndexMap.{get};
 ghost use Rattle.model.specs.History.{maker as made};
@@ -101,21 +101,27 @@ impl EntryTimes {
         }
     }
 
+    /// Takes when one entry was kept, where w made it.
+    #[tactic(auto, unfolding(crate::specs::Known::made_by))]
+    fn tell_one(&mut self, w: Ws, entry: &Entry, time: Option<u64>) -> Result<(), NoMemory>
+        ensures { OnOk result ((before : List Timed) → Tells before self.old
+            → Tells (before ++ made_by w (entry.now ∷ []) (time ∷ [])) self.new) }
+    {
+        if maker(&entry.feed) == w.0 {
+            self.put(entry, time)
+        } else {
+            Ok(())
+        }
+    }
+
     /// Takes when the entries that w made were kept, of those that its file keeps, whose times these are.
-    fn tell(
-        &mut self,
-        w: Ws,
-        entries: &[Entry],
-        times: &[Option<u64>],
-    ) -> Result<(), NoMemory>
+    fn tell(&mut self, w: Ws, entries: &[Entry], times: &[Option<u64>]) -> Result<(), NoMemory>
         requires { length times.now ≡ length entries.now }
         ensures { OnOk result ((before : List Timed) → Tells before self.old
             → Tells (before ++ made_by w entries.now times.now) self.new) }
     {
         for i in 0..entries.len() {
-            if maker(&entries[i].feed) == w.0 {
-                self.put(&entries[i], times[i])?;
-            }
+            self.tell_one(w, &entries[i], times[i])?;
         }
         Ok(())
     }

@@ -1,5 +1,6 @@
 -- The date of a day.
-use Rattle.std.proofs.Common.{◌≡◌, ℕ, zero, suc, ◌+◌, ◌-◌, ◌≤◌, ◌<◌, Bool, true, false, cond, ltb, refl, ap, sym, ◌∙◌, subst, arith, inl, inr, pos, neg_ℤ, ◌≤ℤ◌}
+use Rattle.std.proofs.Common.{◌≡◌, ℕ, zero, suc, ◌+◌, ◌-◌, ◌≤◌, ◌<◌, Bool, true, false, cond, ltb, refl, ap, sym, ◌∙◌}
+use Rattle.std.proofs.Common.{subst, arith, inl, inr, pos, neg_ℤ, ◌≤ℤ◌}
 use Rattle.std.proofs.lemmas.Bool.{cases_lt}
 use Rattle.std.proofs.lemmas.Bool.Decides.{nat_tests}
 use Rattle.std.proofs.Common.{to_z, of_z, w16}
@@ -8,7 +9,8 @@ use Rattle.jiff_core.proofs.SignedLemmas.{signed_arith}
 use Rattle.jiff_core.specs.declared.civil.date.Date.{Date as Civil}
 use Rattle.jiff_core.specs.Date.{epoch_day}
 use Rattle.jiff_core.proofs.DateLemmas.{epoch_day_injective, days_from_civil-max}
-use Rattle.calendars.specs.Dates.{is_leap, days_in_year, days_in_month, days_of_years, days_of_months, days_before, last_day}
+use Rattle.calendars.specs.Dates.{is_leap, days_in_year, days_in_month, days_of_years, days_of_months, days_before}
+use Rattle.calendars.specs.Dates.{last_day}
 use Rattle.calendars.proofs.Calendar.{day_number, no_months, year_here}
 use Rattle.calendars.proofs.Days.{year_within}
 use Rattle.night_texts.specs.Days.{Date, next_date, date_after}

@@ -1,3 +1,4 @@
 mod Dates
 mod Walks
+mod Telling
 mod Worked

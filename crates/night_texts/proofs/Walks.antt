@@ -1,17 +1,21 @@
 -- Walks over entries beside their times, and over marks.
-use Rattle.std.proofs.Common.{[], ℕ, ◌+◌, ◌++◌, ◌∙◌, ◌∷◌, ◌≡◌, ◌≤◌, List, Option, Some, ap, add-one, drop, filter_map, flat_map, length, refl, sym}
+use Rattle.std.proofs.Common.{[], ℕ, ◌+◌, ◌++◌, ◌∙◌, ◌∷◌, ◌≡◌, ◌≤◌, Bool, List, None, Option, Some, ap, add-one, cond}
+use Rattle.std.proofs.Common.{drop, false, filter_map, flat_map, length, refl, sym, true}
 use Rattle.std.proofs.Common.{slice_get}
 use Rattle.std.proofs.lemmas.List.{append-nil}
 use Rattle.std.specs.List.{zip}
-use Rattle.std.specs.Prelude.{option_and_then}
+use Rattle.std.specs.Option.{option_to_list}
+use Rattle.std.specs.Prelude.{if◌then◌else◌, option_and_then}
 use Rattle.lemmas.proofs.Lists.{drop_at_end, drop_some, one_filtered, regroup}
 use Rattle.lemmas.proofs.Options.{cons_is}
 use Rattle.model.specs.Catalogue.{StreamJob}
-use Rattle.model.specs.Types.{Net}
+use Rattle.model.specs.Types.{Entry, Net}
 use Rattle.night_texts.specs.Lines.{Timed}
-use Rattle.night_texts.specs.Marks.{Key, marks_of, told, under}
+use Rattle.night_texts.specs.Marks.{Key, marks_of, same_key, told, under}
 use Rattle.night_texts.specs.Runs.{marked_run, run_lines}
+use Rattle.night_texts.specs.Tables.{marks_at}
 use Rattle.night_texts.specs.declared.marks.Mark.{Mark}
+use Rattle.night_texts.specs.declared.tables.MarkTable.{MarkTable}
 
 -- the pair at a place stands first among those that are left
 pub pair_left : {X Y : Type 0} (xs : List X) (ys : List Y) (i : ℕ) (x : X) (y : Y) → slice_get xs i ≡ Some x
@@ -45,12 +49,54 @@ marks_first q p ps =
     cons_is (option_and_then (under q) (told p)) (marks_of q ps)
     ∙ ap (λ l. l ++ marks_of q ps) (sym (one_filtered (λ (r : Timed). option_and_then (under q) (told r)) p))
 
--- the marks of the pairs are told one further
-pub marks_further : (q : Key) (xs : List Timed) (whole now new : List Mark) (p : Timed)
-    → whole ≡ now ++ marks_of q (p ∷ xs) → new ≡ now ++ marks_of q (p ∷ []) → whole ≡ new ++ marks_of q xs
-marks_further q xs whole now new p before put =
-    regroup whole now new (marks_of q (p ∷ [])) (marks_of q xs) put
-    (before ∙ ap (λ l. now ++ l) (marks_first q p xs))
+one_mark : (b : Bool) (m : Mark) → option_to_list (if b then Some m else None) ≡ cond b (m ∷ []) []
+one_mark true m = refl
+one_mark false m = refl
+
+-- the mark of an entry that tells one
+pub mark_told : (q : Key) (p : Timed) (k : Key) (m : Mark) → told p ≡ Some (k, m)
+    → marks_of q (p ∷ []) ≡ cond (same_key k q) (m ∷ []) []
+unfolding marks_of
+mark_told q p k m e =
+    one_filtered (λ (r : Timed). option_and_then (under q) (told r)) p
+    ∙ ap (λ (o : Option (Key × Mark)). option_to_list (option_and_then (under q) o)) e ∙ one_mark (same_key k q) m
+
+-- and of one that tells none
+pub no_mark : (q : Key) (p : Timed) → told p ≡ None → marks_of q (p ∷ []) ≡ []
+unfolding marks_of
+no_mark q p e =
+    one_filtered (λ (r : Timed). option_and_then (under q) (told r)) p
+    ∙ ap (λ (o : Option (Key × Mark)). option_to_list (option_and_then (under q) o)) e
+
+-- a table that tells what one more entry tells
+pub some_put : (old new : MarkTable) (p : Timed) (k : Key) (m : Mark) → told p ≡ Some (k, m)
+    → ((q : Key) → marks_at new q ≡ marks_at old q ++ cond (same_key k q) (m ∷ []) [])
+    → (q : Key) → marks_at new q ≡ marks_at old q ++ marks_of q (p ∷ [])
+some_put old new p k m e put q = put q ∙ ap (λ l. marks_at old q ++ l) (sym (mark_told q p k m e))
+
+pub none_put : (table : MarkTable) (p : Timed) → told p ≡ None
+    → (q : Key) → marks_at table q ≡ marks_at table q ++ marks_of q (p ∷ [])
+none_put table p e q =
+    sym (append-nil (marks_at table q)) ∙ ap (λ l. marks_at table q ++ l) (sym (no_mark q p e))
+
+-- the marks of what is left, one pair further
+pub marks_further : (q : Key) (entries : List Entry) (times : List (Option ℕ)) (i : ℕ) (e : Entry) (t : Option ℕ)
+    (whole now new : List Mark) → slice_get entries i ≡ Some e → slice_get times i ≡ Some t
+    → whole ≡ now ++ marks_of q (zip (drop i entries) (drop i times)) → new ≡ now ++ marks_of q ((e, t) ∷ [])
+    → whole ≡ new ++ marks_of q (zip (drop (i + 1) entries) (drop (i + 1) times))
+marks_further q entries times i e t whole now new first second before put =
+    let rest = zip (drop (i + 1) entries) (drop (i + 1) times) in
+    regroup whole now new (marks_of q ((e, t) ∷ [])) (marks_of q rest) put
+    (before
+    ∙ ap (λ l. now ++ l)
+    (ap (marks_of q) (pair_left entries times i e t first second) ∙ marks_first q (e, t) rest))
+
+-- and at the end
+pub marks_whole : (q : Key) (entries : List Entry) (times : List (Option ℕ)) (i : ℕ) (whole now : List Mark)
+    → length entries ≤ i → whole ≡ now ++ marks_of q (zip (drop i entries) (drop i times)) → now ≡ whole
+unfolding marks_of
+marks_whole q entries times i whole now h before =
+    sym (before ∙ ap (λ l. now ++ marks_of q l) (no_pair entries times i h) ∙ append-nil now)
 
 -- the lines of the marks have one more
 pub runs_further : (net : Net) (p : StreamJob) (marks : List Mark) (i : ℕ) (m : Mark) (whole now new : List ℕ)

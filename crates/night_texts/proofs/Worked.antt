@@ -1,7 +1,9 @@
 -- What is told of a small night, worked out: texts from the meaning of the entries, not from the program.
 use Rattle.std.specs.Prelude.{◌++◌, ◌≡◌, ℕ, ◌∷◌, [], List, None, Option, Some, codes, false, pos, refl, true}
-use Rattle.model.specs.Types.{AddDep, Body, Carry, Command, Declined, Dep, Ended, Entry, Events, Feed, FollowsJob, Fulfilled}
-use Rattle.model.specs.Types.{Job, JobDoc, Kill, Launched, Lost, Net, NewPlan, NotRunning, Obeyed, Order, Orders, Outside}
+use Rattle.model.specs.Types.{AddDep, Body, Carry, Command, Declined, Dep, Ended, Entry, Events, Feed, FollowsJob}
+use Rattle.model.specs.Types.{Fulfilled}
+use Rattle.model.specs.Types.{Job, JobDoc, Kill, Launched, Lost, Net, NewPlan, NotRunning, Obeyed, Order, Orders}
+use Rattle.model.specs.Types.{Outside}
 use Rattle.model.specs.Types.{Recovery, Released, StreamDoc}
 use Rattle.model.specs.History.{view_of}
 use Rattle.model.specs.Everything.{everything}
@@ -69,12 +71,14 @@ own k b = entry (Events 1) k b
 
 plan_made : log_of two (plan ∷ []) (Some 180483 ∷ [])
     ≡ codes "1970-01-03 02:08:03 MDM made plan 12: 1 new streams, 3 carried\n"
-unfolding everything two a_job night entry plan log_of timed_line moment_text date_of_day date_after clock_text says name_of
+unfolding everything two a_job night entry plan log_of timed_line moment_text date_of_day date_after clock_text says
+unfolding name_of
 plan_made = refl
 
 launched : log_of two (plan ∷ own 1 (Launched 1 1 []) ∷ []) (None ∷ Some 180483 ∷ [])
     ≡ codes "- MDM made plan 12: 1 new streams, 3 carried\n1970-01-03 02:08:03 FTA1 launched FTA1#NIGHT.LOAD, launch 1\n"
-unfolding everything two a_job night entry plan own log_of timed_line moment_text date_of_day date_after clock_text says name_of launch_text job_called job_text
+unfolding everything two a_job night entry plan own log_of timed_line moment_text date_of_day date_after clock_text
+unfolding says name_of launch_text job_called job_text
 launched = refl
 
 -- the agent's line alone
@@ -94,17 +98,20 @@ unfolding everything two a_job night entry plan own says says_so name_of stream_
 released = refl
 
 file_seen : says_so (Fulfilled (Job 2) 1) ≡ codes "saw the file of FTA1#NIGHT.SUM, dependency 1, file \"/in/rates.csv\""
-unfolding everything two a_job night entry plan own says says_so name_of job_called job_text object_dep dep_behind dep_text quoted_text
+unfolding everything two a_job night entry plan own says says_so name_of job_called job_text object_dep dep_behind
+unfolding dep_text quoted_text
 file_seen = refl
 
 declined : says_so (Declined 0 1 NotRunning)
     ≡ codes "declined order 1 from MDM, it is not running: kill FTA1#NIGHT.LOAD"
-unfolding everything two a_job night entry plan own says says_so name_of job_called job_text order_from ordered_behind cmd_text
+unfolding everything two a_job night entry plan own says says_so name_of job_called job_text order_from ordered_behind
+unfolding cmd_text
 declined = refl
 
 obeyed : says_so (Obeyed 0 1 (AddDep (Job 2) (FollowsJob 1)))
     ≡ codes "obeyed order 1 from MDM: adddep FTA1#NIGHT.SUM, follows FTA1#NIGHT.LOAD"
-unfolding everything two a_job night entry plan own says says_so name_of job_called job_text order_from cmd_text dep_text
+unfolding everything two a_job night entry plan own says says_so name_of job_called job_text order_from cmd_text
+unfolding dep_text
 obeyed = refl
 
 given : timed_line two (view_of (plan ∷ [])) (entry (Orders 0 1) 4 (Order (Kill 1)), None)
@@ -118,5 +125,6 @@ ran : runs_of two
     (Some 180000 ∷ Some 180483 ∷ Some 180584 ∷ None ∷ [])
     ≡ run_heads ++ codes "FTA1#NIGHT.LOAD\t1\t1970-01-03 02:08:03\t1970-01-03 02:09:44\t101\t8\tbad\n"
     ++ codes "FTA1#NIGHT.LOAD\t2\t-\t-\t-\t-\topen\n"
-unfolding everything two a_job night entry plan own moment_text date_of_day date_after clock_text name_of job_text marks_of job_runs marked_run member_runs numbered_job_runs plan_runs run_line run_lines runs_of
+unfolding everything two a_job night entry plan own moment_text date_of_day date_after clock_text name_of job_text
+unfolding marks_of job_runs marked_run member_runs numbered_job_runs plan_runs run_line run_lines runs_of
 ran = refl

@@ -2,7 +2,8 @@
 use Rattle.std.specs.Fmt.{decimal}
 use Rattle.std.specs.Option.{option_map_or}
 use Rattle.std.specs.Prelude.{ℕ, ◌++◌, List, codes}
-use Rattle.model.specs.Types.{At, Deadline, Dep, FollowsJob, FollowsStream, Global, Needs, Net, Obj, Outside, Own, Prompt, Until}
+use Rattle.model.specs.Types.{At, Deadline, Dep, FollowsJob, FollowsStream, Global, Needs, Net, Obj, Outside, Own}
+use Rattle.model.specs.Types.{Prompt, Until}
 use Rattle.model.specs.Dependencies.{dep}
 use Rattle.model.specs.History.{View}
 use Rattle.report_text.specs.Dependencies.{until_word}

@@ -1,5 +1,6 @@
 -- What the entries tell of the launches of a job.
-use Rattle.std.specs.Prelude.{ℕ, ◌&&◌, ◌==◌, Bool, List, None, Option, Some, false, filter_map, if◌then◌else◌, option_and_then, option_map}
+use Rattle.std.specs.Prelude.{ℕ, ◌&&◌, ◌==◌, Bool, List, None, Option, Some, false, filter_map, if◌then◌else◌}
+use Rattle.std.specs.Prelude.{option_and_then, option_map}
 use Rattle.model.specs.Types.{Body, Ended, Events, Failed, Feed, Launched, Lost, Orders}
 use Rattle.night_texts.specs.Lines.{Timed}
 use Rattle.night_texts.specs.declared.marks.Mark.{Mark}
@@ -31,7 +32,7 @@ told p = option_and_then (said_by p.0.feed) (marked p.0.body p.1)
 
 -- what is told, where it is of this workstation and job
 abbrev pub under : Key → Key × Mark → Option Mark
-under q r = if same_key q r.0 then Some r.1 else None
+under q r = if same_key r.0 q then Some r.1 else None
 
 -- all that a workstation tells of a job, in order
 unfoldable pub marks_of : Key → List Timed → List Mark

@@ -2,7 +2,8 @@
 use Rattle.std.specs.Fmt.{decimal, signed_decimal}
 use Rattle.std.specs.List.{zip}
 use Rattle.std.specs.Option.{option_map_or}
-use Rattle.std.specs.Prelude.{[], ℕ, ◌++◌, ◌-◌, ◌==◌, ◌∷◌, Bool, List, None, Option, Some, codes, false, find, flat_map, if◌then◌else◌, nat_le, option_and_then}
+use Rattle.std.specs.Prelude.{[], ℕ, ◌++◌, ◌-◌, ◌==◌, ◌∷◌, Bool, List, None, Option, Some, codes, false, find}
+use Rattle.std.specs.Prelude.{flat_map, if◌then◌else◌, nat_le, option_and_then}
 use Rattle.model.specs.Types.{Entry, JobDoc, Net, StreamDoc}
 use Rattle.model.specs.History.{View, view_of}
 use Rattle.model.specs.Catalogue.{StreamJob, job, members, stream}

@@ -9,7 +9,8 @@ ghost use Rattle.night_texts.specs.Names as names;
 
 use crate::dependencies::{write_dep, write_object_dep};
 use crate::names::{
-    write_job_called, write_object_called, write_prompt_called, write_resource_called, write_stream_called,
+    write_job_called, write_object_called, write_prompt_called, write_resource_called,
+    write_stream_called,
 };
 use base_types::{Cmd, Dep, JobNo, Obj, StreamNo, Ws};
 use network_tree::Network;
@@ -18,13 +19,7 @@ use report_text::name;
 use std::io::{self, Write};
 
 /// Writes a word and an object.
-fn write_of(
-    out: &mut Vec<u8>,
-    net: &Network,
-    o: &Owners,
-    word: &str,
-    obj: &Obj,
-) -> io::Result<()>
+fn write_of(out: &mut Vec<u8>, net: &Network, o: &Owners, word: &str, obj: &Obj) -> io::Result<()>
     ensures { OnOk result (out.new.items ≡ out.old.items
         ++ (word.now ++ names.object_called net.now (view_of o.now) obj.now)) }
 {
@@ -63,13 +58,7 @@ fn write_add_dep(
     write_dep(out, net, o, dep)
 }
 
-fn write_del_dep(
-    out: &mut Vec<u8>,
-    net: &Network,
-    o: &Owners,
-    obj: &Obj,
-    i: u16,
-) -> io::Result<()>
+fn write_del_dep(out: &mut Vec<u8>, net: &Network, o: &Owners, obj: &Obj, i: u16) -> io::Result<()>
     ensures { OnOk result (out.new.items ≡ out.old.items
         ++ (codes "deldep " ++ object_dep net.now (view_of o.now) obj.now i)) }
 {

@@ -10,7 +10,8 @@ ghost use Rattle.night_texts.specs.Names.{job_called, resource_called, stream_ca
 
 use crate::moments::write_moment;
 use crate::names::{
-    write_job_called, write_object_called, write_prompt_called, write_resource_called, write_stream_called,
+    write_job_called, write_object_called, write_prompt_called, write_resource_called,
+    write_stream_called,
 };
 use base_types::{Dep, JobNo, Moment, Obj, OnUntil, PromptRef, StreamNo, Text};
 use network_tree::Network;

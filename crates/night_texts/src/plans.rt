@@ -27,7 +27,13 @@ fn write_numbered_job(
     match o.planned_job(doc.no) {
         None => Ok(()),
         Some((parent, planned)) => {
-            write_runs(out, net, parent, planned, table.marks(planned.ws.0, planned.no.0))
+            write_runs(
+                out,
+                net,
+                parent,
+                planned,
+                table.marks(planned.ws.0, planned.no.0),
+            )
         }
     }
 }

@@ -16,7 +16,8 @@ use crate::dependencies::write_object_dep;
 use crate::moments::write_moment;
 use crate::names::{write_job_called, write_stream, write_stream_called};
 use base_types::{
-    Body, Cmd, Entry, Feed, JobNo, Moment, Obj, OnUntil, SharedDocs, StreamDoc, StreamNo, StreamNos, Why, Ws,
+    Body, Cmd, Entry, Feed, JobNo, Moment, Obj, OnUntil, SharedDocs, StreamDoc, StreamNo,
+    StreamNos, Why, Ws,
 };
 use network_tree::Network;
 use owner_fold::Owners;
@@ -33,18 +34,17 @@ fn hearer(feed: &Feed) -> &Ws
     }
 }
 
-fn write_plan(
-    out: &mut Vec<u8>,
-    run: u32,
-    carried: &StreamNos,
-    docs: &SharedDocs,
-) -> io::Result<()>
+fn write_plan(out: &mut Vec<u8>, run: u32, carried: &StreamNos, docs: &SharedDocs) -> io::Result<()>
     ensures { OnOk result (out.new.items ≡ out.old.items
         ++ (codes "made plan " ++ decimal run ++ codes ": " ++ decimal (length docs.now) ++ codes " new streams, "
         ++ decimal (length carried.now) ++ codes " carried")) }
 {
     let fresh = docs.as_slice().len();
-    write!(out, "made plan {run}: {fresh} new streams, {} carried", carried.len())
+    write!(
+        out,
+        "made plan {run}: {fresh} new streams, {} carried",
+        carried.len()
+    )
 }
 
 fn write_added(
@@ -237,9 +237,7 @@ pub(crate) fn write_saying(
         Body::Clock(t) => write_reading(out, t),
         Body::Released(s, _) => write_of_stream(out, net, o, "released ", s),
         Body::StreamEnded(s, _) => write_of_stream(out, net, o, "ended ", s),
-        Body::UntilPassed(obj, i, then) => {
-            write_of_dep(out, net, o, until_text(*then), obj, *i)
-        }
+        Body::UntilPassed(obj, i, then) => { write_of_dep(out, net, o, until_text(*then), obj, *i) }
         Body::Launched(j, n, _) => write_launch(out, net, o, "launched ", j, *n),
         Body::Started(j, n) => write_launch(out, net, o, "started ", j, *n),
         Body::Failed(j, n) => write_launch(out, net, o, "could not start ", j, *n),
@@ -247,9 +245,7 @@ pub(crate) fn write_saying(
         Body::Lost(j, n) => write_launch(out, net, o, "lost ", j, *n),
         Body::Fulfilled(obj, i) => write_of_dep(out, net, o, "saw the file of ", obj, *i),
         Body::Obeyed(from, place, cmd) => write_obeyed(out, net, o, from, *place, cmd),
-        Body::Declined(from, place, why) => {
-            write_declined(out, net, o, from, to, *place, *why)
-        }
+        Body::Declined(from, place, why) => { write_declined(out, net, o, from, to, *place, *why) }
         Body::Order(cmd) => write_given(out, net, o, to, entry.place, cmd),
         Body::Late(obj, i) => write_of_dep(out, net, o, "late: ", obj, *i),
     }

@@ -20,12 +20,12 @@ no_zone = refl
 
 a_record : kept_line (codes "1970-01-01T00:00:07.000Z kept at=8 bytes=17") ≡ Some (record { gate = 8; length = 17; moment = 7 })
 unfolding kept_line field_of number_of stamp_of has_marks day_in clock_in day_of days_before days_of_years
-unfolding days_of_months
+    days_of_months
 a_record = refl
 
 another_event : kept_line (codes "1970-01-01T00:00:07.000Z ended job=8 launch=1") ≡ None
 unfolding kept_line field_of number_of stamp_of has_marks day_in clock_in day_of days_before days_of_years
-unfolding days_of_months
+    days_of_months
 another_event = refl
 
 more_than_a_record : kept_line (codes "1970-01-01T00:00:07.000Z kept at=8 bytes=17 more=1") ≡ None

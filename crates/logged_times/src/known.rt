@@ -126,8 +126,8 @@ impl EntryTimes {
         Ok(())
     }
 
-    /// Takes when the entries that w made were kept, of all these that its message file keeps, in order, by its log and the
-    /// one before it. `NoMemory` where memory runs out; then some may have been taken.
+    /// Takes when the entries that w made were kept, of all these that its message file keeps, in order, by its log and
+    /// the one before it. `NoMemory` where memory runs out; then some may have been taken.
     pub fn tell_by_logs(
         &mut self,
         w: Ws,

@@ -72,13 +72,13 @@ own k b = entry (Events 1) k b
 plan_made : log_of two (plan ∷ []) (Some 180483 ∷ [])
     ≡ codes "1970-01-03 02:08:03 MDM made plan 12: 1 new streams, 3 carried\n"
 unfolding everything two a_job night entry plan log_of timed_line moment_text date_of_day date_after clock_text says
-unfolding name_of
+    name_of
 plan_made = refl
 
 launched : log_of two (plan ∷ own 1 (Launched 1 1 []) ∷ []) (None ∷ Some 180483 ∷ [])
     ≡ codes "- MDM made plan 12: 1 new streams, 3 carried\n1970-01-03 02:08:03 FTA1 launched FTA1#NIGHT.LOAD, launch 1\n"
 unfolding everything two a_job night entry plan own log_of timed_line moment_text date_of_day date_after clock_text
-unfolding says name_of launch_text job_called job_text
+    says name_of launch_text job_called job_text
 launched = refl
 
 -- the agent's line alone
@@ -99,19 +99,19 @@ released = refl
 
 file_seen : says_so (Fulfilled (Job 2) 1) ≡ codes "saw the file of FTA1#NIGHT.SUM, dependency 1, file \"/in/rates.csv\""
 unfolding everything two a_job night entry plan own says says_so name_of job_called job_text object_dep dep_behind
-unfolding dep_text quoted_text
+    dep_text quoted_text
 file_seen = refl
 
 declined : says_so (Declined 0 1 NotRunning)
     ≡ codes "declined order 1 from MDM, it is not running: kill FTA1#NIGHT.LOAD"
 unfolding everything two a_job night entry plan own says says_so name_of job_called job_text order_from ordered_behind
-unfolding cmd_text
+    cmd_text
 declined = refl
 
 obeyed : says_so (Obeyed 0 1 (AddDep (Job 2) (FollowsJob 1)))
     ≡ codes "obeyed order 1 from MDM: adddep FTA1#NIGHT.SUM, follows FTA1#NIGHT.LOAD"
 unfolding everything two a_job night entry plan own says says_so name_of job_called job_text order_from cmd_text
-unfolding dep_text
+    dep_text
 obeyed = refl
 
 given : timed_line two (view_of (plan ∷ [])) (entry (Orders 0 1) 4 (Order (Kill 1)), None)
@@ -126,5 +126,5 @@ ran : runs_of two
     ≡ run_heads ++ codes "FTA1#NIGHT.LOAD\t1\t1970-01-03 02:08:03\t1970-01-03 02:09:44\t101\t8\tbad\n"
     ++ codes "FTA1#NIGHT.LOAD\t2\t-\t-\t-\t-\topen\n"
 unfolding everything two a_job night entry plan own moment_text date_of_day date_after clock_text name_of job_text
-unfolding marks_of job_runs marked_run member_runs numbered_job_runs plan_runs run_line run_lines runs_of
+    marks_of job_runs marked_run member_runs numbered_job_runs plan_runs run_line run_lines runs_of
 ran = refl

@@ -24,7 +24,8 @@ pub(crate) fn read_log<F: Folder>(
     ensures front { OnlyAppends (F.becomes folder.old) name.now → IfOk result (λ log.
         IfSome (F.seen folder.new name.now) (λ file. log.items ≡ take (length log.items) file)) }
     ensures whole { OnlyAppends (F.becomes folder.old) name.now → F.faults folder.new ≡ F.faults folder.old
-        → IfOk result (λ log. length log.items < 2 ^ 26 → IfSome (F.seen folder.new name.now) (λ file. log.items ≡ file)) }
+        → IfOk result (λ log. length log.items < 2 ^ 26
+        → IfSome (F.seen folder.new name.now) (λ file. log.items ≡ file)) }
     ensures looks { OnlyLooks F.seen F.becomes F.faults folder.old folder.new }
 {
     let mut log = Vec::new(alloc);

@@ -98,7 +98,8 @@ fn tell_station<F: Folder>(
     tell_other(alloc, folder, net, w, &former, &last, known)
 }
 
-/// When each of the entries that workstation `me` keeps was kept by its own maker, in order, in seconds since 1970, UTC.
+/// When each of the entries that workstation `me` keeps was kept by its own maker, in order, in seconds since 1970,
+/// UTC.
 /// None where that is not known: the maker's logs `NAME.log.1` and `NAME.log` or its message file `NAME.msg` are not in
 /// the folder, or do not tell it.
 ///

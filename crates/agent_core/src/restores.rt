@@ -64,7 +64,6 @@ impl Agent {
         let tracker = Tracker::new();
         let mail = Mail::new(alloc);
         let live = Items::new(alloc);
-        let listed = Items::new(alloc);
         Ok(Agent {
             alloc,
             net,
@@ -74,7 +73,6 @@ impl Agent {
             tracker,
             mail,
             live,
-            listed,
             idle_until: None,
         })
     }

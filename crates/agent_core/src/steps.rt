@@ -50,7 +50,6 @@ impl Agent {
         ensures net { self.new.net ≡ self.old.net }
         ensures me { self.new.me ≡ self.old.me }
     {
-        self.list_feeds();
         self.renew()?;
         self.step_whole(input)
     }

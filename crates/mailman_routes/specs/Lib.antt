@@ -1,2 +1,0 @@
--- Which entries change whom feeds are passed on to.
-pub mod Quiet

@@ -1,4 +1,6 @@
 """The kit's command `rt` as a module, for the scripts beside this one. It is found by the word `rt` of the shell."""
+import contextlib
+import fcntl
 import importlib.machinery
 import importlib.util
 import os
@@ -29,8 +31,22 @@ def crates_here(rt):
     return {crate.name: crate for crate in rt.crates_of(TOP)}
 
 
+@contextlib.contextmanager
+def giving_alone():
+    """Waits until no other script gives libraries to this checkout: where two do, the kit takes what is kept for damaged."""
+    os.makedirs(f"{TOP}/out", exist_ok=True)
+    with open(f"{TOP}/out/giving", "w", encoding="utf-8") as lock:
+        fcntl.flock(lock, fcntl.LOCK_EX)
+        yield
+
+
 def libraries_that_lack(rt, crate, crates):
     """Gives the libraries below the crate to this checkout, and names those that are not kept, or stand on such."""
+    with giving_alone():
+        return lacking_of(rt, crate, crates)
+
+
+def lacking_of(rt, crate, crates):
     kept, lacking = rt.Kept(list(crates.values())), []
     for library in crate.below():
         if any(one.name in lacking for one in library.below()):

@@ -16,4 +16,5 @@ pub mod Drafts
 pub mod Networks
 pub mod Texts
 pub mod ListingChars
+mod Tails
 pub mod Read

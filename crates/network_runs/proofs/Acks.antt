@@ -73,7 +73,7 @@ made_in_range : (me : ℕ) (V : View) (made : Option Entry) (to : ℕ) (p : Pack
 made_in_range me V None to p h = absurd h
 made_in_range me V (Some e) to p h = body_in_range me V e.body to p h
 
-within : (net : Net) (w : ℕ) → IsInside net w → w < node_count net
+pub within : (net : Net) (w : ℕ) → IsInside net w → w < node_count net
 within net w h = ltb-true w (node_count net) h
 
 in_two : (net : Net) (w : ℕ) → node_count net ≤ 65536 → w < node_count net → w < 65536

@@ -5,9 +5,10 @@ pub mod Telling
 mod Runs
 pub mod Growing
 pub mod Counting
-mod Acks
+pub mod Acks
 pub mod Carrying
 mod Advancing
+mod KeptIn
 mod Whole
 pub mod Reading
 mod Leaving

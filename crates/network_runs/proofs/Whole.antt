@@ -2,12 +2,9 @@
 use Rattle.std.proofs.Common.{[], ◌++◌, ◌<◌, ◌≤◌, ◌≡◌, ◌≢◌, ◌∙◌, ◌∷◌, ◌⊎◌, ℕ, Bool, List, None, Option, Some, ap, append_assoc, arith, false, inl, inr, refl, subst, sym, true}
 use Rattle.std.proofs.lemmas.Bool.Decides.{eqb_tells, leb_tells}
 use Rattle.std.proofs.lemmas.List.{append-nil}
-use Rattle.std.proofs.lemmas.List.Elements.{filter_map-append}
-use Rattle.std.specs.List.{cons_option}
-use Rattle.std.specs.Prelude.{◌==◌, filter_map, if◌then◌else◌, nat_le}
+use Rattle.std.specs.Prelude.{nat_le}
 use Rattle.composer_parser.specs.declared.Defs.{Defs}
 use Rattle.model.specs.Types.{Entry, Input, Net, Out, Start}
-use Rattle.model.specs.History.{maker}
 use Rattle.model.specs.Kept.{HasKept}
 use Rattle.model.specs.Network.{node_count}
 use Rattle.model.specs.Sessions.{restarted}
@@ -22,7 +19,7 @@ use Rattle.agent_core.specs.declared.faults.Step.{Step}
 use Rattle.node_inputs.specs.Traces.{Event, Trace, refusals}
 use Rattle.node_inputs.specs.declared.ends.NodeEnd.{NodeEnd}
 use Rattle.node_loop.specs.Runs.{running}
-use Rattle.network_runs.specs.Happenings.{Begins, Does, Happening, Night, Stops, heard_from, kept_at, kept_in, left_at_stop, made, of_its_maker, since, started, until_stop}
+use Rattle.network_runs.specs.Happenings.{Begins, Does, Happening, Night, Stops, heard_from, kept_at, left_at_stop, made, since, started, until_stop}
 use Rattle.network_runs.specs.Nights.{IsLeftAtStop, IsLife, IsNight, IsSent}
 use Rattle.network_runs.proofs.Worlds.{IsReached, empty_reached, invariant, kept_first}
 use Rattle.network_runs.proofs.Growing.{Grows, NodeIn, grows_not}
@@ -35,6 +32,7 @@ use Rattle.network_runs.proofs.Telling.{heard_stays}
 use Rattle.network_runs.proofs.Reading.{read_law}
 use Rattle.network_runs.proofs.Stories.{CameBy, Story}
 use Rattle.network_runs.proofs.Runs.{run_tells}
+use Rattle.network_runs.proofs.KeptIn.{found_in}
 
 -- how a workstation stands in a world between what happened and what comes
 pub data Station (net : Net) (x : World) (before behind : Night) (w : ℕ) : Type 0 where
@@ -139,60 +137,8 @@ links_of defs night before behind x w past n is s running_ = λ a f stands is_fo
     let sent : IsSent before a w f = n.links before behind w a past f is running_ stands is_for in
     s.sent_ a w (frame_bytes f) sent.0 (in_of _ before sent.1)
 
+
 -- what is kept can be written
-record IsKeptIn (night : Night) (e : Entry) : Type 0 where
-  pub front : Night
-  pub back : Night
-  pub h : Happening
-  pub v : ℕ
-  pub split : night ≡ front ++ h ∷ back
-  pub its : kept_in h ≡ Some (v, e)
-
-found_in : (before : Night) (e : Entry) → IsIn e (made before) → IsKeptIn before e
-found_in [] e k = absurd k
-found_in (h ∷ before) e k = elim (in_either e (made (h ∷ [])) (made before) (subst (IsIn e) (first h before) k)) [
-  | inl new ↦ here h before new
-  | inr old ↦ later h before (found_in before e old)
-]
-  where
-    first : (h : Happening) (before : Night) → made (h ∷ before) ≡ made (h ∷ []) ++ made before
-    first h before =
-        ap (filter_map of_its_maker)
-        (filter_map-append kept_in (h ∷ []) before)
-        ∙ filter_map-append of_its_maker
-        (filter_map kept_in (h ∷ [])) (filter_map kept_in before)
-
-    of_its : (h : Happening) (before : Night) (o : Option (ℕ × Entry)) → kept_in h ≡ o
-        → IsIn e (filter_map of_its_maker (cons_option o []))
-        → IsKeptIn (h ∷ before) e
-    of_its h before None is k = absurd k
-    of_its h before (Some kept) is k = go (maker kept.1.feed == kept.0) k
-      where
-        go : (b : Bool) → IsIn e (cons_option (if b then Some kept.1 else None) []) → IsKeptIn (h ∷ before) e
-        go true (inl same) = record {
-          front = [];
-          back = before;
-          h = h;
-          v = kept.0;
-          split = refl;
-          its = is ∙ ap (λ (d : Entry). Some (kept.0, d)) same;
-        }
-        go true (inr none) = absurd none
-        go false none = absurd none
-
-    here : (h : Happening) (before : Night) → IsIn e (made (h ∷ [])) → IsKeptIn (h ∷ before) e
-    here h before k = of_its h before (kept_in h) refl k
-
-    later : (h : Happening) (before : Night) → IsKeptIn before e → IsKeptIn (h ∷ before) e
-    later h before k = record {
-      front = h ∷ k.front;
-      back = k.back;
-      h = k.h;
-      v = k.v;
-      split = ap (λ (l : Night). h ∷ l) k.split;
-      its = k.its;
-    }
-
 written_of : (defs : Defs) (night before behind : Night) (x : World) → IsNight defs night → night ≡ before ++ behind
     → Stands (net_of defs) x before behind → AreWritten x.history
 written_of defs night before behind x n is s = λ e k.

@@ -34,7 +34,7 @@ use Rattle.nights_at_rest.specs.NodeRounds.{is_inside}
 use Rattle.nights_at_rest.specs.Passes.{HearsFrom}
 use Rattle.nights_at_rest.proofs.Doing.{AreInside, Outputs, back_in, front_in, outputs_none, plain, take_inside}
 use Rattle.nights_at_rest.proofs.Hearing.{brings_it, frame_way}
-use Rattle.nights_at_rest.proofs.Standing.{both_of, no_end, not_still, wanted}
+use Rattle.nights_at_rest.proofs.StillParts.{both_of, no_end, not_still, wanted}
 use Rattle.nights_at_rest.proofs.Ways.{JoinedWay, Way, way_on, way_plain, written_on}
 
 -- a frame that w heard whole from a is the input of a packet, which is delivered in this stretch

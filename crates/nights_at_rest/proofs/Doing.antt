@@ -25,7 +25,7 @@ use Rattle.node_inputs.proofs.Fronts.{kept-append}
 use Rattle.network_runs.proofs.Members.{IsIn, in_either, in_left, in_right}
 use Rattle.network_runs.proofs.Stories.{Brings}
 use Rattle.nights_at_rest.specs.NodeRounds.{is_given_by, is_inside}
-use Rattle.nights_at_rest.proofs.Standing.{PassedOver, both_of, no_end, not_still, passes_over, wanted}
+use Rattle.nights_at_rest.proofs.StillParts.{PassedOver, both_of, no_end, not_still, passes_over, wanted}
 
 abbrev pub AreInside : ℕ → Trace → Type 0
 AreInside w trace = AllByRecursion (λ event. is_inside w event ≡ true) trace
@@ -101,7 +101,7 @@ plain node event keeps sends = record {
 no_kill : (j n : ℕ) (call : Sent) → Event.Kills j n ≡ Event.Sends call → ⊥
 no_kill j n call q = cc
 
-no_ask : (a : Asked) (call : Sent) → Event.Asks a ≡ Event.Sends call → ⊥
+pub no_ask : (a : Asked) (call : Sent) → Event.Asks a ≡ Event.Sends call → ⊥
 no_ask a call q = cc
 
 -- what it gives beside packets

@@ -11,6 +11,7 @@ mod Playing
 mod Posts
 mod Standing
 mod Staying
+mod StillParts
 mod Taken
 mod Waiting
 mod Ways

@@ -44,7 +44,7 @@ use Rattle.nights_at_rest.specs.Passes.{HearsFrom}
 use Rattle.nights_at_rest.proofs.Arriving.{ComeWay, HeardOf, come_way, delivers_on, kept_front}
 use Rattle.nights_at_rest.proofs.Doing.{AreInside, Outputs, PassedIn, TakenIn, back_in, front_in, outputs_none, plain, take_inside}
 use Rattle.nights_at_rest.proofs.Hearing.{turn_way}
-use Rattle.nights_at_rest.proofs.Standing.{both_of, not_still}
+use Rattle.nights_at_rest.proofs.StillParts.{both_of, not_still}
 use Rattle.nights_at_rest.proofs.Ways.{JoinedWay, Way, way_on, way_plain}
 
 -- what stands still in a pass

@@ -1,6 +1,6 @@
 -- In a world of steps packets go between workstations of the network, and acknowledgements are of its feeds.
 use Rattle.std.proofs.Common.{◌≡◌, ◌≢◌, ◌∙◌, ◌⊎◌, ◌<◌, ℕ, zero, suc, true, false, inl, inr, List, [], ◌∷◌, ◌++◌, refl, ap, sym, subst, Option, Some, None}
-use Rattle.std.proofs.lemmas.Bool.{eq-eqb, ltb-true}
+use Rattle.std.proofs.lemmas.Bool.{eq-eqb}
 use Rattle.std.proofs.lemmas.Option.{slice_get_within}
 use Rattle.std.specs.List.{AllByRecursion}
 use Rattle.std.specs.Option.{option_or}
@@ -24,6 +24,7 @@ use Rattle.model_laws.proofs.Lists.{is_at-true}
 use Rattle.model_laws.proofs.Options.{slice_get_all, there_if}
 use Rattle.model_laws.proofs.Ranks.{hung, managed_hop, manager_inside}
 use Rattle.model_laws.proofs.Steps.{IsFaultless, IsOpened, MailDone, OwnDone, here, moves, step_of}
+use Rattle.network_runs.proofs.Acks.{within}
 use Rattle.rest_laws.proofs.Sending.{FeedIsIn, IsAck, IsMail, IsNone, IsOut, Near, Sends, ack_sends, mail_sends, sends_after, sends_on, sends_self, turn_sends}
 
 -- an acknowledgement is of a feed of the network
@@ -97,11 +98,8 @@ near_of net x w i v none is v_in = (
   apart w v (subst (λ (o : Option ℕ). some_is o w ≡ false) is (other net x w i none)),
 )
 
-low : (net : Net) (v : ℕ) → IsInside net v → v < node_count net
-low net v h = ltb-true v (node_count net) h
-
-all_low : (net : Net) (ws : List ℕ) → AllByRecursion (IsInside net) ws → AllByRecursion (λ w. w < node_count net) ws
-all_low net ws h = all_such (IsInside net) (λ w. w < node_count net) ws (λ w k. low net w k) h
+all_within : (net : Net) (ws : List ℕ) → AllByRecursion (IsInside net) ws → AllByRecursion (λ w. w < node_count net) ws
+all_within net ws h = all_such (IsInside net) (λ w. w < node_count net) ws (within net) h
 
 came_outs : (net : Net) (x : World) (w : ℕ) (i : Input) → IsOpened x.history i → IsFaultless net x w i
     → AreOuts net w (step_of net x w i).outs
@@ -110,8 +108,8 @@ came_outs net x w (Input.Mail a e) opened none =
     let named : AllByRecursion (IsInside net) (a ∷ (ws_in_feed e.feed ++ ws_in_body e.body)) =
     are_in net (ws_in (Input.Mail a e)) (clear_here net x w (Input.Mail a e) none).named in
     outs_of_kind net (IsAck net) (ack_posted net) w _
-    (mail_sends net x w a e (near_of net x w (Input.Mail a e) a none refl (low net a named.0))
-    (all_low net (ws_in_feed e.feed) (all_left (IsInside net) (ws_in_feed e.feed) (ws_in_body e.body) named.1)))
+    (mail_sends net x w a e (near_of net x w (Input.Mail a e) a none refl (within net a named.0))
+    (all_within net (ws_in_feed e.feed) (all_left (IsInside net) (ws_in_feed e.feed) (ws_in_body e.body) named.1)))
 came_outs net x w (Input.Ack a f n) opened none =
     outs_of_kind net IsNone (none_posted net) w _ (ack_sends net x w a f n)
 

@@ -43,11 +43,11 @@ use Rattle.network_runs.proofs.Members.{IsIn, contains_of, in_either, in_right}
 use Rattle.network_runs.proofs.Telling.{IsOutput, given_out}
 use Rattle.network_runs.proofs.Worlds.{IsReached}
 use Rattle.nights_at_rest.specs.Passes.{HearsFrom}
-use Rattle.nights_at_rest.proofs.Doing.{Outputs, outputs_none, plain}
+use Rattle.nights_at_rest.proofs.Doing.{Outputs, no_ask, outputs_none, plain}
 use Rattle.nights_at_rest.proofs.Hearing.{brings_it, history_told, node_for, node_in}
 use Rattle.nights_at_rest.proofs.Arriving.{for_nodes, no_arrival}
 use Rattle.nights_at_rest.proofs.Passing.{no_look, no_reading, no_report, rest_heard}
-use Rattle.nights_at_rest.proofs.Standing.{both_of, no_end, wanted}
+use Rattle.nights_at_rest.proofs.StillParts.{both_of, no_end, wanted}
 use Rattle.nights_at_rest.proofs.Ways.{Way, own_of, own_on, parts_same}
 
 -- the trace of w leads from x to y: its node stands there again, and what is new in the world is what it keeps and sends
@@ -154,9 +154,6 @@ is_output node outs (e ∷ trace) event h (inr k) = is_output node outs trace ev
 
 no_reply : (c : Replied) (call : Sent) → Event.Replies c ≡ Event.Sends call → ⊥
 no_reply c call q = cc
-
-no_asking : (c : Asked) (call : Sent) → Event.Asks c ≡ Event.Sends call → ⊥
-no_asking c call q = cc
 
 -- at one workstation, from this world on
 module _ (net : Net) (tree : IsTree net) (few : node_count net ≤ 65536) (w : ℕ) (first : World) where
@@ -291,7 +288,7 @@ module _ (net : Net) (tree : IsTree net) (few : node_count net ≤ 65536) (w : �
   rule = record {
     joined = stays_joined;
     spent = λ s end input due is none. no_end (sym none ∙ is);
-    asks = λ s call. stays_event (Event.Asks call) s (plain s (Event.Asks call) refl (no_asking call));
+    asks = λ s call. stays_event (Event.Asks call) s (plain s (Event.Asks call) refl (no_ask call));
     replies = λ s call. stays_event (Event.Replies call) s (plain s (Event.Replies call) refl (no_reply call));
     steps = λ input came. stays_step input came;
     told = λ input h. told_at input h;

@@ -27,7 +27,7 @@ use Rattle.nights_at_rest.specs.Passes.{ArePasses, HearsFrom, Pass, Passes, happ
 use Rattle.nights_at_rest.specs.Still.{IsStill, Nodes, StandStill, is_still}
 use Rattle.nights_at_rest.proofs.Going.{in_pass}
 use Rattle.nights_at_rest.proofs.Passing.{rest_heard}
-use Rattle.nights_at_rest.proofs.Standing.{AreStill, both_of, comes, front_still, not_still}
+use Rattle.nights_at_rest.proofs.StillParts.{AreStill, both_of, comes, front_still, not_still}
 
 -- what is still may happen, keeps nothing and sends nothing
 still_inside : (w : ℕ) (event : Event) → is_still event ≡ true → is_inside w event ≡ true

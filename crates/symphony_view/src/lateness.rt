@@ -1,13 +1,14 @@
 //! What is late, and which plans tell of it.
-ghost use Rattle.std.specs.Prelude.{◌≡◌};
+ghost use Rattle.std.specs.Prelude.{◌≡◌, Some};
 ghost use Rattle.std.specs.List.{list_any};
 ghost use Rattle.model.specs.Types.{Job, JobDoc as Planned};
 ghost use Rattle.model.specs.History.{view_of};
+ghost use Rattle.model.specs.Catalogue.{owner};
 ghost use Rattle.model.specs.States as states;
 ghost use Rattle.symphony_view.specs.Symphonies as spec;
 ghost use Rattle.symphony_view.specs.Words as words;
 
-use base_types::{JobDoc, Obj, StreamDoc, StreamNo};
+use base_types::{JobDoc, Obj, StreamDoc, StreamNo, Ws};
 use entry_codec::has_deadline;
 use owner_fold::Owners;
 
@@ -17,6 +18,15 @@ pub(crate) fn is_shown_late(o: &Owners, object: Obj) -> bool
     ensures { result ≡ states.is_shown_late (view_of o.now) object }
 {
     o.is_ever_late(object)
+}
+
+/// Whether the workstation of an object recorded it as late.
+#[tactic(auto, unfolding(model::specs::States::is_shown_late))]
+pub(crate) fn is_shown_late_at(o: &Owners, w: Ws, object: &Obj) -> bool
+    requires { owner (view_of o.now) object.now ≡ Some w }
+    ensures { result ≡ states.is_shown_late (view_of o.now) object.now }
+{
+    o.kept().is_ever_late_at(w, object)
 }
 
 /// What follows in the line of an object that is late.

@@ -96,16 +96,16 @@ fn state_by_launches(net: &Network, o: &Owners, parent: &StreamDoc, doc: &JobDoc
     requires { IsPlannedJob (view_of o.now) (stream_job parent.now doc.now) }
     ensures { told_job result ≡ state_of_launches net.now (view_of o.now) (stream_job parent.now doc.now) }
 {
-    if is_open(o, parent, doc) {
-        return state_of_open(is_last_started(o, parent, doc));
+    if is_open(o, doc) {
+        return state_of_open(is_last_started(o, doc));
     }
-    if is_good(o, parent, doc) {
+    if is_good(o, doc) {
         return JobState::Succ;
     }
-    if is_due(o, parent, doc) {
+    if is_due(o, doc) {
         return state_before_launch(net, o, parent, doc);
     }
-    match last_outcome(o, parent, doc) {
+    match last_outcome(o, doc) {
         Some(Outcome::Failed) => JobState::Fail,
         Some(_) => JobState::Abend,
         None => state_before_launch(net, o, parent, doc),
@@ -128,10 +128,14 @@ fn state_before_launch(net: &Network, o: &Owners, parent: &StreamDoc, doc: &JobD
     requires { IsPlannedJob (view_of o.now) (stream_job parent.now doc.now) }
     ensures { told_job result ≡ state_of_waiting net.now (view_of o.now) (stream_job parent.now doc.now) }
 {
-    if o.is_cancelled(Obj::Job(doc.no)) || o.is_cancelled(Obj::Stream(parent.no)) {
+    let told = o.kept();
+    let job = Obj::Job(doc.no);
+    if told.is_cancelled_at(doc.ws, &job)
+        || told.is_cancelled_at(parent.ws, &Obj::Stream(parent.no))
+    {
         return JobState::Cancel;
     }
-    if !o.is_released(parent.no) || !all_satisfied(net, o, doc.ws, &Obj::Job(doc.no)) {
+    if !told.is_released_at(parent.ws, parent.no) || !all_satisfied(net, o, doc.ws, &job) {
         return JobState::Hold;
     }
     if job_priority(o, parent, doc) <= o.fence(doc.ws) {
@@ -155,14 +159,16 @@ fn state_by_jobs(net: &Network, o: &Owners, doc: &StreamDoc) -> StreamState
     requires { IsPlannedStream (view_of o.now) doc.now }
     ensures { told_stream result ≡ state_of_planned net.now (view_of o.now) doc.now }
 {
-    if o.is_cancelled(Obj::Stream(doc.no)) {
+    let told = o.kept();
+    let stream = Obj::Stream(doc.no);
+    if told.is_cancelled_at(doc.ws, &stream) {
         return StreamState::Cancel;
     }
-    if o.is_ended(doc.no) {
+    if told.is_ended_at(doc.ws, doc.no) {
         return StreamState::Succ;
     }
-    if !o.is_released(doc.no) {
-        return if all_satisfied(net, o, doc.ws, &Obj::Stream(doc.no)) {
+    if !told.is_released_at(doc.ws, doc.no) {
+        return if all_satisfied(net, o, doc.ws, &stream) {
             StreamState::Ready
         } else {
             StreamState::Hold

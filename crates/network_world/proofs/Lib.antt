@@ -11,3 +11,4 @@ pub mod Delivering
 pub mod Stopping
 pub mod Beginning
 pub mod Showing
+pub mod Alike

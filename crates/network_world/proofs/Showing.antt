@@ -206,7 +206,7 @@ feeds_all node counts mid new none events orders =
     ++ flat_map (λ a. map (Orders a) (below (node_count node.net))) (below (node_count node.net)))) none
 
 -- what is told of a workstation
-held_count : (net : Net) (x : model.World) (w : ℕ) (node : NodeState)
+pub held_count : (net : Net) (x : model.World) (w : ℕ) (node : NodeState)
     → ((v : ℕ) (f : Feed) → x.holdings v f ≤ length (list_of x.history f)) → NodeStandsFor net x w node → (f : Feed)
     → length (list_of node.kept f) ≡ x.holdings w f
 held_count net x w node within h f =
@@ -228,10 +228,10 @@ listing_shown net x w node h = λ i. listing_of (h.net_ i) (held i)
 
 pub part_shown : (net : Net) (x : model.World) (w : ℕ) (node : NodeState) (holds : List FeedCount) (listing : List ℕ)
     → ((v : ℕ) (f : Feed) → x.holdings v f ≤ length (list_of x.history f)) → NodeStandsFor net x w node
-    → holds ≡ held_by node (feeds node.net) → listing ≡ listing_of node.net (view_in node)
+    → holds ≡ held_by node (feeds node.net) → listing ≡ listing_of net (view_at x w)
     → part_with w holds listing ≡ node_part net x w
 part_shown net x w node holds listing within h is lists =
-    λ i. part_with w ((is ∙ held_shown net x w node within h) i) ((lists ∙ listing_shown net x w node h) i)
+    λ i. part_with w ((is ∙ held_shown net x w node within h) i) (lists i)
 
 pub parts_next : (net : Net) (x : model.World) (w : ℕ) (mid new : List NodePart) (part : NodePart)
     → mid ≡ map (node_part net x) (below w) → part ≡ node_part net x w → new ≡ mid ++ part ∷ []

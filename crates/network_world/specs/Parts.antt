@@ -1,10 +1,10 @@
 -- What a report of a world of the definitions is made of.
-use Rattle.std.specs.Prelude.{ℕ, List, filter, flat_map, length, map, nat_lt}
+use Rattle.std.specs.Prelude.{◌≡◌, ◌<◌, ℕ, List, filter, flat_map, length, map, nat_lt}
 use Rattle.base_types.specs.declared.FeedCount.{FeedCount}
 use Rattle.base_types.specs.declared.NodePart.{NodePart}
 use Rattle.base_types.specs.declared.PairCount.{PairCount}
 use Rattle.base_types.specs.declared.ReportParts.{ReportParts}
-use Rattle.model.specs.Types.{Feed, Net}
+use Rattle.model.specs.Types.{Events, Feed, Net}
 use Rattle.model.specs.Words.{below}
 use Rattle.model.specs.Network.{node_count}
 use Rattle.model.specs.History.{list_of}
@@ -39,6 +39,10 @@ held_at net x w =
 -- what w holds, and the listing of its plan
 abbrev pub node_part : Net → World → ℕ → NodePart
 node_part net x w = record { ws = w; holds = held_at net x w; listing = listing_of net (view_at x w) }
+
+-- two workstations hold as many events of each workstation of the network
+abbrev pub HoldAsMany : Net → World → ℕ → ℕ → Type 0
+HoldAsMany net x a b = (w : ℕ) → w < node_count net → x.holdings a (Events w) ≡ x.holdings b (Events w)
 
 -- the entries, the starts, the packets by pairs, and what each workstation holds
 abbrev pub parts_of : Net → World → ReportParts

@@ -1,7 +1,7 @@
 //! Lists that are copied.
 ghost use Rattle.std.specs.Prelude.{◌≡◌, IfOk};
 
-use base_types::{Copied, Entries, Entry, Items, NoMemory, Start, Starts};
+use base_types::{Bytes, Copied, Entries, Entry, Items, NoMemory, Start, Starts};
 use std::alloc::Global;
 
 /// A copy of entries.
@@ -24,4 +24,13 @@ pub(crate) fn copied_starts(alloc: Global, starts: &[Start]) -> Result<Starts, N
         copies.push(start.copy()?)?;
     }
     Ok(copies)
+}
+
+/// A copy of bytes.
+pub(crate) fn copied_bytes(alloc: Global, bytes: &[u8]) -> Result<Bytes, NoMemory>
+    ensures { IfOk result (λ copies. copies ≡ bytes.now) }
+{
+    let mut copies = Vec::new(alloc);
+    copies.extend_from_slice(bytes)?;
+    Ok(Items::of_vec(copies))
 }

@@ -1,14 +1,33 @@
 //! How many entries of each feed a node holds.
-ghost use Rattle.std.specs.Prelude.{◌≡◌, ◌++◌, ◌∷◌, [], IfOk, OnOk, flat_map, map};
+ghost use Rattle.std.specs.Prelude.{◌≡◌, ◌++◌, ◌∷◌, [], IfOk, OnOk, flat_map, length, map, true};
 ghost use Rattle.model.specs.Types.{Events, Orders};
 ghost use Rattle.model.specs.Words.{below};
 ghost use Rattle.model.specs.Network.{node_count};
+ghost use Rattle.model.specs.History.{list_of};
 ghost use Rattle.model.specs.Forwarding.{feeds};
 ghost use Rattle.network_world.specs.Parts.{held_by};
 
 use agent_core::Agent;
 use base_types::{Feed, FeedCount, FeedCounts, Items, NoMemory, Ws};
 use std::alloc::Global;
+
+/// How many events of a workstation a node holds.
+fn events_of(node: &Agent, w: Ws) -> u32
+    ensures { result ≡ length (list_of node.now.kept (Events w)) }
+{
+    let feed = Feed::Events(w);
+    node.holds(feed)
+}
+
+/// Whether two nodes hold as many events of a workstation.
+pub(crate) fn hold_equally(one: &Agent, other: &Agent, w: Ws) -> bool
+    ensures { result ≡ true
+        → length (list_of one.now.kept (Events w)) ≡ length (list_of other.now.kept (Events w)) }
+{
+    let first = events_of(one, w);
+    let second = events_of(other, w);
+    first == second
+}
 
 /// Adds how many entries of a feed a node holds, where there are any.
 fn add_feed(counts: &mut FeedCounts, node: &Agent, feed: &Feed) -> Result<(), NoMemory>

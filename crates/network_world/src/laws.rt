@@ -8,7 +8,9 @@ ghost use Rattle.model.specs.Invariant.{IsBacked};
 ghost use Rattle.model.specs.Sessions.{Session};
 ghost use Rattle.model.specs.Step.{Effect, node_step};
 ghost use Rattle.model.specs.World as model;
-ghost use Rattle.model.specs.World.{packets_to};
+ghost use Rattle.model.specs.World.{packets_to, view_at};
+ghost use Rattle.symphony_view.specs.Listings.{listing_of};
+ghost use Rattle.network_world.specs.Parts.{HoldAsMany};
 ghost use Rattle.network_world.specs.Standing.{IsReached, KeepsAll};
 
 use model_laws::bounds::{
@@ -16,7 +18,8 @@ use model_laws::bounds::{
     worlds_keep_few_bytes, worlds_send_few_packets,
 };
 use model_laws::restoring::nodes_restore_what_they_kept;
-use model_laws::{holdings_are_there, packets_are_backed};
+use model_laws::{every_world_meets_the_invariant, holdings_are_there, packets_are_backed};
+use symphony_view::shows_events_alone;
 
 /// A step from a world that is reached keeps what restores each node.
 pub(crate) fn steps_keep_all()
@@ -55,4 +58,13 @@ pub(crate) fn lanes_get_few()
         → node_step net me V s input ≡ Ok d → (to : ℕ) → length (packets_to to d.outs) ≤ 8 }
 {
     steps_send_few_packets_to_one_workstation();
+}
+
+/// In a world that is reached, workstations that hold as many events of each have the same listing.
+pub(crate) fn equal_counts_show_equal_listings()
+    ensures { (net : Net) (x : model.World) → IsReached net x → (a b : ℕ) → HoldAsMany net x a b
+        → listing_of net (view_at x a) ≡ listing_of net (view_at x b) }
+{
+    every_world_meets_the_invariant();
+    shows_events_alone();
 }

@@ -1,4 +1,4 @@
-use Rattle.std.proofs.Common.{◌≡◌, map}
+use Rattle.std.proofs.Common.{◌≡◌, ◌≤◌, map}
 use Rattle.model.specs.Words.{below}
 use Rattle.model.specs.World.{World}
 use Rattle.network_world.specs.Parts.{node_part}
@@ -7,4 +7,7 @@ use Rattle.network_world.proofs.worlds.World.node_parts.Given as goal
 
 abbrev pub invariant-loop-w : goal.invariant-loop-w
 invariant-loop-w l =
-    (x : World) → StandsFor l.self x → l.parts ≡ map (node_part l.self.net x) (below l.w)
+    record {
+      parts : (x : World) → StandsFor l.self x → l.parts ≡ map (node_part l.self.net x) (below l.w);
+      low : l.last ≤ l.w;
+    }

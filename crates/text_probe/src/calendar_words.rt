@@ -44,18 +44,6 @@ pub fn put_free(out: &mut Out, free: &FreeDays, first: u32, count: u32) {
     }
 }
 
-fn put_set_of(out: &mut Out, set: &DaySet, asked: &[u32]) {
-    if let [first, count] = asked {
-        put_set(out, set, *first, *count)
-    }
-}
-
-fn put_free_of(out: &mut Out, free: &FreeDays, asked: &[u32]) {
-    if let [first, count] = asked {
-        put_free(out, free, *first, *count)
-    }
-}
-
 fn set_of(out: &mut Out, text: &str) -> Result<DaySet, NoMemory> {
     let days = numbers(out, text);
     DaySet::of(out.alloc, days.as_slice())
@@ -66,7 +54,11 @@ pub fn put_days(out: &mut Out, text: &str) {
     let (asked, days) = halves(text);
     let asked = numbers(out, asked);
     match set_of(out, days) {
-        Ok(set) => put_set_of(out, &set, asked.as_slice()),
+        Ok(set) => {
+            if let [first, count] = asked.as_slice() {
+                put_set(out, &set, *first, *count);
+            }
+        }
         Err(NoMemory) => out.unknown(),
     }
 }
@@ -88,7 +80,11 @@ pub fn put_free_days(out: &mut Out, text: &str) {
     let (asked, rest) = halves(text);
     let asked = numbers(out, asked);
     match free_days(out, rest) {
-        Ok(free) => put_free_of(out, &free, asked.as_slice()),
+        Ok(free) => {
+            if let [first, count] = asked.as_slice() {
+                put_free(out, &free, *first, *count);
+            }
+        }
         Err(NoMemory) => out.unknown(),
     }
 }
@@ -101,19 +97,15 @@ fn kind_of(word: &str) -> DayKind {
     }
 }
 
-fn put_nth(out: &mut Out, free: &FreeDays, text: &str) {
-    let (kind, rest) = first_word(text);
-    let (day, n) = first_word(rest);
-    let day = number_u32(day).unwrap_or(0);
-    let n = number_i32(n).unwrap_or(0);
-    out.debug("", &nth_day(free, day, n, kind_of(kind)))
-}
-
 /// `nth_day KIND DAY N / SA SU DATES`
 pub fn put_nth_day(out: &mut Out, text: &str) {
     let (front, rest) = halves(text);
+    let (kind, asked) = first_word(front);
+    let (day, n) = first_word(asked);
+    let day = number_u32(day).unwrap_or(0);
+    let n = number_i32(n).unwrap_or(0);
     match free_days(out, rest) {
-        Ok(free) => put_nth(out, &free, front),
+        Ok(free) => out.debug("", &nth_day(&free, day, n, kind_of(kind))),
         Err(NoMemory) => out.unknown(),
     }
 }

@@ -11,17 +11,12 @@ fn put_ws(out: &mut Out, before: &str, ws: &Option<Text>) {
     }
 }
 
-fn put_number(out: &mut Out, no: &Option<u32>) {
-    match no {
-        Some(no) => out.two("[", no, "", &"]"),
-        None => {}
-    }
-}
-
 fn put_stream(out: &mut Out, before: &str, r: &StreamRef) {
     put_ws(out, before, &r.ws);
     out.show("", &r.name);
-    put_number(out, &r.no)
+    if let Some(no) = &r.no {
+        out.two("[", no, "", &"]");
+    }
 }
 
 fn put_job(out: &mut Out, before: &str, r: &JobRef) {
@@ -54,16 +49,14 @@ fn passed(then: OnUntil) -> &'static str {
     }
 }
 
-fn put_needs(out: &mut Out, units: u16, ws: &Text, name: &Text) {
-    out.show(";needs=", &units);
-    out.two(" ", ws, "#", name)
-}
-
 fn put_dep(out: &mut Out, dep: &DepRef) {
     match dep {
         DepRef::FollowsJob(r) => put_job(out, ";follows=", r),
         DepRef::FollowsStream(r) => put_stream(out, ";follows=", r),
-        DepRef::Needs(units, ws, name) => put_needs(out, *units, ws, name),
+        DepRef::Needs(units, ws, name) => {
+            out.show(";needs=", units);
+            out.two(" ", ws, "#", name)
+        }
         DepRef::PromptName(name) => out.show(";prompt=", name),
         DepRef::PromptText(text) => out.quote(";prompt=", text),
         DepRef::At(time) => out.show(";at=", time),
@@ -76,54 +69,19 @@ fn put_with_dep(out: &mut Out, before: &str, o: &ObjRef, dep: &DepRef) {
     put_dep(out, dep)
 }
 
-fn put_alt_pri(out: &mut Out, o: &ObjRef, priority: u8) {
-    put_name(out, "altpri ", o);
-    out.show(";", &priority)
-}
-
-fn put_confirm(out: &mut Out, r: &JobRef) {
-    put_job(out, "confirm ", r);
-    out.word(";succ")
-}
-
-fn put_stream_limit(out: &mut Out, r: &StreamRef, limit: u16) {
-    put_stream(out, "limit sched ", r);
-    out.show(";", &limit)
-}
-
-fn put_resource(out: &mut Out, ws: &Text, name: &Text, units: u16) {
-    out.two("resource ", ws, "#", name);
-    out.show(";", &units)
-}
-
 fn answer(yes: bool) -> &'static str {
     if yes { "yes" } else { "no" }
-}
-
-fn put_reply_own(out: &mut Out, o: &ObjRef, i: u16, yes: bool) {
-    put_object(out, "reply ", o);
-    out.two(";", &i, ";", &answer(yes))
-}
-
-fn put_alias(out: &mut Out, alias: &Option<Text>) {
-    match alias {
-        Some(alias) => out.show(";alias=", alias),
-        None => {}
-    }
-}
-
-fn put_priority(out: &mut Out, priority: &Option<u8>) {
-    match priority {
-        Some(priority) => out.show(";priority=", priority),
-        None => {}
-    }
 }
 
 fn put_submit(out: &mut Out, ws: &Text, text: &Text, alias: &Option<Text>, priority: &Option<u8>) {
     out.show("submit docommand ", ws);
     out.quote("#", text);
-    put_alias(out, alias);
-    put_priority(out, priority)
+    if let Some(alias) = alias {
+        out.show(";alias=", alias);
+    }
+    if let Some(priority) = priority {
+        out.show(";priority=", priority);
+    }
 }
 
 fn put_show(out: &mut Out, command: &str, pattern: &Option<Text>) {
@@ -139,13 +97,25 @@ fn put_of_plan(out: &mut Out, line: &Line) {
         Line::AddDep(o, dep) => put_with_dep(out, "adddep ", o, dep),
         Line::DelDep(o, dep) => put_with_dep(out, "deldep ", o, dep),
         Line::Release(o) => put_object(out, "release ", o),
-        Line::AltPri(o, priority) => put_alt_pri(out, o, *priority),
+        Line::AltPri(o, priority) => {
+            put_name(out, "altpri ", o);
+            out.show(";", priority)
+        }
         Line::Cancel(o) => put_object(out, "cancel ", o),
-        Line::Confirm(r) => put_confirm(out, r),
+        Line::Confirm(r) => {
+            put_job(out, "confirm ", r);
+            out.word(";succ")
+        }
         Line::Kill(r) => put_job(out, "kill ", r),
         Line::Rerun(r) => put_job(out, "rerun ", r),
-        Line::StreamLimit(r, limit) => put_stream_limit(out, r, *limit),
-        Line::ReplyOwn(o, i, yes) => put_reply_own(out, o, *i, *yes),
+        Line::StreamLimit(r, limit) => {
+            put_stream(out, "limit sched ", r);
+            out.show(";", limit)
+        }
+        Line::ReplyOwn(o, i, yes) => {
+            put_object(out, "reply ", o);
+            out.two(";", i, ";", &answer(*yes))
+        }
         _ => {}
     }
 }
@@ -167,7 +137,10 @@ pub fn put_line(out: &mut Out, line: &Line) {
     match line {
         Line::Fence(ws, priority) => out.two("fence ", ws, ";", priority),
         Line::CpuLimit(ws, limit) => out.two("limit cpu ", ws, ";", limit),
-        Line::Resource(ws, name, units) => put_resource(out, ws, name, *units),
+        Line::Resource(ws, name, units) => {
+            out.two("resource ", ws, "#", name);
+            out.show(";", units)
+        }
         Line::ReplyGlobal(name, yes) => out.two("reply ", name, ";", &answer(*yes)),
         Line::Start(ws) => out.show("start ", ws),
         Line::Stop(ws) => out.show("stop ", ws),

@@ -1,6 +1,6 @@
 //! Conditions read, printed and asked.
 use crate::outs::Out;
-use base_types::{Cond, CondOp, Items, NoMemory, Rel, Text};
+use base_types::{Cond, CondOp, Items, Rel};
 use rc_conditions::{CondFault, holds, print_cond, read_cond};
 use std::alloc::Global;
 use syntax::{first_word, number_i32};
@@ -12,15 +12,11 @@ fn read(alloc: Global, text: &str) -> Result<Cond, CondFault> {
     read_cond(alloc, text)
 }
 
-fn put_text(out: &mut Out, text: Result<Text, NoMemory>) {
+fn put_cond(out: &mut Out, cond: &Cond) {
+    let text = print_cond(out.alloc, cond);
     if let Some(text) = out.kept(text) {
         out.word(text.as_str());
     }
-}
-
-fn put_cond(out: &mut Out, cond: &Cond) {
-    let text = print_cond(out.alloc, cond);
-    put_text(out, text)
 }
 
 /// `read_cond TEXT`: the canonical text.
@@ -50,17 +46,13 @@ fn operation(word: &str) -> CondOp {
     }
 }
 
-fn add(out: &mut Out, cond: &mut Cond, word: &str) {
-    if !word.is_empty() {
-        let done = cond.push(operation(word));
-        out.done(done);
-    }
-}
-
 fn operations(out: &mut Out, text: &str) -> Cond {
     let mut cond = Items::new(out.alloc);
     for word in text.split(' ') {
-        add(out, &mut cond, word);
+        if !word.is_empty() {
+            let done = cond.push(operation(word));
+            out.done(done);
+        }
     }
     cond
 }

@@ -1,9 +1,9 @@
 //! Definitions, each behind its line and before a semicolon.
 use crate::outs::Out;
-use base_types::{PromptDef, Text, Work};
+use base_types::{Text, Work};
 use composer_parser::{
-    CalendarDef, Clause, CpuDef, Defs, DomainDef, EntryDef, JobDef, Lined, Need, OnDef, OnItem,
-    Pred, PredPart, PromptItem, ResourceDef, ScheduleDef, Shift,
+    Clause, CpuDef, Defs, EntryDef, JobDef, Lined, Need, OnDef, OnItem, Pred, PredPart, PromptItem,
+    ScheduleDef, Shift,
 };
 
 fn put_option(out: &mut Out, name: &Option<Text>) {
@@ -13,45 +13,14 @@ fn put_option(out: &mut Out, name: &Option<Text>) {
     }
 }
 
-fn put_cpu_flags(out: &mut Out, cpu: &CpuDef) {
-    out.show(" ", &cpu.manager);
-    out.debug(" ", &cpu.autolink);
-    out.debug(" ", &cpu.full);
-    out.word(";")
-}
-
 fn put_cpu(out: &mut Out, line: u32, cpu: &CpuDef) {
     out.two("", &line, " cpu ", &cpu.name);
     out.two(" ", &cpu.os, " ", &cpu.host);
     out.debug(" ", &cpu.port);
     out.show(" ", &cpu.domain);
-    put_cpu_flags(out, cpu)
-}
-
-fn put_domain(out: &mut Out, line: u32, domain: &DomainDef) {
-    out.two("", &line, " domain ", &domain.name);
-    out.show(" ", &domain.manager);
-    put_option(out, &domain.parent);
-    out.word(";")
-}
-
-fn put_calendar(out: &mut Out, line: u32, calendar: &CalendarDef) {
-    out.two("", &line, " calendar ", &calendar.name);
-    put_option(out, &calendar.text);
-    out.debug(" ", &calendar.days.as_slice());
-    out.word(";")
-}
-
-fn put_resource(out: &mut Out, line: u32, resource: &ResourceDef) {
-    out.two("", &line, " resource ", &resource.ws);
-    out.two(" ", &resource.name, " ", &resource.total);
-    put_option(out, &resource.text);
-    out.word(";")
-}
-
-fn put_prompt(out: &mut Out, line: u32, prompt: &PromptDef) {
-    out.two("", &line, " prompt ", &prompt.name);
-    out.quote(" ", &prompt.text);
+    out.show(" ", &cpu.manager);
+    out.debug(" ", &cpu.autolink);
+    out.debug(" ", &cpu.full);
     out.word(";")
 }
 
@@ -86,12 +55,6 @@ fn put_on_item(out: &mut Out, item: &OnItem) {
     }
 }
 
-fn put_on_items(out: &mut Out, items: &[OnItem]) {
-    for item in items {
-        put_on_item(out, item);
-    }
-}
-
 fn shift_word(shift: &Option<Shift>) -> &'static str {
     match shift {
         None => ";",
@@ -104,61 +67,41 @@ fn shift_word(shift: &Option<Shift>) -> &'static str {
 fn put_on(out: &mut Out, line: u32, on: &OnDef) {
     out.two("", &line, " except ", &on.except);
     out.show(" cycle ", &on.cycle.is_some());
-    put_on_items(out, on.items.as_slice());
+    for item in on.items.as_slice() {
+        put_on_item(out, item);
+    }
     out.word(shift_word(&on.shift))
-}
-
-fn put_ons(out: &mut Out, ons: &[Lined<OnDef>]) {
-    for on in ons {
-        put_on(out, on.line, &on.item);
-    }
-}
-
-fn put_part(out: &mut Out, part: &PredPart) {
-    match part {
-        PredPart::Plain => {}
-        PredPart::All => out.word(" all"),
-        PredPart::Job(job) => out.show(" ", job),
-    }
-}
-
-fn put_pred(out: &mut Out, pred: &Pred) {
-    put_option(out, &pred.ws);
-    out.show(" ", &pred.name);
-    put_part(out, &pred.part)
 }
 
 fn put_preds(out: &mut Out, preds: &[Pred]) {
     out.word(" follows");
     for pred in preds {
-        put_pred(out, pred);
+        put_option(out, &pred.ws);
+        out.show(" ", &pred.name);
+        match &pred.part {
+            PredPart::Plain => {}
+            PredPart::All => out.word(" all"),
+            PredPart::Job(job) => out.show(" ", job),
+        }
     }
-}
-
-fn put_need(out: &mut Out, need: &Need) {
-    out.debug(" ", &need.units);
-    put_option(out, &need.ws);
-    out.show(" ", &need.name)
 }
 
 fn put_needs(out: &mut Out, needs: &[Need]) {
     out.word(" needs");
     for need in needs {
-        put_need(out, need);
-    }
-}
-
-fn put_prompt_item(out: &mut Out, prompt: &PromptItem) {
-    match prompt {
-        PromptItem::Name(name) => out.show(" ", name),
-        PromptItem::Own(text) => out.quote(" ", text),
+        out.debug(" ", &need.units);
+        put_option(out, &need.ws);
+        out.show(" ", &need.name);
     }
 }
 
 fn put_prompts(out: &mut Out, prompts: &[PromptItem]) {
     out.word(" prompt");
     for prompt in prompts {
-        put_prompt_item(out, prompt);
+        match prompt {
+            PromptItem::Name(name) => out.show(" ", name),
+            PromptItem::Own(text) => out.quote(" ", text),
+        }
     }
 }
 
@@ -200,48 +143,33 @@ fn put_entry(out: &mut Out, line: u32, entry: &EntryDef) {
     put_clauses(out, entry.clauses.as_slice())
 }
 
-fn put_entries(out: &mut Out, entries: &[Lined<EntryDef>]) {
-    for entry in entries {
-        put_entry(out, entry.line, &entry.item);
-    }
-}
-
 fn put_stream(out: &mut Out, line: u32, stream: &ScheduleDef) {
     out.show("", &line);
     put_option(out, &stream.ws);
     out.two(" stream ", &stream.name, " free ", &stream.free.is_some());
     out.word(";");
-    put_ons(out, stream.ons.as_slice());
-    put_clauses(out, stream.clauses.as_slice());
-    put_entries(out, stream.entries.as_slice())
-}
-
-fn put_start(out: &mut Out, start: &Option<Lined<u16>>) {
-    match start {
-        Some(start) => out.two(";", &start.line, " start ", &start.item),
-        None => {}
+    for on in stream.ons.as_slice() {
+        put_on(out, on.line, &on.item);
     }
-}
-
-fn put_zone(out: &mut Out, zone: &Option<Lined<Text>>) {
-    match zone {
-        Some(zone) => out.two(";", &zone.line, " zone ", &zone.item),
-        None => {}
+    put_clauses(out, stream.clauses.as_slice());
+    for entry in stream.entries.as_slice() {
+        put_entry(out, entry.line, &entry.item);
     }
 }
 
 fn put_options(out: &mut Out, defs: &Defs) {
     out.show("lines ", &defs.last_line);
-    put_start(out, &defs.start);
-    put_zone(out, &defs.zone);
-    match &defs.carry {
-        Some(carry) => {
-            out.show(";", &carry.line);
-            out.debug(" carry ", &carry.item);
-            out.word(";")
-        }
-        None => out.word(";"),
+    if let Some(start) = &defs.start {
+        out.two(";", &start.line, " start ", &start.item);
     }
+    if let Some(zone) = &defs.zone {
+        out.two(";", &zone.line, " zone ", &zone.item);
+    }
+    if let Some(carry) = &defs.carry {
+        out.show(";", &carry.line);
+        out.debug(" carry ", &carry.item);
+    }
+    out.word(";")
 }
 
 fn put_network(out: &mut Out, defs: &Defs) {
@@ -249,28 +177,33 @@ fn put_network(out: &mut Out, defs: &Defs) {
         put_cpu(out, cpu.line, &cpu.item);
     }
     for domain in defs.domains.as_slice() {
-        put_domain(out, domain.line, &domain.item);
+        out.two("", &domain.line, " domain ", &domain.item.name);
+        out.show(" ", &domain.item.manager);
+        put_option(out, &domain.item.parent);
+        out.word(";");
     }
     for calendar in defs.calendars.as_slice() {
-        put_calendar(out, calendar.line, &calendar.item);
+        out.two("", &calendar.line, " calendar ", &calendar.item.name);
+        put_option(out, &calendar.item.text);
+        out.debug(" ", &calendar.item.days.as_slice());
+        out.word(";");
     }
 }
 
 fn put_groups(out: &mut Out, defs: &Defs) {
     for prompt in defs.prompts.as_slice() {
-        put_prompt(out, prompt.line, &prompt.item);
+        out.two("", &prompt.line, " prompt ", &prompt.item.name);
+        out.quote(" ", &prompt.item.text);
+        out.word(";");
     }
     for resource in defs.resources.as_slice() {
-        put_resource(out, resource.line, &resource.item);
+        out.two("", &resource.line, " resource ", &resource.item.ws);
+        out.two(" ", &resource.item.name, " ", &resource.item.total);
+        put_option(out, &resource.item.text);
+        out.word(";");
     }
     for job in defs.jobs.as_slice() {
         put_job(out, job.line, &job.item);
-    }
-}
-
-fn put_streams(out: &mut Out, streams: &[Lined<ScheduleDef>]) {
-    for stream in streams {
-        put_stream(out, stream.line, &stream.item);
     }
 }
 
@@ -279,5 +212,7 @@ pub fn put_defs(out: &mut Out, defs: &Defs) {
     put_options(out, defs);
     put_network(out, defs);
     put_groups(out, defs);
-    put_streams(out, defs.schedules.as_slice())
+    for stream in defs.schedules.as_slice() {
+        put_stream(out, stream.line, &stream.item);
+    }
 }

@@ -8,16 +8,12 @@ use composer_parser::{Defs, SyntaxFault, parse};
 use composer_print::print_defs;
 use std::alloc::Global;
 
-fn put_token(out: &mut Out, token: &Token) {
-    out.debug("", &token.kind);
-    out.show(" ", &token.line);
-    out.two(" ", &token.start, " ", &token.end);
-    out.word(";")
-}
-
 fn put_all(out: &mut Out, found: &[Token]) {
     for token in found {
-        put_token(out, token);
+        out.debug("", &token.kind);
+        out.show(" ", &token.line);
+        out.two(" ", &token.start, " ", &token.end);
+        out.word(";");
     }
 }
 
@@ -57,13 +53,6 @@ fn read(alloc: Global, text: &str) -> Result<Parsed, NotRead> {
     }
 }
 
-fn put_fault(out: &mut Out, fault: NotRead) {
-    match fault {
-        NotRead::Tokens(fault) => out.debug("", &fault),
-        NotRead::Syntax(fault) => out.debug("", &fault),
-    }
-}
-
 fn put_counts(out: &mut Out, defs: &Defs) {
     out.two("", &defs.cpus.len(), " ", &defs.domains.len());
     out.two(" ", &defs.calendars.len(), " ", &defs.prompts.len());
@@ -71,17 +60,15 @@ fn put_counts(out: &mut Out, defs: &Defs) {
     out.show(" ", &defs.schedules.len())
 }
 
-fn put_canonical(out: &mut Out, defs: &Defs) {
-    let made = print_defs(out.alloc, defs);
-    let made = out.kept(made);
-    put_made(out, made)
-}
-
 fn put_asked(out: &mut Out, word: &str, defs: &Defs) {
     match word {
         "parse" => put_defs(out, defs),
         "counts" => put_counts(out, defs),
-        _ => put_canonical(out, defs),
+        _ => {
+            let made = print_defs(out.alloc, defs);
+            let made = out.kept(made);
+            put_made(out, made)
+        }
     }
 }
 
@@ -90,6 +77,7 @@ fn put_asked(out: &mut Out, word: &str, defs: &Defs) {
 pub fn put_read(out: &mut Out, word: &str, text: &str) {
     match read(out.alloc, text) {
         Ok(parsed) => put_asked(out, word, &parsed.defs),
-        Err(fault) => put_fault(out, fault),
+        Err(NotRead::Tokens(fault)) => out.debug("", &fault),
+        Err(NotRead::Syntax(fault)) => out.debug("", &fault),
     }
 }

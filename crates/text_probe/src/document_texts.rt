@@ -12,19 +12,13 @@ fn put_work(out: &mut Out, work: &Work) {
     }
 }
 
-fn put_prompt(out: &mut Out, prompt: &PromptRef) {
-    match prompt {
-        PromptRef::Global(n) => out.show(", prompt ", n),
-        PromptRef::Own(text) => out.quote(", prompt ", text),
-    }
-}
-
 fn put_dep(out: &mut Out, dep: &Dep) {
     match dep {
         Dep::FollowsJob(job) => out.show(", follows job ", &job.0),
         Dep::FollowsStream(stream) => out.show(", follows stream ", &stream.0),
         Dep::Needs(resource, units) => out.two(", needs ", resource, " ", units),
-        Dep::Prompt(prompt) => put_prompt(out, prompt),
+        Dep::Prompt(PromptRef::Global(n)) => out.show(", prompt ", n),
+        Dep::Prompt(PromptRef::Own(text)) => out.quote(", prompt ", text),
         Dep::At(time) => out.show(", at ", &time.0),
         Dep::Until(time, then) => {
             out.show(", until ", &time.0);
@@ -32,23 +26,6 @@ fn put_dep(out: &mut Out, dep: &Dep) {
         }
         Dep::Outside(path) => out.quote(", outside ", path),
         Dep::Deadline(time) => out.show(", deadline ", &time.0),
-    }
-}
-
-fn put_followed(out: &mut Out, job: &Option<Text>) {
-    match job {
-        Some(job) => out.show(" ", job),
-        None => {}
-    }
-}
-
-fn put_draft_dep(out: &mut Out, dep: &DraftDep) {
-    match dep {
-        DraftDep::Follows(ws, stream, job) => {
-            out.two(", follows ", &ws.0, " ", stream);
-            put_followed(out, job)
-        }
-        DraftDep::Plain(dep) => put_dep(out, dep),
     }
 }
 
@@ -60,7 +37,15 @@ fn put_deps(out: &mut Out, deps: &[Dep]) {
 
 fn put_draft_deps(out: &mut Out, deps: &[DraftDep]) {
     for dep in deps {
-        put_draft_dep(out, dep);
+        match dep {
+            DraftDep::Follows(ws, stream, job) => {
+                out.two(", follows ", &ws.0, " ", stream);
+                if let Some(job) = job {
+                    out.show(" ", job);
+                }
+            }
+            DraftDep::Plain(dep) => put_dep(out, dep),
+        }
     }
 }
 
@@ -98,24 +83,14 @@ fn put_bounds(out: &mut Out, limit: Option<u16>, carry: bool) {
     out.show(" carry ", &carry)
 }
 
-fn put_jobs(out: &mut Out, jobs: &[JobDoc]) {
-    for job in jobs {
-        put_job(out, job);
-    }
-}
-
 fn put_stream(out: &mut Out, stream: &StreamDoc) {
     out.show("; stream ", &stream.no.0);
     out.word(" ");
     put_name(out, &stream.ws, &stream.name, stream.priority);
     put_bounds(out, stream.limit, stream.carry);
     put_deps(out, stream.deps.as_slice());
-    put_jobs(out, stream.jobs.as_slice())
-}
-
-fn put_job_drafts(out: &mut Out, jobs: &[JobDraft]) {
-    for job in jobs {
-        put_job_draft(out, job);
+    for job in stream.jobs.as_slice() {
+        put_job(out, job);
     }
 }
 
@@ -124,19 +99,19 @@ fn put_stream_draft(out: &mut Out, stream: &StreamDraft) {
     put_name(out, &stream.ws, &stream.name, stream.priority);
     put_bounds(out, stream.limit, stream.carry);
     put_draft_deps(out, stream.deps.as_slice());
-    put_job_drafts(out, stream.jobs.as_slice())
-}
-
-fn put_streams(out: &mut Out, streams: &[StreamDoc]) {
-    for stream in streams {
-        put_stream(out, stream);
+    for job in stream.jobs.as_slice() {
+        put_job_draft(out, job);
     }
 }
 
 /// The documents that an entry brings, and the draft that is submitted.
 pub fn put_documents(out: &mut Out, body: &Body) {
     match body {
-        Body::NewPlan(_, _, _, streams) => put_streams(out, streams.as_slice()),
+        Body::NewPlan(_, _, _, streams) => {
+            for stream in streams.as_slice() {
+                put_stream(out, stream);
+            }
+        }
         Body::Added(_, _, stream) => put_stream(out, stream),
         Body::Order(Cmd::Submit(draft)) => put_stream_draft(out, draft),
         _ => {}

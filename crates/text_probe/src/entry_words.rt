@@ -5,7 +5,7 @@ use crate::arguments::digits;
 use crate::document_texts::put_documents;
 use crate::outs::Out;
 use crate::report_words::{no_parts, printed, put_report};
-use base_types::{Bytes, Copied, Entry, NoMemory, ReportParts};
+use base_types::{Copied, Entry, NoMemory, ReportParts};
 use entry_codec::{EntryFault, read_entry, write_entry};
 use std::alloc::Global;
 use std::str;
@@ -41,16 +41,12 @@ fn read(alloc: Global, bytes: &[u8]) -> Result<Entry, EntryFault> {
     }
 }
 
-/// What is behind the first line of a report, up to the line of its starts.
-fn put_line(out: &mut Out, bytes: &Bytes) {
-    let text = str::from_utf8(bytes.as_slice()).unwrap_or("");
-    let line = text.strip_prefix("events 1\n").unwrap_or(text);
-    out.word(line.strip_suffix("\nstarts 0\n").unwrap_or(line))
-}
-
+/// What is behind the first line of a report, up to the line of its starts, and the documents of its entries.
 fn put_parts(out: &mut Out, parts: &ReportParts) {
     if let Some(bytes) = printed(out, parts) {
-        put_line(out, &bytes);
+        let text = str::from_utf8(bytes.as_slice()).unwrap_or("");
+        let line = text.strip_prefix("events 1\n").unwrap_or(text);
+        out.word(line.strip_suffix("\nstarts 0\n").unwrap_or(line));
     }
     for entry in parts.events.as_slice() {
         put_documents(out, &entry.body);
@@ -62,16 +58,12 @@ fn add_entry(out: &mut Out, parts: &mut ReportParts, entry: Entry) {
     out.done(done);
 }
 
-fn put_entry(out: &mut Out, entry: Entry) {
-    let mut parts = no_parts(out.alloc);
-    add_entry(out, &mut parts, entry);
-    put_parts(out, &parts)
-}
-
 fn put_copy(out: &mut Out, entry: &Entry) {
     let copy = entry.copy();
     if let Some(copy) = out.kept(copy) {
-        put_entry(out, copy)
+        let mut parts = no_parts(out.alloc);
+        add_entry(out, &mut parts, copy);
+        put_parts(out, &parts)
     }
 }
 

@@ -5,15 +5,13 @@ use base_types::{Bytes, Items, NoMemory, Text};
 use mail_frames::{Decoder, Fed, Frame, write_frame};
 use std::alloc::Global;
 
-fn put_mail_frame(out: &mut Out, entry: &[u8]) {
-    out.word("mail<");
-    put_digits(out, entry);
-    out.word(">")
-}
-
 fn put_frame(out: &mut Out, frame: &Frame) {
     match frame {
-        Frame::Mail(entry) => put_mail_frame(out, entry.as_slice()),
+        Frame::Mail(entry) => {
+            out.word("mail<");
+            put_digits(out, entry.as_slice());
+            out.word(">")
+        }
         Frame::Ack(feed, count) => {
             out.debug("ack<", feed);
             out.two(" ", count, "", &">")

@@ -3,25 +3,22 @@ use crate::arguments::put_made;
 use crate::command_words::put_line;
 use crate::outs::Out;
 use crate::row_texts::put_row;
-use base_types::{JobNo, Net, NoMemory, Obj, StreamDrafts, Ws};
-use conman_syntax::Line;
+use base_types::{NoMemory, Obj, Ws};
 use plan_listing::listing_of;
 use record_faults::{ScriptKind, place_rows, record_fault};
 use record_rows::{Row, is_in_range, read_rows};
-use record_script::{OneStep, Script, ScriptStep, StepForm, read_script};
+use record_script::{OneStep, Script, StepForm, read_script};
 use std::alloc::Global;
-
-fn put_each(out: &mut Out, rows: &[Row]) {
-    for row in rows {
-        put_row(out, row);
-        out.word("|");
-    }
-}
 
 /// `read_rows TEXT`
 pub fn put_rows(out: &mut Out, text: &str) {
     match read_rows(out.alloc, text) {
-        Ok(rows) => put_each(out, rows.as_slice()),
+        Ok(rows) => {
+            for row in rows.as_slice() {
+                put_row(out, row);
+                out.word("|");
+            }
+        }
         Err(NoMemory) => out.unknown(),
     }
 }
@@ -52,32 +49,13 @@ pub fn put_record_fault(out: &mut Out, text: &str) {
     }
 }
 
-fn put_object(out: &mut Out, object: &Obj) {
+fn put_fulfil(out: &mut Out, ws: &Ws, object: &Obj, i: u16) {
+    out.show("fulfil ", &ws.0);
     match object {
         Obj::Job(job) => out.show(" job ", &job.0),
         Obj::Stream(stream) => out.show(" stream ", &stream.0),
     }
-}
-
-fn put_typed(out: &mut Out, ws: &Ws, line: &Line) {
-    out.two("type ", &ws.0, "", &" ");
-    put_line(out, line)
-}
-
-fn put_fulfil(out: &mut Out, ws: &Ws, object: &Obj, i: u16) {
-    out.show("fulfil ", &ws.0);
-    put_object(out, object);
     out.show(" ", &i)
-}
-
-fn put_deliver(out: &mut Out, from: &Ws, to: &Ws, n: u32) {
-    out.two("deliver ", &from.0, " ", &to.0);
-    out.show(" ", &n)
-}
-
-fn put_ended(out: &mut Out, ws: &Ws, job: &JobNo, rc: i32) {
-    out.two("ended ", &ws.0, " ", &job.0);
-    out.show(" ", &rc)
 }
 
 fn put_one(out: &mut Out, step: &OneStep) {
@@ -87,19 +65,22 @@ fn put_one(out: &mut Out, step: &OneStep) {
         OneStep::Turn(ws, time) => out.two("turn ", &ws.0, " ", &time.0),
         OneStep::Link(a, b) => out.two("link ", &a.0, " ", &b.0),
         OneStep::Unlink(a, b) => out.two("unlink ", &a.0, " ", &b.0),
-        OneStep::Deliver(from, to, n) => put_deliver(out, from, to, *n),
+        OneStep::Deliver(from, to, n) => {
+            out.two("deliver ", &from.0, " ", &to.0);
+            out.show(" ", n)
+        }
         OneStep::Started(ws, job) => out.two("started ", &ws.0, " ", &job.0),
         OneStep::Failed(ws, job) => out.two("failed ", &ws.0, " ", &job.0),
-        OneStep::Ended(ws, job, rc) => put_ended(out, ws, job, *rc),
-        OneStep::Typed(ws, line) => put_typed(out, ws, line.line()),
+        OneStep::Ended(ws, job, rc) => {
+            out.two("ended ", &ws.0, " ", &job.0);
+            out.show(" ", rc)
+        }
+        OneStep::Typed(ws, line) => {
+            out.two("type ", &ws.0, "", &" ");
+            put_line(out, line.line())
+        }
         OneStep::Fulfil(ws, object, i) => put_fulfil(out, ws, object, *i),
     }
-}
-
-fn put_cut(out: &mut Out, ws: &Ws, kept: bool, cut: &OneStep) {
-    out.two("crash ", &ws.0, " kept ", &kept);
-    out.word(" ");
-    put_one(out, cut)
 }
 
 fn put_form(out: &mut Out, form: &StepForm) {
@@ -108,31 +89,27 @@ fn put_form(out: &mut Out, form: &StepForm) {
         StepForm::Flow(a, b) => out.two("flow ", &a.0, " ", &b.0),
         StepForm::Reap(ws, rc) => out.two("reap ", &ws.0, " ", rc),
         StepForm::Crash(ws) => out.show("crash ", &ws.0),
-        StepForm::CrashIn(ws, kept, cut) => put_cut(out, ws, *kept, cut),
+        StepForm::CrashIn(ws, kept, cut) => {
+            out.two("crash ", &ws.0, " kept ", kept);
+            out.word(" ");
+            put_one(out, cut)
+        }
         StepForm::Recover(ws) => out.show("recover ", &ws.0),
     }
-}
-
-fn put_steps(out: &mut Out, steps: &[ScriptStep]) {
-    for step in steps {
-        out.two("", &step.line, "", &" ");
-        put_form(out, &step.form);
-        out.word("|");
-    }
-}
-
-fn put_plan(out: &mut Out, net: &Net, plan: &StreamDrafts) {
-    let made = listing_of(out.alloc, net, plan);
-    let made = out.kept(made);
-    put_made(out, made)
 }
 
 /// The network with each plan, and the steps with their lines.
 fn put_script(out: &mut Out, script: &Script) {
     for plan in script.plans.as_slice() {
-        put_plan(out, &script.net, plan);
+        let made = listing_of(out.alloc, &script.net, plan);
+        let made = out.kept(made);
+        put_made(out, made);
     }
-    put_steps(out, script.steps.as_slice())
+    for step in script.steps.as_slice() {
+        out.two("", &step.line, "", &" ");
+        put_form(out, &step.form);
+        out.word("|");
+    }
 }
 
 /// `read_script TEXT`

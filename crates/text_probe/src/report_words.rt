@@ -2,8 +2,8 @@
 use crate::arguments::{feed, halves, numbers, put_made, station};
 use crate::outs::Out;
 use base_types::{
-    Bytes, Carry, Counts, FeedCount, FeedCounts, Items, JobNo, Net, NoMemory, Node, NodePart,
-    Nodes, PairCount, ReportParts, Start, Text,
+    Bytes, Carry, Counts, FeedCount, Items, JobNo, Net, NoMemory, Node, NodePart, PairCount,
+    ReportParts, Start, Text,
 };
 use report_text::{job_word, print_report, print_summary, stream_word};
 use sample_record::sample;
@@ -28,19 +28,15 @@ fn node(alloc: Global, number: u32) -> Node {
     }
 }
 
-fn nodes(out: &mut Out, count: u32) -> Nodes {
+/// A network of so many workstations.
+pub fn net(out: &mut Out, count: u32) -> Net {
     let mut nodes = Items::new(out.alloc);
     for number in 0..count {
         let done = nodes.push(node(out.alloc, number));
         out.done(done);
     }
-    nodes
-}
-
-/// A network of so many workstations.
-pub fn net(out: &mut Out, count: u32) -> Net {
     Net {
-        nodes: nodes(out, count),
+        nodes,
         resources: Items::new(out.alloc),
         prompts: Items::new(out.alloc),
         carry: Carry::Yes,
@@ -69,69 +65,53 @@ pub fn put_report(out: &mut Out, parts: &ReportParts) {
     put_made(out, made)
 }
 
-fn add_start(out: &mut Out, parts: &mut ReportParts, row: &[u32]) {
-    if let [ws, job, number] = row {
-        let done = parts.starts.push(Start {
-            ws: station(*ws),
-            job: JobNo(*job),
-            number: *number,
-        });
-        out.done(done);
-    }
-}
-
 /// `starts W J N W J N ..`: a report of launches.
 pub fn put_starts(out: &mut Out, numbers: &[u32]) {
     let mut parts = no_parts(out.alloc);
     for row in numbers.chunks(3) {
-        add_start(out, &mut parts, row);
+        if let [ws, job, number] = row {
+            let done = parts.starts.push(Start {
+                ws: station(*ws),
+                job: JobNo(*job),
+                number: *number,
+            });
+            out.done(done);
+        }
     }
     put_report(out, &parts)
-}
-
-fn add_packets(out: &mut Out, parts: &mut ReportParts, row: &[u32]) {
-    if let [from, to, count] = row {
-        let done = parts.packets.push(PairCount {
-            from: station(*from),
-            to: station(*to),
-            count: *count,
-        });
-        out.done(done);
-    }
 }
 
 /// `packets A B N A B N ..`: a report of packets.
 pub fn put_packets(out: &mut Out, numbers: &[u32]) {
     let mut parts = no_parts(out.alloc);
     for row in numbers.chunks(3) {
-        add_packets(out, &mut parts, row);
+        if let [from, to, count] = row {
+            let done = parts.packets.push(PairCount {
+                from: station(*from),
+                to: station(*to),
+                count: *count,
+            });
+            out.done(done);
+        }
     }
     put_report(out, &parts)
 }
 
-fn add_held(out: &mut Out, holds: &mut FeedCounts, row: &[u32]) {
-    if let [kind, from, to, count] = row {
-        let done = holds.push(FeedCount {
-            feed: feed(*kind, *from, *to),
-            count: *count,
-        });
-        out.done(done);
-    }
-}
-
-fn held(out: &mut Out, counts: &[u32]) -> FeedCounts {
-    let mut holds = Items::new(out.alloc);
-    for row in counts.chunks(4) {
-        add_held(out, &mut holds, row);
-    }
-    holds
-}
-
 /// The part of a workstation without a plan.
 fn node_part(out: &mut Out, ws: u32, counts: &[u32]) -> NodePart {
+    let mut holds = Items::new(out.alloc);
+    for row in counts.chunks(4) {
+        if let [kind, from, to, count] = row {
+            let done = holds.push(FeedCount {
+                feed: feed(*kind, *from, *to),
+                count: *count,
+            });
+            out.done(done);
+        }
+    }
     NodePart {
         ws: station(ws),
-        holds: held(out, counts),
+        holds,
         listing: Items::new(out.alloc),
     }
 }
@@ -196,15 +176,11 @@ fn hash(bytes: &[u8]) -> u64 {
     hash
 }
 
-fn put_hash(out: &mut Out, bytes: &[u8]) {
-    out.two("", &bytes.len(), " ", &hash(bytes))
-}
-
 /// `sample JOBS SEED`: how many bytes the sample has, and their hash.
 pub fn put_sample(out: &mut Out, numbers: &[u32]) {
     match numbers {
         [jobs, seed] if *jobs <= 2000 => match sample(out.alloc, *jobs, *seed) {
-            Ok(record) => put_hash(out, record.as_slice()),
+            Ok(record) => out.two("", &record.len(), " ", &hash(record.as_slice())),
             Err(NoMemory) => out.unknown(),
         },
         _ => out.unknown(),

@@ -3,9 +3,7 @@
 use crate::command_words::put_line;
 use crate::outs::Out;
 use base_types::Text;
-use record_rows::{
-    CutRow, DepRow, JobRow, ObjRow, OwnRow, PartRow, Ranged, Row, StationRow, StepRow, StreamRow,
-};
+use record_rows::{CutRow, DepRow, ObjRow, OwnRow, PartRow, Ranged, Row, StepRow, StreamRow};
 use std::fmt::Debug;
 
 fn put<T: Debug>(out: &mut Out, before: &str, value: &Ranged<T>) {
@@ -22,21 +20,11 @@ fn put_text(out: &mut Out, before: &str, text: &Ranged<Text>) {
     }
 }
 
-fn put_station(out: &mut Out, s: &StationRow) {
-    out.two("ws ", &s.name, " ", &s.hop);
-    out.two(" ", &s.manager, " ", &s.full)
-}
-
 fn put_stream(out: &mut Out, stream: &StreamRow) {
     out.two("stream ", &stream.ws, " ", &stream.name);
     put(out, " prio ", &stream.priority);
     put(out, " limit ", &stream.limit);
     out.show(" ", &stream.carry)
-}
-
-fn put_job(out: &mut Out, job: &JobRow) {
-    out.two("job ", &job.ws, " ", &job.name);
-    put(out, " prio ", &job.priority)
 }
 
 fn put_part(out: &mut Out, part: &PartRow) {
@@ -49,11 +37,6 @@ fn put_part(out: &mut Out, part: &PartRow) {
     }
 }
 
-fn put_followed(out: &mut Out, ws: &Text, stream: &Text, job: &Text) {
-    out.two("follows ", ws, "#", stream);
-    out.show(".", job)
-}
-
 fn put_dep(out: &mut Out, dep: &DepRow) {
     match dep {
         DepRow::At(time) => put(out, "at ", time),
@@ -63,7 +46,10 @@ fn put_dep(out: &mut Out, dep: &DepRow) {
         }
         DepRow::Deadline(time) => put(out, "deadline ", time),
         DepRow::FollowsStream(ws, stream) => out.two("follows ", ws, "#", stream),
-        DepRow::FollowsJob(ws, stream, job) => put_followed(out, ws, stream, job),
+        DepRow::FollowsJob(ws, stream, job) => {
+            out.two("follows ", ws, "#", stream);
+            out.show(".", job)
+        }
         DepRow::FollowsOwn(job) => out.show("follows ", job),
         DepRow::Needs(units, name) => {
             put(out, "needs ", units);
@@ -103,35 +89,23 @@ fn put_cut(out: &mut Out, cut: &CutRow) {
     }
 }
 
-fn put_cut_of(out: &mut Out, ws: &Text, kept: bool, cut: &CutRow) {
-    out.two("crash ", ws, " kept ", &kept);
-    out.word(": ");
-    put_cut(out, cut)
-}
-
-fn put_object(out: &mut Out, object: &ObjRow) {
+fn put_fulfil(out: &mut Out, ws: &Text, object: &ObjRow, i: &Ranged<u16>) {
+    out.show("fulfil ", ws);
     match object {
         ObjRow::Job(n) => put(out, " job ", n),
         ObjRow::Stream(n) => put(out, " stream ", n),
     }
-}
-
-fn put_fulfil(out: &mut Out, ws: &Text, object: &ObjRow, i: &Ranged<u16>) {
-    out.show("fulfil ", ws);
-    put_object(out, object);
     put(out, " ", i)
-}
-
-fn put_at(out: &mut Out, ws: &Text, own: &OwnRow) {
-    out.two("", ws, ":", &" ");
-    put_own(out, own)
 }
 
 fn put_step(out: &mut Out, step: &StepRow) {
     match step {
         StepRow::Next => out.word("next"),
         StepRow::NextDay(day) => out.show("next ", day),
-        StepRow::Own(ws, own) => put_at(out, ws, own),
+        StepRow::Own(ws, own) => {
+            out.two("", ws, ":", &" ");
+            put_own(out, own)
+        }
         StepRow::Link(a, b) => out.two("link ", a, " ", b),
         StepRow::Unlink(a, b) => out.two("unlink ", a, " ", b),
         StepRow::Deliver(from, to, n) => {
@@ -144,7 +118,11 @@ fn put_step(out: &mut Out, step: &StepRow) {
             put(out, " ", rc)
         }
         StepRow::Crash(ws) => out.show("crash ", ws),
-        StepRow::CrashIn(ws, kept, cut) => put_cut_of(out, ws, *kept, cut),
+        StepRow::CrashIn(ws, kept, cut) => {
+            out.two("crash ", ws, " kept ", kept);
+            out.word(": ");
+            put_cut(out, cut)
+        }
         StepRow::Fulfil(ws, object, i) => put_fulfil(out, ws, object, i),
         StepRow::Recover(ws) => out.show("recover ", ws),
     }
@@ -154,7 +132,10 @@ fn put_step(out: &mut Out, step: &StepRow) {
 fn put_of_network(out: &mut Out, row: &Row) {
     match row {
         Row::Master(name) => out.show("ws ", name),
-        Row::Station(station) => put_station(out, station),
+        Row::Station(station) => {
+            out.two("ws ", &station.name, " ", &station.hop);
+            out.two(" ", &station.manager, " ", &station.full)
+        }
         Row::Resource(ws, name, total) => {
             out.two("res ", ws, " ", name);
             put(out, " ", total)
@@ -178,7 +159,10 @@ pub fn put_row(out: &mut Out, row: &Row) {
         Row::Plan => out.word("$PLAN"),
         Row::Steps => out.word("$STEPS"),
         Row::Stream(stream) => put_stream(out, stream),
-        Row::Job(job) => put_job(out, job),
+        Row::Job(job) => {
+            out.two("job ", &job.ws, " ", &job.name);
+            put(out, " prio ", &job.priority)
+        }
         Row::Part(part) => put_part(out, part),
         Row::Dep(dep) => put_dep(out, dep),
         Row::Step(step) => put_step(out, step),

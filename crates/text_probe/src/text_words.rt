@@ -4,16 +4,12 @@ use base_types::{NoMemory, Text};
 use run_rules::{is_in_range, rule_has};
 use syntax::{first_word, lines, name, number_u32, quoted, words};
 
-fn put_each(out: &mut Out, texts: &[&str]) {
-    out.show("", &texts.len());
-    for text in texts {
-        out.quote(" ", text);
-    }
-}
-
 fn put_texts(out: &mut Out, texts: Result<Vec<&str>, NoMemory>) {
     if let Some(texts) = out.kept(texts) {
-        put_each(out, texts.as_slice());
+        out.show("", &texts.len());
+        for text in texts.as_slice() {
+            out.quote(" ", text);
+        }
     }
 }
 

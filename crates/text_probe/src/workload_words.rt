@@ -7,13 +7,6 @@ use definition_texts::read_definition_text;
 use run_cycles::{dates, runs_on};
 use workload_defs::Workload;
 
-fn put_peers(out: &mut Out, w: &Workload) {
-    for peer in w.peers().as_slice() {
-        out.two("peer ", &peer.ws.0, " ", &peer.host);
-        out.two(" ", &peer.port, "", &";");
-    }
-}
-
 /// The number of the workstation of a name, and the days of the calendar of that name.
 fn put_name(out: &mut Out, w: &Workload, name: &Text) {
     out.show("", name);
@@ -35,18 +28,17 @@ fn put_names(out: &mut Out, w: &Workload) {
     }
 }
 
-/// The free days of each stream from 12/24/2003 to 12/28/2003.
-fn put_freedom(out: &mut Out, w: &Workload) {
+/// The hosts, the names, and the free days of each stream from 12/24/2003 to 12/28/2003.
+fn put_workload(out: &mut Out, w: &Workload) {
+    for peer in w.peers().as_slice() {
+        out.two("peer ", &peer.ws.0, " ", &peer.host);
+        out.two(" ", &peer.port, "", &";");
+    }
+    put_names(out, w);
     for stream in 0..w.streams() {
         put_free(out, w.free_days(stream), 12_410, 5);
         out.word(";");
     }
-}
-
-fn put_workload(out: &mut Out, w: &Workload) {
-    put_peers(out, w);
-    put_names(out, w);
-    put_freedom(out, w)
 }
 
 fn put_dates(out: &mut Out, w: &Workload, numbers: &[u32]) {

@@ -6,20 +6,16 @@ use crate::outs::Out;
 use base_types::{Body, Entries, Entry, Feed, Items, Seen, Ws};
 use event_audit::audit;
 
-fn add_count(out: &mut Out, seen: &mut Seen, pair: &[u64]) {
-    if let [w, count] = pair {
-        let w = u16::try_from(*w).unwrap_or(u16::MAX);
-        let count = u32::try_from(*count).unwrap_or(u32::MAX);
-        let done = seen.push((Ws(w), count));
-        out.done(done);
-    }
-}
-
 /// The numbers of a question as workstations, each with a count of its events.
 fn counts(out: &mut Out, asked: &Asked) -> Seen {
     let mut seen = Seen::new(out.alloc);
     for pair in asked.numbers.chunks(2) {
-        add_count(out, &mut seen, pair);
+        if let [w, count] = pair {
+            let w = u16::try_from(*w).unwrap_or(u16::MAX);
+            let count = u32::try_from(*count).unwrap_or(u32::MAX);
+            let done = seen.push((Ws(w), count));
+            out.done(done);
+        }
     }
     seen
 }

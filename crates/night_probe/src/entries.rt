@@ -24,18 +24,14 @@ fn joined(high: u8, low: u8) -> u8 {
     high.wrapping_mul(16).wrapping_add(low)
 }
 
-fn add_byte(out: &mut Out, bytes: &mut Bytes, digits: &[u8]) {
-    if let [high, low] = digits {
-        let done = bytes.push(joined(*high, *low));
-        out.done(done);
-    }
-}
-
 /// The bytes of digits, two for each.
 fn bytes_of(out: &mut Out, digits: &[u8]) -> Bytes {
     let mut bytes = Items::new(out.alloc);
     for pair in digits.chunks(2) {
-        add_byte(out, &mut bytes, pair);
+        if let [high, low] = pair {
+            let done = bytes.push(joined(*high, *low));
+            out.done(done);
+        }
     }
     bytes
 }

@@ -169,7 +169,8 @@ fn of_feeds(o: &Owners, asked: &Asked) -> Option<Told> {
     }
 }
 
-fn of_work(o: &Owners, asked: &Asked) -> Option<Told> {
+/// The fact that is asked for.
+pub fn fact(o: &Owners, asked: &Asked) -> Option<Told> {
     if let Some(told) = of_launches(o, asked) {
         return Some(told);
     }
@@ -179,12 +180,7 @@ fn of_work(o: &Owners, asked: &Asked) -> Option<Told> {
     if let Some(told) = of_streams(o, asked) {
         return Some(told);
     }
-    of_plans(o, asked)
-}
-
-/// The fact that is asked for.
-pub fn fact(o: &Owners, asked: &Asked) -> Option<Told> {
-    if let Some(told) = of_work(o, asked) {
+    if let Some(told) = of_plans(o, asked) {
         return Some(told);
     }
     if let Some(told) = of_dependencies(o, asked) {

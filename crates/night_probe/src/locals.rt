@@ -2,7 +2,7 @@
 use crate::asked::{Asked, add_numbers};
 use crate::entries::{command, drafts, entry};
 use crate::outs::Out;
-use base_types::{Cmd, Dep, Feed, Input, Items, JobNo, Local, Moment, Obj, Text, Ws};
+use base_types::{Cmd, Dep, Feed, Input, Items, JobNo, Local, Moment, Obj, Text};
 use syntax::first_word;
 
 fn of_links(asked: &Asked) -> Option<Local> {
@@ -33,20 +33,6 @@ fn of_jobs(asked: &Asked) -> Option<Local> {
     }
 }
 
-fn next(out: &mut Out, text: &str) -> Option<Local> {
-    match drafts(out, text) {
-        Some(drafts) => Some(Local::Next(drafts)),
-        None => None,
-    }
-}
-
-fn typed(out: &mut Out, asked: &Asked) -> Option<Local> {
-    match command(out, asked.text) {
-        Some(cmd) => Some(Local::Typed(asked.ws(0), cmd)),
-        None => None,
-    }
-}
-
 /// A path of so many times 64 bytes.
 fn path(out: &mut Out, pieces: u32) -> Text {
     let mut path = String::new(out.alloc);
@@ -69,9 +55,15 @@ fn typed_long(out: &mut Out, asked: &Asked) -> Local {
 /// What happens at a node by itself. None where the words have no form.
 pub fn local(out: &mut Out, asked: &Asked) -> Option<Local> {
     if asked.is_with_text("next", 0) {
-        next(out, asked.text)
+        match drafts(out, asked.text) {
+            Some(drafts) => Some(Local::Next(drafts)),
+            None => None,
+        }
     } else if asked.is_with_text("typed", 1) {
-        typed(out, asked)
+        match command(out, asked.text) {
+            Some(cmd) => Some(Local::Typed(asked.ws(0), cmd)),
+            None => None,
+        }
     } else if asked.is("typed-long", 2) {
         Some(typed_long(out, asked))
     } else {
@@ -82,25 +74,14 @@ pub fn local(out: &mut Out, asked: &Asked) -> Option<Local> {
     }
 }
 
-fn mail(out: &mut Out, from: Ws, text: &str) -> Option<Input> {
-    match entry(out, text) {
-        Some(entry) => Some(Input::Mail(from, entry)),
-        None => None,
-    }
-}
-
-fn here(out: &mut Out, asked: &Asked) -> Option<Input> {
-    match local(out, asked) {
-        Some(local) => Some(Input::Local(local)),
-        None => None,
-    }
-}
-
 /// What a node is given. None where the words have no form.
 pub fn input(out: &mut Out, asked: &Asked) -> Option<Input> {
     let from = asked.ws(0);
     if asked.is_with_text("mail", 1) {
-        mail(out, from, asked.text)
+        match entry(out, asked.text) {
+            Some(entry) => Some(Input::Mail(from, entry)),
+            None => None,
+        }
     } else if asked.is("ack", 3) {
         let feed = Feed::Events(asked.ws(1));
         Some(Input::Ack(from, feed, asked.count(2)))
@@ -108,7 +89,10 @@ pub fn input(out: &mut Out, asked: &Asked) -> Option<Input> {
         let feed = Feed::Orders(asked.ws(1), asked.ws(2));
         Some(Input::Ack(from, feed, asked.count(3)))
     } else {
-        here(out, asked)
+        match local(out, asked) {
+            Some(local) => Some(Input::Local(local)),
+            None => None,
+        }
     }
 }
 

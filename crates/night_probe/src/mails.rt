@@ -45,23 +45,6 @@ fn put_sends(night: &Night, out: &mut Out, asked: &Asked) -> bool {
     true
 }
 
-fn put_acknowledged(night: &Night, out: &mut Out, asked: &Asked) -> bool {
-    let count = night
-        .mail
-        .acked_count(asked.ws(0), &Feed::Events(asked.ws(1)));
-    out.show("", &count);
-    true
-}
-
-fn put_up(night: &Night, out: &mut Out, asked: &Asked) -> bool {
-    out.word(if night.mail.is_up(asked.ws(0)) {
-        "yes"
-    } else {
-        "no"
-    });
-    true
-}
-
 /// Writes what is asked of the neighbours, and tells whether something is.
 pub fn ask_mail(night: &Night, out: &mut Out, asked: &Asked) -> bool {
     if asked.is("to-send", 3) {
@@ -69,35 +52,31 @@ pub fn ask_mail(night: &Night, out: &mut Out, asked: &Asked) -> bool {
     } else if asked.is("sends", 2) {
         put_sends(night, out, asked)
     } else if asked.is("acknowledged", 2) {
-        put_acknowledged(night, out, asked)
+        let feed = Feed::Events(asked.ws(1));
+        out.show("", &night.mail.acked_count(asked.ws(0), &feed));
+        true
     } else if asked.is("is-up", 1) {
-        put_up(night, out, asked)
+        let is_up = night.mail.is_up(asked.ws(0));
+        out.word(if is_up { "yes" } else { "no" });
+        true
     } else {
         false
     }
 }
 
-fn link(night: &mut Night, out: &mut Out, asked: &Asked) {
-    let done = night.mail.link(asked.ws(0));
-    out.done(done)
-}
-
-fn acknowledge(night: &mut Night, out: &mut Out, asked: &Asked) {
-    let feed = Feed::Events(asked.ws(1));
-    let done = night
-        .mail
-        .acked(&night.owners, asked.ws(0), &feed, asked.count(2));
-    out.done(done)
-}
-
 /// Does with the links what is asked, says so, and tells whether something is.
 pub fn do_mail(night: &mut Night, out: &mut Out, asked: &Asked) -> bool {
     if asked.is("link", 1) {
-        link(night, out, asked);
+        let done = night.mail.link(asked.ws(0));
+        out.done(done);
     } else if asked.is("unlink", 1) {
         night.mail.unlink(asked.ws(0));
     } else if asked.is("acknowledge", 3) {
-        acknowledge(night, out, asked);
+        let feed = Feed::Events(asked.ws(1));
+        let done = night
+            .mail
+            .acked(&night.owners, asked.ws(0), &feed, asked.count(2));
+        out.done(done);
     } else if asked.is("forget", 0) {
         night.mail.clear();
     } else {

@@ -64,20 +64,14 @@ fn put_launch(out: &mut Out, job: u32, number: u32, work: &Work) {
     }
 }
 
-fn put_kill(out: &mut Out, job: u32, number: u32) {
-    out.two("; kill ", &job, " ", &number)
-}
-
-fn put_send(out: &mut Out, net: &Net, to: Ws, packet: &Packet) {
-    out.show("; ", &name(net, &to));
-    put_packet(out, net, packet)
-}
-
 fn put_given(out: &mut Out, net: &Net, given: &Given) {
     match given {
         Given::Launch(j, number, work) => put_launch(out, j.0, *number, work),
-        Given::Kill(j, number) => put_kill(out, j.0, *number),
-        Given::Send(to, packet) => put_send(out, net, *to, packet),
+        Given::Kill(j, number) => out.two("; kill ", &j.0, " ", number),
+        Given::Send(to, packet) => {
+            out.show("; ", &name(net, to));
+            put_packet(out, net, packet)
+        }
     }
 }
 

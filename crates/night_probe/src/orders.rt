@@ -4,7 +4,7 @@ use crate::entries::{command, drafts, entry};
 use crate::nights::Night;
 use crate::outs::Out;
 use crate::texts::{put_command, put_draft};
-use base_types::{Cmd, Entry, Feed, Net, Packet, StreamDraft, Ws};
+use base_types::{Cmd, Entry, Feed, Net, Packet, Ws};
 use carry_forward::numbered;
 use conman_orders::{judge, resolve};
 use conman_syntax::{Line, parse_command};
@@ -49,17 +49,13 @@ fn put_verdict(night: &Night, out: &mut Out, asked: &Asked) -> bool {
     }
 }
 
-fn put_numbered(night: &Night, out: &mut Out, draft: &StreamDraft) {
-    match numbered(out.alloc, night.held(), draft) {
-        Ok(doc) => out.show("", &doc.no.0),
-        Err(fault) => out.debug("", &fault),
-    }
-}
-
 fn put_submit(night: &Night, out: &mut Out, cmd: &Cmd) -> bool {
     match cmd {
         Cmd::Submit(draft) => {
-            put_numbered(night, out, draft);
+            match numbered(out.alloc, night.held(), draft) {
+                Ok(doc) => out.show("", &doc.no.0),
+                Err(fault) => out.debug("", &fault),
+            }
             true
         }
         _ => false,
@@ -98,25 +94,11 @@ pub fn ask_orders(night: &Night, out: &mut Out, asked: &Asked) -> bool {
     true
 }
 
-fn put_size(out: &mut Out, entry: &Entry) {
-    match entry_size(entry) {
-        Some(size) => out.show("", &size),
-        None => out.word("none"),
-    }
-}
-
-fn put_acknowledged_feed(out: &mut Out, feed: &Feed, count: u32) {
-    match feed {
-        Feed::Events(w) => out.two("", &w.0, " ", &count),
-        Feed::Orders(_, _) => out.word("none"),
-    }
-}
-
 fn put_acknowledged(night: &Night, out: &mut Out, entry: &Entry) {
     let packet = acknowledgement(&night.owners, entry);
     match &packet {
-        Packet::Ack(feed, count) => put_acknowledged_feed(out, feed, *count),
-        Packet::Mail(_, _) => out.word("none"),
+        Packet::Ack(Feed::Events(w), count) => out.two("", &w.0, " ", count),
+        _ => out.word("none"),
     }
 }
 
@@ -128,7 +110,10 @@ fn put_of_entry(night: &Night, out: &mut Out, asked: &Asked, entry: &Entry) -> b
     if asked.is_with_text("is-inside", 1) {
         out.word(truth(is_entry_inside(asked.small(0), entry)));
     } else if asked.is_with_text("size", 0) {
-        put_size(out, entry);
+        match entry_size(entry) {
+            Some(size) => out.show("", &size),
+            None => out.word("none"),
+        }
     } else if asked.is_with_text("accepts", 1) {
         out.word(truth(accepts(&night.owners, asked.ws(0), entry)));
     } else if asked.is_with_text("acknowledges", 0) {

@@ -63,17 +63,13 @@ fn shown_of_none(out: &mut Out, net: Network) -> Option<Bytes> {
     }
 }
 
-fn put_bytes(out: &mut Out, bytes: &[u8]) {
-    for byte in bytes {
-        out.hex(*byte);
-    }
-}
-
 /// Writes bytes that were made, and tells whether they were.
 fn put_made(out: &mut Out, made: Option<Bytes>) -> bool {
     match made {
         Some(bytes) => {
-            put_bytes(out, bytes.as_slice());
+            for byte in bytes.as_slice() {
+                out.hex(*byte);
+            }
             true
         }
         None => false,

@@ -1,7 +1,7 @@
 //! Entries, commands, documents and networks as texts.
 use crate::outs::Out;
 use base_types::{
-    Body, Bytes, Cmd, Copied, Dep, Entry, Feed, Items, JobDoc, JobDraft, Net, NoMemory, Node, Obj,
+    Body, Bytes, Cmd, Copied, Dep, Entry, Feed, Items, JobDoc, JobDraft, Net, NoMemory, Obj,
     Recovery, ReportParts, StreamDoc, StreamDraft, Text, Work, Ws,
 };
 use report_text::{name, print_report};
@@ -36,21 +36,12 @@ fn line_in(report: &[u8]) -> &str {
     text.strip_suffix("\nstarts 0\n").unwrap_or("")
 }
 
-/// What stands behind the place in such a report.
-fn body_in(report: &[u8]) -> &str {
-    line_in(report).split_once(" 1 ").unwrap_or(("", "")).1
-}
-
-fn put_line(out: &mut Out, net: &Net, entry: Entry) {
-    if let Some(report) = report_of(out, net, entry) {
-        out.word(line_in(report.as_slice()))
-    }
-}
-
 /// Writes an entry as a report has it.
 pub fn put_entry(out: &mut Out, net: &Net, entry: &Entry) {
     if let Some(entry) = out.kept(entry.copy()) {
-        put_line(out, net, entry)
+        if let Some(report) = report_of(out, net, entry) {
+            out.word(line_in(report.as_slice()))
+        }
     }
 }
 
@@ -62,7 +53,8 @@ fn put_behind(out: &mut Out, net: &Net, front: &str, body: Body) {
         body,
     };
     if let Some(report) = report_of(out, net, entry) {
-        let body = body_in(report.as_slice());
+        let line = line_in(report.as_slice());
+        let body = line.split_once(" 1 ").unwrap_or(("", "")).1;
         out.word(body.strip_prefix(front).unwrap_or(""))
     }
 }
@@ -96,21 +88,17 @@ fn flag(set: bool, word: &'static str) -> &'static str {
     if set { word } else { "-" }
 }
 
-fn put_node(out: &mut Out, node: &Node) {
-    out.show("; ", &node.name);
-    match node.hop {
-        Some(w) => out.show(" ", &w.0),
-        None => out.word(" -"),
-    }
-    out.show(" ", &flag(node.manager, "manager"));
-    out.show(" ", &flag(node.full, "full"))
-}
-
 /// Writes the workstations of a network.
 pub fn put_nodes(out: &mut Out, net: &Net) {
     out.word("nodes");
     for node in net.nodes.as_slice() {
-        put_node(out, node);
+        out.show("; ", &node.name);
+        match node.hop {
+            Some(w) => out.show(" ", &w.0),
+            None => out.word(" -"),
+        }
+        out.show(" ", &flag(node.manager, "manager"));
+        out.show(" ", &flag(node.full, "full"));
     }
 }
 

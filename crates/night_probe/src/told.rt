@@ -80,17 +80,6 @@ pub fn job_number(j: Option<JobNo>) -> u32 {
     }
 }
 
-fn put_dep_place(out: &mut Out, object: &Obj, i: u16) {
-    match object {
-        Obj::Job(j) => out.two("job ", &j.0, " dep ", &i),
-        Obj::Stream(s) => out.two("stream ", &s.0, " dep ", &i),
-    }
-}
-
-fn put_truth(out: &mut Out, holds: bool) {
-    out.word(if holds { "yes" } else { "no" })
-}
-
 fn put_state(out: &mut Out, told: &Told) {
     match told {
         Told::Ended(outcome) => out.debug("", outcome),
@@ -103,10 +92,11 @@ fn put_state(out: &mut Out, told: &Told) {
 /// Writes a short answer.
 pub fn put_told(out: &mut Out, told: &Told) {
     match told {
-        Told::Yes(holds) => put_truth(out, *holds),
+        Told::Yes(holds) => out.word(if *holds { "yes" } else { "no" }),
         Told::Number(n) => out.show("", n),
         Told::Code(code) => out.show("", code),
-        Told::DepPlace(object, i) => put_dep_place(out, object, *i),
+        Told::DepPlace(Obj::Job(j), i) => out.two("job ", &j.0, " dep ", i),
+        Told::DepPlace(Obj::Stream(s), i) => out.two("stream ", &s.0, " dep ", i),
         _ => put_state(out, told),
     }
 }

@@ -7,41 +7,30 @@ use crate::texts::{
     put_body, put_command, put_dependency, put_job, put_nodes, put_printed, put_stream,
 };
 use crate::told::Told;
-use base_types::{Entry, Feed, JobNo, StreamNo};
+use base_types::Feed;
 use file_watch::path_at;
 use manager_switch::{present_after, present_net, switched};
 use network_tree::Network;
 use owner_fold::Owners;
 use symphony_view::{job_state, listing, stream_state};
 
-fn of_job(net: &Network, o: &Owners, j: JobNo) -> Option<Told> {
-    if o.job(j).is_some() {
-        return Some(Told::OfJob(job_state(net, o, j)));
-    }
-    Some(Told::None)
-}
-
-fn of_stream(net: &Network, o: &Owners, s: StreamNo) -> Option<Told> {
-    if o.stream(s).is_some() {
-        return Some(Told::OfStream(stream_state(net, o, s)));
-    }
-    Some(Told::None)
-}
-
 /// The state of a job or a stream.
 pub fn state(net: &Network, o: &Owners, asked: &Asked) -> Option<Told> {
     if asked.is("job-state", 1) {
-        of_job(net, o, asked.job(0))
+        let j = asked.job(0);
+        if o.job(j).is_some() {
+            return Some(Told::OfJob(job_state(net, o, j)));
+        }
+        Some(Told::None)
     } else if asked.is("stream-state", 1) {
-        of_stream(net, o, asked.stream(0))
+        let s = asked.stream(0);
+        if o.stream(s).is_some() {
+            return Some(Told::OfStream(stream_state(net, o, s)));
+        }
+        Some(Told::None)
     } else {
         None
     }
-}
-
-fn put_listing(night: &Night, out: &mut Out) {
-    let listing = listing(out.alloc, &night.net, night.held());
-    put_printed(out, listing)
 }
 
 fn put_event(night: &Night, out: &mut Out, asked: &Asked) {
@@ -104,7 +93,8 @@ pub fn ask_plan(night: &Night, out: &mut Out, asked: &Asked) -> bool {
     } else if asked.is("job-document", 1) {
         put_job_doc(night, out, asked);
     } else if asked.is("listing", 0) {
-        put_listing(night, out);
+        let listing = listing(out.alloc, &night.net, night.held());
+        put_printed(out, listing);
     } else {
         return false;
     }
@@ -138,18 +128,14 @@ fn put_present(night: &Night, out: &mut Out) {
     }
 }
 
-fn put_after(night: &Night, out: &mut Out, entry: &Entry) {
-    let after = present_after(out.alloc, &night.net, entry);
-    match out.kept(after) {
-        Some(Some(net)) => put_nodes(out, net.net()),
-        _ => out.word("none"),
-    }
-}
-
 fn put_present_after(night: &Night, out: &mut Out, asked: &Asked) -> bool {
     match entry(out, asked.text) {
         Some(entry) => {
-            put_after(night, out, &entry);
+            let after = present_after(out.alloc, &night.net, &entry);
+            match out.kept(after) {
+                Some(Some(net)) => put_nodes(out, net.net()),
+                _ => out.word("none"),
+            }
             true
         }
         None => false,

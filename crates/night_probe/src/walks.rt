@@ -5,79 +5,25 @@ use crate::told::put_numbers;
 use base_types::{StreamNo, Ws};
 use owner_fold::Owners;
 
-fn add_members(o: &Owners, found: &mut Numbers) {
-    for s in o.members().as_slice() {
-        found.add(s.0);
-    }
-}
-
-fn add_streams(o: &Owners, found: &mut Numbers) {
-    for doc in o.streams() {
-        found.add(doc.no.0);
-    }
-}
-
-fn add_jobs(o: &Owners, found: &mut Numbers) {
-    for (_, doc) in o.jobs() {
-        found.add(doc.no.0);
-    }
-}
-
 fn add_jobs_of(o: &Owners, s: StreamNo, found: &mut Numbers) {
     for (_, doc) in o.jobs_of_stream(s) {
         found.add(doc.no.0);
     }
 }
 
-fn add_open(o: &Owners, w: Ws, found: &mut Numbers) {
-    for (_, doc) in o.open_launches(w) {
-        found.add(doc.no.0);
-    }
-}
-
-fn add_waiting(o: &Owners, w: Ws, found: &mut Numbers) {
-    for doc in o.streams_waiting(w) {
-        found.add(doc.no.0);
-    }
-}
-
-fn add_under_way(o: &Owners, w: Ws, found: &mut Numbers) {
-    for doc in o.streams_under_way(w) {
-        found.add(doc.no.0);
-    }
-}
-
-fn add_timed_streams(o: &Owners, w: Ws, found: &mut Numbers) {
-    for doc in o.timed_streams(w) {
-        found.add(doc.no.0);
-    }
-}
-
-fn add_timed_jobs(o: &Owners, w: Ws, found: &mut Numbers) {
-    for (_, doc) in o.timed_jobs(w) {
-        found.add(doc.no.0);
-    }
-}
-
-fn add_filed_streams(o: &Owners, w: Ws, found: &mut Numbers) {
-    for doc in o.filed_streams(w) {
-        found.add(doc.no.0);
-    }
-}
-
-fn add_filed_jobs(o: &Owners, w: Ws, found: &mut Numbers) {
-    for (_, doc) in o.filed_jobs(w) {
-        found.add(doc.no.0);
-    }
-}
-
 fn add_of_plan(o: &Owners, asked: &Asked, found: &mut Numbers) -> bool {
     if asked.is("members", 0) {
-        add_members(o, found);
+        for s in o.members().as_slice() {
+            found.add(s.0);
+        }
     } else if asked.is("streams", 0) {
-        add_streams(o, found);
+        for doc in o.streams() {
+            found.add(doc.no.0);
+        }
     } else if asked.is("jobs", 0) {
-        add_jobs(o, found);
+        for (_, doc) in o.jobs() {
+            found.add(doc.no.0);
+        }
     } else if asked.is("jobs-of", 1) {
         add_jobs_of(o, asked.stream(0), found);
     } else {
@@ -88,9 +34,13 @@ fn add_of_plan(o: &Owners, asked: &Asked, found: &mut Numbers) -> bool {
 
 fn add_filed(o: &Owners, w: Ws, asked: &Asked, found: &mut Numbers) -> bool {
     if asked.is("filed-streams", 1) {
-        add_filed_streams(o, w, found);
+        for doc in o.filed_streams(w) {
+            found.add(doc.no.0);
+        }
     } else if asked.is("filed-jobs", 1) {
-        add_filed_jobs(o, w, found);
+        for (_, doc) in o.filed_jobs(w) {
+            found.add(doc.no.0);
+        }
     } else {
         return false;
     }
@@ -99,15 +49,25 @@ fn add_filed(o: &Owners, w: Ws, asked: &Asked, found: &mut Numbers) -> bool {
 
 fn add_of_station(o: &Owners, w: Ws, asked: &Asked, found: &mut Numbers) -> bool {
     if asked.is("open", 1) {
-        add_open(o, w, found);
+        for (_, doc) in o.open_launches(w) {
+            found.add(doc.no.0);
+        }
     } else if asked.is("waiting", 1) {
-        add_waiting(o, w, found);
+        for doc in o.streams_waiting(w) {
+            found.add(doc.no.0);
+        }
     } else if asked.is("under-way", 1) {
-        add_under_way(o, w, found);
+        for doc in o.streams_under_way(w) {
+            found.add(doc.no.0);
+        }
     } else if asked.is("timed-streams", 1) {
-        add_timed_streams(o, w, found);
+        for doc in o.timed_streams(w) {
+            found.add(doc.no.0);
+        }
     } else if asked.is("timed-jobs", 1) {
-        add_timed_jobs(o, w, found);
+        for (_, doc) in o.timed_jobs(w) {
+            found.add(doc.no.0);
+        }
     } else {
         return false;
     }

@@ -167,21 +167,6 @@ fn put_launches(world: &World, out: &mut Out, w: Ws) {
     }
 }
 
-fn put_counts(world: &World, out: &mut Out) {
-    let (entries, starts) = (world.history().len(), world.starts().len());
-    out.two("events ", &entries, " starts ", &starts)
-}
-
-fn take_asked(world: &mut World, out: &mut Out, asked: &Asked) -> bool {
-    match step_of(out, asked) {
-        Some(step) => {
-            take(world, out, &step);
-            true
-        }
-        None => false,
-    }
-}
-
 /// Does with a world what is asked, and tells whether something is.
 fn go(world: &mut World, out: &mut Out, asked: &Asked) -> bool {
     if asked.is("flow", 2) {
@@ -191,7 +176,13 @@ fn go(world: &mut World, out: &mut Out, asked: &Asked) -> bool {
         reap(world, out, asked.ws(0));
         true
     } else {
-        take_asked(world, out, asked)
+        match step_of(out, asked) {
+            Some(step) => {
+                take(world, out, &step);
+                true
+            }
+            None => false,
+        }
     }
 }
 
@@ -204,7 +195,8 @@ fn tell(world: &World, out: &mut Out, asked: &Asked) -> bool {
     } else if asked.is("best-launches", 1) {
         put_launches(world, out, asked.ws(0));
     } else if asked.is("counts", 0) {
-        put_counts(world, out);
+        let (entries, starts) = (world.history().len(), world.starts().len());
+        out.two("events ", &entries, " starts ", &starts);
     } else {
         return false;
     }

@@ -28,7 +28,7 @@ ghost use Rattle.symphony_view.specs.Symphonies.{symphony_of};
 
 pub use listings::listing;
 pub use state_totals::{StateCounts, state_counts};
-pub use states::{JobState, StreamState, job_state, stream_state};
+pub use states::{JobState, StreamState, job_state, job_word, stream_state, stream_word};
 pub use symphonies::symphony;
 
 /// Nodes that hold the same events have the same listing and the same Symphony.

@@ -218,14 +218,14 @@ pub(crate) fn stream_number(state: StreamState) -> u8
 }
 
 /// The word of a job's state in a listing.
-pub(crate) fn job_word(state: JobState) -> &'static str
+pub fn job_word(state: JobState) -> &'static str
     ensures { result.now ≡ words.job_word (told_job state) }
 {
     report_text::job_word(job_number(state))
 }
 
 /// The word of a stream's state in a listing.
-pub(crate) fn stream_word(state: StreamState) -> &'static str
+pub fn stream_word(state: StreamState) -> &'static str
     ensures { result.now ≡ words.stream_word (told_stream state) }
 {
     report_text::stream_word(stream_number(state))

@@ -11,14 +11,14 @@ ghost use Rattle.waiting_lines.specs.Answers as spec;
 
 use crate::lines::write_lacks;
 use crate::names::{write_job, write_job_name, write_stream};
-use crate::states::{is_waiting_state, word_of_job, word_of_stream};
+use crate::states::is_waiting_state;
 use base_types::{Bytes, Items, JobDoc, JobNo, NoMemory, Obj, StreamDoc, StreamNo, Ws};
 use dependencies::{Readiness, Scan};
 use network_tree::Network;
 use owner_fold::Owners;
 use std::alloc::Global;
 use std::io::{self, Write};
-use symphony_view::{JobState, StreamState, job_state, stream_state};
+use symphony_view::{JobState, StreamState, job_state, job_word, stream_state, stream_word};
 use waiting::{Lack, end_lacks, job_lacks, release_lacks};
 
 /// What an error of a writer to memory means.
@@ -44,7 +44,7 @@ fn write_job_head(
         ++ spec.job_head net.now (stream_job parent.now doc.now) (told_job state)) }
 {
     write_job(out, net, parent, doc)?;
-    let word = word_of_job(state);
+    let word = job_word(state);
     write!(out, " {word}\n")
 }
 
@@ -177,7 +177,7 @@ fn write_stream_head(
 {
     write!(out, "stream ")?;
     write_stream(out, net, doc)?;
-    let word = word_of_stream(state);
+    let word = stream_word(state);
     write!(out, " {word}, to be {what}\n")
 }
 

@@ -8,13 +8,12 @@ ghost use Rattle.model.specs.Words.{nth};
 ghost use Rattle.owner_fold.specs.DocPlaces.{stream_job};
 ghost use Rattle.waiting_lines.specs.Names as spec;
 
-use crate::states::word_of_job;
 use base_types::{Dep, JobDoc, JobNo, Obj, PromptDef, PromptRef, Resource, StreamDoc, StreamNo};
 use network_tree::Network;
 use owner_fold::Owners;
 use report_text::name;
 use std::io::{self, Write};
-use symphony_view::job_state;
+use symphony_view::{job_state, job_word};
 
 /// Writes `W#STREAM`.
 #[tactic(auto, unfolding(crate::specs::Names::stream_text))]
@@ -80,7 +79,7 @@ pub(crate) fn state_word(net: &Network, o: &Owners, j: &JobNo) -> &'static str
     let number = *j;
     match o.planned_job(number) {
         None => "",
-        Some(_) => word_of_job(job_state(net, o, *j)),
+        Some(_) => job_word(job_state(net, o, *j)),
     }
 }
 

@@ -63,7 +63,6 @@ next_is : row_of (codes "next") ≡ row.Step step.Next
 unfolding row_of form_of form_below step_of network_row plan_row part_of dep_of
 next_is = refl
 
-
 -- Rows before the one step.
 
 abbrev is_before : Row → Bool

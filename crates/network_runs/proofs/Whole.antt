@@ -137,7 +137,6 @@ links_of defs night before behind x w past n is s running_ = λ a f stands is_fo
     let sent : IsSent before a w f = n.links before behind w a past f is running_ stands is_for in
     s.sent_ a w (frame_bytes f) sent.0 (in_of _ before sent.1)
 
-
 -- what is kept can be written
 written_of : (defs : Defs) (night before behind : Night) (x : World) → IsNight defs night → night ≡ before ++ behind
     → Stands (net_of defs) x before behind → AreWritten x.history

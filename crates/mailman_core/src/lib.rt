@@ -11,9 +11,11 @@
 //! of it is not acknowledged.
 #![tactic(auto)]
 
+mod listed;
 mod mails;
 mod sends;
 mod tables;
 
+pub use listed::{ListedFeeds, forget_feeds, listed_feeds};
 pub use mail_rules::{accepts, acknowledgement};
 pub use mails::Mail;

@@ -1,14 +1,16 @@
 -- An entry that is no plan, adds no stream to one and obeys no command leaves whom feeds are passed on to.
-use Rattle.std.proofs.Common.{◌≡◌, ◌∷◌, ◌∙◌, [], ℕ, Bool, List, None, Option, Some, ap, false, filter_map, flat_map, map}
+use Rattle.std.proofs.Common.{◌≡◌, ◌∷◌, ◌∙◌, [], ℕ, List, None, Option, Some, ap, filter_map, flat_map, inl, inr, map}
 use Rattle.std.proofs.Common.{refl, true}
+use Rattle.std.proofs.lemmas.Grind.{flat_map-append}
 use Rattle.std.proofs.lemmas.List.{append-nil}
 use Rattle.std.proofs.lemmas.List.Elements.{filter_map-append}
 use Rattle.std.specs.List.{list_any}
-use Rattle.std.specs.Option.{option_map_or}
+use Rattle.std.specs.Option.{option_map_or, option_to_list}
 use Rattle.std.specs.Prelude.{◌&&◌, ◌||◌, ◌==◌, ◌++◌, filter, find, not, option_map, take}
+use Rattle.lemmas.proofs.Lists.{one_filtered}
 use Rattle.model.specs.Types.{Added, Body, Clock, Cmd, Declined, Ended, Entry, Events, Failed, Feed, Fulfilled, Late, Launched}
 use Rattle.model.specs.Types.{Lost, Net, NewPlan, Obeyed, Order, Orders, Released, Started, StreamEnded, UntilPassed}
-use Rattle.model.specs.Types.{At, Deadline, Dep, FollowsJob, FollowsStream, Global, Job, JobDoc, Needs, Obj, Outside, Own, Prompt}
+use Rattle.model.specs.Types.{At, Deadline, Dep, FollowsJob, FollowsStream, Global, Job, Needs, Obj, Outside, Own, Prompt}
 use Rattle.model.specs.Types.{Stream, StreamDoc, Until}
 use Rattle.model.specs.Words.{below, firsts, has, some_is}
 use Rattle.model.specs.Network.{domain, has_full_status, hop, is_behind, node_count}
@@ -17,70 +19,57 @@ use Rattle.model.specs.Catalogue.{StreamJob, catalogue, docs_in, job, jobs, jobs
 use Rattle.model.specs.Facts.{commands, obeyed_command}
 use Rattle.model.specs.Dependencies.{cites, dep_cites, deps, deps_added_by, document_deps, owner_events}
 use Rattle.model.specs.Forwarding.{forwards, is_under, objects_of, wants, works_on}
-use Rattle.owner_fold.specs.Plans.{is_planning, is_planning_body}
-use Rattle.owner_fold.proofs.Further.{docs_without}
-use Rattle.owner_fold.proofs.Giving.{at_feed}
+use Rattle.model_laws.proofs.Feeds.{pushed_cases}
 use Rattle.mailman_routes.specs.Quiet.{is_quiet}
 
-no_plan : (b : Body) → is_quiet b ≡ true → is_planning_body b ≡ false
-no_plan (NewPlan run cut carried docs) h = cc
-no_plan (Added a k doc) h = cc
-no_plan (Obeyed a k c) h = refl
-no_plan (Clock t) h = refl
-no_plan (Released s seen) h = refl
-no_plan (StreamEnded s seen) h = refl
-no_plan (UntilPassed o i mark) h = refl
-no_plan (Launched j n seen) h = refl
-no_plan (Started j n) h = refl
-no_plan (Failed j n) h = refl
-no_plan (Ended j n rc good) h = refl
-no_plan (Lost j n) h = refl
-no_plan (Fulfilled o i) h = refl
-no_plan (Declined a k why) h = refl
-no_plan (Order c) h = refl
-no_plan (Late o i) h = refl
-
-no_command : (b : Body) → is_quiet b ≡ true → filter_map obeyed_command (b ∷ []) ≡ []
-no_command (NewPlan run cut carried docs) h = refl
-no_command (Added a k doc) h = refl
-no_command (Obeyed a k c) h = cc
-no_command (Clock t) h = refl
-no_command (Released s seen) h = refl
-no_command (StreamEnded s seen) h = refl
-no_command (UntilPassed o i mark) h = refl
-no_command (Launched j n seen) h = refl
-no_command (Started j n) h = refl
-no_command (Failed j n) h = refl
-no_command (Ended j n rc good) h = refl
-no_command (Lost j n) h = refl
-no_command (Fulfilled o i) h = refl
-no_command (Declined a k why) h = refl
-no_command (Order c) h = refl
-no_command (Late o i) h = refl
-
-and_none : (a b : Bool) → b ≡ false → (a && b) ≡ false
-and_none true b h = h
-and_none false b h = refl
+-- such a body brings no documents, and no command
+brings_none : (b : Body) → is_quiet b ≡ true → (docs_in b ≡ []) × (obeyed_command b ≡ None)
+brings_none (NewPlan run cut carried docs) h = cc
+brings_none (Added a k doc) h = cc
+brings_none (Obeyed a k c) h = cc
+brings_none (Clock t) h = (refl, refl)
+brings_none (Released s seen) h = (refl, refl)
+brings_none (StreamEnded s seen) h = (refl, refl)
+brings_none (UntilPassed o i mark) h = (refl, refl)
+brings_none (Launched j n seen) h = (refl, refl)
+brings_none (Started j n) h = (refl, refl)
+brings_none (Failed j n) h = (refl, refl)
+brings_none (Ended j n rc good) h = (refl, refl)
+brings_none (Lost j n) h = (refl, refl)
+brings_none (Fulfilled o i) h = (refl, refl)
+brings_none (Declined a k why) h = (refl, refl)
+brings_none (Order c) h = (refl, refl)
+brings_none (Late o i) h = (refl, refl)
 
 module _ (kept : List Entry) (e : Entry) (quiet : is_quiet e.body ≡ true) where
-  old : View
+  abbrev old : View
   old = view_of kept
 
-  new : View
+  abbrev new : View
   new = view_of (kept ++ e ∷ [])
 
   docs_same : flat_map docs_in (list_of (kept ++ e ∷ []) (Events 0)) ≡ flat_map docs_in (list_of kept (Events 0))
-  docs_same = docs_without kept e (and_none _ (is_planning_body e.body) (no_plan e.body quiet))
+  docs_same =
+      elim (pushed_cases kept e (Events 0)) [
+        | inl c ↦ ap (flat_map docs_in) c.1
+            ∙ flat_map-append docs_in (list_of kept (Events 0)) (e.body ∷ [])
+            ∙ ap (λ (l : List StreamDoc). flat_map docs_in (list_of kept (Events 0)) ++ (l ++ []))
+            (brings_none e.body quiet).0
+            ∙ append-nil (flat_map docs_in (list_of kept (Events 0)))
+        | inr c ↦ ap (flat_map docs_in) c.1
+      ]
 
   told_same : (w : ℕ) → commands (list_of (kept ++ e ∷ []) (Events w)) ≡ commands (list_of kept (Events w))
   unfolding commands
   told_same w =
-      at_feed kept e w (λ (l : List Body). commands l ≡ commands (list_of kept (Events w)))
-      (λ k. refl)
-      (λ k.
-      filter_map-append obeyed_command (list_of kept (Events w)) (e.body ∷ [])
-      ∙ ap (λ (l : List Cmd). commands (list_of kept (Events w)) ++ l) (no_command e.body quiet)
-      ∙ append-nil (commands (list_of kept (Events w))))
+      elim (pushed_cases kept e (Events w)) [
+        | inl c ↦ ap (filter_map obeyed_command) c.1
+            ∙ filter_map-append obeyed_command (list_of kept (Events w)) (e.body ∷ [])
+            ∙ ap (λ (l : List Cmd). filter_map obeyed_command (list_of kept (Events w)) ++ l)
+            (one_filtered obeyed_command e.body ∙ ap option_to_list (brings_none e.body quiet).1)
+            ∙ append-nil (filter_map obeyed_command (list_of kept (Events w)))
+        | inr c ↦ ap (filter_map obeyed_command) c.1
+      ]
 
   catalogue_same : catalogue new ≡ catalogue old
   unfolding catalogue

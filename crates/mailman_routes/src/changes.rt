@@ -18,7 +18,6 @@ fn is_quiet(body: &Body) -> bool
 }
 
 /// Whether an entry is known to leave whom each feed is passed on to, whoever takes it. It takes one look.
-#[tactic(auto, using(crate::proofs::Ways::ways_same))]
 pub fn keeps_ways(e: &Entry) -> bool
     ensures { result ≡ true → (net : Net) (kept : List Taken) (n m : ℕ) (f : Feed)
         → forwards net (view_of (kept ++ e.now ∷ [])) n m f ≡ forwards net (view_of kept) n m f }

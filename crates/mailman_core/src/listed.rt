@@ -29,9 +29,10 @@ fn listed_for(
 {
     let mut listed = Items::new(alloc);
     for w in 0..net.count() {
-        if !are_plainly_unwanted(net, o, me, to, Ws(w)) {
-            listed.push(Ws(w))?;
+        if are_plainly_unwanted(net, o, me, to, Ws(w)) {
+            continue;
         }
+        listed.push(Ws(w))?;
     }
     Ok(listed)
 }
@@ -84,7 +85,8 @@ pub fn forget_feeds(listed: &mut ListedFeeds, switched: bool, e: &Entry)
         *listed = listed.empty();
         return;
     }
-    if !keeps_ways(e) {
-        *listed = listed.empty();
+    if keeps_ways(e) {
+        return;
     }
+    *listed = listed.empty();
 }

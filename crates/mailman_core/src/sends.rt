@@ -77,6 +77,18 @@ fn add_places(batch: &mut Batch, feed: &Feed, acked: u32, held: u32)
     }
 }
 
+/// Puts the sends of these entries to a workstation at the end of a list with room for eight.
+fn put_places(batch: &Batch, to: Ws, outs: &mut Growing<Out>)
+    requires few { length batch.now.items ≤ 8 }
+    requires room { 8 ≤ outs.old.spare }
+    ensures outs { outs.new.items ≡ outs.old.items ++ map (sent to) batch.now.items }
+    ensures room { outs.old.spare ≤ outs.new.spare + 8 }
+{
+    for found in batch.as_slice() {
+        outs.put(Out::Send(to, Packet::Mail(found.feed, found.place)));
+    }
+}
+
 /// Whether orders to t go another way. That is one look into the table of ways.
 #[tactic(auto, unfolding(model::specs::Forwarding::forwards))]
 fn are_orders_elsewhere(net: &Network, me: Ws, to: Ws, t: Ws) -> bool
@@ -284,9 +296,7 @@ impl Mail {
         ensures room { outs.old.spare ≤ outs.new.spare + 8 }
     {
         let batch = self.batch(net, o, me, to);
-        for found in batch.as_slice() {
-            outs.put(Out::Send(to, Packet::Mail(found.feed, found.place)));
-        }
+        put_places(&batch, to, outs);
     }
 
     /// Puts all that is to be sent to `to` at the end of a list with room for eight, by a walk over the feeds that were
@@ -309,8 +319,6 @@ impl Mail {
         ensures room { outs.old.spare ≤ outs.new.spare + 8 }
     {
         let batch = self.listed_batch(net, o, me, to, listed);
-        for found in batch.as_slice() {
-            outs.put(Out::Send(to, Packet::Mail(found.feed, found.place)));
-        }
+        put_places(&batch, to, outs);
     }
 }

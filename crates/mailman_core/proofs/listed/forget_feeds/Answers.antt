@@ -11,18 +11,18 @@ returns-then-switched c =
       gone = λ s. c.empty.ensures;
     }
 
-pub returns-then-not-keeps_ways : goal.returns-then-not-keeps_ways
-returns-then-not-keeps_ways c =
+pub returns-then-keeps_ways : goal.returns-then-keeps_ways
+returns-then-keeps_ways c =
     record {
-      stay = λ s net kept me h. no_rows net (view_of (kept ++ c.args.e.now ∷ [])) me _ c.empty.ensures;
-      gone = λ s. c.empty.ensures;
+      stay = λ s net kept me.
+          rows_same net (view_of kept) (view_of (kept ++ c.args.e.now ∷ [])) me c.args.listed.now
+          (λ m f. c.keeps_ways.ensures c.if-keeps_ways.true net kept me m f);
+      gone = λ s. absurd (let q : true ≡ false = sym s ∙ c.if-switched.false in cc);
     }
 
 pub returns : goal.returns
 returns c =
     record {
-      stay = λ s net kept me.
-          rows_same net (view_of kept) (view_of (kept ++ c.args.e.now ∷ [])) me c.args.listed.now
-          (λ m f. c.keeps_ways.ensures c.if-not-keeps_ways.false net kept me m f);
-      gone = λ s. absurd (let q : true ≡ false = sym s ∙ c.if-switched.false in cc);
+      stay = λ s net kept me h. no_rows net (view_of (kept ++ c.args.e.now ∷ [])) me _ c.empty-2.ensures;
+      gone = λ s. c.empty-2.ensures;
     }

@@ -1,4 +1,4 @@
-use Rattle.std.proofs.Common.{◌∙◌, [], ◌∷◌, ap, arith, length, length-append, subst, sym}
+use Rattle.std.proofs.Common.{[], ◌∷◌, ap, arith, length, length-append, subst, sym}
 use Rattle.model.specs.History.{view_of}
 use Rattle.mailman_core.specs.Listed.{AreListed}
 use Rattle.mailman_core.proofs.Listing.{no_rows, rows_more}

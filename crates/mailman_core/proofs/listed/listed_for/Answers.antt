@@ -18,8 +18,18 @@ loop-w-init c =
       same = ap (λ (l : List ℕ). filter q (map Events l)) c.new-listed.ensures;
     }
 
-pub loop-w-preserved-then-not-are_plainly_unwanted : goal.loop-w-preserved-then-not-are_plainly_unwanted
-loop-w-preserved-then-not-are_plainly_unwanted c =
+pub loop-w-preserved-then-are_plainly_unwanted : goal.loop-w-preserved-then-are_plainly_unwanted
+loop-w-preserved-then-are_plainly_unwanted c =
+    let q = forwards c.args.net.now (view_of c.args.o.now) c.args.me c.args.to in
+    record {
+      inside = c.loop-w.invariant.inside;
+      same =
+          listed_less q c.loop-w.listed c.loop-w.w
+          (c.are_plainly_unwanted.ensures c.if-are_plainly_unwanted.true) c.loop-w.invariant.same;
+    }
+
+pub loop-w-preserved : goal.loop-w-preserved
+loop-w-preserved c =
     let n = node_count c.args.net.now in
     let q = forwards c.args.net.now (view_of c.args.o.now) c.args.me c.args.to in
     record {
@@ -30,16 +40,6 @@ loop-w-preserved-then-not-are_plainly_unwanted c =
       same =
           ap (λ (l : List ℕ). filter q (map Events l)) c.in_ok-push.ensures.ok
           ∙ listed_more q c.loop-w.listed c.loop-w.w c.loop-w.invariant.same;
-    }
-
-pub loop-w-preserved : goal.loop-w-preserved
-loop-w-preserved c =
-    let q = forwards c.args.net.now (view_of c.args.o.now) c.args.me c.args.to in
-    record {
-      inside = c.loop-w.invariant.inside;
-      same =
-          listed_less q c.loop-w.listed c.loop-w.w
-          (c.are_plainly_unwanted.ensures c.if-not-are_plainly_unwanted.false) c.loop-w.invariant.same;
     }
 
 pub returns : goal.returns

@@ -29,10 +29,10 @@ add_feed-requires c =
       from = c.requires.from;
       to = c.requires.to;
       inside =
-          one_inside (node_count c.args.net.now) c.w-item.result.now
-          (all_get (λ (u : ℕ). u < node_count c.args.net.now) c.args.listed.now c.loop-w.w-index c.w-item.result.now
+          one_inside (node_count c.args.net.now) c.w-item.result
+          (all_get (λ (u : ℕ). u < node_count c.args.net.now) c.args.listed.now c.loop-w.w-index c.w-item.result
           c.requires.listed.inside
-          (get_there c.args.listed.now c.loop-w.w-index c.w-item.result.now (omega arith) c.w-item.is));
+          (get_there c.args.listed.now c.loop-w.w-index c.w-item.result (omega arith) c.w-item.is));
       few = c.loop-w.invariant.few;
     }
 
@@ -41,7 +41,7 @@ loop-w-preserved c =
     let net = c.args.net.now in
     let V = view_of c.args.o.now in
     let acked = acked_by c.args.self.now c.args.to in
-    let w = c.w-item.result.now in
+    let w = c.w-item.result in
     let one = unsent net V c.args.me c.args.to acked (Events w ∷ []) in
     let rest =
     unsent net V c.args.me c.args.to acked (map Events (drop (c.loop-w.w-index + 1) c.args.listed.now)) in

@@ -34,7 +34,6 @@ pub struct Agent {
 
 impl Model for Agent {
     ghost use Rattle.agent_core.specs.Nodes.{NodeState};
-    ghost use Rattle.std.specs.Prelude.{◌×◌};
     ghost use Rattle.model.specs.History.{view_of};
     ghost use Rattle.mailman_core.specs.Listed.{AreListed};
     ghost use Rattle.agent_core.specs.Standing.{IsStanding};

@@ -5,8 +5,8 @@ use Rattle.std.proofs.Common.{refl}
 
 pub invariant_of-result : goal.invariant_of-result
 invariant_of-result c = (
-    blank_stands _ _ _ _ _ _ c.requires c.in_ok-present.ensures c.new-owners.ensures c.new-tracker.ensures,
-    no_rows _ _ _ _ c.new-listed.ensures,
+  blank_stands _ _ _ _ _ _ c.requires c.in_ok-present.ensures c.new-owners.ensures c.new-tracker.ensures,
+  no_rows _ _ _ _ c.new-listed.ensures,
 )
 
 pub returns : goal.returns

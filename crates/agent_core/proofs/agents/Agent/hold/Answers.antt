@@ -17,14 +17,14 @@ invariant_of-self c =
 
 pub invariant_of-self-2 : goal.invariant_of-self-2
 invariant_of-self-2 c = (
-    standing_next c.self.inside.net c.self.inside.present c.put_network.new.present _ c.self.inside.owners
-    c.take.new.self c.args.e.now c.self.inside.tracker.index c.follow.new.self.index c.in_ok-after.after
-    c.self.inside.live c.self.inside.idle_until c.self.invariant.0 c.in_ok-take.ensures.ok c.in_ok-after.ensures.after c.put_network.ensures
-    (c.follow.ensures c.self.inside.owners c.in_ok-take.ensures.ok c.self.invariant.0.tracks),
-    listed_next c.self.inside.present c.put_network.new.present c.self.inside.me c.self.inside.owners c.take.new.self
-    c.args.e.now c.in_ok-after.after c.is_some.result c.self.inside.listed c.forget_feeds.new.listed
-    c.in_ok-take.ensures.ok c.put_network.ensures c.is_some.ensures c.forget_feeds.ensures.stay
-    c.forget_feeds.ensures.gone c.self.invariant.1,
+  standing_next c.self.inside.net c.self.inside.present c.put_network.new.present _ c.self.inside.owners
+      c.take.new.self c.args.e.now c.self.inside.tracker.index c.follow.new.self.index c.in_ok-after.after
+      c.self.inside.live c.self.inside.idle_until c.self.invariant.0 c.in_ok-take.ensures.ok c.in_ok-after.ensures.after c.put_network.ensures
+      (c.follow.ensures c.self.inside.owners c.in_ok-take.ensures.ok c.self.invariant.0.tracks),
+  listed_next c.self.inside.present c.put_network.new.present c.self.inside.me c.self.inside.owners c.take.new.self
+      c.args.e.now c.in_ok-after.after c.is_some.result c.self.inside.listed c.forget_feeds.new.listed
+      c.in_ok-take.ensures.ok c.put_network.ensures c.is_some.ensures c.forget_feeds.ensures.stay
+      c.forget_feeds.ensures.gone c.self.invariant.1,
 )
 
 on_err : {T E P : Type 0} (r : Result T E) → P → OnErr r P

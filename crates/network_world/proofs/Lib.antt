@@ -1,6 +1,7 @@
 pub mod Lists
 pub mod Exits
 pub mod Sending
+pub mod Rooms
 pub mod Starting
 pub mod Noting
 pub mod Stopped

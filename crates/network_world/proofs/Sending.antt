@@ -34,10 +34,10 @@ count_append : (b : ℕ) (xs ys : List Out)
     → length (packets_to b (xs ++ ys)) ≡ length (packets_to b xs) + length (packets_to b ys)
 count_append b xs ys = ap length (packets_append b xs ys) ∙ length-append (packets_to b xs) (packets_to b ys)
 
-sent_there : (b : ℕ) (p : Packet) → packets_to b (Send b p ∷ []) ≡ p ∷ []
+pub sent_there : (b : ℕ) (p : Packet) → packets_to b (Send b p ∷ []) ≡ p ∷ []
 sent_there b p = rw (eq-eqb b b refl) refl
 
-sent_elsewhere : (to b : ℕ) (p : Packet) → to ≢ b → packets_to b (Send to p ∷ []) ≡ []
+pub sent_elsewhere : (to b : ℕ) (p : Packet) → to ≢ b → packets_to b (Send to p ∷ []) ≡ []
 sent_elsewhere to b p h =
     elim (eqb_tells to b) [
       | inl e ↦ absurd (h e.1)

@@ -1,6 +1,9 @@
 -- Lanes with the room that they have, which contracts of the world do not see.
-use Rattle.std.specs.Prelude.{◌≡◌, ◌+◌, ◌++◌, ◌∷◌, ◌≤◌, [], ℕ, List, Some, length, max, slice_get, slice_set}
-use Rattle.model.specs.Types.{Out, Packet}
+use Rattle.std.specs.Prelude.{◌≡◌, ◌+◌, ◌++◌, ◌∷◌, ◌≤◌, [], ℕ, List, Ok, Some, length, max, slice_get, slice_set}
+use Rattle.model.specs.Types.{Input, Net, Out, Packet}
+use Rattle.model.specs.History.{View}
+use Rattle.model.specs.Sessions.{Session}
+use Rattle.model.specs.Step.{Effect, node_step}
 use Rattle.model.specs.World.{packets_to}
 use Rattle.network_world.specs.Stations.{Lane}
 use Rattle.network_world.specs.declared.lanes.Lane as raw
@@ -23,6 +26,12 @@ HaveRoom n lanes = (b : ℕ) (l : raw.Lane) → slice_get lanes b ≡ Some l →
 abbrev pub HaveRoomFor : List Out → List raw.Lane → Type 0
 HaveRoomFor outs lanes =
     (b : ℕ) (l : raw.Lane) → slice_get lanes b ≡ Some l → length (packets_to b outs) ≤ l.packets.spare
+
+-- each lane has room for what a step on this input sends to its workstation, whatever node takes it
+abbrev pub HaveRoomAfter : Input → List raw.Lane → Type 0
+HaveRoomAfter input lanes =
+    (net : Net) (V : View) (me : ℕ) (s : Session) (d : Effect) → node_step net me V s input ≡ Ok d
+    → HaveRoomFor d.outs lanes
 
 -- a lane to whose end these packets came, for which it had room
 pub record HasMore (more : List Packet) (old new : raw.Lane) : Type 0 where

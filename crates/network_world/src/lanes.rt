@@ -1,11 +1,12 @@
 //! The packets from one workstation to another.
 ghost use Rattle.std.specs.Prelude.{◌≡◌, ◌∷◌, ◌<◌, ◌≤◌, ◌^◌, [], None, Some, OnOk, length, map, slice_get};
 ghost use Rattle.std.specs.Option.{option_copied};
+ghost use Rattle.model.specs.Types as types;
 ghost use Rattle.model.specs.Words.{nth};
-ghost use Rattle.network_world.specs.Lanes.{GetsPacket, HasMore, HaveMore, HaveRoom, HaveRoomFor, HasRoomAt, IsMarked, seen};
+ghost use Rattle.network_world.specs.Lanes.{GetsPacket, HasMore, HaveMore, HaveRoom, HaveRoomAfter, HaveRoomFor, HasRoomAt, IsMarked, seen};
 ghost use Rattle.network_world.specs.declared.lanes.Lane.{Lane as Raw};
 
-use base_types::{Growing, Items, NoMemory, Out, Packet, Ws};
+use base_types::{Growing, Input, Items, Local, NoMemory, Out, Packet, Ws};
 use std::alloc::Global;
 
 /// To no workstation go more packets in one step.
@@ -60,11 +61,11 @@ impl Lane {
     }
 }
 
-/// Makes room in one lane. The packets stay, whatever comes.
+/// Makes room in one lane, where there is such a lane. The packets stay, whatever comes.
 fn make_room_at(lanes: &mut Items<Lane>, i: usize) -> Result<(), NoMemory>
-    requires { i < length lanes.old }
-    ensures { (l : Raw) → slice_get lanes.old i ≡ Some l
+    ensures there { (l : Raw) → slice_get lanes.old i ≡ Some l
         → (m : Raw) × HasRoomAt lanes.old i l m lanes.new × OnOk result (8 ≤ m.packets.spare) }
+    ensures none { slice_get lanes.old i ≡ None → lanes.new ≡ lanes.old }
 {
     match lanes.get_mut(i) {
         Some(lane) => lane.packets.reserve(ROOM),
@@ -73,7 +74,7 @@ fn make_room_at(lanes: &mut Items<Lane>, i: usize) -> Result<(), NoMemory>
 }
 
 /// Makes room in each lane for what a step may send. The packets stay, whatever comes.
-pub(crate) fn make_room(lanes: &mut Items<Lane>) -> Result<(), NoMemory>
+fn make_room(lanes: &mut Items<Lane>) -> Result<(), NoMemory>
     ensures same { map seen lanes.new ≡ map seen lanes.old }
     ensures room { OnOk result (HaveRoom 8 lanes.new) }
 {
@@ -81,6 +82,31 @@ pub(crate) fn make_room(lanes: &mut Items<Lane>) -> Result<(), NoMemory>
         make_room_at(lanes, i)?;
     }
     Ok(())
+}
+
+/// Makes room for what a step on what happens at the node may send: a turn sends, and nothing else does. The packets stay,
+/// whatever comes.
+fn make_room_here(lanes: &mut Items<Lane>, input: &Local) -> Result<(), NoMemory>
+    ensures same { map seen lanes.new ≡ map seen lanes.old }
+    ensures room { OnOk result (HaveRoomAfter (types.Input.Local input.now) lanes.new) }
+{
+    match input {
+        Local::Turn(_) => make_room(lanes),
+        _ => Ok(()),
+    }
+}
+
+/// Makes room for what a step on an input may send. What a neighbour sent is answered to that neighbour alone. The packets
+/// stay, whatever comes.
+pub(crate) fn make_room_for(lanes: &mut Items<Lane>, input: &Input) -> Result<(), NoMemory>
+    ensures same { map seen lanes.new ≡ map seen lanes.old }
+    ensures room { OnOk result (HaveRoomAfter input.now lanes.new) }
+{
+    match input {
+        Input::Local(local) => make_room_here(lanes, local),
+        Input::Mail(from, _entry) => make_room_at(lanes, usize::from(from.0)),
+        Input::Ack(_from, _feed, _count) => Ok(()),
+    }
 }
 
 /// Puts a packet at the end of the lane to a workstation, where there is such a lane. It has room for it.

@@ -1,21 +1,18 @@
 //! What the definitions promise of every step and every world.
 ghost use Rattle.std.specs.List.{AllByRecursion};
 ghost use Rattle.std.specs.Prelude.{◌≡◌, ◌+◌, ◌*◌, ◌≤◌, ℕ, Ok, length};
-ghost use Rattle.model.specs.Types.{Feed, Input, Net, WorldStep};
-ghost use Rattle.model.specs.History.{View, list_of};
+ghost use Rattle.model.specs.Types.{Feed, Net, WorldStep};
+ghost use Rattle.model.specs.History.{list_of};
 ghost use Rattle.model.specs.Network.{node_count};
 ghost use Rattle.model.specs.Invariant.{IsBacked};
-ghost use Rattle.model.specs.Sessions.{Session};
-ghost use Rattle.model.specs.Step.{Effect, node_step};
 ghost use Rattle.model.specs.World as model;
-ghost use Rattle.model.specs.World.{packets_to, view_at};
+ghost use Rattle.model.specs.World.{view_at};
 ghost use Rattle.symphony_view.specs.Listings.{listing_of};
 ghost use Rattle.network_world.specs.Parts.{HoldAsMany};
 ghost use Rattle.network_world.specs.Standing.{IsReached, KeepsAll};
 
 use model_laws::bounds::{
-    lanes_have_no_more_packets_than_were_sent, steps_send_few_packets_to_one_workstation,
-    worlds_keep_few_bytes, worlds_send_few_packets,
+    lanes_have_no_more_packets_than_were_sent, worlds_keep_few_bytes, worlds_send_few_packets,
 };
 use model_laws::restoring::nodes_restore_what_they_kept;
 use model_laws::{every_world_meets_the_invariant, holdings_are_there, packets_are_backed};
@@ -50,14 +47,6 @@ pub(crate) fn packets_have_entries()
 {
     packets_are_backed();
     holdings_are_there();
-}
-
-/// To no workstation go more than eight packets in one step of a node.
-pub(crate) fn lanes_get_few()
-    ensures { (net : Net) (V : View) (me : ℕ) (s : Session) (input : Input) (d : Effect)
-        → node_step net me V s input ≡ Ok d → (to : ℕ) → length (packets_to to d.outs) ≤ 8 }
-{
-    steps_send_few_packets_to_one_workstation();
 }
 
 /// In a world that is reached, workstations that hold as many events of each have the same listing.

@@ -8,8 +8,7 @@ ghost use Rattle.network_world.specs.Moves.{GoesOn, HasStopped, HasTaken, IsAgai
 ghost use Rattle.network_world.specs.Moves as moves;
 
 use crate::copies::copied_entries;
-use crate::lanes::{Lane, make_room, mark_lane, put_sends};
-use crate::laws::lanes_get_few;
+use crate::lanes::{Lane, make_room_for, mark_lane, put_sends};
 use crate::refusals::{StepRefused, refusal};
 use agent_core::{Agent, RestoreFault, Step};
 use base_types::{Copied, Entry, Input, Items, NoMemory, Ws};
@@ -94,8 +93,7 @@ impl Station {
         ensures refused { IfErr result (λ r. IsInputDue self.old input.now r) }
         ensures err { OnErr result (self.new ≡ self.old) }
     {
-        lanes_get_few();
-        make_room(&mut self.lanes)?;
+        make_room_for(&mut self.lanes, input)?;
         match self.node.step(input) {
             Ok(step) => {
                 put_sends(&mut self.lanes, step.outs.as_slice());

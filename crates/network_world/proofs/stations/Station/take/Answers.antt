@@ -6,33 +6,31 @@ use Rattle.model.specs.Types.{Out}
 use Rattle.network_world.specs.Lanes.{HaveMore, HaveRoomFor, seen}
 use Rattle.network_world.specs.Stations.{Station}
 use Rattle.network_world.specs.Moves.{HasTaken, IsInputDue}
-use Rattle.network_world.proofs.Sending.{room_enough}
 use Rattle.network_world.proofs.Stopped.{refused_due, same_station, station_taken}
 use Rattle.network_world.proofs.stations.Station.take.Goals as goal
 
-pub returns-in_err-make_room-clause-err : goal.returns-in_err-make_room-clause-err
-returns-in_err-make_room-clause-err c =
+pub returns-in_err-make_room_for-clause-err : goal.returns-in_err-make_room_for-clause-err
+returns-in_err-make_room_for-clause-err c =
     on_err c.from_residual.result
-    (same_station c.self.inside.node c.self.inside.node (map seen c.make_room.new.lanes) (map seen c.self.inside.lanes) refl
-    c.in_err-make_room.ensures.same
+    (same_station c.self.inside.node c.self.inside.node (map seen c.make_room_for.new.lanes) (map seen c.self.inside.lanes) refl
+    c.in_err-make_room_for.ensures.same
     ∙ c.self.view_is)
 
 pub put_sends-requires : goal.put_sends-requires
 put_sends-requires c =
     let n = c.self.inside.node in
-    subst (λ (outs : List Out). HaveRoomFor outs c.make_room.new.lanes) (sym c.as_slice.ensures)
-    (room_enough c.in-Ok.step.outs c.make_room.new.lanes c.in_ok-make_room.ensures.room
-    (c.lanes_get_few.ensures n.net (view_in n) n.me (session_in n) c.args.input.now
-    (effect_in c.in-Ok.step c.step.new.self) c.in-Ok.ensures.taken))
+    subst (λ (outs : List Out). HaveRoomFor outs c.make_room_for.new.lanes) (sym c.as_slice.ensures)
+    (c.in_ok-make_room_for.ensures.room n.net (view_in n) n.me (session_in n)
+    (effect_in c.in-Ok.step c.step.new.self) c.in-Ok.ensures.taken)
 
 pub returns-in-Ok-clause-taken : goal.returns-in-Ok-clause-taken
 returns-in-Ok-clause-taken c =
     let t : Station = record { node = c.self.inside.node; lanes = map seen c.self.inside.lanes } in
     let u : Station = record { node = c.step.new.self; lanes = map seen c.put_sends.new.lanes } in
     subst (λ (s : Station). HasTaken s c.args.input.now c.in-Ok.step u) c.self.view_is
-    (station_taken t c.args.input.now c.in-Ok.step c.step.new.self c.make_room.new.lanes c.put_sends.new.lanes
-    c.in_ok-make_room.ensures.same c.in-Ok.ensures.taken c.in-Ok.ensures.kept c.step.ensures.net c.step.ensures.me
-    (subst (λ (outs : List Out). HaveMore outs c.make_room.new.lanes c.put_sends.new.lanes) c.as_slice.ensures
+    (station_taken t c.args.input.now c.in-Ok.step c.step.new.self c.make_room_for.new.lanes c.put_sends.new.lanes
+    c.in_ok-make_room_for.ensures.same c.in-Ok.ensures.taken c.in-Ok.ensures.kept c.step.ensures.net c.step.ensures.me
+    (subst (λ (outs : List Out). HaveMore outs c.make_room_for.new.lanes c.put_sends.new.lanes) c.as_slice.ensures
     c.put_sends.ensures))
 
 pub returns-in-Err-clause-refused : goal.returns-in-Err-clause-refused
@@ -43,6 +41,6 @@ returns-in-Err-clause-refused c =
 
 pub returns-in-Err-clause-err : goal.returns-in-Err-clause-err
 returns-in-Err-clause-err c =
-    same_station c.step.new.self c.self.inside.node (map seen c.make_room.new.lanes) (map seen c.self.inside.lanes)
-    c.in-Err.ensures.err c.in_ok-make_room.ensures.same
+    same_station c.step.new.self c.self.inside.node (map seen c.make_room_for.new.lanes) (map seen c.self.inside.lanes)
+    c.in-Err.ensures.err c.in_ok-make_room_for.ensures.same
     ∙ c.self.view_is

@@ -114,6 +114,21 @@ start_lowers caps L j n open_ none =
       files_low L (Started j n) (caps.of_deps (Job j)) (Job j),
     ))
 
+-- a file that is found
+starts_by_file : (caps : Caps) (L : List Body) (b : Body) (j : ℕ) → is_launch_of j b ≡ false → obeyed_command b ≡ None
+    → files_left (caps.of_deps (Job j)) (L ++ b ∷ []) (Job j) + 1 ≤ files_left (caps.of_deps (Job j)) L (Job j)
+    → starts_left caps (L ++ b ∷ []) j + 1 ≤ starts_left caps L j
+unfolding starts_left
+starts_by_file caps L b j no_launch no_command falls =
+    rw (launches-append, reruns_after L b j)
+    (omega (
+      arith,
+      launches_none j b no_launch,
+      no_rerun L b j no_command,
+      awaits_low j L b no_launch,
+      falls,
+    ))
+
 one_at_most : (b : Bool) → done b ≤ 1
 one_at_most true = omega arith
 one_at_most false = omega arith
@@ -289,17 +304,4 @@ module _ (caps : Caps) (n : ℕ) (given : ℕ → ℕ) (L : List Body) where
       (file_falls L b (caps.of_deps (Stream s)) (Stream s) i low none this)
   tells_found b (Job j) i no_launch no_command below_ low none this =
       tells_by_job caps n given L b (λ j. starts_low L b caps j (no_launch j) no_command) j below_
-      (file_by_job (file_falls L b (caps.of_deps (Job j)) (Job j) i low none this))
-    where
-      file_by_job : files_left (caps.of_deps (Job j)) (L ++ b ∷ []) (Job j) + 1 ≤ files_left (caps.of_deps (Job j)) L (Job j)
-          → starts_left caps (L ++ b ∷ []) j + 1 ≤ starts_left caps L j
-      unfolding starts_left
-      file_by_job falls =
-          rw (launches-append, reruns_after L b j)
-          (omega (
-            arith,
-            launches_none j b (no_launch j),
-            no_rerun L b j no_command,
-            awaits_low j L b (no_launch j),
-            falls,
-          ))
+      (starts_by_file caps L b j (no_launch j) no_command (file_falls L b (caps.of_deps (Job j)) (Job j) i low none this))

@@ -4,7 +4,7 @@ use Rattle.std.proofs.Common.{List, [], ◌∷◌, ◌++◌, length, map, refl, 
 use Rattle.std.proofs.lemmas.Bool.{eq-eqb, eqb-true, ltb-true}
 use Rattle.std.specs.List.{AllByRecursion}
 use Rattle.std.specs.Option.{option_map_or}
-use Rattle.std.specs.Prelude.{Ok, eqb}
+use Rattle.std.specs.Prelude.{if◌then◌else◌, Ok, eqb}
 use Rattle.lemmas.proofs.Booleans.{and_made, or_cases}
 use Rattle.lemmas.proofs.Lists.{all_append, all_map}
 use Rattle.model.specs.Types.{Body, Deliver, Dep, Ended, Entry, Events, Failed, Fulfilled, Job, Launched, Linked, LiveJob, Net, Obj}
@@ -213,8 +213,8 @@ module _ (net : Net) (caps : ℕ → Caps) (x : World) (w : ℕ) (inv : Invarian
         tells = 0;
         one = refl;
         of_turns =
-            left_by_end (caps w) (node_count net) given own (Ended j l.number rc good) (readings w) j l.number _
-            (live_below j l e) (λ i. refl) refl (live_open j l e) (rw (eq-eqb j j refl, eq-eqb l.number l.number refl) refl);
+            left_by_end (caps w) (node_count net) given own (Ended j l.number rc good) (readings w) j l.number
+            (if good then Outcome.EndedGood else Outcome.EndedBad) (live_below j l e) (λ i. refl) refl (live_open j l e) (rw (eq-eqb j j refl, eq-eqb l.number l.number refl) refl);
         of_tells =
             omega (arith, tells_still (caps w) (node_count net) given own (Ended j l.number rc good) (λ i. refl) refl);
       }
@@ -246,7 +246,7 @@ module _ (net : Net) (caps : ℕ → Caps) (readings : ℕ → List ℕ) (x z : 
   abbrev TellsTally : Tally
   TellsTally v o e = tells_of (caps v) (node_count net) (λ a. length (o a)) e
 
-  tells_same : z.history ≡ x.history → tells_left net caps z ≡ tells_left net caps x
+  pub tells_same : z.history ≡ x.history → tells_left net caps z ≡ tells_left net caps x
   unfolding tells_left
   tells_same e = rw e refl
 
@@ -320,7 +320,7 @@ module _ (net : Net) (caps : ℕ → Caps) (readings : ℕ → List ℕ) (x z : 
           ),
         )
 
-    step_works : (s : WorldStep) → works_at readings s ≡ true → free_step net x s ≡ Ok z → WorkKeeps net caps readings x z
+    pub step_works : (s : WorldStep) → works_at readings s ≡ true → free_step net x s ≡ Ok z → WorkKeeps net caps readings x z
     step_works s h e =
         elim (or_cases (keeps_to readings s) (is_told s) h) [
           | inl k ↦ (let old : Keeps net caps readings x z = step_keeps net caps readings x z s inv covers k e in

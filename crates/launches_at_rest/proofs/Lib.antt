@@ -5,3 +5,4 @@ pub mod Telling
 pub mod Keeping
 pub mod Gaining
 pub mod Resting
+pub mod Short

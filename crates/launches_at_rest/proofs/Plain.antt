@@ -210,16 +210,16 @@ module _ (net : Net) (G : List Entry) (e : Entry) (w : ℕ) (here : e.feed ≡ E
         length (flat_map (deps_added_by o) (commands events))
         + sum_over (λ a. length (given a) - answered a events) (below (node_count net))
 
+    commands_stay : commands (list_of G (Events w) ++ e.body ∷ []) ≡ commands (list_of G (Events w))
+    unfolding commands
+    commands_stay =
+        rw (filter_map-append obeyed_command (list_of G (Events w)) (e.body ∷ []), no_command)
+        (append-nil (commands (list_of G (Events w))))
+
     added_low : (v : ℕ) (o : Obj) → added_ahead net after v o ≤ added_ahead net G v o
     unfolding Added
     added_low v o = tally_low (Added o) v (λ same. lower)
       where
-        commands_stay : commands (list_of G (Events w) ++ e.body ∷ []) ≡ commands (list_of G (Events w))
-        unfolding commands
-        commands_stay =
-            rw (filter_map-append obeyed_command (list_of G (Events w)) (e.body ∷ []), no_command)
-            (append-nil (commands (list_of G (Events w))))
-
         lower : length (flat_map (deps_added_by o) (commands (list_of G (Events w) ++ e.body ∷ [])))
             + sum_over (λ a. length (list_of G (Orders a w)) - answered a (list_of G (Events w) ++ e.body ∷ []))
             (below (node_count net))

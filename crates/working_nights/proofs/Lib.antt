@@ -1,5 +1,4 @@
 mod Breaks
-mod Few
 mod Playing
 mod Working
 mod Going

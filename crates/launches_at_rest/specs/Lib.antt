@@ -2,3 +2,4 @@
 pub mod Told
 pub mod Tells
 pub mod Rounds
+pub mod Worked

@@ -6,6 +6,8 @@
 //! order; so what can be told of processes and files is bounded by the world at the start, and so are the rounds before rest.
 #![tactic(auto)]
 
+pub mod worked;
+
 ghost use Rattle.std.specs.List.{AllByRecursion};
 ghost use Rattle.std.specs.Prelude.{◌≡◌, ◌<◌, ◌≤◌, ◌⊎◌, ◌+◌, ℕ, IsTrue, List, Ok};
 ghost use Rattle.model.specs.Types.{Net, WorldStep};

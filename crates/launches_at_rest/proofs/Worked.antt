@@ -1,0 +1,248 @@
+-- The agent's round.
+use Rattle.std.proofs.Common.{◌≡◌, ℕ, zero, suc, ◌+◌, ◌<◌, ◌≤◌, Bool, true, false, ◌&&◌, ◌⊎◌, inl, inr, List, [], ◌∷◌, ◌++◌}
+use Rattle.std.proofs.Common.{length, length-append, refl, ap, subst, ◌∙◌, arith}
+use Rattle.std.specs.List.{AllByRecursion}
+use Rattle.std.specs.Prelude.{Err, Ok, Result, eqb, pos}
+use Rattle.lemmas.proofs.Booleans.{contrary}
+use Rattle.lemmas.proofs.Numbers.{eq_refused}
+use Rattle.model.specs.Types.{Deliver, Ended, Events, Launched, Net, Released, Started, Take, Turn, WorldStep}
+use Rattle.model.specs.Everything.{everything}
+use Rattle.model.specs.History.{list_of}
+use Rattle.model.specs.FreeSteps.{free_run, free_step}
+use Rattle.model.specs.World.{StepRefused, World, or_as_before}
+use Rattle.rest_laws.specs.AtRest.{pair}
+use Rattle.rest_laws.specs.Gains.{gained}
+use Rattle.rest_laws.specs.Leads.{next_packet}
+use Rattle.rest_laws.specs.Rounds.{AreLinked, AreTaken, IsAmong}
+use Rattle.rest_laws.proofs.Chains.{or_rest}
+use Rattle.launches_at_rest.proofs.Gaining.{works_rise}
+use Rattle.launches_at_rest.specs.Rounds.{AreWorkingRounds}
+use Rattle.launches_at_rest.specs.Told.{IsWorkingRound, is_of_work, works_at}
+use Rattle.launches_at_rest.specs.Worked.{work_arrived, work_begun, work_clocks, work_ended, work_readings, work_round}
+use Rattle.launches_at_rest.specs.Worked.{work_turned, work_turns}
+
+-- steps that are taken by computation
+module _ (net : Net) where
+  is_ok : Result World StepRefused → Bool
+  is_ok (Ok z) = true
+  is_ok (Err r) = false
+
+  are_ok : World → List WorldStep → Bool
+  are_ok x [] = true
+  are_ok x (s ∷ steps) = is_ok (free_step net x s) && are_ok (or_as_before x (free_step net x s)) steps
+
+  ok_taken : (steps : List WorldStep) (x : World) → are_ok x steps ≡ true → AreTaken net x steps (free_run net steps x)
+  unfolding are_ok is_ok free_run
+  ok_taken [] x h = refl
+  ok_taken (s ∷ steps) x h = go (free_step net x s) refl h (λ z k. ok_taken steps z k)
+    where
+      go : (r : Result World StepRefused) → free_step net x s ≡ r
+          → (is_ok r && are_ok (or_as_before x r) steps) ≡ true
+          → ((z : World) → are_ok z steps ≡ true → AreTaken net z steps (free_run net steps z))
+          → (z : World) × (free_step net x s ≡ Ok z) × AreTaken net z steps (free_run net steps (or_as_before x r))
+      go (Ok z) e k more = (z, e, more z k)
+      go (Err r) e k more = cc
+
+turns_ok : are_ok pair work_begun work_turns ≡ true
+unfolding everything work_begun are_ok is_ok
+turns_ok = refl
+
+arriving_ok : are_ok pair work_turned (Deliver 1 0 3 ∷ []) ≡ true
+unfolding everything work_begun work_turned are_ok is_ok
+arriving_ok = refl
+
+answering_ok : are_ok pair work_arrived (Deliver 0 1 3 ∷ []) ≡ true
+unfolding everything work_begun work_turned work_arrived are_ok is_ok
+answering_ok = refl
+
+to_turned : AreTaken pair work_begun work_turns work_turned
+unfolding work_turned
+to_turned = ok_taken pair work_turns work_begun turns_ok
+
+to_arrived : AreTaken pair work_turned (Deliver 1 0 3 ∷ []) work_arrived
+unfolding work_arrived
+to_arrived = ok_taken pair (Deliver 1 0 3 ∷ []) work_turned arriving_ok
+
+to_end : AreTaken pair work_arrived (Deliver 0 1 3 ∷ []) work_ended
+unfolding work_ended
+to_end = ok_taken pair (Deliver 0 1 3 ∷ []) work_arrived answering_ok
+
+-- how many packets there are: two each way before it, one more from the agent then, and one from the master
+abbrev lane : World → ℕ → ℕ → ℕ
+lane x a b = length (x.packets a b)
+
+turned_10 : lane work_turned 1 0 ≡ 3
+unfolding everything work_begun work_turned
+turned_10 = refl
+
+turned_01 : lane work_turned 0 1 ≡ 2
+unfolding everything work_begun work_turned
+turned_01 = refl
+
+begun_10 : lane work_begun 1 0 ≡ 2
+unfolding everything work_begun
+begun_10 = refl
+
+begun_01 : lane work_begun 0 1 ≡ 2
+unfolding everything work_begun
+begun_01 = refl
+
+arrived_10 : lane work_arrived 1 0 ≡ 3
+unfolding everything work_begun work_turned work_arrived
+arrived_10 = refl
+
+arrived_01 : lane work_arrived 0 1 ≡ 3
+unfolding everything work_begun work_turned work_arrived
+arrived_01 = refl
+
+none_00 : lane work_arrived 0 0 ≡ 0
+unfolding everything work_begun work_turned work_arrived
+none_00 = refl
+
+none_11 : lane work_arrived 1 1 ≡ 0
+unfolding everything work_begun work_turned work_arrived
+none_11 = refl
+
+none_0 : (b : ℕ) → lane work_arrived 0 (suc (suc b)) ≡ 0
+unfolding everything work_begun work_turned work_arrived
+none_0 b = refl
+
+none_1 : (b : ℕ) → lane work_arrived 1 (suc (suc b)) ≡ 0
+unfolding everything work_begun work_turned work_arrived
+none_1 b = refl
+
+none_2 : (a b : ℕ) → lane work_arrived (suc (suc a)) b ≡ 0
+unfolding everything work_begun work_turned work_arrived
+none_2 a b = refl
+
+lanes : (a b : ℕ) → ((a ≡ 1) × (b ≡ 0)) ⊎ (((a ≡ 0) × (b ≡ 1)) ⊎ (lane work_arrived a b ≡ 0))
+lanes zero zero = inr (inr none_00)
+lanes zero (suc zero) = inr (inl (refl, refl))
+lanes zero (suc (suc b)) = inr (inr (none_0 b))
+lanes (suc zero) zero = inl (refl, refl)
+lanes (suc zero) (suc zero) = inr (inr none_11)
+lanes (suc zero) (suc (suc b)) = inr (inr (none_1 b))
+lanes (suc (suc a)) b = inr (inr (none_2 a b))
+
+arriving_works : AllByRecursion (λ s. is_of_work s ≡ true) (Deliver 1 0 3 ∷ [])
+arriving_works = (refl, tt)
+
+fewer : (a b : ℕ) → lane work_turned a b ≤ lane work_arrived a b
+fewer a b =
+    let q = (works_rise pair (Deliver 1 0 3 ∷ []) work_turned work_arrived arriving_works to_arrived).packets a b in
+    let l : lane work_arrived a b ≡ lane work_turned a b + length q.0 =
+    ap length q.1 ∙ length-append (work_turned.packets a b) q.0 in
+    omega (arith, l)
+
+sent_there : (a b k : ℕ) → next_packet work_begun a b ≤ k → k < next_packet work_turned a b
+    → IsAmong (Deliver a b k) (work_turns ++ (Deliver 1 0 3 ∷ []))
+sent_there a b k low high = go (lanes a b)
+  where
+    go : ((a ≡ 1) × (b ≡ 0)) ⊎ (((a ≡ 0) × (b ≡ 1)) ⊎ (lane work_arrived a b ≡ 0))
+        → IsAmong (Deliver a b k) (work_turns ++ (Deliver 1 0 3 ∷ []))
+    go (inl e) =
+        let l : next_packet work_begun 1 0 ≤ k =
+        subst (λ i. next_packet work_begun 1 i ≤ k) e.1 (subst (λ i. next_packet work_begun i b ≤ k) e.0 low) in
+        let h : k < next_packet work_turned 1 0 =
+        subst (λ i. k < next_packet work_turned 1 i) e.1 (subst (λ i. k < next_packet work_turned i b) e.0 high) in
+        let this : k ≡ 3 = omega (arith, l, h, begun_10, turned_10) in
+        inr (inr (inr (inr (inl (rw (e.0, e.1, this) refl)))))
+    go (inr (inl e)) =
+        let l : next_packet work_begun 0 1 ≤ k =
+        subst (λ i. next_packet work_begun 0 i ≤ k) e.1 (subst (λ i. next_packet work_begun i b ≤ k) e.0 low) in
+        let h : k < next_packet work_turned 0 1 =
+        subst (λ i. k < next_packet work_turned 0 i) e.1 (subst (λ i. k < next_packet work_turned i b) e.0 high) in
+        absurd (omega (arith, l, h, begun_01, turned_01))
+    go (inr (inr none)) = absurd (omega (arith, low, high, none, fewer a b))
+
+answers_there : (a b k : ℕ) → next_packet work_begun a b ≤ k → k < next_packet work_arrived a b
+    → IsAmong (Deliver a b k) work_round
+answers_there a b k low high = go (lanes a b)
+  where
+    go : ((a ≡ 1) × (b ≡ 0)) ⊎ (((a ≡ 0) × (b ≡ 1)) ⊎ (lane work_arrived a b ≡ 0)) → IsAmong (Deliver a b k) work_round
+    go (inl e) =
+        let l : next_packet work_begun 1 0 ≤ k =
+        subst (λ i. next_packet work_begun 1 i ≤ k) e.1 (subst (λ i. next_packet work_begun i b ≤ k) e.0 low) in
+        let h : k < next_packet work_arrived 1 0 =
+        subst (λ i. k < next_packet work_arrived 1 i) e.1 (subst (λ i. k < next_packet work_arrived i b) e.0 high) in
+        let this : k ≡ 3 = omega (arith, l, h, begun_10, arrived_10) in
+        inr (inr (inr (inr (inl (rw (e.0, e.1, this) refl)))))
+    go (inr (inl e)) =
+        let l : next_packet work_begun 0 1 ≤ k =
+        subst (λ i. next_packet work_begun 0 i ≤ k) e.1 (subst (λ i. next_packet work_begun i b ≤ k) e.0 low) in
+        let h : k < next_packet work_arrived 0 1 =
+        subst (λ i. k < next_packet work_arrived 0 i) e.1 (subst (λ i. k < next_packet work_arrived i b) e.0 high) in
+        let this : k ≡ 3 = omega (arith, l, h, begun_01, arrived_01) in
+        inr (inr (inr (inr (inr (inl (rw (e.0, e.1, this) refl))))))
+    go (inr (inr none)) = absurd (omega (arith, low, high, none))
+
+turns_there : (n : ℕ) → n < 2 → IsAmong (Take n (Turn 1)) work_turns
+turns_there zero low = inr (inr (inr (inl refl)))
+turns_there (suc zero) low = inl refl
+turns_there (suc (suc n)) low = absurd (omega (arith, low))
+
+pub work_is_round : IsWorkingRound pair (work_clocks 0) work_begun work_round work_ended
+work_is_round =
+    record {
+      turning = work_turns;
+      turned = work_turned;
+      arriving = Deliver 1 0 3 ∷ [];
+      arrived = work_arrived;
+      answering = Deliver 0 1 3 ∷ [];
+      split = refl;
+      to_turned = to_turned;
+      to_arrived = to_arrived;
+      to_end = to_end;
+      each = (refl, (refl, (refl, (refl, (refl, (refl, tt))))));
+      turns = turns_there;
+      sent = sent_there;
+      answers = answers_there;
+    }
+
+pub work_linked : AreLinked pair work_begun
+unfolding everything work_begun
+work_linked zero zero low near = absurd (contrary near refl)
+work_linked zero (suc zero) low near = (refl, refl)
+work_linked zero (suc (suc m)) low near = absurd (contrary near refl)
+work_linked (suc zero) zero low near = (refl, refl)
+work_linked (suc zero) (suc zero) low near = absurd (contrary near refl)
+work_linked (suc zero) (suc (suc m)) low near =
+    absurd (contrary (or_rest (eqb 0 (suc (suc m))) false (eq_refused 0 (suc (suc m)) (λ e. omega (arith, e))) near) refl)
+work_linked (suc (suc n)) m low near = absurd (omega (arith, low))
+
+ended_linked : AreLinked pair work_ended
+unfolding everything work_begun work_turned work_arrived work_ended
+ended_linked zero zero low near = absurd (contrary near refl)
+ended_linked zero (suc zero) low near = (refl, refl)
+ended_linked zero (suc (suc m)) low near = absurd (contrary near refl)
+ended_linked (suc zero) zero low near = (refl, refl)
+ended_linked (suc zero) (suc zero) low near = absurd (contrary near refl)
+ended_linked (suc zero) (suc (suc m)) low near =
+    absurd (contrary (or_rest (eqb 0 (suc (suc m))) false (eq_refused 0 (suc (suc m)) (λ e. omega (arith, e))) near) refl)
+ended_linked (suc (suc n)) m low near = absurd (omega (arith, low))
+
+pub work_rounds : AreWorkingRounds pair work_readings work_clocks 1 work_begun work_ended
+work_rounds = (
+  work_ended,
+  record {
+    begin = work_begun;
+    up = record { links = []; linking = tt; come_up = refl; linked = work_linked };
+    steps = work_round;
+    keep = (refl, (refl, (refl, (refl, (refl, (refl, tt))))));
+    round = work_is_round;
+  },
+  record { links = []; linking = tt; come_up = refl; linked = ended_linked },
+)
+
+pub work_events : list_of work_ended.history (Events 1)
+    ≡ Released 1 ((0, 1) ∷ []) ∷ Launched 1 1 ((0, 1) ∷ (1, 1) ∷ []) ∷ Started 1 1 ∷ Ended 1 1 (pos 0) true ∷ []
+unfolding everything work_begun work_turned work_arrived work_ended
+work_events = refl
+
+pub work_known : work_ended.holdings 0 (Events 1) ≡ 2
+unfolding everything work_begun work_turned work_arrived work_ended
+work_known = refl
+
+pub work_gained : gained pair work_begun < gained pair work_ended
+unfolding everything work_begun work_turned work_arrived work_ended gained
+work_gained = omega arith

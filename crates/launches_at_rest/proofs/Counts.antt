@@ -129,26 +129,28 @@ starts_by_file caps L b j no_launch no_command falls =
       falls,
     ))
 
-one_at_most : (b : Bool) → done b ≤ 1
-one_at_most true = omega arith
-one_at_most false = omega arith
+awaits_one : (j : ℕ) (L : List Body) → done (awaits_start j L) ≤ 1
+awaits_one j L = go (awaits_start j L)
+  where
+    go : (b : Bool) → done b ≤ 1
+    go true = omega arith
+    go false = omega arith
 
-one_launch : (j n : ℕ) (seen : Seen) → launches j (Launched j n seen ∷ []) ≡ 1
+one_launch : (j n : ℕ) (seen : Seen) (L : List Body) → launches j (L ++ Launched j n seen ∷ []) ≡ launches j L + 1
 unfolding launches
-one_launch j n seen = rw (eq-eqb j j refl) refl
+one_launch j n seen L = launches-append j L (Launched j n seen ∷ []) ∙ rw (eq-eqb j j refl) (omega arith)
 
 -- a launch that is due
-launch_lowers : (caps : Caps) (L : List Body) (j n : ℕ) (seen : Seen) → launches j L < 1 + reruns j L
+launch_lowers : (caps : Caps) (L : List Body) (j n : ℕ) (seen : Seen) → launches j L ≤ reruns j L
     → starts_left caps (L ++ Launched j n seen ∷ []) j ≤ starts_left caps L j
 unfolding starts_left
 launch_lowers caps L j n seen due =
-    rw (launches-append, reruns_after L (Launched j n seen) j)
+    rw (one_launch j n seen L, reruns_after L (Launched j n seen) j)
     (omega (
       arith,
       due,
-      one_launch j n seen,
       no_rerun L (Launched j n seen) j refl,
-      one_at_most (awaits_start j (L ++ Launched j n seen ∷ [])),
+      awaits_one j (L ++ Launched j n seen ∷ []),
       files_low L (Launched j n seen) (caps.of_deps (Job j)) (Job j),
     ))
 
@@ -258,7 +260,7 @@ module _ (caps : Caps) (n : ℕ) (given : ℕ → ℕ) (L : List Body) (b : Body
 
 -- what turns make
 module _ (caps : Caps) (n : ℕ) (given : ℕ → ℕ) (L : List Body) where
-  pub tells_launch : (j m : ℕ) (seen : Seen) → launches j L < 1 + reruns j L
+  pub tells_launch : (j m : ℕ) (seen : Seen) → launches j L ≤ reruns j L
       → tells_of caps n given (L ++ Launched j m seen ∷ []) ≤ tells_of caps n given L
   tells_launch j m seen due = tells_low caps n given L (Launched j m seen) low
     where

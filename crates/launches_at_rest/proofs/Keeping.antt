@@ -4,7 +4,7 @@ use Rattle.std.proofs.Common.{List, [], ◌∷◌, ◌++◌, length, map, refl, 
 use Rattle.std.proofs.lemmas.Bool.{eq-eqb, eqb-true, ltb-true}
 use Rattle.std.specs.List.{AllByRecursion}
 use Rattle.std.specs.Option.{option_map_or}
-use Rattle.std.specs.Prelude.{if◌then◌else◌, Ok, eqb}
+use Rattle.std.specs.Prelude.{if◌then◌else◌, Ok, eqb, nat_lt}
 use Rattle.lemmas.proofs.Booleans.{and_made, or_cases}
 use Rattle.lemmas.proofs.Lists.{all_append, all_map}
 use Rattle.model.specs.Types.{Body, Deliver, Dep, Ended, Entry, Events, Failed, Fulfilled, Job, Launched, Linked, LiveJob, Net, Obj}
@@ -15,7 +15,7 @@ use Rattle.model.specs.Network.{node_count}
 use Rattle.model.specs.History.{View, list_of}
 use Rattle.model.specs.Catalogue.{StreamJob, docs_in, is_member, job, jobs_of, owner, streams_of}
 use Rattle.model.specs.Dependencies.{dep, deps}
-use Rattle.model.specs.Facts.{answered, is_due, is_fulfilled, is_launch_of, is_last_started, launches, obeyed_command, open_launch}
+use Rattle.model.specs.Facts.{answered, is_due, is_fulfilled, is_fulfilment, is_launch_of, is_last_started, launches, obeyed_command, open_launch}
 use Rattle.model.specs.Facts.{reruns}
 use Rattle.model.specs.FreeSteps.{free_step}
 use Rattle.model.specs.Invariant.{Invariant, IsOpenAt}
@@ -54,9 +54,9 @@ obj_same (Stream s) (Stream t) h = ap Stream (eqb-true s t h)
 obj_same (Job j) (Stream t) h = cc
 obj_same (Stream s) (Job k) h = cc
 
-obj_is : (o : Obj) → obj_eq o o ≡ true
-obj_is (Job j) = eq-eqb j j refl
-obj_is (Stream s) = eq-eqb s s refl
+found_is : (o : Obj) (i : ℕ) → is_fulfilment o i (Fulfilled o i) ≡ true
+found_is (Job j) i = and_made (eqb j j) (eqb i i) (eq-eqb j j refl) (eq-eqb i i refl)
+found_is (Stream s) i = and_made (eqb s s) (eqb i i) (eq-eqb s s refl) (eq-eqb i i refl)
 
 among_holds : (P : Obj → Type 0) (os : List Obj) (o : Obj) → AllByRecursion P os → obj_among os o ≡ true → P o
 among_holds P [] o all h = cc
@@ -79,21 +79,20 @@ objects_owned V w =
     (jobs_owned V w)))
 
 -- a ready job has a run that is due
-run_due : (j : ℕ) (L : List Body) → is_due j L ≡ true → launches j L < 1 + reruns j L
-unfolding is_due
-run_due j L h = ltb-true (launches j L) (1 + reruns j L) h
-
 ready_due : (net : Net) (V : View) (w j : ℕ) → is_ready net V w j ≡ true
-    → launches j (V (Events w)) < 1 + reruns j (V (Events w))
-unfolding is_ready
+    → launches j (V (Events w)) ≤ reruns j (V (Events w))
+unfolding is_ready is_due
 ready_due net V w j = go (job V j) refl
   where
+    due : (L : List Body) → nat_lt (launches j L) (1 + reruns j L) ≡ true → launches j L ≤ reruns j L
+    due L h = let k : launches j L < 1 + reruns j L = ltb-true (launches j L) (1 + reruns j L) h in omega (arith, k)
+
     go : (o : Option StreamJob) → job V j ≡ o → option_map_or (is_ready_in net V w) o false ≡ true
-        → launches j (V (Events w)) < 1 + reruns j (V (Events w))
+        → launches j (V (Events w)) ≤ reruns j (V (Events w))
     go None is h = cc
     go (Some p) is h =
         let all : AllByRecursion (λ b. b ≡ true) (ready_conditions net V w p) = all_true (ready_conditions net V w p) h in
-        run_due j (V (Events w))
+        due (V (Events w))
         (subst (λ i. is_due i (V (Events w)) ≡ true) (job_number V j p is) all.1.1.1.1.1.1.0)
 
 -- at a workstation of a world that is covered
@@ -143,7 +142,7 @@ module _ (net : Net) (caps : ℕ → Caps) (x : World) (w : ℕ) (inv : Invarian
       go c (TurnGives.ended s g) = tells_still (caps w) (node_count net) given own c (λ j. refl) refl
       go c (TurnGives.launched j ready) =
           tells_launch (caps w) (node_count net) given own j _ _
-          (subst (λ (l : List Body). launches j l < 1 + reruns j l) (own_events net x w inv)
+          (subst (λ (l : List Body). launches j l ≤ reruns j l) (own_events net x w inv)
           (ready_due (net_at net x w) V w j ready))
 
   -- a launch that lives is open
@@ -229,7 +228,7 @@ module _ (net : Net) (caps : ℕ → Caps) (x : World) (w : ℕ) (inv : Invarian
             tells_found (caps w) (node_count net) given own (Fulfilled o i) o i (λ j. refl) refl (below_of o owned)
             (number_of o i d owned there)
             (subst (λ (L : List Body). is_fulfilled o i L ≡ false) (own_events net x w inv) none)
-            (and_made (obj_eq o o) (eqb i i) (obj_is o) (eq-eqb i i refl));
+            (found_is o i);
       }
 
 -- entries, what is left for turns, and what is left to be told

@@ -6,4 +6,4 @@ pub mod Keeping
 pub mod Gaining
 pub mod Resting
 pub mod Short
-pub mod Worked
+pub mod AgentRound

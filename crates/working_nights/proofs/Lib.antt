@@ -3,3 +3,4 @@ mod Playing
 mod Working
 mod Going
 mod Meeting
+mod Inside

@@ -5,26 +5,17 @@ use Rattle.std.proofs.lemmas.List.{append-nil}
 use Rattle.std.specs.List.{AllByRecursion}
 use Rattle.std.specs.Option.{option_to_list}
 use Rattle.std.specs.Prelude.{◌==◌, Ok, is_some, option_map}
-use Rattle.lemmas.proofs.Booleans.{and_left, and_made, and_right, not_holds}
+use Rattle.lemmas.proofs.Booleans.{not_holds}
 use Rattle.lemmas.proofs.Lists.{all_left, all_right}
 use Rattle.lemmas.proofs.Options.{some_is}
 use Rattle.composer_parser.specs.declared.Defs.{Defs}
-use Rattle.model.specs.Types.{Ack, Cmd, Deliver, Entry, Events, Feed, Input, Linked, Local, Net, Out, Packet, StreamDraft, Take, Turn}
-use Rattle.model.specs.Types.{Typed, WorldStep}
+use Rattle.model.specs.Types.{Cmd, Deliver, Entry, Feed, Input, Local, Net, Out, Packet, Take, Turn, Typed, WorldStep}
 use Rattle.model.specs.FreeSteps.{free_step, recounted}
-use Rattle.model.specs.History.{View, maker}
 use Rattle.model.specs.Kept.{kept_in, made_by, only_if}
 use Rattle.model.specs.Network.{IsTree, node_count}
-use Rattle.model.specs.NewEntry.{event_of, makes, next_entry, own_entry}
-use Rattle.model.specs.NewPlan.{plan_of}
-use Rattle.model.specs.PresentNet.{present_net}
-use Rattle.model.specs.Sessions.{Session}
-use Rattle.model.specs.Step.{Effect, effect, node_step, unless_fault}
-use Rattle.model.specs.StepFaults as faults
-use Rattle.model.specs.StepFaults.{step_fault}
+use Rattle.model.specs.Step.{Effect, node_step}
 use Rattle.model.specs.World.{Origin, World, apply_effect, delivery, node_effect, step, view_at}
-use Rattle.model_laws.proofs.Sends.{same_done}
-use Rattle.model_laws.proofs.Steps.{OwnDone, kept_own, step_of}
+use Rattle.model_laws.proofs.Steps.{OwnDone, kept_own}
 use Rattle.outside.specs.Calls.{Asked, Replied, Sent}
 use Rattle.outside.specs.declared.links.Arrival.{Arrival}
 use Rattle.outside.specs.declared.links.Arrival.TheVariants as arrival
@@ -37,7 +28,7 @@ use Rattle.agent_core.specs.declared.faults.Step.{Step}
 use Rattle.file_watch.specs.Circle.{DepPlace}
 use Rattle.file_watch.specs.Probes.{next_probe}
 use Rattle.node_inputs.specs.Actions.{Action, Both, IfThere, Nothing, Then}
-use Rattle.node_inputs.specs.Inputs.{IsKeeping, Keep, Take as TakeIt}
+use Rattle.node_inputs.specs.Inputs.{IsKeeping, Keep, Lose, Take as TakeIt}
 use Rattle.node_inputs.specs.Traces.{Event, Trace, kept, readings}
 use Rattle.node_inputs.specs.declared.ends.NodeEnd.{NodeEnd}
 use Rattle.node_inputs.proofs.Fronts.{kept-append}
@@ -46,9 +37,8 @@ use Rattle.entry_codec.specs.Entries.{entry_in}
 use Rattle.node_loop.specs.Heard.{Heard, heard_more}
 use Rattle.node_loop.specs.Runs.{Advise, Arrive, Come, Comes, Hear, Hears, Looks, On, Probing, Reports, Running, TurnOf}
 use Rattle.lemmas.proofs.Lists.{same_head}
-use Rattle.run_laws.proofs.Listening.{IsHeard, frames_gives}
-use Rattle.run_laws.proofs.Rules.{Gives, IsJoined}
-use Rattle.run_laws.proofs.Taking.{GivesOut, IsRule, IsTold, Steps, take_gives}
+use Rattle.run_laws.proofs.Rules.{Gives, IsJoined, if_gives, nothing_gives, then_gives, wants_gives}
+use Rattle.run_laws.proofs.Taking.{GivesOut, IsRule, IsTold, Steps, lose_gives, take_gives}
 use Rattle.run_laws.proofs.Turning.{advise_gives, found_gives, reports_gives}
 use Rattle.network_world.specs.Standing.{NodeStandsFor}
 use Rattle.network_runs.specs.Nights.{IsForNodes}
@@ -68,7 +58,7 @@ use Rattle.nights_at_rest.proofs.Staying.{CameAt, Stays, came_at, is_output, no_
 use Rattle.nights_at_rest.proofs.StillParts.{both_of, no_end, not_still, wanted}
 use Rattle.nights_at_rest.proofs.Taken.{Stepped, delivered, its_effect, its_fault, moved}
 use Rattle.nights_at_rest.proofs.Ways.{parts_same}
-use Rattle.working_nights.specs.Passes.{is_plan, is_planned_by, is_working}
+use Rattle.working_nights.specs.Passes.{is_working}
 use Rattle.working_nights.proofs.Breaks.{PassesTo, may_pass, passes_none, passes_on, passes_one}
 
 -- what happens at a node is a step of the world for which it stands
@@ -91,22 +81,6 @@ took_local net x w l d e =
       },
     )
 
--- the entry of a new plan
-planned_own : (net : Net) (me : ℕ) (V : View) (s : Session) (drafts : List StreamDraft) (d : Effect)
-    → node_step net me V s (Input.Local (Local.Next drafts)) ≡ Ok d
-    → (e : Entry) × (d.made ≡ Some e) × (is_planned_by me e ≡ true)
-unfolding node_step effect makes own_entry event_of plan_of
-planned_own net me V s drafts d e = go (step_fault (present_net net V) me V s (Input.Local (Local.Next drafts))) e
-  where
-    go : (f : Option faults.StepFault) → unless_fault f (effect net me V s (Input.Local (Local.Next drafts))) ≡ Ok d
-        → (e : Entry) × (d.made ≡ Some e) × (is_planned_by me e ≡ true)
-    go None same = (
-      next_entry V (Events me) (plan_of (present_net net V) V drafts),
-      sym (ap (λ (k : Effect). k.made) (same_done (effect net me V s (Input.Local (Local.Next drafts))) d same)),
-      rw (eq-eqb me me refl) refl,
-    )
-    go (Some f) same = cc
-
 abbrev pub AreWorking : ℕ → Trace → Type 0
 AreWorking w trace = AllByRecursion (λ event. is_working w event ≡ true) trace
 
@@ -124,9 +98,10 @@ pub record Worked (net : Net) (reads : ℕ → ℕ) (w : ℕ) (x y : World) (old
   pub to_ : PassesTo net reads x y
 
 module _ (net : Net) (tree : IsTree net) (few : node_count net ≤ 65536) (reads : ℕ → ℕ) (w : ℕ) (first : World) where
-  -- a turn is at the standing clock, and a packet is there
+  -- a turn is at the standing clock, a packet is there, and no plan is made
   abbrev CameWork : Input → Type 0
   CameWork (Input.Local (Turn t)) = t ≡ reads w
+  CameWork (Input.Local (Local.Next drafts)) = ⊥
   CameWork (Input.Local l) = Unit {0}
   CameWork (Input.Mail a e) = CameAt net tree few w first (Input.Mail a e)
   CameWork (Input.Ack a f n) = CameAt net tree few w first (Input.Ack a f n)
@@ -165,22 +140,14 @@ module _ (net : Net) (tree : IsTree net) (few : node_count net ≤ 65536) (reads
   kept_works (Some d) front each (inr (inl h)) e is = no_end h.3
   kept_works (Some d) front each (inr (inr h)) e is = no_end h.1
 
-  -- so it is no command of w's, and no plan
+  -- so it is no command of w's
   module _ (old new : NodeState) (step_ : Step) (me : old.me ≡ w)
       (works : (e : Entry) → step_.kept ≡ Some e → is_working w (Event.Keeps e) ≡ true) where
     not_typed : {P : Type 0} (to : ℕ) (c : Cmd) → IsTaken old (Input.Local (Typed to c)) step_ new → P
     not_typed to c taken =
         let it = typed_own old.net old.me (view_in old) (session_in old) to c (effect_in step_ new) taken.effect in
-        let given : is_given_by w it.0.feed ≡ false =
-        not_holds (is_given_by w it.0.feed) (and_left (not (is_given_by w it.0.feed)) _ (works it.0 it.1)) in
+        let given : is_given_by w it.0.feed ≡ false = not_holds (is_given_by w it.0.feed) (works it.0 it.1) in
         not_still (sym (subst (λ (f : Feed). is_given_by w f ≡ false) it.2 given) ∙ eq-eqb old.me w me)
-
-    not_planned : {P : Type 0} (drafts : List StreamDraft) → IsTaken old (Input.Local (Local.Next drafts)) step_ new → P
-    not_planned drafts taken =
-        let it = planned_own old.net old.me (view_in old) (session_in old) drafts (effect_in step_ new) taken.effect in
-        let planned : is_planned_by w it.0 ≡ false =
-        not_holds (is_planned_by w it.0) (and_right (not (is_given_by w it.0.feed)) _ (works it.0 it.1)) in
-        not_still (sym planned ∙ subst (λ (v : ℕ). is_planned_by v it.0 ≡ true) me it.2)
 
     kind_of : (l : Local) → CameWork (Input.Local l) → IsTaken old (Input.Local l) step_ new → may_pass reads (Take w l) ≡ true
     kind_of (Turn t) came taken = rw (eq-eqb (reads w) t (sym came)) refl
@@ -191,7 +158,7 @@ module _ (net : Net) (tree : IsTree net) (few : node_count net ≤ 65536) (reads
     kind_of (Local.StartFailed j) came taken = refl
     kind_of (Local.Ended j rc) came taken = refl
     kind_of (Local.Fulfil o i) came taken = refl
-    kind_of (Local.Next drafts) came taken = not_planned drafts taken
+    kind_of (Local.Next drafts) came taken = absurd came
 
   -- the step of an input
   record StepOf (x : World) (d : Effect) : Type 0 where
@@ -303,13 +270,6 @@ module _ (net : Net) (tree : IsTree net) (few : node_count net ≤ 65536) (reads
   told_came (Input.Local (Local.Unlinked v)) h = tt
   told_came _ h = absurd h
 
-  heard_came : (input : Input) → IsHeard input → CameWork input
-  heard_came (Input.Local (Local.Linked v)) h = tt
-  heard_came (Input.Local (Local.Unlinked v)) h = tt
-  heard_came (Input.Local (Local.Typed to c)) h = tt
-  heard_came (Input.Local (Local.Next drafts)) h = tt
-  heard_came _ h = absurd h
-
   works_rule : IsRule CameWork WorksOn
   works_rule = record {
     joined = works_joined;
@@ -319,6 +279,22 @@ module _ (net : Net) (tree : IsTree net) (few : node_count net ≤ 65536) (reads
     steps = λ input came. works_step input came;
     told = λ input h. told_came input h;
   }
+
+  -- the frames of a workstation
+  frame_works : (a : ℕ) (bad : Bool) (rest : List Frame) (o : Option Input) → ((i : Input) → o ≡ Some i → CameWork i)
+      → Gives (Frames a bad rest) WorksOn
+      → Gives (IfThere o (λ (i : Input). Then (TakeIt i) (Frames a bad rest)) (Lose a)) WorksOn
+  frame_works a bad rest None came others = lose_gives CameWork WorksOn works_rule a
+  frame_works a bad rest (Some i) came others =
+      then_gives WorksOn works_joined (TakeIt i) (Frames a bad rest) (take_gives CameWork WorksOn works_rule i (came i refl)) others
+
+  frames_work : (a : ℕ) (bad : Bool) (frames : List Frame)
+      → AllByRecursion (λ (f : Frame). (i : Input) → input_of a f ≡ Some i → CameWork i) frames → Gives (Frames a bad frames) WorksOn
+  frames_work a bad [] came =
+      if_gives WorksOn works_joined bad (Lose a) Nothing (lose_gives CameWork WorksOn works_rule a) (nothing_gives WorksOn works_joined)
+  frames_work a bad (f ∷ rest) came =
+      wants_gives WorksOn works_joined (IfThere (input_of a f) (λ (i : Input). Then (TakeIt i) (Frames a bad rest)) (Lose a))
+      (frame_works a bad rest (input_of a f) came.0 (frames_work a bad rest came.1))
 
   -- an event and what follows it
   after_event : (event : Event) (old new : NodeState) (rest trace : Trace) → Outputs old [] (event ∷ []) → trace ≡ event ∷ rest
@@ -396,8 +372,7 @@ module _ (defs : Defs) (net : Net) (tree : IsTree net) (few : node_count net ≤
   bytes_work a bytes trace new sent (inl h) =
       subst (λ (t : Trace). WorksOn net tree few reads w x old.node t None new.node)
       (sym (b.split ∙ ap (λ (t : Trace). t ++ b.back) b.begins.0))
-      (frames_gives (CameWork net tree few reads w x) (WorksOn net tree few reads w x) (works_rule net tree few reads w x)
-      (heard_came net tree few reads w x) a (is_some h.1) h.0 (all h.0 (λ f k. k)) old.node b.back None new.node acts)
+      (frames_work net tree few reads w x a (is_some h.1) h.0 (all h.0 (λ f k. k)) old.node b.back None new.node acts)
     where
       b : Both (Hears a (heard_more (old.heard a) bytes h.0)) (On (Frames a (is_some h.1) h.0)) old trace None new
       b = both_of (Hears a (heard_more (old.heard a) bytes h.0)) (On (Frames a (is_some h.1) h.0)) old trace new h.3

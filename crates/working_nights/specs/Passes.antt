@@ -1,11 +1,10 @@
 -- Rounds of running nodes in which processes start and end and files are found: links are up at both ends, each node makes
 -- whole passes, what is sent comes, nobody gives an order or makes a plan, files and processes answer, and the clocks stand.
 use Rattle.std.specs.List.{AllByRecursion}
-use Rattle.std.specs.Prelude.{[], ℕ, ◌&&◌, ◌++◌, ◌<◌, ◌==◌, ◌∷◌, ◌≡◌, ◌⊎◌, Bool, Contains, IsTrue, List, None, Ok, Some, false, not}
+use Rattle.std.specs.Prelude.{[], ℕ, ◌++◌, ◌<◌, ◌∷◌, ◌≡◌, ◌⊎◌, Bool, Contains, IsTrue, List, None, Ok, Some, false, not}
 use Rattle.std.specs.Prelude.{suc, true, zero}
 use Rattle.composer_parser.specs.declared.Defs.{Defs}
-use Rattle.model.specs.Types.{Body, Entry, Events, NewPlan}
-use Rattle.model.specs.History.{maker}
+use Rattle.model.specs.Types.{Entry, Events}
 use Rattle.model.specs.Network.{node_count}
 use Rattle.outside.specs.Calls.{Asked}
 use Rattle.outside.specs.declared.links.Arrival.TheVariants as arrival
@@ -17,19 +16,11 @@ use Rattle.nights_at_rest.specs.NodeRounds.{AreNodesLinked, IsSentIn, RestsBy, i
 use Rattle.nights_at_rest.specs.Passes.{ArePasses, HearsFrom, Pass, happened}
 use Rattle.nights_at_rest.specs.Still.{Nodes}
 
-abbrev pub is_plan : Body → Bool
-is_plan (NewPlan run cut carried docs) = true
-is_plan _ = false
-
--- a plan that w makes
-abbrev pub is_planned_by : ℕ → Entry → Bool
-is_planned_by w e = (maker e.feed == w) && is_plan e.body
-
--- What may happen in a pass of w: bytes come, entries are kept that are no orders and no plans of its own, frames go out,
--- launches are started or killed, ends and files are told, and links to new neighbours are asked for. No link begins or
--- ends and no send fails, nobody types, and no node types what it advises itself.
+-- What may happen in a pass of w: bytes come, entries are kept that are no orders of its own, frames go out, launches are
+-- started or killed, ends and files are told, and links to new neighbours are asked for. No link begins or ends and no send
+-- fails, nobody types, and no node types what it advises itself.
 abbrev pub is_working : ℕ → Event → Bool
-is_working w (Event.Keeps e) = not (is_given_by w e.feed) && not (is_planned_by w e)
+is_working w (Event.Keeps e) = not (is_given_by w e.feed)
 is_working w (Event.Reads t) = true
 is_working w (Event.Comes arrival.Nothing) = true
 is_working w (Event.Comes (arrival.Bytes a bytes)) = true

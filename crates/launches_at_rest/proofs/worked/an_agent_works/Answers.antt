@@ -1,5 +1,5 @@
 use Rattle.rest_laws.proofs.AtRest.{pair_tree}
-use Rattle.launches_at_rest.proofs.Worked.{work_events, work_gained, work_is_round, work_known, work_linked, work_rounds}
+use Rattle.launches_at_rest.proofs.AgentRound.{work_events, work_gained, work_is_round, work_known, work_linked, work_rounds}
 use Rattle.launches_at_rest.proofs.worked.an_agent_works.Goals as goal
 
 pub returns-clause-tree : goal.returns-clause-tree

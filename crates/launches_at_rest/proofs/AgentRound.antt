@@ -95,34 +95,28 @@ arrived_01 : lane work_arrived 0 1 ≡ 3
 unfolding everything work_begun work_turned work_arrived
 arrived_01 = refl
 
-none_00 : lane work_arrived 0 0 ≡ 0
+none_0 : (b : ℕ) → eqb 1 b ≡ false → lane work_arrived 0 b ≡ 0
 unfolding everything work_begun work_turned work_arrived
-none_00 = refl
+none_0 b e = rw e refl
 
-none_11 : lane work_arrived 1 1 ≡ 0
+none_1 : (b : ℕ) → eqb 0 b ≡ false → lane work_arrived 1 b ≡ 0
 unfolding everything work_begun work_turned work_arrived
-none_11 = refl
+none_1 b e = rw e refl
 
-none_0 : (b : ℕ) → lane work_arrived 0 (suc (suc b)) ≡ 0
+none_2 : (a b : ℕ) → eqb a 0 ≡ false → eqb a 1 ≡ false → lane work_arrived a b ≡ 0
 unfolding everything work_begun work_turned work_arrived
-none_0 b = refl
-
-none_1 : (b : ℕ) → lane work_arrived 1 (suc (suc b)) ≡ 0
-unfolding everything work_begun work_turned work_arrived
-none_1 b = refl
-
-none_2 : (a b : ℕ) → lane work_arrived (suc (suc a)) b ≡ 0
-unfolding everything work_begun work_turned work_arrived
-none_2 a b = refl
+none_2 a b e f = rw (e, f) refl
 
 lanes : (a b : ℕ) → ((a ≡ 1) × (b ≡ 0)) ⊎ (((a ≡ 0) × (b ≡ 1)) ⊎ (lane work_arrived a b ≡ 0))
-lanes zero zero = inr (inr none_00)
+lanes zero zero = inr (inr (none_0 0 refl))
 lanes zero (suc zero) = inr (inl (refl, refl))
-lanes zero (suc (suc b)) = inr (inr (none_0 b))
+lanes zero (suc (suc b)) = inr (inr (none_0 (suc (suc b)) (eq_refused 1 (suc (suc b)) (λ e. omega (arith, e)))))
 lanes (suc zero) zero = inl (refl, refl)
-lanes (suc zero) (suc zero) = inr (inr none_11)
-lanes (suc zero) (suc (suc b)) = inr (inr (none_1 b))
-lanes (suc (suc a)) b = inr (inr (none_2 a b))
+lanes (suc zero) (suc zero) = inr (inr (none_1 1 refl))
+lanes (suc zero) (suc (suc b)) = inr (inr (none_1 (suc (suc b)) (eq_refused 0 (suc (suc b)) (λ e. omega (arith, e)))))
+lanes (suc (suc a)) b =
+    inr (inr (none_2 (suc (suc a)) b (eq_refused (suc (suc a)) 0 (λ e. omega (arith, e)))
+    (eq_refused (suc (suc a)) 1 (λ e. omega (arith, e)))))
 
 arriving_works : AllByRecursion (λ s. is_of_work s ≡ true) (Deliver 1 0 3 ∷ [])
 arriving_works = (refl, tt)

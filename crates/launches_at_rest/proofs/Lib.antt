@@ -7,3 +7,4 @@ pub mod Gaining
 pub mod Resting
 pub mod Short
 pub mod AgentRound
+pub mod Again

@@ -16,9 +16,11 @@ ghost use Rattle.model.specs.World.{World, empty_world};
 ghost use Rattle.model.specs.FreeSteps.{free_run, free_step};
 ghost use Rattle.model.specs.Invariant.{Invariant};
 ghost use Rattle.rest_laws.specs.Gains.{gained};
-ghost use Rattle.rest_laws.specs.Left.{Caps, Covers, entries, left};
+ghost use Rattle.rest_laws.specs.Left.{Caps, Covers, caps_of, entries, left};
 ghost use Rattle.rest_laws.specs.Rest.{IsAtRest};
 ghost use Rattle.rest_laws.specs.Rounds.{AreLinked, AreTaken, IsOpenRound};
+ghost use Rattle.rest_laws.specs.Short.{are_answers_short};
+ghost use Rattle.rest_laws.specs.ToRest.{AreAmong, ComesToRest};
 ghost use Rattle.launches_at_rest.specs.Rounds.{AreWorkingRounds, WorkRestsBut};
 ghost use Rattle.launches_at_rest.specs.Tells.{tells_left, work_bound};
 ghost use Rattle.launches_at_rest.specs.Told.{IsWorkingRound, is_told, works_at};
@@ -60,4 +62,17 @@ pub fn working_rounds_come_to_rest()
         → IsTree net → (rounds : AreWorkingRounds net readings clocks k (free_run net steps empty_world) z)
         → work_bound net readings (free_run net steps empty_world) ≤ gained net (free_run net steps empty_world) + n
         → WorkRestsBut n net readings clocks k (free_run net steps empty_world) z rounds }
+{}
+
+/// And it comes to rest again: from each world to which work has led there are rounds that lead to rest, with the work done,
+/// where each order of the world at the start has a short answer, and few entries are there, left to make and left to be told.
+pub fn a_network_comes_to_rest_again()
+    ensures { (net : Net) (readings : ℕ → List ℕ) (clocks : ℕ → ℕ → ℕ) (first steps : List WorldStep) (y : World)
+        → IsTree net → IsTrue (are_answers_short net (free_run net first empty_world))
+        → entries net (free_run net first empty_world)
+        + (left net (caps_of net (free_run net first empty_world)) readings (free_run net first empty_world)
+        + tells_left net (caps_of net (free_run net first empty_world)) (free_run net first empty_world)) < 4294967295
+        → AllByRecursion (λ s. IsTrue (works_at readings s)) steps
+        → AreTaken net (free_run net first empty_world) steps y → ((k : ℕ) → AreAmong readings (clocks k))
+        → ComesToRest net readings clocks y }
 {}

@@ -319,10 +319,13 @@ module _ (net : Net) (tree : IsTree net) (few : node_count net ≤ 65536) (reads
       go None k =
           subst (λ (n : NodeState). WorksOn old.node trace None n) (sym (ap (λ (s : Running). s.node) k.2))
           (subst (λ (t : Trace). WorksOn old.node t None old.node) (sym k.0)
-          (λ none each x g r at. (x, record {
-            stays = stays_plain net w x old.node [] at (outputs_none old.node [] refl);
-            to_ = passes_none net reads x;
-          })))
+          (λ none each x g r at. (
+            x,
+            record {
+              stays = stays_plain net w x old.node [] at (outputs_none old.node [] refl);
+              to_ = passes_none net reads x;
+            },
+          )))
       go (Some place) k =
           after_event (Event.Looks k.path k.answer) old.node new.node k.rest trace
           (plain old.node (Event.Looks k.path k.answer) refl (no_look k.path k.answer)) k.split
@@ -416,10 +419,13 @@ module _ (defs : Defs) (net : Net) (tree : IsTree net) (few : node_count net ≤
   arrival_works arrival.Nothing trace new may sent h =
       subst (λ (n : NodeState). WorksOn net tree few reads w x old.node trace None n) (sym (ap (λ (s : Running). s.node) h.2))
       (subst (λ (t : Trace). WorksOn net tree few reads w x old.node t None old.node) (sym h.0)
-      (λ none each y g s stands. (y, record {
-        stays = stays_plain net w y old.node [] stands (outputs_none old.node [] refl);
-        to_ = passes_none net reads y;
-      })))
+      (λ none each y g s stands. (
+        y,
+        record {
+          stays = stays_plain net w y old.node [] stands (outputs_none old.node [] refl);
+          to_ = passes_none net reads y;
+        },
+      )))
   arrival_works arrival.NoMemory trace new may sent h = no_end h.1
 
   come_works : (trace : Trace) (new : Running) → AreWorking w trace → HeardThere new → Come defs old trace None new

@@ -1,24 +1,28 @@
 -- The agent's round.
-use Rattle.std.proofs.Common.{◌≡◌, ℕ, zero, suc, ◌+◌, ◌<◌, ◌≤◌, Bool, true, false, ◌&&◌, ◌⊎◌, inl, inr, List, [], ◌∷◌, ◌++◌}
-use Rattle.std.proofs.Common.{length, length-append, refl, ap, subst, ◌∙◌, arith}
+use Rattle.std.proofs.Common.{◌≡◌, ℕ, zero, suc, ◌+◌, ◌<◌, ◌≤◌, Bool, true, false, ◌&&◌, not, cond, ◌⊎◌, inl, inr, List, [], ◌∷◌, ◌++◌}
+use Rattle.std.proofs.Common.{length, length-append, refl, ap, sym, subst, ◌∙◌, arith}
 use Rattle.std.specs.List.{AllByRecursion}
 use Rattle.std.specs.Prelude.{Err, Ok, Result, eqb, pos}
-use Rattle.lemmas.proofs.Booleans.{contrary}
+use Rattle.lemmas.proofs.Booleans.{contrary, not_holds, not_made}
 use Rattle.lemmas.proofs.Numbers.{eq_refused}
-use Rattle.model.specs.Types.{Deliver, Ended, Events, Launched, Net, Released, Started, Take, Turn, WorldStep}
+use Rattle.model.specs.Types.{Ack, Deliver, Ended, Events, Input, Launched, Mail, Net, Packet, Released, Started, Take, Turn, WorldStep}
 use Rattle.model.specs.Everything.{everything}
 use Rattle.model.specs.History.{list_of}
-use Rattle.model.specs.FreeSteps.{free_run, free_step}
-use Rattle.model.specs.World.{StepRefused, World, or_as_before}
+use Rattle.model.specs.FreeSteps.{free_run, free_step, recounted}
+use Rattle.model.specs.Step.{Effect}
+use Rattle.model.specs.World.{Origin, StepRefused, World, apply_effect, empty_world, mark_delivered, or_as_before, run, step}
+use Rattle.model_laws.proofs.Steps.{step_of}
 use Rattle.rest_laws.specs.AtRest.{pair}
 use Rattle.rest_laws.specs.Gains.{gained}
 use Rattle.rest_laws.specs.Leads.{next_packet}
 use Rattle.rest_laws.specs.Rounds.{AreLinked, AreTaken, IsAmong}
 use Rattle.rest_laws.proofs.Chains.{or_rest}
+use Rattle.rest_laws.proofs.Leads.{came, took}
 use Rattle.launches_at_rest.proofs.Gaining.{works_rise}
 use Rattle.launches_at_rest.specs.Rounds.{AreWorkingRounds}
 use Rattle.launches_at_rest.specs.Told.{IsWorkingRound, is_of_work, works_at}
-use Rattle.launches_at_rest.specs.Worked.{work_arrived, work_begun, work_clocks, work_ended, work_readings, work_round}
+use Rattle.launches_at_rest.specs.Worked.{work_arrived, work_begun, work_clocks, work_ended, work_orders, work_readings}
+use Rattle.launches_at_rest.specs.Worked.{work_round}
 use Rattle.launches_at_rest.specs.Worked.{work_turned, work_turns}
 
 -- steps that are taken by computation
@@ -95,17 +99,94 @@ arrived_01 : lane work_arrived 0 1 ≡ 3
 unfolding everything work_begun work_turned work_arrived
 arrived_01 = refl
 
+-- what the two sent, where this is whom they sent it to
+lane_of_master : Bool → List Packet
+lane_of_master c =
+    (((cond c (Mail (Events 0) 1 ∷ []) [] ++ []) ++ cond c (Ack (Events 1) 1 ∷ []) []) ++ []) ++ cond c (Ack (Events 1) 2 ∷ []) []
+
+lane_of_agent : Bool → List Packet
+lane_of_agent c =
+    ((((cond c (Ack (Events 0) 1 ∷ []) [] ++ cond c (Mail (Events 1) 1 ∷ []) []) ++ []) ++ cond c (Mail (Events 1) 2 ∷ []) []) ++ [])
+    ++ []
+
+by_master : (b : ℕ) → lane work_arrived 0 b ≡ length (lane_of_master (eqb 1 b))
+unfolding everything work_begun work_turned work_arrived lane_of_master
+by_master b = refl
+
+by_agent : (b : ℕ) → lane work_arrived 1 b ≡ length (lane_of_agent (eqb 0 b))
+unfolding everything work_begun work_turned work_arrived lane_of_agent
+by_agent b = refl
+
 none_0 : (b : ℕ) → eqb 1 b ≡ false → lane work_arrived 0 b ≡ 0
-unfolding everything work_begun work_turned work_arrived
-none_0 b e = rw e refl
+unfolding lane_of_master
+none_0 b e = by_master b ∙ ap (λ c. length (lane_of_master c)) e
 
 none_1 : (b : ℕ) → eqb 0 b ≡ false → lane work_arrived 1 b ≡ 0
-unfolding everything work_begun work_turned work_arrived
-none_1 b e = rw e refl
+unfolding lane_of_agent
+none_1 b e = by_agent b ∙ ap (λ c. length (lane_of_agent c)) e
+
+-- nobody sends for another
+module _ (net : Net) (a b : ℕ) where
+  is_elsewhere : WorldStep → Bool
+  is_elsewhere (Take w l) = not (eqb a w)
+  is_elsewhere (Deliver c w k) = not (eqb a w)
+  is_elsewhere _ = false
+
+  beside : (x : World) (w : ℕ) (o : Origin) (d : Effect) → not (eqb a w) ≡ true
+      → (apply_effect x w o d).packets a b ≡ x.packets a b
+  unfolding apply_effect
+  beside x w o d other = rw (not_holds (eqb a w) other) refl
+
+  lane_stays : (x z : World) (s : WorldStep) → is_elsewhere s ≡ true → step net x s ≡ Ok z → z.packets a b ≡ x.packets a b
+  unfolding is_elsewhere mark_delivered
+  lane_stays x z (Take w l) h e =
+      sym (ap (λ (y : World). y.packets a b) (took net x z w l e).1)
+      ∙ beside x w Origin.Own (step_of net x w (Input.Local l)) h
+  lane_stays x z (Deliver c w k) h e =
+      let it = came net x z c w k e in
+      sym (ap (λ (y : World). y.packets a b) it.2) ∙ beside x w Origin.Mailed (step_of net x w it.0) h
+  lane_stays x z _ h e = cc
+
+  lane_run : (steps : List WorldStep) (x : World) → AllByRecursion (λ s. is_elsewhere s ≡ true) steps
+      → (run net steps x).packets a b ≡ x.packets a b
+  unfolding run
+  lane_run [] x each = refl
+  lane_run (s ∷ steps) x each =
+      lane_run steps (or_as_before x (step net x s)) each.1 ∙ go (step net x s) refl
+    where
+      go : (r : Result World StepRefused) → step net x s ≡ r → (or_as_before x r).packets a b ≡ x.packets a b
+      go (Ok z) e = lane_stays x z s each.0 e
+      go (Err f) e = refl
+
+  lane_free : (steps : List WorldStep) (x : World) → AllByRecursion (λ s. is_elsewhere s ≡ true) steps
+      → (free_run net steps x).packets a b ≡ x.packets a b
+  unfolding free_run free_step
+  lane_free [] x each = refl
+  lane_free (s ∷ steps) x each =
+      lane_free steps (or_as_before x (free_step net x s)) each.1 ∙ go (step net (recounted x) s) refl
+    where
+      go : (r : Result World StepRefused) → step net (recounted x) s ≡ r → (or_as_before x r).packets a b ≡ x.packets a b
+      go (Ok z) e = lane_stays (recounted x) z s each.0 e
+      go (Err f) e = refl
+
+module _ (a b : ℕ) (not_master : not (eqb a 0) ≡ true) (not_agent : not (eqb a 1) ≡ true) where
+  none_begun : work_begun.packets a b ≡ []
+  unfolding work_begun is_elsewhere
+  none_begun =
+      lane_run pair a b work_orders empty_world
+      (not_master, (not_master, (not_agent, (not_master, (not_agent, (not_master, (not_agent, (not_master, (not_agent, tt)))))))))
+
+  none_turned : work_turned.packets a b ≡ []
+  unfolding work_turned is_elsewhere
+  none_turned =
+      lane_free pair a b work_turns work_begun (not_agent, (not_agent, (not_agent, (not_master, tt)))) ∙ none_begun
+
+  none_arrived : work_arrived.packets a b ≡ []
+  unfolding work_arrived is_elsewhere
+  none_arrived = lane_free pair a b (Deliver 1 0 3 ∷ []) work_turned (not_master, tt) ∙ none_turned
 
 none_2 : (a b : ℕ) → eqb a 0 ≡ false → eqb a 1 ≡ false → lane work_arrived a b ≡ 0
-unfolding everything work_begun work_turned work_arrived
-none_2 a b e f = rw (e, f) refl
+none_2 a b e f = ap length (none_arrived a b (not_made (eqb a 0) e) (not_made (eqb a 1) f))
 
 lanes : (a b : ℕ) → ((a ≡ 1) × (b ≡ 0)) ⊎ (((a ≡ 0) × (b ≡ 1)) ⊎ (lane work_arrived a b ≡ 0))
 lanes zero zero = inr (inr (none_0 0 refl))

@@ -30,7 +30,7 @@ use Rattle.nights_at_rest.proofs.Staying.{Stays}
 use Rattle.nights_at_rest.proofs.Ways.{own_of}
 use Rattle.launches_at_rest.proofs.Gaining.{own_gains}
 use Rattle.working_nights.specs.Passes.{IsWorkingPass}
-use Rattle.working_nights.proofs.Breaks.{PassesTo, passes_none, passes_on, passes_rise}
+use Rattle.launches_at_rest.proofs.Breaks.{PassesTo, passes_none, passes_on, passes_rise}
 use Rattle.working_nights.proofs.Working.{Worked, pass_works}
 
 -- an entry of a feed is counted there

@@ -1,4 +1,3 @@
-mod Breaks
 mod Playing
 mod Working
 mod Going

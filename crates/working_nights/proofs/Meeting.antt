@@ -33,7 +33,7 @@ use Rattle.nights_at_rest.proofs.Meeting.{end_of, is_round, law, rests_by, round
 use Rattle.launches_at_rest.specs.Tells.{work_bound}
 use Rattle.launches_at_rest.specs.Told.{is_told, works_at}
 use Rattle.working_nights.specs.Passes.{AreNodeWorks, IsNodeWork, IsWorkingPass, NodesWorkBut, behind_work}
-use Rattle.working_nights.proofs.Breaks.{PassesTo, is_breaking, may_pass, passes_few, passes_none, passes_on, passes_rise, passes_short}
+use Rattle.launches_at_rest.proofs.Breaks.{PassesTo, is_breaking, may_pass, passes_few, passes_none, passes_on, passes_rise, passes_short}
 use Rattle.working_nights.proofs.Going.{WorkWent, passes_work, work_more}
 
 module _ (defs : Defs) (tree : IsTree (net_of defs)) (few : node_count (net_of defs) ≤ 65536) (reads : ℕ → ℕ) where

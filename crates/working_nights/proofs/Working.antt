@@ -59,7 +59,7 @@ use Rattle.nights_at_rest.proofs.StillParts.{both_of, no_end, not_still, wanted}
 use Rattle.nights_at_rest.proofs.Taken.{Stepped, delivered, its_effect, its_fault, moved}
 use Rattle.nights_at_rest.proofs.Ways.{parts_same}
 use Rattle.working_nights.specs.Passes.{is_working}
-use Rattle.working_nights.proofs.Breaks.{PassesTo, may_pass, passes_none, passes_on, passes_one}
+use Rattle.launches_at_rest.proofs.Breaks.{PassesTo, may_pass, passes_none, passes_on, passes_one}
 
 -- what happens at a node is a step of the world for which it stands
 took_local : (net : Net) (x : World) (w : ℕ) (l : Local) (d : Effect)

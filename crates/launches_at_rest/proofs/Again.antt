@@ -1,9 +1,9 @@
 -- Whatever has been told, turns still have room, and so the network comes to rest again.
-use Rattle.std.proofs.Common.{◌≡◌, ℕ, ◌+◌, ◌<◌, ◌≤◌, false, true, List, [], ◌∷◌, ◌++◌, length, map, refl, ap, sym, subst, ◌∙◌, arith, Option, Some, None}
+use Rattle.std.proofs.Common.{◌≡◌, ℕ, ◌+◌, ◌<◌, ◌≤◌, false, true, List, [], ◌∷◌, ◌++◌, length, map, refl, ap, subst, ◌∙◌, arith, Option, Some, None}
 use Rattle.std.proofs.lemmas.Bool.Decides.{nat_tests}
 use Rattle.std.proofs.lemmas.List.{length-take}
 use Rattle.std.specs.List.{AllByRecursion}
-use Rattle.std.specs.Prelude.{Ok, flat_map, nat_lt, option_map}
+use Rattle.std.specs.Prelude.{flat_map, nat_lt, option_map}
 use Rattle.model.specs.Types.{Body, Events, Net, Orders, WorldStep}
 use Rattle.model.specs.Words.{below}
 use Rattle.model.specs.Network.{IsTree, node_count}
@@ -17,12 +17,11 @@ use Rattle.model.specs.Turn.{turn_body}
 use Rattle.model.specs.World.{World, empty_world, or_as_before, view_at}
 use Rattle.model_laws.proofs.FreeRuns.{free_always}
 use Rattle.model_laws.proofs.Keeps.{at_start}
-use Rattle.rest_laws.specs.Gains.{sum_over}
 use Rattle.rest_laws.specs.Left.{caps_of, entries, left}
 use Rattle.rest_laws.specs.Rest.{count_of, net_at}
 use Rattle.rest_laws.specs.Rounds.{AreTaken}
 use Rattle.rest_laws.specs.Short.{are_answers_short}
-use Rattle.rest_laws.specs.ToRest.{AlwaysHasRoom, AreAmong, ComesToRest, Reaches, names_inside, would_keep}
+use Rattle.rest_laws.specs.ToRest.{AlwaysHasRoom, AreAmong, ComesToRest, names_inside, would_keep}
 use Rattle.rest_laws.proofs.Bounds.{covered}
 use Rattle.rest_laws.proofs.Falls.{sum_over_falls}
 use Rattle.rest_laws.proofs.Gains.{kept_run}

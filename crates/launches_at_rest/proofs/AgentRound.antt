@@ -20,7 +20,7 @@ use Rattle.rest_laws.proofs.Chains.{or_rest}
 use Rattle.rest_laws.proofs.Leads.{came, took}
 use Rattle.launches_at_rest.proofs.Gaining.{works_rise}
 use Rattle.launches_at_rest.specs.Rounds.{AreWorkingRounds}
-use Rattle.launches_at_rest.specs.Told.{IsWorkingRound, is_of_work, works_at}
+use Rattle.launches_at_rest.specs.Told.{IsWorkingRound, is_of_work}
 use Rattle.launches_at_rest.specs.Worked.{work_arrived, work_begun, work_clocks, work_ended, work_orders, work_readings}
 use Rattle.launches_at_rest.specs.Worked.{work_round}
 use Rattle.launches_at_rest.specs.Worked.{work_turned, work_turns}

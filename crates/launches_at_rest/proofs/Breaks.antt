@@ -1,8 +1,8 @@
 -- What a pass may do in the world, also where the own end of a link goes down: nobody has less, and no more is left.
-use Rattle.std.proofs.Common.{◌≡◌, ℕ, ◌+◌, ◌*◌, ◌≤◌, Bool, true, false, ◌||◌, inl, inr, List, [], ◌∷◌, ◌++◌, refl, ap, sym, subst, ◌∙◌, arith}
+use Rattle.std.proofs.Common.{◌≡◌, ℕ, ◌+◌, ◌*◌, ◌≤◌, Bool, true, false, ◌||◌, inl, inr, List, [], ◌∷◌, ◌++◌, refl, ap, sym, subst, arith}
 use Rattle.std.specs.List.{AllByRecursion}
 use Rattle.std.specs.Prelude.{Ok}
-use Rattle.lemmas.proofs.Booleans.{or_cases, or_made_left}
+use Rattle.lemmas.proofs.Booleans.{or_cases}
 use Rattle.lemmas.proofs.Lists.{all_append}
 use Rattle.model.specs.Types.{Input, Net, Take, Unlinked, WorldStep}
 use Rattle.model.specs.FreeSteps.{free_step, recounted}

@@ -1,25 +1,25 @@
 -- What one more entry of a workstation's own leaves of what can still be told there.
-use Rattle.std.proofs.Common.{◌≡◌, ℕ, ◌+◌, ◌-◌, ◌*◌, ◌<◌, ◌≤◌, Bool, true, false, ◌||◌, inl, inr}
-use Rattle.std.proofs.Common.{List, [], ◌∷◌, ◌++◌, refl, ap, sym, subst, ◌∙◌, arith, Option, Some, None, cond}
+use Rattle.std.proofs.Common.{◌≡◌, ℕ, ◌+◌, ◌-◌, ◌<◌, ◌≤◌, Bool, true, false, ◌||◌, inl, inr}
+use Rattle.std.proofs.Common.{List, [], ◌∷◌, ◌++◌, refl, sym, subst, ◌∙◌, arith, Some, None, cond}
 use Rattle.std.proofs.lemmas.Bool.{eq-eqb}
 use Rattle.std.proofs.lemmas.Bool.Decides.{eqb_tells}
 use Rattle.std.proofs.lemmas.List.Elements.{filter_map-append}
 use Rattle.std.proofs.lemmas.List.Sums.{sum_by-append}
 use Rattle.std.specs.List.{list_any}
-use Rattle.std.specs.Prelude.{eqb, filter_map, nat_lt}
+use Rattle.std.specs.Prelude.{eqb, filter_map}
 use Rattle.lemmas.proofs.Lists.{any_with}
 use Rattle.model.specs.Types.{Body, Cmd, Job, Launched, Obeyed, Obj, Rerun, Started, Stream}
 use Rattle.model.specs.Words.{below}
 use Rattle.model.specs.History.{Seen}
-use Rattle.model.specs.Facts.{answered, answers_to, commands, end_of, is_fulfilled, is_fulfilment, is_last_started, is_late}
-use Rattle.model.specs.Facts.{is_launch_of, is_late_record, is_until_record, is_until_recorded, launches, now, obeyed_command}
+use Rattle.model.specs.Facts.{answered, commands, end_of, is_fulfilled, is_fulfilment, is_last_started, is_late}
+use Rattle.model.specs.Facts.{is_launch_of, is_late_record, is_until_record, is_until_recorded, launches, obeyed_command}
 use Rattle.model.specs.Facts.{open_launch, reruns}
 use Rattle.model.specs.Outcomes.{Outcome}
 use Rattle.model_laws.proofs.Answered.{answered-append}
 use Rattle.model_laws.proofs.Growth.{launches-append}
 use Rattle.model_laws.proofs.Tidy.{launches_none}
 use Rattle.rest_laws.specs.Gains.{sum_over}
-use Rattle.rest_laws.specs.Left.{Caps, done, is_below, job_left, left_of, orders_left, records_left, stream_left, undone}
+use Rattle.rest_laws.specs.Left.{Caps, done, is_below, job_left, left_of, records_left, stream_left, undone}
 use Rattle.rest_laws.proofs.Ahead.{answers_one}
 use Rattle.rest_laws.proofs.Falls.{clock_low, hits, job_low, orders_low, rerun_target, stream_low, sum_over_falls}
 use Rattle.rest_laws.proofs.Gains.{sum_over_low}

@@ -1,21 +1,20 @@
 -- Entries, what turns can still make and what can still be told never grow together.
-use Rattle.std.proofs.Common.{◌≡◌, ◌≢◌, ℕ, ◌+◌, ◌<◌, ◌≤◌, Bool, true, false, ◌||◌, ◌⊎◌, inl, inr}
-use Rattle.std.proofs.Common.{List, [], ◌∷◌, ◌++◌, length, map, refl, ap, sym, subst, ◌∙◌, arith, Option, Some, None}
+use Rattle.std.proofs.Common.{◌≡◌, ℕ, ◌+◌, ◌<◌, ◌≤◌, true, false, ◌⊎◌, inl, inr}
+use Rattle.std.proofs.Common.{List, [], ◌∷◌, ◌++◌, length, map, refl, ap, subst, ◌∙◌, arith, Option, Some, None}
 use Rattle.std.proofs.lemmas.Bool.{eq-eqb, eqb-true, ltb-true}
 use Rattle.std.specs.List.{AllByRecursion}
 use Rattle.std.specs.Option.{option_map_or}
 use Rattle.std.specs.Prelude.{if◌then◌else◌, Ok, eqb, nat_lt}
 use Rattle.lemmas.proofs.Booleans.{and_made, or_cases}
 use Rattle.lemmas.proofs.Lists.{all_append, all_map}
-use Rattle.model.specs.Types.{Body, Deliver, Dep, Ended, Entry, Events, Failed, Fulfilled, Job, Launched, Linked, LiveJob, Net, Obj}
+use Rattle.model.specs.Types.{Body, Deliver, Dep, Ended, Events, Failed, Fulfilled, Job, Linked, LiveJob, Net, Obj}
 use Rattle.model.specs.Types.{Order, Orders, Started, Stream, StreamDoc, Take, Turn, WorldStep}
-use Rattle.model.specs.Words.{has, nth}
 use Rattle.model.specs.Equalities.{obj_among, obj_eq}
 use Rattle.model.specs.Network.{node_count}
 use Rattle.model.specs.History.{View, list_of}
 use Rattle.model.specs.Catalogue.{StreamJob, docs_in, is_member, job, jobs_of, owner, streams_of}
 use Rattle.model.specs.Dependencies.{dep, deps}
-use Rattle.model.specs.Facts.{answered, is_due, is_fulfilled, is_fulfilment, is_launch_of, is_last_started, launches, obeyed_command, open_launch}
+use Rattle.model.specs.Facts.{is_due, is_fulfilled, is_fulfilment, is_last_started, launches, obeyed_command, open_launch}
 use Rattle.model.specs.Facts.{reruns}
 use Rattle.model.specs.FreeSteps.{free_step}
 use Rattle.model.specs.Invariant.{Invariant, IsOpenAt}
@@ -36,7 +35,6 @@ use Rattle.model_laws.proofs.Turns.{TurnGives, turn_gives}
 use Rattle.rest_laws.specs.Left.{Caps, Covers, entries, is_below, jobs_ahead, keeps_to, left, left_of, streams_ahead}
 use Rattle.rest_laws.specs.Rest.{count_of, net_at}
 use Rattle.rest_laws.specs.Rounds.{AreTaken}
-use Rattle.rest_laws.specs.Gains.{sum_over}
 use Rattle.rest_laws.proofs.Ahead.{owned_below, within}
 use Rattle.rest_laws.proofs.Deps.{deps_few, nth_within}
 use Rattle.rest_laws.proofs.Entered.{Made, issuer_in, next_given, own_events, turn_makes}
@@ -44,8 +42,8 @@ use Rattle.rest_laws.proofs.Lefts.{Keeps, delivered_same, linked_same, step_keep
 use Rattle.launches_at_rest.specs.Tells.{tells_left, tells_of}
 use Rattle.launches_at_rest.specs.Told.{is_told, works_at}
 use Rattle.launches_at_rest.proofs.Counts.{left_by_end, left_stays, tells_found, tells_launch, tells_obeyed, tells_started, tells_still}
-use Rattle.launches_at_rest.proofs.Plain.{Tally, covers_stay, one_more, tallies_fall, tally_at}
-use Rattle.launches_at_rest.proofs.Telling.{Makes, Tells, ToldAt, ToldBy, told_by}
+use Rattle.launches_at_rest.proofs.Plain.{Tally, covers_stay, one_more, tallies_fall}
+use Rattle.launches_at_rest.proofs.Telling.{Makes, Tells, ToldBy, told_by}
 
 -- an object among a workstation's own is owned by it
 obj_same : (p o : Obj) → obj_eq p o ≡ true → p ≡ o

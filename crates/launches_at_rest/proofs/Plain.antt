@@ -1,5 +1,5 @@
 -- What one more entry of a workstation's own, which brings no document and no command, leaves of what can still come.
-use Rattle.std.proofs.Common.{◌≡◌, ◌≢◌, ℕ, ◌+◌, ◌-◌, ◌*◌, ◌<◌, ◌≤◌, ◌⊎◌, inl, inr}
+use Rattle.std.proofs.Common.{◌≡◌, ◌≢◌, ℕ, ◌+◌, ◌-◌, ◌<◌, ◌≤◌, inl, inr}
 use Rattle.std.proofs.Common.{List, [], ◌∷◌, ◌++◌, length, map, drop, refl, ap, sym, subst, ◌∙◌, arith, Option, Some, None, cond}
 use Rattle.std.proofs.Common.{append-nil}
 use Rattle.std.proofs.lemmas.Bool.Decides.{eqb_tells}
@@ -7,11 +7,11 @@ use Rattle.std.proofs.lemmas.Grind.{flat_map-append}
 use Rattle.std.proofs.lemmas.List.Elements.{filter_map-append}
 use Rattle.std.specs.Option.{option_map_or}
 use Rattle.std.specs.Prelude.{eqb, find, flat_map, option_map}
-use Rattle.model.specs.Types.{Body, Dep, Entry, Events, Feed, Job, Net, Obj, Orders, Stream, StreamDoc}
+use Rattle.model.specs.Types.{Body, Entry, Events, Feed, Job, Net, Obj, Orders, Stream, StreamDoc}
 use Rattle.model.specs.Words.{below, firsts}
 use Rattle.model.specs.Equalities.{feed_eq}
 use Rattle.model.specs.Network.{node_count}
-use Rattle.model.specs.History.{View, list_of}
+use Rattle.model.specs.History.{list_of}
 use Rattle.model.specs.Catalogue.{StreamJob, catalogue, docs_in, job, jobs, jobs_in, owner, stream}
 use Rattle.model.specs.Dependencies.{deps_added_by, document_deps}
 use Rattle.model.specs.Facts.{answered, commands, obeyed_command}

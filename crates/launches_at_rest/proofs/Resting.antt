@@ -1,5 +1,5 @@
 -- Of whatever rounds come, in which processes start and end and files are found, all but a few begin at rest.
-use Rattle.std.proofs.Common.{◌≡◌, ℕ, zero, suc, ◌+◌, ◌*◌, ◌<◌, ◌≤◌, true, ◌||◌, ◌⊎◌, inl, inr, List, [], ◌++◌, refl, arith}
+use Rattle.std.proofs.Common.{◌≡◌, ℕ, zero, suc, ◌+◌, ◌*◌, ◌<◌, ◌≤◌, true, ◌⊎◌, inl, inr, List, [], ◌++◌, refl, arith}
 use Rattle.std.specs.List.{AllByRecursion}
 use Rattle.lemmas.proofs.Booleans.{or_made_left}
 use Rattle.lemmas.proofs.Lists.{all_append, all_such}
@@ -9,8 +9,7 @@ use Rattle.model.specs.Invariant.{Invariant}
 use Rattle.model.specs.World.{World}
 use Rattle.rest_laws.specs.Gains.{gained}
 use Rattle.rest_laws.specs.Left.{caps_of, entries, keeps_to, left}
-use Rattle.rest_laws.specs.Rest.{IsAtRest}
-use Rattle.rest_laws.specs.Rounds.{AreTaken, is_linking}
+use Rattle.rest_laws.specs.Rounds.{AreTaken}
 use Rattle.rest_laws.specs.ToRest.{AreLinkedUp, later}
 use Rattle.rest_laws.proofs.Bounds.{all_linking, covered, most_is, times_low}
 use Rattle.rest_laws.proofs.Busy.{gained_more, links_rise}

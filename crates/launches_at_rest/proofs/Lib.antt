@@ -8,4 +8,3 @@ pub mod Resting
 pub mod Short
 pub mod AgentRound
 pub mod Again
-pub mod Breaks

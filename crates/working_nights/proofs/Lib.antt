@@ -1,5 +1,0 @@
-mod Playing
-mod Working
-mod Going
-mod Meeting
-mod Inside

@@ -1,0 +1,6 @@
+mod Breaks
+mod Playing
+mod Working
+mod Going
+mod Meeting
+mod Inside

@@ -131,7 +131,7 @@ in_pass w a event [] h = absurd h
 in_pass w a event (e ∷ trace) (inl q) = (same_place q, inl (same_event q))
 in_pass w a event (e ∷ trace) (inr k) = let it = in_pass w a event trace k in (it.0, inr it.1)
 
-pass_has : (w : ℕ) (event : Event) (trace : Trace) → IsIn event trace → IsIn (Does w event) (map (Does w) trace)
+pub pass_has : (w : ℕ) (event : Event) (trace : Trace) → IsIn event trace → IsIn (Does w event) (map (Does w) trace)
 pass_has w event [] h = absurd h
 pass_has w event (e ∷ trace) (inl q) = inl (ap (Does w) q)
 pass_has w event (e ∷ trace) (inr k) = inr (pass_has w event trace k)

@@ -17,12 +17,11 @@ use Rattle.workload_defs.specs.Nets.{net_of}
 use Rattle.node_inputs.specs.Traces.{kept}
 use Rattle.network_runs.specs.Happenings.{Night}
 use Rattle.network_runs.proofs.Carrying.{ReadLaw}
-use Rattle.network_runs.proofs.Members.{IsIn, in_of}
+use Rattle.network_runs.proofs.Members.{IsIn}
 use Rattle.network_runs.proofs.Worlds.{invariant}
 use Rattle.rest_laws.specs.Gains.{gained}
 use Rattle.rest_laws.proofs.Busy.{gained_more}
 use Rattle.rest_laws.proofs.Rises.{Rises}
-use Rattle.nights_at_rest.specs.NodeRounds.{IsInside}
 use Rattle.nights_at_rest.specs.Passes.{ArePasses, Pass, Passes, happened, happened_in}
 use Rattle.nights_at_rest.specs.Still.{Nodes}
 use Rattle.nights_at_rest.proofs.Going.{StandsAt, heard_sent, stands_next}
@@ -31,6 +30,8 @@ use Rattle.nights_at_rest.proofs.Ways.{own_of}
 use Rattle.launches_at_rest.proofs.Gaining.{own_gains}
 use Rattle.working_nights.specs.Passes.{IsWorkingPass}
 use Rattle.working_nights.proofs.Breaks.{PassesTo, passes_none, passes_on, passes_rise}
+use Rattle.working_nights.proofs.Calm.{NoOwn}
+use Rattle.working_nights.proofs.Calming.{IsUntold}
 use Rattle.working_nights.proofs.Working.{Worked, pass_works}
 
 -- an entry of a feed is counted there
@@ -61,14 +62,30 @@ own_has w e (d ∷ es) mine h = go (eqb_tells (maker d.feed) w) h (own_has w e e
     go (inr t) (inl q) later = absurd (t.1 (ap (λ (c : Entry). maker c.feed) q ∙ mine))
     go (inr t) (inr k) later = rw t.0 (later k)
 
+-- one of these is an event of w's, or none
+keeps_own : (w : ℕ) (es : List Entry) → ((e : Entry) × IsIn e es × (e.feed ≡ Events w)) ⊎ NoOwn w es
+keeps_own w [] = inr (λ e k is. k)
+keeps_own w (d ∷ es) = go (feed_cases d.feed (Events w)) (keeps_own w es)
+  where
+    none : (d.feed ≢ Events w) → NoOwn w es → NoOwn w (d ∷ es)
+    none other more e (inl q) is = other (ap (λ (c : Entry). c.feed) q ∙ is)
+    none other more e (inr k) is = more e k is
+
+    go : (((feed_eq d.feed (Events w) ≡ true) × (d.feed ≡ Events w)) ⊎ ((feed_eq d.feed (Events w) ≡ false) × (d.feed ≢ Events w)))
+        → ((e : Entry) × IsIn e es × (e.feed ≡ Events w)) ⊎ NoOwn w es
+        → ((e : Entry) × IsIn e (d ∷ es) × (e.feed ≡ Events w)) ⊎ NoOwn w (d ∷ es)
+    go (inl k) later = inl (d, inl refl, k.1)
+    go (inr k) (inl it) = inl (it.0, inr it.1, it.2)
+    go (inr k) (inr more) = inr (none k.1 more)
+
 module _ (defs : Defs) (tree : IsTree (net_of defs)) (few : node_count (net_of defs) ≤ 65536) (law : ReadLaw (net_of defs))
     (reads : ℕ → ℕ) where
-  -- passes have led from x here; all were as without what is told, or more is gained
+  -- passes have led from x here; no node kept an event of its own in them, or more is gained
   pub record WorkWent (night part : Night) (ps : List Pass) (new : Nodes) (x : World) : Type 0 where
     pub world : World
     pub at : StandsAt defs (night ++ part) new world
     pub to_ : PassesTo (net_of defs) reads x world
-    pub told : AllByRecursion (IsInside reads) ps ⊎ (gained (net_of defs) x < gained (net_of defs) world)
+    pub told : AllByRecursion (IsUntold defs reads) ps ⊎ (gained (net_of defs) x < gained (net_of defs) world)
 
   -- one pass
   module _ (night : Night) (p : Pass) (old new : Nodes) (x : World) (at : StandsAt defs night old x)
@@ -109,10 +126,9 @@ module _ (defs : Defs) (tree : IsTree (net_of defs)) (few : node_count (net_of d
       at = behind;
       to_ = it.1.to_;
       told =
-          elim works.told [
-            | inl inside ↦ inl (record { each = inside; stands = works.stands }, tt)
-            | inr kept_ ↦ inr (own_gains (net_of defs) x it.0 p.ws h.ws_in rises
-                (held_more kept_.0 (in_of kept_.0 (kept p.trace) kept_.1) kept_.2))
+          elim (keeps_own p.ws (kept p.trace)) [
+            | inl own ↦ inr (own_gains (net_of defs) x it.0 p.ws h.ws_in rises (held_more own.0 own.1 own.2))
+            | inr none ↦ inl (none, tt)
           ];
     }
 
@@ -143,7 +159,7 @@ module _ (defs : Defs) (tree : IsTree (net_of defs)) (few : node_count (net_of d
     where
       both : (first : WorkWent night (happened_in p) (p ∷ []) h.0 x)
           → (rest : WorkWent (night ++ happened_in p) (happened ps) ps new first.world)
-          → AllByRecursion (IsInside reads) (p ∷ ps) ⊎ (gained (net_of defs) x < gained (net_of defs) rest.world)
+          → AllByRecursion (IsUntold defs reads) (p ∷ ps) ⊎ (gained (net_of defs) x < gained (net_of defs) rest.world)
       both first rest =
           elim first.told [
             | inl one ↦ elim rest.told [

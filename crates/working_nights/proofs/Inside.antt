@@ -1,5 +1,5 @@
 -- A round of running nodes in which nothing is told is one of those in which things may be told.
-use Rattle.std.proofs.Common.{◌++◌, ◌≡◌, Bool, ℕ, List, None, Some, false, inl, refl, true}
+use Rattle.std.proofs.Common.{◌++◌, ◌≡◌, Bool, ℕ, List, None, Some, false, refl, true}
 use Rattle.std.specs.List.{AllByRecursion}
 use Rattle.std.specs.Prelude.{Err, Ok}
 use Rattle.lemmas.proofs.Lists.{all_such}
@@ -29,7 +29,6 @@ pass_inside : (reads : ℕ → ℕ) (p : Pass) → IsInside reads p → IsWorkin
 pass_inside reads p h = record {
   each = all_such (λ event. is_inside p.ws event ≡ true) (λ event. is_working p.ws event ≡ true) p.trace (inside_works p.ws) h.each;
   stands = h.stands;
-  told = inl h.each;
 }
 
 pub round_inside : (defs : Defs) (reads : ℕ → ℕ) (night : Night) (old new : Nodes) → IsNodeRound defs reads night old new

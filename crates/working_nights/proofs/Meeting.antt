@@ -1,8 +1,9 @@
 -- Of rounds of running nodes in which things may be told, all but a few begin at rest.
-use Rattle.std.proofs.Common.{[], ◌++◌, ◌+◌, ◌<◌, ◌≤◌, ◌≡◌, ◌∙◌, ◌∷◌, ◌⊎◌, ℕ, List, arith, inl, inr, refl, subst, suc, sym, true, zero}
+use Rattle.std.proofs.Common.{[], ◌++◌, ◌+◌, ◌<◌, ◌≤◌, ◌≡◌, ◌∙◌, ◌∷◌, ◌⊎◌, ℕ, List, ap, arith, inl, inr, refl, subst, suc, sym, true, zero}
 use Rattle.std.proofs.lemmas.Bool.{eq-eqb}
 use Rattle.std.specs.List.{AllByRecursion, list_all}
-use Rattle.std.specs.Prelude.{◌&&◌}
+use Rattle.std.specs.Prelude.{◌&&◌, filter_map}
+use Rattle.std.proofs.lemmas.List.Elements.{filter_map-append}
 use Rattle.lemmas.proofs.Booleans.{or_made_left}
 use Rattle.lemmas.proofs.Lists.{all_append, all_left, all_right, all_such}
 use Rattle.composer_parser.specs.declared.Defs.{Defs}
@@ -11,7 +12,9 @@ use Rattle.model.specs.Invariant.{Invariant}
 use Rattle.model.specs.Network.{IsTree, node_count}
 use Rattle.model.specs.World.{World}
 use Rattle.workload_defs.specs.Nets.{net_of}
-use Rattle.network_runs.specs.Happenings.{Night}
+use Rattle.mail_frames.specs.declared.frames.Frame.{Frame}
+use Rattle.network_runs.specs.Happenings.{Night, kept_in, of_its_maker, of_workstation}
+use Rattle.network_runs.proofs.Members.{contains_of, in_of}
 use Rattle.network_runs.proofs.Carrying.{ReadLaw}
 use Rattle.network_runs.proofs.Worlds.{invariant}
 use Rattle.rest_laws.specs.Gains.{gained}
@@ -23,17 +26,20 @@ use Rattle.rest_laws.proofs.Busy.{gained_more}
 use Rattle.rest_laws.proofs.Done as works
 use Rattle.rest_laws.proofs.Shorts.{always_short}
 use Rattle.nights_at_rest.specs.Frames.{Stretch}
-use Rattle.nights_at_rest.specs.NodeRounds.{IsInside, IsNodeRound, RestsBy}
+use Rattle.nights_at_rest.specs.NodeRounds.{IsInside, IsNodeRound, IsSentIn, RestsBy, behind_round}
 use Rattle.nights_at_rest.specs.Passes.{Pass, StandBetween, happened}
 use Rattle.nights_at_rest.specs.Still.{Nodes, have_short_answers}
 use Rattle.nights_at_rest.proofs.Few.{round_gains}
 use Rattle.nights_at_rest.proofs.Going.{IsShortFrom, StandsAt, at_of}
 use Rattle.nights_at_rest.proofs.Hearing.{named}
+use Rattle.nights_at_rest.proofs.Ways.{parts_same}
 use Rattle.nights_at_rest.proofs.Meeting.{end_of, is_round, law, rests_by, round_went, stands_behind}
 use Rattle.launches_at_rest.specs.Tells.{work_bound}
 use Rattle.launches_at_rest.specs.Told.{is_told, works_at}
 use Rattle.working_nights.specs.Passes.{AreNodeWorks, IsNodeWork, IsWorkingPass, NodesWorkBut, behind_work}
 use Rattle.working_nights.proofs.Breaks.{PassesTo, is_breaking, may_pass, passes_few, passes_none, passes_on, passes_rise, passes_short}
+use Rattle.working_nights.proofs.Calming.{CalmPasses, IsUntold, LikePasses, SendsAll, calm_passes, keeps_in, like_has, like_more, passes_turned}
+use Rattle.working_nights.proofs.Calming.{sends_in, sends_on}
 use Rattle.working_nights.proofs.Going.{WorkWent, passes_work, work_more}
 
 module _ (defs : Defs) (tree : IsTree (net_of defs)) (few : node_count (net_of defs) ≤ 65536) (reads : ℕ → ℕ) where
@@ -112,28 +118,107 @@ module _ (defs : Defs) (tree : IsTree (net_of defs)) (few : node_count (net_of d
       gains = inl more;
     }
 
-    -- where nothing is told the round is one of those
-    plain_round : AllByRecursion (IsInside reads) ((r.turning ++ r.arriving) ++ r.answering) → IsNodeRound defs reads night old new
-    plain_round inside = record {
-      turning = r.turning;
-      arriving = r.arriving;
-      answering = r.answering;
-      turned = r.turned;
-      arrived = r.arrived;
-      to_turned = r.to_turned;
-      to_arrived = r.to_arrived;
-      to_end = r.to_end;
-      linked = r.linked;
-      each = inside;
-      turns = r.turns;
-      sent = r.sent;
-      answers = r.answers;
-    }
+    -- where no node keeps an event of its own the round could have been one in which nothing was told
+    module _ (none_first : AllByRecursion (IsUntold defs reads) r.turning)
+        (none_second : AllByRecursion (IsUntold defs reads) r.arriving)
+        (none_third : AllByRecursion (IsUntold defs reads) r.answering) where
+      calm_first : CalmPasses defs reads night r.turning old r.turned
+      calm_first =
+          calm_passes defs reads r.turning night night old r.turned (λ a call i. i) (λ w w_in. (at.nodes_ w w_in).me_)
+          (all_left (IsWorkingPass reads) r.turning r.arriving front_works) none_first r.to_turned
 
-    untold : IsNodeRound defs reads night old new → RoundWork night old new x r
-    untold q = record {
+      sends_first : SendsAll (night ++ happened r.turning) (night ++ happened calm_first.calm)
+      sends_first =
+          sends_on night night (happened r.turning) (happened calm_first.calm) (λ a call i. i)
+          (λ a call i. sends_in a call r.turning calm_first.calm (passes_turned calm_first.calm r.turning calm_first.like) i)
+
+      calm_second : CalmPasses defs reads (night ++ happened calm_first.calm) r.arriving r.turned r.arrived
+      calm_second =
+          calm_passes defs reads r.arriving (night ++ happened r.turning) (night ++ happened calm_first.calm) r.turned r.arrived
+          sends_first calm_first.named (all_right (IsWorkingPass reads) r.turning r.arriving front_works) none_second r.to_arrived
+
+      sends_second : SendsAll ((night ++ happened r.turning) ++ happened r.arriving)
+          ((night ++ happened calm_first.calm) ++ happened calm_second.calm)
+      sends_second =
+          sends_on (night ++ happened r.turning) (night ++ happened calm_first.calm) (happened r.arriving)
+          (happened calm_second.calm) sends_first
+          (λ a call i. sends_in a call r.arriving calm_second.calm (passes_turned calm_second.calm r.arriving calm_second.like) i)
+
+      calm_third : CalmPasses defs reads ((night ++ happened calm_first.calm) ++ happened calm_second.calm) r.answering r.arrived new
+      calm_third =
+          calm_passes defs reads r.answering ((night ++ happened r.turning) ++ happened r.arriving)
+          ((night ++ happened calm_first.calm) ++ happened calm_second.calm) r.arrived new sends_second calm_second.named
+          (all_right (IsWorkingPass reads) (r.turning ++ r.arriving) r.answering r.each) none_third r.to_end
+
+      sent_back : (a b : ℕ) (f : Frame) (ps qs : List Pass) → LikePasses ps qs → IsSentIn ps a b f → IsSentIn qs a b f
+      sent_back a b f ps qs like s = contains_of _ (happened qs) (sends_in a _ ps qs like (in_of _ (happened ps) s))
+
+      plain_round : IsNodeRound defs reads night old new
+      plain_round = record {
+        turning = calm_first.calm;
+        arriving = calm_second.calm;
+        answering = calm_third.calm;
+        turned = r.turned;
+        arrived = r.arrived;
+        to_turned = calm_first.passes;
+        to_arrived = calm_second.passes;
+        to_end = calm_third.passes;
+        linked = r.linked;
+        each =
+            all_append (IsInside reads) (calm_first.calm ++ calm_second.calm) calm_third.calm
+            (all_append (IsInside reads) calm_first.calm calm_second.calm calm_first.inside calm_second.inside) calm_third.inside;
+        turns = λ w w_in.
+            let p = r.turns w w_in in
+            let q = like_has calm_first.calm r.turning calm_first.like p.0 (in_of p.0 r.turning p.1) in
+            (q.0, contains_of q.0 calm_first.calm q.1, q.2 ∙ p.2);
+        sent = λ a b f s. r.sent a b f (sent_back a b f calm_first.calm r.turning calm_first.like s);
+        answers = λ a b f s.
+            r.answers a b f
+            (sent_back a b f (calm_first.calm ++ calm_second.calm) (r.turning ++ r.arriving)
+            (like_more calm_first.calm r.turning calm_second.calm r.arriving calm_first.like calm_second.like) s);
+      }
+
+      keeps_same : (a b c d : Night) → filter_map kept_in a ≡ filter_map kept_in c → filter_map kept_in b ≡ filter_map kept_in d
+          → filter_map kept_in (a ++ b) ≡ filter_map kept_in (c ++ d)
+      keeps_same a b c d g h = filter_map-append kept_in a b ∙ parts_same g h ∙ sym (filter_map-append kept_in c d)
+
+      keeps : filter_map kept_in (behind_round defs reads night old new plain_round)
+          ≡ filter_map kept_in (behind_work defs reads night old new r)
+      keeps =
+          keeps_same ((night ++ happened calm_first.calm) ++ happened calm_second.calm) (happened calm_third.calm)
+          ((night ++ happened r.turning) ++ happened r.arriving) (happened r.answering)
+          (keeps_same (night ++ happened calm_first.calm) (happened calm_second.calm) (night ++ happened r.turning)
+          (happened r.arriving)
+          (keeps_same night (happened calm_first.calm) night (happened r.turning) refl
+          (keeps_in calm_first.calm r.turning calm_first.like)) (keeps_in calm_second.calm r.arriving calm_second.like))
+          (keeps_in calm_third.calm r.answering calm_third.like)
+
+      sends_third : SendsAll (behind_work defs reads night old new r) (behind_round defs reads night old new plain_round)
+      sends_third =
+          sends_on ((night ++ happened r.turning) ++ happened r.arriving)
+          ((night ++ happened calm_first.calm) ++ happened calm_second.calm) (happened r.answering) (happened calm_third.calm)
+          sends_second
+          (λ a call i. sends_in a call r.answering calm_third.calm (passes_turned calm_third.calm r.answering calm_third.like) i)
+
+      as_told : (z : World) → StandsAt defs (behind_round defs reads night old new plain_round) new z
+          → StandsAt defs (behind_work defs reads night old new r) new z
+      as_told z s = record {
+        reached = s.reached;
+        history_ = s.history_ ∙ ap (filter_map of_its_maker) keeps;
+        written = s.written;
+        sent_ = λ a b bytes ok k. s.sent_ a b bytes ok (sends_third a (record { to = b; bytes = bytes; ok = ok }) k);
+        nodes_ = s.nodes_;
+        disks = λ w w_in. s.disks w w_in ∙ ap (filter_map (of_workstation w)) keeps;
+      }
+
+    untold : (q : IsNodeRound defs reads night old new)
+        → ((z : World) → StandsAt defs (behind_round defs reads night old new q) new z
+        → StandsAt defs (behind_work defs reads night old new r) new z) → RoundWork night old new x r
+    untold q told_as = record {
       world = end_of defs tree few reads night old new x at shorts q;
-      at = stands_behind defs tree few reads night old new x at shorts q;
+      at =
+          told_as (end_of defs tree few reads night old new x at shorts q)
+          (stands_behind defs tree few reads night old new x at shorts q);
       to_ =
           stretch_passes x (end_of defs tree few reads night old new x at shorts q)
           (round_went defs tree few reads night old new x at shorts q);
@@ -153,8 +238,7 @@ module _ (defs : Defs) (tree : IsTree (net_of defs)) (few : node_count (net_of d
             | inr more ↦ told (omega (arith, more, more_one, more_three))
             | inl second ↦ elim three.told [
               | inr more ↦ told (omega (arith, more, more_one, more_two))
-              | inl third ↦ untold (plain_round (all_append (IsInside reads) (r.turning ++ r.arriving) r.answering
-                  (all_append (IsInside reads) r.turning r.arriving first second) third))
+              | inl third ↦ untold (plain_round first second third) (as_told first second third)
             ]
           ]
         ]

@@ -4,15 +4,14 @@ use Rattle.std.specs.List.{AllByRecursion}
 use Rattle.std.specs.Prelude.{[], ℕ, ◌++◌, ◌<◌, ◌∷◌, ◌≡◌, ◌⊎◌, Bool, Contains, IsTrue, List, None, Ok, Some, false, not}
 use Rattle.std.specs.Prelude.{suc, true, zero}
 use Rattle.composer_parser.specs.declared.Defs.{Defs}
-use Rattle.model.specs.Types.{Entry, Events}
 use Rattle.model.specs.Network.{node_count}
 use Rattle.outside.specs.Calls.{Asked}
 use Rattle.outside.specs.declared.links.Arrival.TheVariants as arrival
 use Rattle.mail_frames.specs.declared.frames.Frame.{Frame}
 use Rattle.workload_defs.specs.Nets.{net_of}
-use Rattle.node_inputs.specs.Traces.{Event, kept, readings}
+use Rattle.node_inputs.specs.Traces.{Event, readings}
 use Rattle.network_runs.specs.Happenings.{Night}
-use Rattle.nights_at_rest.specs.NodeRounds.{AreNodesLinked, IsSentIn, RestsBy, is_given_by, is_inside}
+use Rattle.nights_at_rest.specs.NodeRounds.{AreNodesLinked, IsSentIn, RestsBy, is_given_by}
 use Rattle.nights_at_rest.specs.Passes.{ArePasses, HearsFrom, Pass, happened}
 use Rattle.nights_at_rest.specs.Still.{Nodes}
 
@@ -32,14 +31,10 @@ is_working w (Event.Sends call) = call.ok
 is_working w (Event.Asks (Asked.Raise x)) = true
 is_working w _ = false
 
--- All that happens in the pass may, and its one reading is that of the standing clock. Where a process starts or ends in it,
--- or a file is found, the node keeps an event of its own: an end is of a launch that lives.
+-- all that happens in the pass may, and its one reading is that of the standing clock
 pub record IsWorkingPass (reads : ℕ → ℕ) (p : Pass) : Type 0 where
   pub each : AllByRecursion (λ event. IsTrue (is_working p.ws event)) p.trace
   pub stands : readings p.trace ≡ reads p.ws ∷ []
-  pub told :
-      AllByRecursion (λ event. IsTrue (is_inside p.ws event)) p.trace
-      ⊎ ((e : Entry) × Contains (kept p.trace) e × (e.feed ≡ Events p.ws))
 
 -- A round: each node makes a whole pass in the first stretch; what was sent in the first is heard by the end of the
 -- second, and what was sent by then by the end of the third.

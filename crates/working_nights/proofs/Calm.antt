@@ -3,15 +3,18 @@
 use Rattle.std.proofs.Common.{[], ◌++◌, ◌≡◌, ◌≢◌, ◌∙◌, ◌∷◌, ◌⊎◌, ℕ, Bool, List, None, Option, Some, ap, false, inl, inr, refl, subst, sym, true, ℤ}
 use Rattle.std.specs.List.{AllByRecursion}
 use Rattle.std.specs.Option.{option_map_or}
-use Rattle.std.specs.Prelude.{if◌then◌else◌, Err, Ok, Result, flat_map, is_none, length, map, option_map}
+use Rattle.std.specs.Prelude.{if◌then◌else◌, ◌&&◌, filter, Err, Ok, Result, flat_map, is_none, length, map, option_map}
 use Rattle.lemmas.proofs.Lists.{all_append}
 use Rattle.lemmas.proofs.Options.{some_is}
 use Rattle.composer_parser.specs.declared.Defs.{Defs}
 use Rattle.model.specs.Types.{Ack, Body, Ended, Entry, Events, Feed, Fulfil, Fulfilled, Input, Launch, LiveJob, Local, Mail, Net, Obj, Out, Packet, Send, Turn}
-use Rattle.model.specs.History.{View}
+use Rattle.model.specs.Words.{below}
+use Rattle.model.specs.Network.{are_neighbours, node_count}
+use Rattle.model.specs.Forwarding.{to_send}
+use Rattle.model.specs.History.{View, view_with}
 use Rattle.model.specs.NewEntry.{ends_well, event_of, makes, next_entry, own_entry}
 use Rattle.model.specs.PresentNet.{present_net}
-use Rattle.model.specs.Sessions.{Session, live_launch}
+use Rattle.model.specs.Sessions.{Session, next_session}
 use Rattle.model.specs.Step.{Effect, effect, outs_of, sends}
 use Rattle.model.specs.Turn.{turn_body}
 use Rattle.model_laws.proofs.Faults.{clear}
@@ -79,7 +82,9 @@ module _ (net : Net) (me : ℕ) where
   launch_of : (V : View) (s : Session) (input : Input) (made : Option Entry) (o : Out) → IsIn o (outs_of net me V s input made)
       → IsLaunch o → (e : Entry) × (made ≡ Some e) × (t : ℕ) × (input ≡ Input.Local (Turn t))
   unfolding outs_of sends
-  launch_of V s (Input.Local (Turn t)) None o k is = absurd (none_sent _ _ _ o k is)
+  launch_of V s (Input.Local (Turn t)) None o k is =
+      absurd (none_sent (λ (p : Feed × ℕ). Mail p.0 p.1) (λ m. to_send net V me m (s.acked m))
+      (filter (λ m. are_neighbours net me m && s.links m) (below (node_count net))) o k is)
   launch_of V s (Input.Local (Turn t)) (Some e) o k is = (e, refl, t, refl)
   launch_of V s (Input.Mail from e) made o k is = absurd (go (s.links from) k)
     where
@@ -87,7 +92,23 @@ module _ (net : Net) (me : ℕ) where
       go true (inl q) = subst IsLaunch (sym q) is
       go true (inr none) = none
       go false none = none
-  launch_of V s input made o k is = absurd k
+  launch_of V s (Input.Ack from f n) made o k is = absurd k
+  launch_of V s (Input.Local (Local.Linked v)) made o k is = absurd k
+  launch_of V s (Input.Local (Local.Unlinked v)) made o k is = absurd k
+  launch_of V s (Input.Local (Local.Typed to c)) made o k is = absurd k
+  launch_of V s (Input.Local (Local.Started j)) made o k is = absurd k
+  launch_of V s (Input.Local (Local.StartFailed j)) made o k is = absurd k
+  launch_of V s (Input.Local (Local.Ended j rc)) made o k is = absurd k
+  launch_of V s (Input.Local (Local.Fulfil p i)) made o k is = absurd k
+  launch_of V s (Input.Local (Local.Next drafts)) made o k is = absurd k
+
+launch_effect : (net : Net) (me : ℕ) (V : View) (s : Session) (input : Input) (o : Out) → IsIn o (effect net me V s input).outs
+    → IsLaunch o → (e : Entry) × ((effect net me V s input).made ≡ Some e) × (t : ℕ) × (input ≡ Input.Local (Turn t))
+unfolding effect
+launch_effect net me V s input o k is =
+    launch_of (present_net net (view_with V (makes (present_net net V) me V s input))) me
+    (view_with V (makes (present_net net V) me V s input)) (next_session V s input (makes (present_net net V) me V s input)) input
+    (makes (present_net net V) me V s input) o k is
 
 -- the entry of a turn is an event of the node's own
 turn_own : (old new : NodeState) (t : ℕ) (step_ : Step) → IsTaken old (Input.Local (Turn t)) step_ new → (e : Entry)
@@ -103,10 +124,10 @@ turn_own old new t step_ taken e is =
 
 launch_kept : (old new : NodeState) (input : Input) (step_ : Step) → IsTaken old input step_ new → (o : Out)
     → IsIn o step_.outs → IsLaunch o → (e : Entry) × (step_.kept ≡ Some e) × (e.feed ≡ Events old.me)
-unfolding effect
 launch_kept old new input step_ taken o k is =
     let f : IsEffect old input (effect_in step_ new) = its_effect old new input step_ taken in
-    let it = launch_of _ old.me _ _ input _ o (subst (IsIn o) (sym (ap (λ (d : Effect). d.outs) f.is)) k) is in
+    let it = launch_effect old.net old.me (view_in old) (session_in old) input o
+    (subst (IsIn o) (sym (ap (λ (d : Effect). d.outs) f.is)) k) is in
     let kept_ : step_.kept ≡ Some it.0 = sym (ap (λ (d : Effect). d.made) f.is) ∙ it.1 in (
       it.0,
       kept_,

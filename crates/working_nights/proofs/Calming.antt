@@ -109,6 +109,57 @@ module _ (defs : Defs) (reads : ℕ → ℕ) where
     pub inside : AllByRecursion (IsInside reads) calm
     pub named : AreNamed new
 
+  -- one of them, and those behind it
+  module _ (p : Pass) (night other : Night) (old middle : Nodes) (sends : SendsAll night other) (names : AreNamed old)
+      (works : IsWorkingPass reads p) (none : IsUntold p) (h : Passes defs night p old middle) where
+    first : CalmPass defs p.ws (old p.ws) p.trace h.after
+    first = calm_pass defs p.ws (old p.ws) p.trace h.after (names p.ws h.ws_in) works.each none h.turn
+
+    abbrev calm_one : Pass
+    calm_one = record { ws = p.ws; trace = first.calm }
+
+    one : Passes defs other calm_one old middle
+    one = record {
+      ws_in = h.ws_in;
+      after = h.after;
+      turn = first.turn;
+      then_ = h.then_;
+      hears = λ a f k for.
+          let s = h.hears a f k for in (s.0, contains_of _ other (sends a _ (in_of _ night s.1)));
+      written = λ e k.
+          h.written e (subst (λ (l : List Entry). Contains l e) (like_kept first.calm p.trace first.like) k);
+    }
+
+    later_sends : SendsAll (night ++ happened_in p) (other ++ happened_in calm_one)
+    later_sends =
+        sends_on night other (happened_in p) (happened_in calm_one) sends
+        (λ a call i. sends_here a call p calm_one refl (like_turned first.calm p.trace first.like) i)
+
+    later_names : AreNamed middle
+    later_names v v_in =
+        elim (eqb_tells v p.ws) [
+          | inl t ↦ subst (λ (u : ℕ). (middle u).node.me ≡ u) (sym t.1)
+              (ap (λ (n : Running). n.node.me) (ap (λ (m : Nodes). m p.ws) h.then_ ∙ together p.ws h.after (old p.ws)) ∙ first.me_)
+          | inr t ↦ ap (λ (n : Running). n.node.me)
+              (ap (λ (m : Nodes). m v) h.then_ ∙ apart v p.ws h.after (old v) (λ e. t.1 (sym e))) ∙ names v v_in
+        ]
+
+    with_rest : (ps : List Pass) (new : Nodes) → CalmPasses (other ++ happened_in calm_one) ps middle new
+        → CalmPasses other (p ∷ ps) old new
+    with_rest ps new rest = record {
+      calm = calm_one ∷ rest.calm;
+      passes = (middle, one, rest.passes);
+      like = ((refl, first.like), rest.like);
+      inside = (
+        record {
+          each = first.inside;
+          stands = like_readings first.calm p.trace first.like ∙ works.stands;
+        },
+        rest.inside,
+      );
+      named = rest.named;
+    }
+
   pub calm_passes : (ps : List Pass) (night other : Night) (old new : Nodes) → SendsAll night other → AreNamed old
       → AllByRecursion (IsWorkingPass reads) ps → AllByRecursion IsUntold ps → ArePasses defs night ps old new
       → CalmPasses other ps old new
@@ -119,53 +170,9 @@ module _ (defs : Defs) (reads : ℕ → ℕ) where
     inside = tt;
     named = subst AreNamed (sym h) names;
   }
-  calm_passes (p ∷ ps) night other old new sends names works none h = record {
-    calm = q ∷ rest.calm;
-    passes = (h.0, one, rest.passes);
-    like = ((refl, first.like), rest.like);
-    inside = (
-      record {
-        each = first.inside;
-        stands = like_readings first.calm p.trace first.like ∙ works.0.stands;
-      },
-      rest.inside,
-    );
-    named = rest.named;
-  }
-    where
-      first : CalmPass defs p.ws (old p.ws) p.trace h.1.after
-      first = calm_pass defs p.ws (old p.ws) p.trace h.1.after (names p.ws h.1.ws_in) works.0.each none.0 h.1.turn
-
-      q : Pass
-      q = record { ws = p.ws; trace = first.calm }
-
-      one : Passes defs other q old h.0
-      one = record {
-        ws_in = h.1.ws_in;
-        after = h.1.after;
-        turn = first.turn;
-        then_ = h.1.then_;
-        hears = λ a f k for.
-            let s = h.1.hears a f k for in
-            (s.0, contains_of _ other (sends a _ (in_of _ night s.1)));
-        written = λ e k.
-            h.1.written e (subst (λ (l : List Entry). Contains l e) (like_kept first.calm p.trace first.like) k);
-      }
-
-      later_sends : SendsAll (night ++ happened_in p) (other ++ happened_in q)
-      later_sends =
-          sends_on night other (happened_in p) (happened_in q) sends
-          (λ a call i. sends_here a call p q refl (like_turned first.calm p.trace first.like) i)
-
-      later_names : AreNamed h.0
-      later_names v v_in =
-          elim (eqb_tells v p.ws) [
-            | inl t ↦ subst (λ (u : ℕ). (h.0 u).node.me ≡ u) (sym t.1)
-                (ap (λ (n : Running). n.node.me) (ap (λ (m : Nodes). m p.ws) h.1.then_ ∙ together p.ws h.1.after (old p.ws)) ∙ first.me_)
-            | inr t ↦ ap (λ (n : Running). n.node.me)
-                (ap (λ (m : Nodes). m v) h.1.then_ ∙ apart v p.ws h.1.after (old v) (λ e. t.1 (sym e))) ∙ names v v_in
-          ]
-
-      rest : CalmPasses (other ++ happened_in q) ps h.0 new
-      rest =
-          calm_passes ps (night ++ happened_in p) (other ++ happened_in q) h.0 new later_sends later_names works.1 none.1 h.2
+  calm_passes (p ∷ ps) night other old new sends names works none h =
+      with_rest p night other old h.0 sends names works.0 none.0 h.1 ps new
+      (calm_passes ps (night ++ happened_in p)
+      (other ++ happened_in (calm_one p night other old h.0 sends names works.0 none.0 h.1)) h.0 new
+      (later_sends p night other old h.0 sends names works.0 none.0 h.1)
+      (later_names p night other old h.0 sends names works.0 none.0 h.1) works.1 none.1 h.2)

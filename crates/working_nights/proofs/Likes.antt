@@ -76,11 +76,12 @@ like_readings (a ∷ s) [] h = absurd h
 
 pub like_sends : (s t : Trace) → Like s t → (call : Sent) → IsIn (Event.Sends call) s → IsIn (Event.Sends call) t
 like_sends [] [] h call k = k
-like_sends (a ∷ s) (b ∷ t) h call k = go h.0 k
+like_sends (a ∷ s) (b ∷ t) h call k = go h.0 k (like_sends s t h.1 call)
   where
-    go : LikeEvent a b → ((a ≡ Event.Sends call) ⊎ IsIn (Event.Sends call) s) → IsIn (Event.Sends call) (b ∷ t)
-    go (inl e) (inl q) = inl (sym e ∙ q)
-    go (inr l) (inl q) = telling_sends a call l.0 q
-    go e (inr i) = inr (like_sends s t h.1 call i)
+    go : LikeEvent a b → ((a ≡ Event.Sends call) ⊎ IsIn (Event.Sends call) s)
+        → (IsIn (Event.Sends call) s → IsIn (Event.Sends call) t) → IsIn (Event.Sends call) (b ∷ t)
+    go (inl e) (inl q) later = inl (sym e ∙ q)
+    go (inr l) (inl q) later = telling_sends a call l.0 q
+    go e (inr i) later = inr (later i)
 like_sends [] (b ∷ t) h call k = absurd h
 like_sends (a ∷ s) [] h call k = absurd h

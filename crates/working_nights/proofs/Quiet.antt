@@ -172,7 +172,8 @@ looks_calm w place old trace new me each own h = go h.answer h.split h.acts
 probing_calm : (w : ℕ) (old : Running) (trace : Trace) (new : Running) → old.node.me ≡ w → AreWorking w trace
     → NoOwn w (kept trace) → Probing old trace None new → QuietPart old new trace Probing w
 probing_calm w old trace new me each own h =
-    go (next_probe (view_in old.node) old.node.me old.asked) h
+    let q = go (next_probe (view_in old.node) old.node.me old.asked) h in
+    record { calm = q.calm; acts = q.acts; inside = q.inside; like = q.like; me_ = q.me_ }
   where
     go : (o : Option DepPlace) → IfThere o (λ (place : DepPlace). λ o t e n. Looks place o t e n) Nothing old trace None new
         → QuietPart old new trace (IfThere o (λ (place : DepPlace). λ o t e n. Looks place o t e n) Nothing) w

@@ -4,7 +4,7 @@ use Rattle.std.specs.List.{AllByRecursion}
 use Rattle.std.specs.Prelude.{Ok}
 use Rattle.lemmas.proofs.Booleans.{or_cases}
 use Rattle.lemmas.proofs.Lists.{all_append}
-use Rattle.model.specs.Types.{Input, Net, Take, Unlinked, WorldStep}
+use Rattle.model.specs.Types.{Deliver, Input, Linked, Net, Take, Turn, Unlinked, WorldStep}
 use Rattle.model.specs.FreeSteps.{free_step, recounted}
 use Rattle.model.specs.Invariant.{Invariant}
 use Rattle.model.specs.Network.{node_count}
@@ -15,18 +15,19 @@ use Rattle.model.specs.World.{Origin, World, apply_effect}
 use Rattle.model_laws.proofs.FreeRuns.{free_kept}
 use Rattle.model_laws.proofs.Steps.{step_of}
 use Rattle.rest_laws.specs.Gains.{gained}
-use Rattle.rest_laws.specs.Left.{Caps, Covers, caps_of, entries, left}
+use Rattle.rest_laws.specs.Left.{Caps, Covers, caps_of, entries, keeps_to, left}
 use Rattle.rest_laws.specs.Rounds.{AreTaken}
 use Rattle.rest_laws.specs.Short.{are_answers_short}
 use Rattle.rest_laws.proofs.Bounds.{covered, most_is, times_low}
 use Rattle.rest_laws.proofs.Gains.{at_most, kept_run}
 use Rattle.rest_laws.proofs.Leads.{took}
 use Rattle.rest_laws.proofs.Lefts.{covers_same, left_same}
-use Rattle.rest_laws.proofs.Rises.{Rises, rises_after, rises_counted, rises_on, rises_self}
+use Rattle.rest_laws.proofs.Busy.{links_rise}
+use Rattle.rest_laws.proofs.Rises.{Rises, rises_after, rises_counted, rises_on, rises_self, step_moves}
 use Rattle.rest_laws.proofs.Rounds.{taken_append}
 use Rattle.launches_at_rest.specs.Tells.{tells_left, work_bound}
-use Rattle.launches_at_rest.specs.Told.{works_at}
-use Rattle.launches_at_rest.proofs.Gaining.{kept_rises}
+use Rattle.launches_at_rest.specs.Told.{is_told, works_at}
+use Rattle.launches_at_rest.proofs.Telling.{told_by}
 use Rattle.launches_at_rest.proofs.Keeping.{WorkKeeps, step_works, tells_same}
 use Rattle.launches_at_rest.proofs.Short.{work_short}
 
@@ -38,6 +39,22 @@ abbrev pub may_pass : (ℕ → ℕ) → WorldStep → Bool
 may_pass reads s = works_at (λ w. reads w ∷ []) s || is_breaking s
 
 module _ (net : Net) where
+  -- what goes on in a network loses nothing
+  old_rises : (readings : ℕ → List ℕ) (x z : World) (s : WorldStep) → keeps_to readings s ≡ true → free_step net x s ≡ Ok z
+      → Rises x z
+  old_rises readings x z (Take w (Turn t)) h e = (step_moves net x z (Take w (Turn t)) refl e).rises
+  old_rises readings x z (Take w (Linked v)) h e = links_rise net (Take w (Linked v) ∷ []) x z (refl, tt) (z, e, refl)
+  old_rises readings x z (Deliver a b k) h e = (step_moves net x z (Deliver a b k) refl e).rises
+  old_rises readings x z _ h e = cc
+
+  kept_rises : (readings : ℕ → List ℕ) (x z : World) (s : WorldStep) → works_at readings s ≡ true → free_step net x s ≡ Ok z
+      → Rises x z
+  kept_rises readings x z s h e =
+      elim (or_cases (keeps_to readings s) (is_told s) h) [
+        | inl k ↦ old_rises readings x z s k e
+        | inr k ↦ (told_by net x z s k e).told.makes_.rises
+      ]
+
   broken_same : (x z : World) (w v : ℕ) → free_step net x (Take w (Unlinked v)) ≡ Ok z → z.history ≡ x.history
   unfolding free_step apply_effect effect makes own_entry event_of
   broken_same x z w v e = sym (ap (λ (y : World). y.history) (took net (recounted x) z w (Unlinked v) e).1)
@@ -90,7 +107,7 @@ module _ (net : Net) where
       elim (or_cases (works_at (λ w. reads w ∷ []) s) (is_breaking s) h) [
         | inl k ↦ record {
           keeps = step_works net caps (λ w. reads w ∷ []) x z inv covers s k e;
-          rises = kept_rises net (λ w. reads w ∷ []) x z s k e;
+          rises = kept_rises (λ w. reads w ∷ []) x z s k e;
           short = λ short. work_short net x z short (λ w. reads w ∷ []) s k e;
         }
         | inr k ↦ break_passed caps reads x z s covers k e

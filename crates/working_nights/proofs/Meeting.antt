@@ -153,7 +153,7 @@ module _ (defs : Defs) (tree : IsTree (net_of defs)) (few : node_count (net_of d
       sent_back : (a b : ℕ) (f : Frame) (ps qs : List Pass) → LikePasses ps qs → IsSentIn ps a b f → IsSentIn qs a b f
       sent_back a b f ps qs like s = contains_of _ (happened qs) (sends_in a _ ps qs like (in_of _ (happened ps) s))
 
-      plain_round : IsNodeRound defs reads night old new
+      abbrev plain_round : IsNodeRound defs reads night old new
       plain_round = record {
         turning = calm_first.calm;
         arriving = calm_second.calm;

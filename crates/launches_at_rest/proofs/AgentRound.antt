@@ -27,15 +27,15 @@ use Rattle.launches_at_rest.specs.Worked.{work_turned, work_turns}
 
 -- steps that are taken by computation
 module _ (net : Net) where
-  is_ok : Result World StepRefused → Bool
+  unfoldable pub is_ok : Result World StepRefused → Bool
   is_ok (Ok z) = true
   is_ok (Err r) = false
 
-  are_ok : World → List WorldStep → Bool
+  unfoldable pub are_ok : World → List WorldStep → Bool
   are_ok x [] = true
   are_ok x (s ∷ steps) = is_ok (free_step net x s) && are_ok (or_as_before x (free_step net x s)) steps
 
-  ok_taken : (steps : List WorldStep) (x : World) → are_ok x steps ≡ true → AreTaken net x steps (free_run net steps x)
+  pub ok_taken : (steps : List WorldStep) (x : World) → are_ok x steps ≡ true → AreTaken net x steps (free_run net steps x)
   unfolding are_ok is_ok free_run
   ok_taken [] x h = refl
   ok_taken (s ∷ steps) x h = go (free_step net x s) refl h (λ z k. ok_taken steps z k)

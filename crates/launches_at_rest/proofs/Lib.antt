@@ -8,3 +8,4 @@ pub mod Resting
 pub mod Short
 pub mod AgentRound
 pub mod Again
+pub mod AgentRest

@@ -62,3 +62,10 @@ work_readings w = 1 ∷ []
 
 abbrev pub work_clocks : ℕ → ℕ → ℕ
 work_clocks k w = 1
+
+-- the same day without the limits of a replay, and where the round leads
+unfoldable pub free_begun : World
+free_begun = free_run pair work_orders empty_world
+
+unfoldable pub free_ended : World
+free_ended = free_run pair work_round free_begun

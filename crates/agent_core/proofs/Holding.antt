@@ -1,14 +1,16 @@
 -- What a node sees with one entry more.
-use Rattle.std.proofs.Common.{◌≡◌, ◌<◌, ◌∷◌, ◌∙◌, ◌++◌, [], ℕ, List, None, Option, Some, ap, refl, subst}
+use Rattle.std.proofs.Common.{◌≡◌, ◌<◌, ◌∷◌, ◌∙◌, ◌++◌, [], ℕ, Bool, List, None, Option, Some, ap, false, refl, subst, true}
 use Rattle.std.proofs.Common.{inl, inr, sym}
 use Rattle.std.proofs.lemmas.List.{append-nil}
 use Rattle.std.specs.Option.{option_to_list}
-use Rattle.std.specs.Prelude.{unwrap_or}
+use Rattle.std.specs.Prelude.{is_some, unwrap_or}
 use Rattle.model.specs.Types.{Entry, Events, Feed, LiveJob, Net}
 use Rattle.model.specs.Network.{node_count}
 use Rattle.model.specs.History.{View, list_of, view_of, view_with}
 use Rattle.model.specs.PresentNet.{present_net}
 use Rattle.ready_index.specs.declared.index.Index.{Index}
+use Rattle.mailman_core.specs.Listed.{AreListed}
+use Rattle.mailman_core.proofs.Listing.{no_rows}
 use Rattle.agent_core.specs.Standing.{Idles, IsStanding, Tracks}
 use Rattle.model_laws.proofs.Feeds.{feed_cases, pushed_cases}
 use Rattle.model_laws.proofs.PresentNets.{by_one, one_count}
@@ -92,3 +94,16 @@ pub standing_idle : (net present : Net) (me : ℕ) (kept : List Entry) (index : 
     → IsStanding net present me kept index live (Some t)
 standing_idle net present me kept index live idle_until t h k =
     record { inside = h.inside; here = h.here; tracks = h.tracks; idles = k }
+
+-- the feeds that were listed, one entry further
+pub listed_next : (present next : Net) (me : ℕ) (kept later : List Entry) (e : Entry) (switched : Option Net)
+    (is_switched : Bool) (old new : List (Option (List ℕ))) → later ≡ kept ++ e ∷ [] → next ≡ unwrap_or switched present
+    → is_switched ≡ is_some switched
+    → (is_switched ≡ false → (net : Net) (held : List Entry) (n : ℕ) → AreListed net (view_of held) n old
+    → AreListed net (view_of (held ++ e ∷ [])) n new)
+    → (is_switched ≡ true → new ≡ []) → AreListed present (view_of kept) me old → AreListed next (view_of later) me new
+listed_next present next me kept later e None b old new k n is stay gone h =
+    subst (λ (net : Net). AreListed net (view_of later) me new) (sym n)
+    (subst (λ (l : List Entry). AreListed present (view_of l) me new) (sym k) (stay is present kept me h))
+listed_next present next me kept later e (Some net) b old new k n is stay gone h =
+    no_rows next (view_of later) me new (gone is)

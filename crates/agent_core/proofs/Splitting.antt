@@ -8,7 +8,8 @@ use Rattle.agent_core.specs.Steps.{IsDue, IsStep, effect_in, step_at}
 use Rattle.agent_core.specs.declared.faults.Step.{Step}
 use Rattle.agent_core.specs.declared.faults.StepFault.{StepFault}
 
-as_old : (old mid new : NodeState) (i : Input) (r : Result Step StepFault) → mid ≡ old → IsStep mid i r new
+-- from a state that is the old one
+pub as_old : (old mid new : NodeState) (i : Input) (r : Result Step StepFault) → mid ≡ old → IsStep mid i r new
     → IsStep old i r new
 as_old old mid new i r e h = subst (λ (n : NodeState). IsStep n i r new) e h
 

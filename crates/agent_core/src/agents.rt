@@ -7,7 +7,8 @@ ghost use Rattle.agent_core.specs.Nodes.{present_in, session_in};
 
 use crate::trackers::Tracker;
 use base_types::{Feed, Live, Moment, NoMemory, Ws};
-use mailman_core::Mail;
+use mailman_core::{ListedFeeds, Mail, listed_feeds};
+use mailman_routes::passes_own_alone;
 use network_tree::Network;
 use owner_fold::Owners;
 use std::alloc::Global;
@@ -24,19 +25,25 @@ pub struct Agent {
     pub(crate) tracker: Tracker,
     pub(crate) mail: Mail,
     pub(crate) live: Live,
+    /// By the number of a neighbour, the feeds of events of which all that goes to it are some, where they were found
+    /// since the entries changed them last.
+    pub(crate) listed: ListedFeeds,
     /// Up to this reading turns keep nothing: one did not, and nothing has changed since.
     pub(crate) idle_until: Option<Moment>,
 }
 
 impl Model for Agent {
     ghost use Rattle.agent_core.specs.Nodes.{NodeState};
+    ghost use Rattle.model.specs.History.{view_of};
+    ghost use Rattle.mailman_core.specs.Listed.{AreListed};
     ghost use Rattle.agent_core.specs.Standing.{IsStanding};
 
     ghost Value = { NodeState };
 
     ghost view = { λ a. record { net = a.net; me = a.me; kept = a.owners; mail = a.mail; live = a.live } };
 
-    ghost invariant = { λ a. IsStanding a.net a.present a.me a.owners a.tracker.index a.live a.idle_until };
+    ghost invariant = { λ a. IsStanding a.net a.present a.me a.owners a.tracker.index a.live a.idle_until
+        × AreListed a.present (view_of a.owners) a.me a.listed };
 }
 
 /// Written out, so that dropping one is a call for whoever owns it.
@@ -51,6 +58,7 @@ impl Drop for Agent {
             tracker: _tracker,
             mail: _mail,
             live: _live,
+            listed: _listed,
             idle_until: _idle_until,
         } = self;
     }
@@ -112,6 +120,20 @@ impl Agent {
         self.mail.clear();
         self.live = self.live.empty();
         self.idle_until = None;
+    }
+
+    /// Finds the feeds that may go to each neighbour, where they are not known. One that passes on its own events alone
+    /// needs no such list. Where memory runs out they stay unknown.
+    pub(crate) fn list_feeds(&mut self)
+        ensures { self.new ≡ self.old }
+    {
+        if !self.listed.is_empty() || passes_own_alone(&self.present, self.me) {
+            return;
+        }
+        match listed_feeds(self.alloc, &self.present, &self.owners, self.me) {
+            Ok(listed) => self.listed = listed,
+            Err(_) => {}
+        }
     }
 
     /// Lets the tracker make the index of the best job anew, where it was given up. Contracts see nothing of that: whatever

@@ -9,6 +9,7 @@ use crate::agents::Agent;
 use crate::faults::{Step, StepFault};
 use base_types::{Body, Entry, Feed, Items, Live, NoMemory};
 use entry_checks::entry_size;
+use mailman_core::forget_feeds;
 use manager_switch::present_after;
 use network_tree::Network;
 
@@ -59,6 +60,7 @@ impl Agent {
         let after = present_after(self.alloc, &self.present, e)?;
         self.owners.take(e)?;
         self.tracker.follow(&self.net, &self.owners, self.me, e);
+        forget_feeds(&mut self.listed, after.is_some(), e);
         put_network(&mut self.present, after);
         self.idle_until = None;
         Ok(())

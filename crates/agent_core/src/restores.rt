@@ -64,6 +64,7 @@ impl Agent {
         let tracker = Tracker::new();
         let mail = Mail::new(alloc);
         let live = Items::new(alloc);
+        let listed = Items::new(alloc);
         Ok(Agent {
             alloc,
             net,
@@ -73,6 +74,7 @@ impl Agent {
             tracker,
             mail,
             live,
+            listed,
             idle_until: None,
         })
     }

@@ -41,7 +41,7 @@ impl Agent {
     /// Takes an input. The step is that of the definitions: the entry that the node keeps, what it gives out, and its
     /// session after it; or the first fault that applies, and then the agent is as before. It takes all its memory
     /// before it changes anything, but for that of the index of the best job, which is made anew at the next step where
-    /// there is none.
+    /// there is none, and for that of the feeds that may go to neighbours, which a turn lists where they are not known.
     pub fn step(&mut self, input: &Input) -> Result<Step, StepFault>
         ensures taken { IfOk result (λ s. step_at self.old input.now ≡ Ok (effect_in s self.new)) }
         ensures kept { IfOk result (λ s. self.new.kept ≡ self.old.kept ++ option_to_list s.kept) }

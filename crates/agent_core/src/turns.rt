@@ -1,5 +1,5 @@
 //! A turn.
-ghost use Rattle.std.specs.Prelude.{◌≡◌, ◌<◌, ◌≤◌, ◌*◌, ◌+◌, ◌++◌, ◌∷◌, [], IfOk, None, Some, true};
+ghost use Rattle.std.specs.Prelude.{◌≡◌, ◌<◌, ◌≤◌, ◌*◌, ◌+◌, ◌++◌, ◌∷◌, [], IfOk, IfSome, None, Some, true};
 ghost use Rattle.std.specs.Option.{option_map_or, option_to_list};
 ghost use Rattle.model.specs.Types as types;
 ghost use Rattle.model.specs.Types.{Events};
@@ -9,6 +9,7 @@ ghost use Rattle.model.specs.Catalogue.{StreamJob, job};
 ghost use Rattle.model.specs.Facts.{open_launch};
 ghost use Rattle.model.specs.Turn as spec;
 ghost use Rattle.ready_index.specs.Standing.{IsIndexOf};
+ghost use Rattle.mailman_core.specs.Listed.{IsListed};
 ghost use Rattle.agent_core.specs.Nodes.{present_in, view_in};
 ghost use Rattle.agent_core.specs.Sending.{is_reached, kill_by, launch_by, live_with, sends_among, sends_to};
 ghost use Rattle.agent_core.specs.Steps.{IsKept, IsStep, IsTurnBody, Keeps};
@@ -16,7 +17,7 @@ ghost use Rattle.agent_core.specs.Steps.{IsKept, IsStep, IsTurnBody, Keeps};
 use crate::agents::Agent;
 use crate::faults::{Step, StepFault};
 use base_types::{
-    Body, Cmd, Copied, Entry, Growing, JobNo, Live, LiveJob, Moment, NoMemory, Out, Ws,
+    Body, Cmd, Copied, Entry, Growing, Items, JobNo, Live, LiveJob, Moment, NoMemory, Out, Ws,
 };
 use batchman_core::{is_clock_due, turn_body};
 use ready_index::Index;
@@ -171,6 +172,19 @@ impl Agent {
         self.put_batch(m, outs);
     }
 
+    /// The workstations among whose feeds of events are all that go to a neighbour, where they were found.
+    fn listed_for(&self, m: Ws) -> Option<&Items<Ws>>
+        ensures { IfSome result (λ ws. IsListed (present_in self.now) (view_in self.now) self.now.me m ws.now) }
+    {
+        match self.listed.get(usize::from(m.0)) {
+            None => None,
+            Some(row) => match row {
+                None => None,
+                Some(listed) => Some(listed),
+            },
+        }
+    }
+
     /// Puts what a neighbour has not acknowledged, up to eight entries, at the end of a list with room for them.
     fn put_batch(&self, m: Ws, outs: &mut Growing<Out>)
         requires inside { m < node_count (present_in self.now) }
@@ -178,8 +192,19 @@ impl Agent {
         ensures items { outs.new.items ≡ outs.old.items ++ sends_to self.now m }
         ensures room { outs.old.spare ≤ outs.new.spare + 8 }
     {
-        self.mail
-            .put_sends(&self.present, &self.owners, self.me, m, outs);
+        match self.listed_for(m) {
+            Some(listed) => self.mail.put_listed_sends(
+                &self.present,
+                &self.owners,
+                self.me,
+                m,
+                listed.as_slice(),
+                outs,
+            ),
+            None => self
+                .mail
+                .put_sends(&self.present, &self.owners, self.me, m, outs),
+        }
     }
 
     /// Puts what goes to the neighbours whose links are up at the end of a list with room for eight to each.
@@ -282,6 +307,7 @@ impl Agent {
     pub(crate) fn turned(&mut self, t: Moment) -> Result<Step, StepFault>
         ensures { IsStep self.old (types.Input.Local (types.Turn t)) result self.new }
     {
+        self.list_feeds();
         match self.due_body(t) {
             Ok(body) => self.turn_by(t, body),
             Err(fault) => Err(fault),

@@ -1,10 +1,10 @@
 -- A round in which something is told gains; one in which nothing is told is an open round of turns and deliveries.
-use Rattle.std.proofs.Common.{◌≡◌, ℕ, ◌+◌, ◌<◌, ◌≤◌, true, ◌⊎◌, inl, inr, List, [], ◌∷◌, ◌++◌, map, sym, subst, arith}
+use Rattle.std.proofs.Common.{◌≡◌, ℕ, ◌+◌, ◌<◌, ◌≤◌, true, ◌⊎◌, inl, inr, List, [], ◌∷◌, ◌++◌, map, refl, sym, subst, arith}
 use Rattle.std.specs.List.{AllByRecursion}
 use Rattle.std.specs.Prelude.{Ok, flat_map}
 use Rattle.lemmas.proofs.Booleans.{or_cases, or_made_left}
 use Rattle.lemmas.proofs.Lists.{all_such}
-use Rattle.model.specs.Types.{Events, Feed, Net, Orders, WorldStep}
+use Rattle.model.specs.Types.{Deliver, Events, Feed, Linked, Net, Orders, Take, Turn, WorldStep}
 use Rattle.model.specs.Words.{below}
 use Rattle.model.specs.Network.{IsTree, node_count}
 use Rattle.model.specs.Forwarding.{feeds}
@@ -12,15 +12,16 @@ use Rattle.model.specs.FreeSteps.{free_step}
 use Rattle.model.specs.Invariant.{Invariant}
 use Rattle.model.specs.World.{World}
 use Rattle.rest_laws.specs.Gains.{gained, gained_at, sum_over}
+use Rattle.rest_laws.specs.Left.{keeps_to}
 use Rattle.rest_laws.specs.Rest.{IsAtRest}
 use Rattle.rest_laws.specs.Rounds.{AreLinked, AreTaken, IsOpenRound, is_of_round}
-use Rattle.rest_laws.proofs.Busy.{gained_more}
+use Rattle.rest_laws.proofs.Busy.{gained_more, links_rise}
 use Rattle.rest_laws.proofs.Falls.{sum_over_falls}
 use Rattle.rest_laws.proofs.Gains.{gains, sum_over_low}
 use Rattle.rest_laws.proofs.Lefts.{sum_over_append, sum_over_map}
 use Rattle.rest_laws.proofs.Rises.{Rises, rises_on, rises_self, step_moves}
 use Rattle.rest_laws.proofs.Rounds.{taken_append}
-use Rattle.launches_at_rest.specs.Told.{IsWorkingRound, is_of_work, is_told}
+use Rattle.launches_at_rest.specs.Told.{IsWorkingRound, is_of_work, is_told, works_at}
 use Rattle.launches_at_rest.proofs.Telling.{ToldBy, told_by}
 
 module _ (net : Net) where
@@ -80,6 +81,21 @@ module _ (net : Net) where
   work_rises x z s h e =
       elim (or_cases (is_of_round s) (is_told s) h) [
         | inl k ↦ (step_moves net x z s k e).rises
+        | inr k ↦ (told_by net x z s k e).told.makes_.rises
+      ]
+
+  old_rises : (readings : ℕ → List ℕ) (x z : World) (s : WorldStep) → keeps_to readings s ≡ true → free_step net x s ≡ Ok z
+      → Rises x z
+  old_rises readings x z (Take w (Turn t)) h e = (step_moves net x z (Take w (Turn t)) refl e).rises
+  old_rises readings x z (Take w (Linked v)) h e = links_rise net (Take w (Linked v) ∷ []) x z (refl, tt) (z, e, refl)
+  old_rises readings x z (Deliver a b k) h e = (step_moves net x z (Deliver a b k) refl e).rises
+  old_rises readings x z _ h e = cc
+
+  pub kept_rises : (readings : ℕ → List ℕ) (x z : World) (s : WorldStep) → works_at readings s ≡ true → free_step net x s ≡ Ok z
+      → Rises x z
+  kept_rises readings x z s h e =
+      elim (or_cases (keeps_to readings s) (is_told s) h) [
+        | inl k ↦ old_rises readings x z s k e
         | inr k ↦ (told_by net x z s k e).told.makes_.rises
       ]
 

@@ -7,6 +7,7 @@ ghost use Rattle.model.specs.Network.{node_count};
 ghost use Rattle.model.specs.History.{View, view_of};
 ghost use Rattle.model.specs.Workstations.{ws_in_feed};
 ghost use Rattle.model.specs.Forwarding as spec;
+ghost use Rattle.mailman_core.specs.Listed.{IsListed};
 ghost use Rattle.mailman_core.specs.Mails.{acked_by};
 ghost use Rattle.mailman_core.specs.Sends.{sent, unsent};
 
@@ -73,6 +74,18 @@ fn add_places(batch: &mut Batch, feed: &Feed, acked: u32, held: u32)
             feed: *feed,
             place: behind + 1,
         });
+    }
+}
+
+/// Puts the sends of these entries to a workstation at the end of a list with room for eight.
+fn put_places(batch: &Batch, to: Ws, outs: &mut Growing<Out>)
+    requires few { length batch.now.items ≤ 8 }
+    requires room { 8 ≤ outs.old.spare }
+    ensures outs { outs.new.items ≡ outs.old.items ++ map (sent to) batch.now.items }
+    ensures room { outs.old.spare ≤ outs.new.spare + 8 }
+{
+    for found in batch.as_slice() {
+        outs.put(Out::Send(to, Packet::Mail(found.feed, found.place)));
     }
 }
 
@@ -161,6 +174,33 @@ impl Mail {
         }
     }
 
+    /// Adds what is to be sent of the feeds of events, of which those of these workstations alone are looked at.
+    fn add_listed_events(
+        &self,
+        net: &Network,
+        o: &Owners,
+        me: Ws,
+        to: Ws,
+        listed: &[Ws],
+        batch: &mut Batch,
+    )
+        requires from { me < node_count net.now }
+        requires to { to < node_count net.now }
+        requires listed { IsListed net.now (view_of o.now) me to listed.now }
+        requires few { length batch.old.items ≤ 8 }
+        ensures { batch.new.items ≡ take 8 (batch.old.items
+            ++ unsent net.now (view_of o.now) me to (acked_by self.now to)
+            (map types.Events (below (node_count net.now)))) }
+    {
+        for w in listed {
+            if is_full(batch) {
+                return;
+            }
+            let feed = Feed::Events(*w);
+            self.add_feed(net, o, me, to, &feed, batch);
+        }
+    }
+
     /// Adds what is to be sent of the orders of one issuer, whose feeds are not looked at where none is held.
     fn add_orders_of(&self, net: &Network, o: &Owners, me: Ws, to: Ws, a: Ws, batch: &mut Batch)
         requires from { me < node_count net.now }
@@ -216,6 +256,21 @@ impl Mail {
         batch
     }
 
+    /// The first eight entries that `to` has not acknowledged, of whose feeds of events those of these workstations alone
+    /// are looked at.
+    #[tactic(auto, using(crate::proofs::Unsent::all_feeds))]
+    fn listed_batch(&self, net: &Network, o: &Owners, me: Ws, to: Ws, listed: &[Ws]) -> Batch
+        requires from { me < node_count net.now }
+        requires to { to < node_count net.now }
+        requires listed { IsListed net.now (view_of o.now) me to listed.now }
+        ensures { result.items ≡ spec.to_send net.now (view_of o.now) me to (acked_by self.now to) }
+    {
+        let mut batch = ArrayVec::new();
+        self.add_listed_events(net, o, me, to, listed, &mut batch);
+        self.add_orders(net, o, me, to, &mut batch);
+        batch
+    }
+
     /// The feed and place of the i-th entry, counted from 0, that is to be sent to `to`: of the feeds that `me` passes
     /// on to it the first eight that it has not acknowledged, events before orders, feeds and places ascending. None
     /// where there are at most i. It takes no memory.
@@ -241,8 +296,29 @@ impl Mail {
         ensures room { outs.old.spare ≤ outs.new.spare + 8 }
     {
         let batch = self.batch(net, o, me, to);
-        for found in batch.as_slice() {
-            outs.put(Out::Send(to, Packet::Mail(found.feed, found.place)));
-        }
+        put_places(&batch, to, outs);
+    }
+
+    /// Puts all that is to be sent to `to` at the end of a list with room for eight, by a walk over the feeds that were
+    /// listed for it.
+    pub fn put_listed_sends(
+        &self,
+        net: &Network,
+        o: &Owners,
+        me: Ws,
+        to: Ws,
+        listed: &[Ws],
+        outs: &mut Growing<Out>,
+    )
+        requires from { me < node_count net.now }
+        requires to { to < node_count net.now }
+        requires listed { IsListed net.now (view_of o.now) me to listed.now }
+        requires room { 8 ≤ outs.old.spare }
+        ensures outs { outs.new.items ≡ outs.old.items ++ map (sent to)
+            (spec.to_send net.now (view_of o.now) me to (acked_by self.now to)) }
+        ensures room { outs.old.spare ≤ outs.new.spare + 8 }
+    {
+        let batch = self.listed_batch(net, o, me, to, listed);
+        put_places(&batch, to, outs);
     }
 }

@@ -13,15 +13,13 @@ use Rattle.model.specs.Invariant.{Invariant}
 use Rattle.model.specs.Locality.{SameEvents}
 use Rattle.model.specs.World as model
 use Rattle.model.specs.World.{view_at}
+use Rattle.rest_laws.proofs.Gains.{either}
 use Rattle.rest_laws.proofs.Shown.{outside_none}
 use Rattle.agent_core.specs.Nodes.{NodeState}
 use Rattle.symphony_view.specs.Listings.{listing_of}
 use Rattle.network_world.specs.Parts.{HoldAsMany, node_part}
 use Rattle.network_world.specs.Standing.{NodeStandsFor}
 use Rattle.network_world.proofs.Showing.{held_count}
-
-either : (m n : ℕ) → (m < n) ⊎ (n ≤ m)
-either m n = grind arith
 
 -- outside of the network nobody has events
 pub alike : (net : Net) (x : model.World) (a b : ℕ) → Invariant net x → HoldAsMany net x a b

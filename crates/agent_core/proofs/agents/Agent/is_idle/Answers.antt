@@ -12,5 +12,5 @@ returns-then-t-until c =
     let earlier : c.args.t ≤ c.in-Some.until = omega (arith, c.if-t-until.true, c.t.view_is, c.until.view_is) in
     λ _. earlier_idle state.net state.me state.owners state.live c.in-Some.until c.args.t
     (subst (λ (o : Option ℕ). IfSome o (Idles state.net state.me state.owners state.live)) c.in-Some.is
-    c.self.invariant.idles) earlier
+    c.self.invariant.0.idles) earlier
     ∙ ap (λ (n : NodeState). body_at n c.args.t) c.self.view_is

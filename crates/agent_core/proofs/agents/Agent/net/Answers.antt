@@ -7,8 +7,8 @@ use Rattle.agent_core.proofs.agents.Agent.net.Goals as goal
 pub returns : goal.returns
 returns c =
     record {
-      value = c.self.invariant.here ∙ ap present_in c.self.view_is;
+      value = c.self.invariant.0.here ∙ ap present_in c.self.view_is;
       inside =
           subst (λ (n : NodeState). n.me < node_count c.self.inside.present) c.self.view_is
-          (standing_inside _ _ _ _ _ _ _ c.self.invariant);
+          (standing_inside _ _ _ _ _ _ _ c.self.invariant.0);
     }

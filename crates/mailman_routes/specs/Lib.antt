@@ -1,0 +1,2 @@
+-- Which entries change whom feeds are passed on to.
+pub mod Quiet

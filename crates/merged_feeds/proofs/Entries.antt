@@ -2,24 +2,25 @@
 use Rattle.std.proofs.Common.{[], ℕ, ◌+◌, ◌++◌, ◌<◌, ◌∙◌, ◌∷◌, ◌≡◌, ◌≢◌, ◌⊎◌, List, Some, ap, arith, drop, false, inl, inr, length}
 use Rattle.std.proofs.Common.{length-append, refl, subst, suc, sym, take, take-append-drop, true, zero}
 use Rattle.std.proofs.lemmas.Option.{slice_get-get_or}
+use Rattle.std.specs.List.{All}
 use Rattle.std.specs.Prelude.{slice_get, slice_index_or}
 use Rattle.lemmas.proofs.Lists.{take_further}
 use Rattle.lemmas.proofs.Options.{some_same}
 use Rattle.model.specs.Types.{Body, Entry, Feed}
-use Rattle.model.specs.Fit.{AreFitEntries, IsFit}
 use Rattle.model.specs.Equalities.{feed_eq}
 use Rattle.model.specs.History.{list_of}
 use Rattle.model.specs.Sound.{Each, EachFrom, HasItsPlace}
 use Rattle.model.specs.Words.{nth}
 use Rattle.model_laws.proofs.Feeds.{feed_cases, list_of-append, list_of_elsewhere, list_of_here, pushed_cases}
 use Rattle.merged_feeds.specs.Causes.{StandsBehindItsCauses}
-use Rattle.merged_feeds.specs.Files.{AreFitFiles, AreFromFiles, ArePlaced}
+use Rattle.merged_feeds.specs.Files.{AreFromFiles, ArePlaced, IsKept}
+use Rattle.merged_feeds.specs.Merges.{HasTheLongest, IsHistoryOf}
 use Rattle.merged_feeds.specs.Walks.{DiffersFrom, IsOtherKept}
 use Rattle.merged_feeds.specs.declared.files.FeedPlace.{FeedPlace}
 use Rattle.merged_feeds.specs.declared.files.NodeFile.{NodeFile}
 use Rattle.merged_feeds.proofs.Listed.{placed_at}
-use Rattle.merged_feeds.proofs.Kept.{pushed_here}
-use Rattle.merged_feeds.proofs.Lists.{got_less, nth_in_front, nth_last}
+use Rattle.merged_feeds.proofs.Kept.{kept_by, pushed_here}
+use Rattle.merged_feeds.proofs.Lists.{got_less, none_there, nth_in_front, nth_last}
 
 -- An entry stands at its place of its feed.
 
@@ -120,24 +121,34 @@ unfolding list_of
 entry_at G f zero b each there = cc
 entry_at G f (suc i) b each there = entry_from [] G f i (suc i) b each there (omega arith)
 
--- So each entry of a history of fit files is fit.
+-- So each entry of a history is one of a file.
 
 placed_of : (files : List NodeFile) (before G : List Entry) → EachFrom (StandsBehindItsCauses files) before G
     → EachFrom HasItsPlace before G
 placed_of files before [] h = tt
 placed_of files before (e ∷ G) h = (h.0.placed, placed_of files (before ++ e ∷ []) G h.1)
 
-fit_there : (G : List Entry) (j : ℕ) (e : Entry) → AreFitEntries G → slice_get G j ≡ Some e → IsFit e
-fit_there G j e fit there =
-    subst IsFit
+there_of : (P : Entry → Type 0) (G : List Entry) (j : ℕ) (e : Entry) → All P G → slice_get G j ≡ Some e → P e
+there_of P G j e all there =
+    subst P
     (some_same (slice_index_or G j e) e (sym (slice_get-get_or G j e (got_less G j e there)) ∙ there))
-    (fit j e (got_less G j e there))
+    (all j e (got_less G j e there))
 
-pub fit_from : (files : List NodeFile) (G : List Entry) → ArePlaced files → AreFitFiles files → AreFromFiles files G
-    → Each (StandsBehindItsCauses files) G → AreFitEntries G
-fit_from files G placed fit from ordered k d less =
-    let e = slice_index_or G k d in
+from_longest : (files : List NodeFile) (G : List Entry) → HasTheLongest files G → AreFromFiles files G
+from_longest files G h f place b there =
+    elim (h.longest f) [
+      | inl none ↦ none_there (list_of G f) place b (IsKept files f place b) none there
+      | inr t ↦ kept_by files t.0 t.1 f place b t.2 (ap (λ (l : List Body). nth l place) (sym t.3) ∙ there)
+    ]
+
+-- what holds of each entry of the files holds of each of their history
+pub all_of_history : (P : Entry → Type 0) (files : List NodeFile) (G : List Entry) → ArePlaced files
+    → ((i : ℕ) (file : NodeFile) → slice_get files i ≡ Some file → All P file.kept) → IsHistoryOf files G → All P G
+all_of_history P files G placed each h k d less =
+    let e : Entry = slice_index_or G k d in
     let there : slice_get G k ≡ Some e = slice_get-get_or G k d less in
-    let kept = from e.feed e.place e.body (stands_at G k e (placed_of files [] G ordered) there) in
-    let found = entry_at kept.file.kept e.feed e.place e.body (placed kept.number kept.file kept.given) kept.kept in
-    fit_there kept.file.kept found.0 e (fit kept.number kept.file kept.given) found.1
+    let kept : IsKept files e.feed e.place e.body =
+    from_longest files G h.feeds e.feed e.place e.body (stands_at G k e (placed_of files [] G h.ordered) there) in
+    let found : IsThere kept.file.kept e.feed e.place e.body =
+    entry_at kept.file.kept e.feed e.place e.body (placed kept.number kept.file kept.given) kept.kept in
+    there_of P kept.file.kept found.0 e (each kept.number kept.file kept.given) found.1

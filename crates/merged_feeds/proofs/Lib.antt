@@ -9,3 +9,4 @@ pub mod Listed
 pub mod Steps
 pub mod Entries
 pub mod Made
+pub mod Found

@@ -3,7 +3,7 @@ use Rattle.std.proofs.Common.{[], ℕ, ◌+◌, ◌++◌, ◌<◌, ◌∙◌, �
 use Rattle.std.proofs.Common.{subst, suc, sym, take, zero}
 use Rattle.std.proofs.lemmas.List.{append-nil}
 use Rattle.std.specs.Prelude.{slice_get}
-use Rattle.lemmas.proofs.Lists.{get_in_front, take_further, take_none}
+use Rattle.lemmas.proofs.Lists.{get_in_front, get_last, take_further, take_none}
 use Rattle.lemmas.proofs.Numbers.{below_or_last}
 use Rattle.lemmas.proofs.Options.{some_same}
 use Rattle.model.specs.Types.{Body, Entry, Feed}
@@ -94,3 +94,8 @@ below_further files heads more i file below there b here j other less given =
           (subst (λ (x : NodeFile). AreHeadsOf more i x.kept)
           (some_same file other (sym there ∙ subst (λ (n : ℕ). slice_get files n ≡ Some other) e given)) here)
     ]
+
+pub pushed_among : (heads more : List Head) (i : ℕ) (f : Feed) → more ≡ heads ++ record { file = i; feed = f } ∷ []
+    → IsAmong more i f
+pushed_among heads more i f is =
+    (length heads, ap (λ (l : List Head). slice_get l (length heads)) is ∙ get_last heads (record { file = i; feed = f }))

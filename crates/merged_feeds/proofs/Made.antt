@@ -1,9 +1,12 @@
 -- What the maker of an entry made before it.
-use Rattle.std.proofs.Common.{[], ℕ, ◌+◌, ◌++◌, ◌<◌, ◌≤◌, ◌∙◌, ◌∷◌, ◌≡◌, ◌⊎◌, List, None, Option, Some, ap, arith, drop, inl, inr}
-use Rattle.std.proofs.Common.{length, length-append, refl, subst, sym, take, take-append-drop}
+use Rattle.std.proofs.Common.{[], ℕ, ◌+◌, ◌++◌, ◌<◌, ◌==◌, ◌≤◌, ◌∙◌, ◌∷◌, ◌≡◌, ◌⊎◌, Bool, List, None, Option, Some, ap, arith, drop, eq-eqb}
+use Rattle.std.proofs.Common.{get_or, inl, inr, refl, set, true}
+use Rattle.std.proofs.Common.{length, length-append, subst, sym, take, take-append-drop}
 use Rattle.std.proofs.lemmas.Bool.{cases_lt}
+use Rattle.std.proofs.lemmas.List.{get_or-set_other, get_or-set_same}
 use Rattle.std.specs.Prelude.{IfSome, slice_get, slice_index}
 use Rattle.lemmas.proofs.Lists.{got_below, take_further, take_less, take_none}
+use Rattle.lemmas.proofs.Numbers.{below_or_last, eq_tells}
 use Rattle.lemmas.proofs.Options.{some_same}
 use Rattle.model.specs.Types.{Body, Entry, Feed}
 use Rattle.model.specs.History.{list_of, maker}
@@ -12,7 +15,7 @@ use Rattle.model.specs.Words.{nth}
 use Rattle.model_laws.proofs.Feeds.{list_of-append, pushed_cases}
 use Rattle.merged_feeds.specs.Causes.{IsBehindItsMakers}
 use Rattle.merged_feeds.specs.Files.{AreAlike, ArePlaced, IsKept}
-use Rattle.merged_feeds.specs.Walks.{AreBehind, AreMadeBefore, IsAhead, IsAheadIn, IsBehindIn, IsMadeBefore, IsNextMade}
+use Rattle.merged_feeds.specs.Walks.{AreBehind, AreMadeBefore, IsAhead, IsAheadIn, IsBehindAt, IsBehindIn, IsMadeBefore, IsNextMade}
 use Rattle.merged_feeds.specs.Walks.{IsNoLess, IsOther, IsWaiting, entry_next}
 use Rattle.merged_feeds.specs.declared.files.NodeFile.{NodeFile}
 use Rattle.merged_feeds.proofs.Entries.{entry_at, same_entry, stands_at}
@@ -240,3 +243,61 @@ ahead_of files taken f place b alike placed kept next a h =
 
     its : a.ahead.entry ≡ entry_next f b taken
     its = same_entry a.ahead.entry f (length (list_of taken f) + 1) b (sym a.ahead.feed_) (sym (a.ahead.place_ ∙ next)) same
+
+-- the place at which a walk over the entries stops
+pub next_here : (file : NodeFile) (taken entries : List Entry) (at_ : ℕ) (e : Entry) → entries ≡ file.kept
+    → slice_get entries at_ ≡ Some e → IsMadeBefore file taken at_ → IsWaiting file taken e → IsNextMade file taken at_
+next_here file taken entries at_ e are there before waits =
+    record {
+      before = before;
+      waits = subst (λ (o : Option Entry). IfSome o (IsWaiting file taken))
+          (sym there ∙ ap (λ (l : List Entry). slice_get l at_) are) waits;
+    }
+
+pub next_past : (file : NodeFile) (taken entries : List Entry) (at_ : ℕ) → entries ≡ file.kept → length entries ≤ at_
+    → IsMadeBefore file taken at_ → IsNextMade file taken at_
+next_past file taken entries at_ are past before =
+    record { before = before; waits = nothing (slice_get file.kept at_) refl }
+  where
+    nothing : (o : Option Entry) → slice_get file.kept at_ ≡ o → IfSome o (IsWaiting file taken)
+    nothing None is = tt
+    nothing (Some e) is = absurd (omega (arith, got_less file.kept at_ e is, past, ap length are))
+
+-- whether a workstation makes a feed, by a test
+pub made_by : (file : NodeFile) (f : Feed) (r : Bool) → r ≡ (maker f == file.owner) → maker f ≡ file.owner → r ≡ true
+made_by file f r is mine = is ∙ eq-eqb (maker f) file.owner mine
+
+pub by_maker : (file : NodeFile) (f : Feed) (r : Bool) → r ≡ (maker f == file.owner) → r ≡ true → maker f ≡ file.owner
+by_maker file f r is yes_ = eq_tells (maker f) file.owner (sym is ∙ yes_)
+
+-- the file of this number
+pub behind_at_of : (files : List NodeFile) (number : ℕ) (file : NodeFile) (taken : List Entry) (f : Feed) (place : ℕ)
+    → slice_get files number ≡ Some file → IsBehindIn file taken f place → IsBehindAt files number taken f place
+behind_at_of files number file taken f place given h other its =
+    subst (λ (x : NodeFile). IsBehindIn x taken f place) (some_same file other (sym given ∙ its)) h
+
+-- the files below this one
+pub behind_below : (files : List NodeFile) (taken : List Entry) (f : Feed) (place number : ℕ)
+    → ((i : ℕ) → i < number → IsBehindAt files i taken f place) → IsBehindAt files number taken f place
+    → (i : ℕ) → i < number + 1 → IsBehindAt files i taken f place
+behind_below files taken f place number below here i less =
+    elim (below_or_last i number less) [
+      | inl before ↦ below i before
+      | inr e ↦ subst (λ (n : ℕ). IsBehindAt files n taken f place) (sym e) here
+    ]
+
+-- a place that is noted
+pub noted_at : (xs : List ℕ) (k v i : ℕ) → k < length xs
+    → (slice_index (set xs k v) i ≡ slice_index xs i) ⊎ ((i ≡ k) × (slice_index (set xs k v) i ≡ v))
+noted_at xs k v i within =
+    elim (cases_lt i k) [
+      | inl below ↦ inl (get_or-set_other xs k i v 0 (λ e. absurd (omega (arith, e, below))))
+      | inr not ↦ elim (cases_lt k i) [
+          | inl above ↦ inl (get_or-set_other xs k i v 0 (λ e. absurd (omega (arith, e, above))))
+          | inr same ↦ inr (
+              omega (arith, not, same),
+              ap (λ (n : ℕ). get_or (set xs k v) n 0) (let e : i ≡ k = omega (arith, not, same) in e)
+                  ∙ get_or-set_same xs k v 0 within,
+            )
+        ]
+    ]

@@ -1,5 +1,5 @@
 -- One step of a walk: what a list has next is taken, or the list stands still.
-use Rattle.std.proofs.Common.{[], ℕ, ◌+◌, ◌++◌, ◌<◌, ◌≤◌, ◌∙◌, ◌∷◌, ◌≡◌, Bool, List, None, Some, arith, false, length, refl, subst}
+use Rattle.std.proofs.Common.{[], ℕ, ◌+◌, ◌++◌, ◌<◌, ◌≤◌, ◌∙◌, ◌∷◌, ◌≡◌, Bool, List, None, Option, Some, ap, arith, false, length, refl, subst}
 use Rattle.std.proofs.Common.{sym, true}
 use Rattle.std.specs.Prelude.{slice_get}
 use Rattle.lemmas.proofs.Options.{some_same}
@@ -7,8 +7,9 @@ use Rattle.model.specs.Types.{Body, Entry, Feed}
 use Rattle.model.specs.History.{list_of}
 use Rattle.model.specs.Words.{nth}
 use Rattle.merged_feeds.specs.Causes.{HasItsCauses, IsBehindItsMakers}
-use Rattle.merged_feeds.specs.Walks.{IsStep, StandsStill, entry_next, next_in}
+use Rattle.merged_feeds.specs.Walks.{IsStep, IsStepOf, StandsStill, entry_next, next_in}
 use Rattle.merged_feeds.specs.declared.files.NodeFile.{NodeFile}
+use Rattle.merged_feeds.specs.declared.heads.Head.{Head}
 use Rattle.merged_feeds.proofs.Lists.{got_less, nth_next}
 
 pub step_still : (files : List NodeFile) (kept : List Entry) (f : Feed) (old : List Entry) → StandsStill files kept f old
@@ -59,3 +60,16 @@ step_takes files kept f old new b next causes made taken =
       stays = λ e. cc;
       still = λ e. cc;
     }
+
+-- the list of a head, by the file that it is of
+pub step_of : (files : List NodeFile) (head : Head) (file : NodeFile) (old : List Entry) (some : Bool) (new : List Entry)
+    → slice_get files head.file ≡ Some file → IsStep files file.kept head.feed old some new
+    → IsStepOf files head old some new
+step_of files head file old some new given s other here =
+    subst (λ (x : NodeFile). IsStep files x.kept head.feed old some new) (some_same file other (sym given ∙ here)) s
+
+-- what a list has next, by a count of what was taken of it
+pub next_by : (kept : List Entry) (f : Feed) (old : List Entry) (count : ℕ) (o : Option Body)
+    → count ≡ length (list_of old f) → o ≡ nth (list_of kept f) (count + 1) → next_in kept f old ≡ o
+next_by kept f old count o counts there =
+    ap (λ (n : ℕ). nth (list_of kept f) (n + 1)) (sym counts) ∙ sym there

@@ -44,9 +44,10 @@ impl Makers {
         ensures { (i : ℕ) → (slice_index self.new.places i ≡ slice_index self.old.places i)
             ⊎ ((i ≡ file) × (slice_index self.new.places i ≡ place)) }
     {
-        if file < self.places.len() {
-            self.places.set(file, place);
+        if file >= self.places.len() {
+            return;
         }
+        self.places.set(file, place);
     }
 }
 

@@ -3,6 +3,7 @@ use Rattle.std.specs.Prelude.{[], ℕ, ◌≡◌, ◌≤◌, ◌^◌, List, code
 use Rattle.base_types.specs.declared.LimitName.TheVariants as limit
 use Rattle.composer_parser.specs.declared.Defs.{Defs}
 use Rattle.event_audit.specs.Items.{IsFirstWrong}
+use Rattle.history_laws.specs.Returns.{AreTold}
 use Rattle.merged_feeds.specs.Files.{AreAlike}
 use Rattle.merged_feeds.specs.Merges.{DifferFirstAt, HasNoOrder, IsHistoryOf}
 use Rattle.merged_feeds.specs.declared.files.FeedPlace.{FeedPlace}
@@ -20,10 +21,10 @@ use Rattle.merged_words.specs.Texts.{differ_line, merged_text, no_order_line, no
 use Rattle.merged_words.specs.declared.replying.Wish.{Wish}
 use Rattle.merged_words.specs.declared.replying.Wish.TheVariants.{Audit, History}
 
--- What a history calls for: its text, or whether it is sound, by its first wrong entry. The places of entries are
--- counted below 2^32.
+-- What a history calls for: its text, from which it is read back, or whether it is sound, by its first wrong entry. The
+-- places of entries are counted below 2^32.
 pub data HistoryCallsFor (net : Net) (files : List NodeFile) (G : List Entry) : Wish → Status → List ℕ → Type 0 where
-  told : HistoryCallsFor net files G History Success (merged_text net files G)
+  told : AreTold net G [] → HistoryCallsFor net files G History Success (merged_text net files G)
   sound : IsSound net G [] → HistoryCallsFor net files G Audit Success (sound_line (length G))
   not_sound : (item : ℕ) → IsFirstWrong net G [] item → HistoryCallsFor net files G Audit NotSound (not_sound_line item)
   too_many : 2 ^ 32 ≤ length G

@@ -1,7 +1,9 @@
 -- The files of several workstations, each read at a moment of its own while nodes may write them.
-use Rattle.std.specs.Prelude.{ℕ, ◌++◌, ◌≡◌, IfSome, List, None, Option, Some, codes, length, slice_get}
+use Rattle.std.specs.List.{All}
+use Rattle.std.specs.Prelude.{ℕ, ◌++◌, ◌≡◌, IfSome, IsTrue, List, None, Option, Some, codes, length, slice_get}
 use Rattle.composer_parser.specs.declared.Defs.{Defs}
 use Rattle.entry_files.specs.Entries.{GoOn, KeepsEntries, IsRefused}
+use Rattle.history_script.specs.Histories.{is_inside}
 use Rattle.kept_files.specs.Growth.{OnlyKeepsMore}
 use Rattle.kept_files.specs.Looking.{OnlyLooks}
 use Rattle.kept_files.specs.declared.faults.FileFault.TheVariants.{NotThisFile}
@@ -90,3 +92,11 @@ pub record HasOther {F : Type 0} (S : Folders F) (defs : Defs) (names : List (Li
   pub name : List ℕ
   pub there : slice_get names number ≡ Some name
   pub other : IsOther S defs name place old new
+
+-- entries that name workstations of the network alone
+abbrev pub AreInside : Net → List Entry → Type 0
+AreInside net entries = All (λ (e : Entry). IsTrue (is_inside net e)) entries
+
+-- so in each of the files
+abbrev pub AreInsideFiles : Net → List NodeFile → Type 0
+AreInsideFiles net files = (i : ℕ) (file : NodeFile) → slice_get files i ≡ Some file → AreInside net file.kept

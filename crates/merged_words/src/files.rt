@@ -1,5 +1,5 @@
 //! The files of workstations, read from a folder.
-ghost use Rattle.std.specs.Prelude.{◌++◌, ◌≡◌, ℕ, IfOk, IsTrue, None, Some};
+ghost use Rattle.std.specs.Prelude.{◌≡◌, ℕ, IfOk, None};
 ghost use Rattle.std.specs.Result.{IsErrOf};
 ghost use Rattle.std.specs.String.{string_bytes};
 ghost use Rattle.merged_feeds.specs.Files.{AreFitFiles, ArePlaced};
@@ -8,7 +8,7 @@ ghost use Rattle.model.specs.Sound.{Each, HasItsPlace};
 ghost use Rattle.outside.specs.Causes.{Rose};
 ghost use Rattle.workload_defs.specs.Nets.{net_of};
 ghost use Rattle.workload_defs.specs.Stations.{number_of};
-ghost use Rattle.merged_words.specs.Readings.{AreRead, HasOther, HasUnknown, IsFileOf, IsOther, Looks, file_of, folders};
+ghost use Rattle.merged_words.specs.Readings.{AreInside, AreInsideFiles, AreRead, HasOther, HasUnknown, IsFileOf, IsOther, Looks, file_of, folders};
 ghost use Rattle.merged_words.specs.declared.files.Unread.TheVariants.{Folder as OfFolder, Other as OtherAt, Unknown as NoName};
 
 use base_types::{Items, NoMemory, Text};
@@ -73,6 +73,7 @@ fn read_file<F: Folder>(
         folder.old folder.new) }
     ensures placed { IfOk result (λ file. Each HasItsPlace file.kept) }
     ensures fit { IfOk result (λ file. AreFitEntries file.kept) }
+    ensures inside { IfOk result (λ file. AreInside net.now file.kept) }
     ensures unknown { IsErrOf result NoName → number_of workload.now name.now ≡ None }
     ensures failed { IsErrOf result OfFolder → Rose (F.faults folder.old) (F.faults folder.new) }
     ensures other { (place : ℕ) → IsErrOf result (OtherAt place)
@@ -104,6 +105,7 @@ pub(crate) fn read_files<F: Folder>(
         folder.old folder.new) }
     ensures placed { IfOk result ArePlaced }
     ensures fit { IfOk result AreFitFiles }
+    ensures inside { IfOk result (AreInsideFiles net.now) }
     ensures unknown { IsErrOf result NoName → HasUnknown workload.now names.now }
     ensures failed { IsErrOf result OfFolder → Rose (F.faults folder.old) (F.faults folder.new) }
     ensures other { (place : ℕ) → IsErrOf result (OtherAt place)
@@ -112,8 +114,10 @@ pub(crate) fn read_files<F: Folder>(
 {
     let mut files = Items::new(alloc);
     for name in names {
-        let file = read_file(alloc, workload, net, name, folder)?;
-        files.push(file)?;
+        match read_file(alloc, workload, net, name, folder) {
+            Ok(file) => files.push(file)?,
+            Err(why) => return Err(why),
+        }
     }
     Ok(files)
 }

@@ -5,7 +5,7 @@ ghost use Rattle.merged_feeds.specs.Files.{AreFitFiles, ArePlaced};
 ghost use Rattle.replies.specs.declared.statuses.Status.TheVariants.{RecordRefused, SinkFailed};
 ghost use Rattle.workload_defs.specs.Nets.{net_of};
 ghost use Rattle.merged_words.specs.Dues.{FilesCallFor, HistoryCallsFor, NamesCallFor};
-ghost use Rattle.merged_words.specs.Readings.{AreKnown, HasUnknown, Looks, folders};
+ghost use Rattle.merged_words.specs.Readings.{AreInside, AreInsideFiles, AreKnown, HasUnknown, Looks, folders};
 ghost use Rattle.merged_words.specs.Replies.{IsReplyTo};
 ghost use Rattle.merged_words.specs.declared.files.Unread.TheVariants.{Unknown as NoName};
 
@@ -54,9 +54,9 @@ fn are_known(workload: &Workload, names: &[Text]) -> bool
     ensures unknown { result ≡ false → HasUnknown workload.now names.now }
 {
     for name in names {
-        if workload.station(name).is_none() {
+        let Some(_) = workload.station(name) else {
             return false;
-        }
+        };
     }
     true
 }
@@ -69,7 +69,8 @@ fn reply_to_history(
     files: &[NodeFile],
     history: &Owners,
 ) -> Result<Reply, NoMemory>
-    requires { AreFitEntries history.now }
+    requires fit { AreFitEntries history.now }
+    requires inside { AreInside net.now history.now }
     ensures due { IfOk result (λ r. HistoryCallsFor net.now files.now history.now wish r.status r.text) }
     ensures said { IfOk result (λ r. r.status ≢ SinkFailed) }
 {
@@ -103,6 +104,7 @@ fn reply_to_files(
 ) -> Result<Reply, NoMemory>
     requires placed { ArePlaced files.now }
     requires fit { AreFitFiles files.now }
+    requires inside { AreInsideFiles net.now files.now }
     ensures due { IfOk result (λ r. FilesCallFor net.now files.now wish r.status r.text) }
     ensures said { IfOk result (λ r. r.status ≢ SinkFailed) }
 {

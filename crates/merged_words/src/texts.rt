@@ -1,6 +1,8 @@
 //! The text of a history.
 ghost use Rattle.std.specs.Prelude.{◌≡◌, ◌++◌, IfOk, OnOk, flat_map};
+ghost use Rattle.std.specs.List.{All};
 ghost use Rattle.model.specs.Fit.{AreFitEntries};
+ghost use Rattle.model.specs.Ranges.{InRange};
 ghost use Rattle.merged_words.specs.Texts.{lacks_line, merged_text};
 
 use crate::lines::write_lacks;
@@ -39,7 +41,8 @@ pub(crate) fn history_text(
     history: &[Entry],
 ) -> Result<Bytes, NoMemory>
     requires { AreFitEntries history.now }
-    ensures { IfOk result (λ text. text ≡ merged_text net.now files.now history.now) }
+    ensures text { IfOk result (λ text. text ≡ merged_text net.now files.now history.now) }
+    ensures range { IfOk result (λ _. All InRange history.now) }
 {
     let lacking = places_lacking(alloc, files, history)?;
     let lacks = lacks_text(alloc, net, lacking.as_slice())?;

@@ -1,11 +1,10 @@
 -- What the maker of an entry made before it.
 use Rattle.std.proofs.Common.{[], ℕ, ◌+◌, ◌++◌, ◌<◌, ◌==◌, ◌≤◌, ◌∙◌, ◌∷◌, ◌≡◌, ◌⊎◌, Bool, List, None, Option, Some, ap, arith, drop, eq-eqb}
-use Rattle.std.proofs.Common.{get_or, inl, inr, refl, set, true}
+use Rattle.std.proofs.Common.{get_or, inl, inr, refl, true}
 use Rattle.std.proofs.Common.{length, length-append, subst, sym, take, take-append-drop}
 use Rattle.std.proofs.lemmas.Bool.{cases_lt}
-use Rattle.std.proofs.lemmas.List.{get_or-set_other, get_or-set_same}
 use Rattle.std.specs.Prelude.{IfSome, slice_get, slice_index}
-use Rattle.lemmas.proofs.Lists.{got_below, take_further, take_less, take_none}
+use Rattle.lemmas.proofs.Lists.{get_there, got_below, take_further, take_less, take_none}
 use Rattle.lemmas.proofs.Numbers.{below_or_last, eq_tells}
 use Rattle.lemmas.proofs.Options.{some_same}
 use Rattle.model.specs.Types.{Body, Entry, Feed}
@@ -286,18 +285,8 @@ behind_below files taken f place number below here i less =
       | inr e ↦ subst (λ (n : ℕ). IsBehindAt files n taken f place) (sym e) here
     ]
 
--- a place that is noted
-pub noted_at : (xs : List ℕ) (k v i : ℕ) → k < length xs
-    → (slice_index (set xs k v) i ≡ slice_index xs i) ⊎ ((i ≡ k) × (slice_index (set xs k v) i ≡ v))
-noted_at xs k v i within =
-    elim (cases_lt i k) [
-      | inl below ↦ inl (get_or-set_other xs k i v 0 (λ e. absurd (omega (arith, e, below))))
-      | inr not ↦ elim (cases_lt k i) [
-          | inl above ↦ inl (get_or-set_other xs k i v 0 (λ e. absurd (omega (arith, e, above))))
-          | inr same ↦ inr (
-              omega (arith, not, same),
-              ap (λ (n : ℕ). get_or (set xs k v) n 0) (let e : i ≡ k = omega (arith, not, same) in e)
-                  ∙ get_or-set_same xs k v 0 within,
-            )
-        ]
-    ]
+-- an item of entries that are those of a file
+pub stands_in : (kept entries : List Entry) (at_ : ℕ) (e : Entry) → entries ≡ kept → at_ < length entries
+    → e ≡ get_or entries at_ e → slice_get kept at_ ≡ Some e
+stands_in kept entries at_ e are within is =
+    ap (λ (l : List Entry). slice_get l at_) (sym are) ∙ get_there entries at_ e within is

@@ -117,7 +117,8 @@ pub(crate) fn find_difference(files: &[NodeFile]) -> Option<FeedPlace>
     ensures none { IsNone result → AreAlike files.now }
 {
     for i in 0..files.len() {
-        let entries = files[i].kept.kept().entries();
+        let file = &files[i];
+        let entries = file.kept.kept().entries();
         if let Some(place) = first_other(&files[..i], entries) {
             return Some(first_difference(files, &place));
         }

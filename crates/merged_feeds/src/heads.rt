@@ -49,7 +49,8 @@ pub(crate) fn heads_of(alloc: Global, files: &[NodeFile]) -> Result<Items<Head>,
 {
     let mut heads = Items::new(alloc);
     for i in 0..files.len() {
-        let entries = files[i].kept.kept().entries();
+        let file = &files[i];
+        let entries = file.kept.kept().entries();
         add_heads(&mut heads, i, entries)?;
     }
     Ok(heads)

@@ -1,6 +1,7 @@
 //! What the maker of an entry made before it, as files of its maker have it.
 ghost use Rattle.std.specs.Prelude.{◌≡◌, ◌==◌, ◌⊎◌, ◌<◌, ◌≤◌, ◌+◌, ℕ, IfOk, IsNone, IsSome, false, length};
 ghost use Rattle.std.specs.Prelude.{slice_index, true};
+ghost use Rattle.std.specs.Bool.{Decides};
 ghost use Rattle.model.specs.History.{list_of, maker};
 ghost use Rattle.model.specs.Sound.{Each, HasItsPlace};
 ghost use Rattle.merged_feeds.specs.Files.{ArePlaced};
@@ -87,6 +88,13 @@ fn next_made(file: &NodeFile, from: usize, taken: &Owners) -> usize
     at
 }
 
+/// Whether an entry is of this feed.
+fn is_of(entry: &Entry, feed: &Feed) -> bool
+    ensures { Decides result (entry.now.feed ≡ feed.now) }
+{
+    entry.feed == *feed
+}
+
 /// What is at this place of a file, where it is another feed's.
 fn other_feed_at(file: &NodeFile, at: usize, feed: &Feed) -> Option<Cause>
     ensures none { IsNone result → IsNoOther file.now at feed.now }
@@ -96,7 +104,7 @@ fn other_feed_at(file: &NodeFile, at: usize, feed: &Feed) -> Option<Cause>
     if at >= entries.len() {
         return None;
     }
-    if entries[at].feed == *feed {
+    if is_of(&entries[at], feed) {
         return None;
     }
     Some(Cause::Count(entries[at].feed, entries[at].place))

@@ -41,8 +41,9 @@ fn next_left(files: &[NodeFile], head: &Head, taken: &Owners) -> Option<FeedPlac
     if head.file >= files.len() {
         return None;
     }
+    let file = &files[head.file];
     let count = taken.count(head.feed);
-    if count >= files[head.file].kept.count(head.feed) {
+    if count >= file.kept.count(head.feed) {
         return None;
     }
     Some(FeedPlace {

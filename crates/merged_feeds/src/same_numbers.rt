@@ -12,7 +12,8 @@ pub(crate) fn are_same_streams(a: &[StreamNo], b: &[StreamNo]) -> bool
         return false;
     }
     for (i, stream) in a.iter().enumerate() {
-        if stream.0 != b[i].0 {
+        let other = b[i];
+        if stream.0 != other.0 {
             return false;
         }
     }

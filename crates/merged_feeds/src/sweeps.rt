@@ -42,13 +42,13 @@ fn take_next(
     ensures before { IfOk result (λ _. AreMadeBefore files.now taken.new makers.new.places) }
     ensures step { IfOk result (λ some. IsStepOf files.now head.now taken.old some taken.new) }
 {
-    let kept = &files[head.file].kept;
+    let file = &files[head.file];
     let count = taken.count(head.feed);
-    if count >= kept.count(head.feed) {
+    if count >= file.kept.count(head.feed) {
         return Ok(false);
     }
     let place = count + 1;
-    let Some(body) = kept.entry(head.feed, place) else {
+    let Some(body) = file.kept.entry(head.feed, place) else {
         return Ok(false);
     };
     if let Some(cause) = missing_cause(taken, &head.feed, body) {

@@ -1,8 +1,6 @@
 -- What names and files call for, by their parts.
-use Rattle.std.proofs.Common.{[], ◌<◌, ◌≡◌, ◌≤◌, ◌≢◌, ◌^◌, ℕ, Err, List, arith, codes, length, refl, subst, sym, ◌∙◌}
-use Rattle.std.specs.Result.{IsErrOf}
-use Rattle.std.specs.Prelude.{Result}
-use Rattle.base_types.specs.declared.LimitName.TheVariants as limit
+use Rattle.std.proofs.Common.{[], ◌≡◌, ◌≢◌, ℕ, List, ap, length, refl, subst, sym, ◌∙◌}
+use Rattle.std.specs.Prelude.{◌↔◌}
 use Rattle.composer_parser.specs.declared.Defs.{Defs}
 use Rattle.event_audit.specs.Items.{IsFirstWrong}
 use Rattle.event_audit.specs.declared.findings.Audit.{Audit}
@@ -13,7 +11,7 @@ use Rattle.merged_feeds.specs.Merges.{DifferFirstAt, HasNoOrder}
 use Rattle.merged_feeds.specs.declared.files.FeedPlace.{FeedPlace}
 use Rattle.merged_feeds.specs.declared.files.NodeFile.{NodeFile}
 use Rattle.model.specs.Sound.{IsSound}
-use Rattle.model.specs.Types.{Entry, Net}
+use Rattle.model.specs.Types.{Entry, Net, Start}
 use Rattle.outside.specs.Causes.{Rose}
 use Rattle.replies.specs.declared.statuses.Status.{Status}
 use Rattle.replies.specs.declared.statuses.Status.TheVariants.{NotSound, RecordRefused, SinkFailed, Success}
@@ -57,6 +55,18 @@ verdict_called net files G audit.Sound r sound wrong is =
     by_reply (HistoryCallsFor net files G Audited) r Success _ is.0 is.1 (HistoryCallsFor.sound (sound refl))
 verdict_called net files G (audit.Not n) r sound wrong is =
     by_reply (HistoryCallsFor net files G Audited) r NotSound _ is.0 is.1 (HistoryCallsFor.not_sound n (wrong n refl))
+
+pub audit_called : (net : Net) (files : List NodeFile) (G entries : List Entry) (starts : List Start) (found : Audit) (n : ℕ)
+    (r : Reply) → entries ≡ G → starts ≡ [] → n ≡ length entries → ((found ≡ audit.Sound) ↔ IsSound net entries starts)
+    → ((m : ℕ) → found ≡ audit.Not m → IsFirstWrong net entries starts m) → IsVerdict found n r
+    → HistoryCallsFor net files G Audited r.status r.text
+audit_called net files G entries starts found n r e s len sound wrong is =
+    verdict_called net files G found r
+    (λ same. subst (λ (x : List Entry). IsSound net x []) e
+    (subst (λ (y : List Start). IsSound net entries y) s (sound.0 same)))
+    (λ m same. subst (λ (x : List Entry). IsFirstWrong net x [] m) e
+    (subst (λ (y : List Start). IsFirstWrong net entries y m) s (wrong m same)))
+    (subst (λ (k : ℕ). IsVerdict found k r) (len ∙ ap length e) is)
 
 pub verdict_said : (found : Audit) (entries : ℕ) (r : Reply) → IsVerdict found entries r → r.status ≢ SinkFailed
 verdict_said audit.Sound entries r is e = let h : Success ≡ SinkFailed = sym is.0 ∙ e in cc

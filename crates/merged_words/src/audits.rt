@@ -63,5 +63,6 @@ pub(crate) fn reply_to_audit(
     let entries = copied(alloc, history)?;
     let starts = Items::new(alloc);
     let found = audit(alloc, net, &entries, &starts)?;
-    said(alloc, found, entries.len())
+    let count = entries.len();
+    said(alloc, found, count)
 }

@@ -1,5 +1,5 @@
 //! What holds of all texts of histories.
-ghost use Rattle.std.specs.Prelude.{◌≡◌, IsTrue, IsUtf8, List, None, Ok, ℕ};
+ghost use Rattle.std.specs.Prelude.{◌≡◌, List, None, Ok, []};
 ghost use Rattle.history_laws.specs.Printables.{IsPrintable, as_printed};
 ghost use Rattle.history_laws.specs.Returns.{AreTold};
 ghost use Rattle.history_script.specs.Histories.{read_of};

@@ -1,5 +1,5 @@
 //! The lines of what is merged.
-ghost use Rattle.std.specs.Prelude.{◌≡◌, ◌++◌, IfOk, OnOk, codes, flat_map};
+ghost use Rattle.std.specs.Prelude.{◌≡◌, ◌++◌, IfOk, OnOk, flat_map};
 ghost use Rattle.merged_words.specs.Texts as spec;
 
 use base_types::{Bytes, Feed, Items, Net, NoMemory};

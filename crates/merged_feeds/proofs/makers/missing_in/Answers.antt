@@ -13,27 +13,31 @@ returns-then-not-is_made_by-clause-none c = λ none.
     (behind_others file c.args.taken.now c.args.feed.now c.args.place
     (λ mine. contrary (made_by file c.args.feed.now c.is_made_by.result c.is_made_by.ensures mine) c.if-not-is_made_by.true))
 
-pub returns-then-place-clause-none : goal.returns-then-place-clause-none
-returns-then-place-clause-none c = λ none.
+pub returns-then-place-count-clause-none : goal.returns-then-place-count-clause-none
+returns-then-place-count-clause-none c = λ none.
     let file = c.index-files-number.result in
     let given = get_there c.args.files.now c.args.number file c.requires.number c.index-files-number.is in
     behind_at_of c.args.files.now c.args.number file c.args.taken.now c.args.feed.now c.args.place given
     (behind_past file c.args.taken.now c.args.feed.now c.args.place (c.requires.placed c.args.number file given)
-    (omega (arith, c.if-place.true, c.count.ensures)))
+    (omega (arith, c.if-place-count.true, c.count.ensures)))
 
-pub next_made-requires : goal.next_made-requires
-next_made-requires c =
+pub next_made-at-requires-clause-placed : goal.next_made-at-requires-clause-placed
+next_made-at-requires-clause-placed c =
     let file = c.index-files-number.result in
-    let given = get_there c.args.files.now c.args.number file c.requires.number c.index-files-number.is in (
-      c.requires.placed c.args.number file given,
-      subst (IsMadeBefore file c.args.taken.now) (sym c.place.ensures) (c.requires.before c.args.number file given),
-    )
+    c.requires.placed c.args.number file (get_there c.args.files.now c.args.number file c.requires.number c.index-files-number.is)
+
+pub next_made-at-requires-clause-before : goal.next_made-at-requires-clause-before
+next_made-at-requires-clause-before c =
+    let file = c.index-files-number.result in
+    subst (IsMadeBefore file c.args.taken.now) (sym c.place.ensures)
+    (c.requires.before c.args.number file
+    (get_there c.args.files.now c.args.number file c.requires.number c.index-files-number.is))
 
 pub returns-clause-before : goal.returns-clause-before
 returns-clause-before c =
     let file = c.index-files-number.result in
     let given = get_there c.args.files.now c.args.number file c.requires.number c.index-files-number.is in
-    before_noted c.args.files.now c.args.taken.now c.args.makers.now.places c.note.new.makers.places c.args.number
+    before_noted c.args.files.now c.args.taken.now c.args.makers.now.places c.note.new.self.places c.args.number
     c.next_made-at.result file given c.requires.before c.next_made-at.ensures.before c.note.ensures
 
 pub returns-clause-none : goal.returns-clause-none
@@ -56,5 +60,5 @@ returns-clause-some c = λ some.
           ahead_other file c.args.taken.now c.args.feed.now c.args.place c.next_made-at.result
           (c.requires.placed c.args.number file given) c.requires.next
           (by_maker file c.args.feed.now c.is_made_by.result c.is_made_by.ensures c.if-not-is_made_by.false)
-          (omega (arith, c.if-place.false, c.count.ensures)) c.next_made-at.ensures (c.other_feed_at.ensures.some some);
+          (omega (arith, c.if-place-count.false, c.count.ensures)) c.next_made-at.ensures (c.other_feed_at.ensures.some some);
     }

@@ -1,4 +1,4 @@
-use Rattle.std.proofs.Common.{arith, refl, subst, sym, ◌∙◌, ◌≡◌, Some, ℕ}
+use Rattle.std.proofs.Common.{arith, inl, inr, refl, subst, sym, ◌∙◌, ◌≡◌, Some, ℕ}
 use Rattle.std.specs.Prelude.{slice_get}
 use Rattle.lemmas.proofs.Lists.{get_there}
 use Rattle.lemmas.proofs.Numbers.{below_or_last}

@@ -17,12 +17,12 @@ sweeps-preserved c =
     record { put = c.in_ok-sweep.ensures.moves.put; before = c.in_ok-sweep.ensures.before }
 
 pub sweeps-smaller : goal.sweeps-smaller
-sweeps-smaller c = c.in_ok-sweep.ensures.moves.fewer c.if-not.false
+sweeps-smaller c = c.in_ok-sweep.ensures.moves.fewer c.if-not-branch.false
 
-pub returns-clause-put : goal.returns-clause-put
-returns-clause-put c = c.in_ok-sweep.ensures.moves.put
+pub returns-then-not-branch-clause-put : goal.returns-then-not-branch-clause-put
+returns-then-not-branch-clause-put c = c.in_ok-sweep.ensures.moves.put
 
-pub returns-clause-still : goal.returns-clause-still
-returns-clause-still c =
+pub returns-then-not-branch-clause-still : goal.returns-then-not-branch-clause-still
+returns-then-not-branch-clause-still c =
     subst (λ (l : List Entry). AreStill c.args.files.now l c.args.heads.now)
-    (sym (c.in_ok-sweep.ensures.moves.stays c.if-not.true)) (c.in_ok-sweep.ensures.still c.if-not.true)
+    (sym (c.in_ok-sweep.ensures.moves.stays c.if-not-branch.true)) (c.in_ok-sweep.ensures.still c.if-not-branch.true)

@@ -1,4 +1,4 @@
-use Rattle.std.proofs.Common.{Bool, ℕ, arith, false, subst, sym}
+use Rattle.std.proofs.Common.{Bool, ◌+◌, ℕ, arith, false, subst, sym}
 use Rattle.lemmas.proofs.Lists.{get_there}
 use Rattle.merged_feeds.specs.Walks.{Moves}
 use Rattle.merged_feeds.proofs.Fewer.{AreStillBelow, all_still, move_begins, move_one, move_then, still_further}
@@ -27,9 +27,9 @@ loop-i-preserved c =
     let runs = c.in_ok-more.ensures.runs in
     let there = get_there heads i head (omega (arith, c.loop-i-test.true)) c.index-heads-i.is in
     record {
-      moves = subst (λ (b : Bool). Moves files heads old b new) (sym c.either.ensures)
+      moves = subst (λ (b : Bool). Moves files heads old b new) (sym c.either-some.ensures)
           (move_then files heads old now new some more v.moves (move_one files heads i head now new more there runs));
-      below = subst (λ (b : Bool). AreStillBelow files heads old b (i + 1)) (sym c.either.ensures)
+      below = subst (λ (b : Bool). AreStillBelow files heads old b (i + 1)) (sym c.either-some.ensures)
           (still_further files heads i head old now new some more v.moves v.below there runs);
       before = c.in_ok-more.ensures.before;
     }

@@ -17,7 +17,7 @@ loop-list-preserved c =
     let old = c.args.taken.now in
     let new = c.run_numbered.new.taken in
     record {
-      moves = subst (λ (b : Bool). Moves files heads old b new) (sym c.either.ensures)
+      moves = subst (λ (b : Bool). Moves files heads old b new) (sym c.either-some.ensures)
           (move_then files heads old c.loop-list.taken new c.loop-list.some c.in_ok-more.more c.loop-list.invariant.moves
           c.in_ok-more.ensures.moves);
       before = c.in_ok-more.ensures.before;

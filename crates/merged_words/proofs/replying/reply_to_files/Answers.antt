@@ -34,8 +34,8 @@ returns-in-Err-Differ-clause-due c =
 
 pub returns-in-Err-NoOrder-clause-due : goal.returns-in-Err-NoOrder-clause-due
 returns-in-Err-NoOrder-clause-due c =
-    no_order_called c.args.net.now c.args.files.now c.args.wish c.in-Err-NoOrder.at c.refused-2.result
+    no_order_called c.args.net.now c.args.files.now c.args.wish c.in-Err-NoOrder.at c.refused-in-Err-NoOrder.result
     (c.in-Err-NoOrder.ensures.alike c.in-Err-NoOrder.at (ap Err c.in-Err-NoOrder.field-0-is))
-    (c.in-Err-NoOrder.ensures.no_order c.in-Err-NoOrder.at (ap Err c.in-Err-NoOrder.field-0-is)) c.refused-2.ensures.status
-    (c.refused-2.ensures.text ∙ c.in_ok-no_order_text.ensures
-    ∙ ap (λ (n : Net). no_order_line n c.in-Err-NoOrder.at) c.net-2.ensures.value)
+    (c.in-Err-NoOrder.ensures.no_order c.in-Err-NoOrder.at (ap Err c.in-Err-NoOrder.field-0-is)) c.refused-in-Err-NoOrder.ensures.status
+    (c.refused-in-Err-NoOrder.ensures.text ∙ c.in_ok-no_order_text.ensures
+    ∙ ap (λ (n : Net). no_order_line n c.in-Err-NoOrder.at) c.net-in-Err-NoOrder.ensures.value)

@@ -31,8 +31,9 @@ pub fn merge_feeds(alloc: Global, files: &[NodeFile]) -> Result<Owners, MergeFau
         return Err(MergeFault::Differ(place));
     }
     let heads = heads_of(alloc, files)?;
-    let taken = put_in_order(alloc, files, heads.as_slice())?;
-    match first_left(files, heads.as_slice(), &taken) {
+    let lists = heads.as_slice();
+    let taken = put_in_order(alloc, files, lists)?;
+    match first_left(files, lists, &taken) {
         Some(place) => Err(MergeFault::NoOrder(place)),
         None => Ok(taken),
     }

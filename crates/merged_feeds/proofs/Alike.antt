@@ -30,10 +30,10 @@ pub like_push : (earlier : List NodeFile) (front : List Entry) (e : Entry) → I
 like_push earlier front e like at_ same f place a b here other =
     elim (pushed_cases front e f) [
       | inl c ↦ elim (nth_push (list_of front f) e.body a place (ap (λ (l : List Body). nth l place) (sym c.1) ∙ here)) [
-          | inl h ↦ like f place a b h other
-          | inr h ↦ h.1 ∙ same b (kept_also earlier e.feed f e.place place b b (sym c.0)
-              (omega (arith, at_, h.0, ap (λ (g : Feed). length (list_of front g)) c.0)) refl other)
-        ]
+        | inl h ↦ like f place a b h other
+        | inr h ↦ h.1 ∙ same b (kept_also earlier e.feed f e.place place b b (sym c.0)
+            (omega (arith, at_, h.0, ap (λ (g : Feed). length (list_of front g)) c.0)) refl other)
+      ]
       | inr c ↦ like f place a b (ap (λ (l : List Body). nth l place) (sym c.1) ∙ here) other
     ]
 
@@ -43,13 +43,13 @@ pub alike_push : (files : List NodeFile) (file : NodeFile) → AreAlike files �
 alike_push files file alike like f place a b one other =
     elim (kept_push files file f place a one) [
       | inl x ↦ elim (kept_push files file f place b other) [
-          | inl y ↦ alike f place a b x y
-          | inr y ↦ sym (like f place b a y x)
-        ]
+        | inl y ↦ alike f place a b x y
+        | inr y ↦ sym (like f place b a y x)
+      ]
       | inr x ↦ elim (kept_push files file f place b other) [
-          | inl y ↦ like f place a b x y
-          | inr y ↦ some_same a b (sym x ∙ y)
-        ]
+        | inl y ↦ like f place a b x y
+        | inr y ↦ some_same a b (sym x ∙ y)
+      ]
     ]
 
 pub alike_further : (files : List NodeFile) (i : ℕ) (file : NodeFile) → AreAlike (take i files)

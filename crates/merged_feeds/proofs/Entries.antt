@@ -97,9 +97,9 @@ entry_from before (e ∷ G) f zero n b each there at_ =
       | inl t ↦ (
         0,
         ap Some (same_entry e f n b t.1
-        (let place : e.place ≡ 1 + length (list_of before e.feed) = each.0 in
-        omega (arith, at_, place, ap (λ (g : Feed). length (list_of before g)) t.1))
-        (some_same e.body b (ap (λ (l : List Body). slice_get l 0) (sym (first_here G e f t.0)) ∙ there))),
+            (let place : e.place ≡ 1 + length (list_of before e.feed) = each.0 in
+            omega (arith, at_, place, ap (λ (g : Feed). length (list_of before g)) t.1))
+            (some_same e.body b (ap (λ (l : List Body). slice_get l 0) (sym (first_here G e f t.0)) ∙ there))),
       )
       | inr t ↦ one_behind G e f n b (entry_from (before ++ e ∷ []) G f zero n b each.1
           (ap (λ (l : List Body). slice_get l 0) (sym (first_elsewhere G e f t.0)) ∙ there)

@@ -61,10 +61,10 @@ pub from_push : (files : List NodeFile) (G : List Entry) (e : Entry) → AreFrom
 from_push files G e from kept f place b there =
     elim (pushed_cases G e f) [
       | inl c ↦ elim (nth_push (list_of G f) e.body b place (ap (λ (l : List Body). nth l place) (sym c.1) ∙ there)) [
-          | inl h ↦ from f place b h
-          | inr h ↦ kept_also files f e.feed place (length (list_of G e.feed) + 1) b e.body c.0
-              (h.0 ∙ ap (λ (g : Feed). length (list_of G g) + 1) c.0) h.1 kept
-        ]
+        | inl h ↦ from f place b h
+        | inr h ↦ kept_also files f e.feed place (length (list_of G e.feed) + 1) b e.body c.0
+            (h.0 ∙ ap (λ (g : Feed). length (list_of G g) + 1) c.0) h.1 kept
+      ]
       | inr c ↦ from f place b (ap (λ (l : List Body). nth l place) (sym c.1) ∙ there)
     ]
 

@@ -60,15 +60,15 @@ pub heads_push : (heads more : List Head) (i : ℕ) (front : List Entry) (e : En
 heads_push heads more i front e h b at_ first f =
     elim (pushed_cases front e f) [
       | inl c ↦ elim (h f) [
-          | inl none ↦ inr (subst (IsAmong more i) (sym c.0)
-              (first (at_ ∙ ap (λ (g : Feed). 1 + length (list_of front g)) (sym c.0)
-              ∙ ap (λ (l : List Body). 1 + length l) none)))
-          | inr a ↦ inr (among_on heads more i f b a)
-        ]
+        | inl none ↦ inr (subst (IsAmong more i) (sym c.0)
+            (first (at_ ∙ ap (λ (g : Feed). 1 + length (list_of front g)) (sym c.0)
+            ∙ ap (λ (l : List Body). 1 + length l) none)))
+        | inr a ↦ inr (among_on heads more i f b a)
+      ]
       | inr c ↦ elim (h f) [
-          | inl none ↦ inl (c.1 ∙ none)
-          | inr a ↦ inr (among_on heads more i f b a)
-        ]
+        | inl none ↦ inl (c.1 ∙ none)
+        | inr a ↦ inr (among_on heads more i f b a)
+      ]
     ]
 
 pub heads_further : (heads more : List Head) (i n : ℕ) (entries : List Entry) (e : Entry) → Each HasItsPlace entries

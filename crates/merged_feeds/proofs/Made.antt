@@ -56,8 +56,11 @@ front_with : (G : List Entry) (k : ℕ) (e : Entry) (g : Feed) → slice_get G k
     ⊎ ((g ≡ e.feed → ⊥) × (length (list_of (take (k + 1) G) g) ≡ length (list_of (take k G) g)))
 front_with G k e g there =
     elim (pushed_cases (take k G) e g) [
-      | inl c ↦ inl (c.0, ap (λ (l : List Entry). length (list_of l g)) (take_further G k e there) ∙ ap length c.1
-          ∙ length-append (list_of (take k G) g) (e.body ∷ []))
+      | inl c ↦ inl (
+        c.0,
+        ap (λ (l : List Entry). length (list_of l g)) (take_further G k e there) ∙ ap length c.1
+            ∙ length-append (list_of (take k G) g) (e.body ∷ []),
+      )
       | inr c ↦ inr (c.0, ap (λ (l : List Entry). length (list_of l g)) (take_further G k e there) ∙ ap length c.1)
     ]
 
@@ -96,13 +99,13 @@ pub before_further : (file : NodeFile) (taken : List Entry) (at_ : ℕ) (e : Ent
 before_further file taken at_ e each there h here g mine =
     elim (front_with file.kept at_ e g there) [
       | inl c ↦ omega (
-          arith,
-          c.1,
-          place_in file.kept at_ e each there,
-          here (ap maker (sym c.0) ∙ mine),
-          ap (λ (f : Feed). length (list_of (take at_ file.kept) f)) c.0,
-          ap (λ (f : Feed). length (list_of taken f)) c.0,
-        )
+        arith,
+        c.1,
+        place_in file.kept at_ e each there,
+        here (ap maker (sym c.0) ∙ mine),
+        ap (λ (f : Feed). length (list_of (take at_ file.kept) f)) c.0,
+        ap (λ (f : Feed). length (list_of taken f)) c.0,
+      )
       | inr c ↦ omega (arith, c.1, h g mine)
     ]
 

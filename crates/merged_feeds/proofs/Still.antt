@@ -71,7 +71,6 @@ makers_on files H G e less h i file k g given its there mine =
 
 module _ (files : List NodeFile) (heads : List Head) (G : List Entry) (alike : AreAlike files)
     (from_G : AreFromFiles files G) (are : AreHeads files heads) (still : AreStill files G heads) where
-
   -- what is next of a feed does not stand behind its causes
   no_next : (f : Feed) (place : ℕ) (b : Body) → place ≡ length (list_of G f) + 1 → IsKept files f place b
       → HasItsCauses G f b → IsBehindItsMakers files G (record { feed = f; place = place; body = b }) → ⊥
@@ -90,11 +89,11 @@ module _ (files : List NodeFile) (heads : List Head) (G : List Entry) (alike : A
   no_more_with before e from less stands f =
       elim (pushed_cases before e f) [
         | inl c ↦ elim (cases_lt (length (list_of before f)) (length (list_of G f))) [
-            | inl lower ↦ omega (arith, ap length c.1, length-append (list_of before f) (e.body ∷ []), lower)
-            | inr full ↦ absurd (no_next e.feed (length (list_of before e.feed) + 1) e.body
-                (same f c.0 full) (last_kept files before e from) (causes_on G before e.feed e.body less grows stands.causes)
-                (subst (IsBehindItsMakers files G) its_own (makers_on files before G e less stands.made)))
-          ]
+          | inl lower ↦ omega (arith, ap length c.1, length-append (list_of before f) (e.body ∷ []), lower)
+          | inr full ↦ absurd (no_next e.feed (length (list_of before e.feed) + 1) e.body
+              (same f c.0 full) (last_kept files before e from) (causes_on G before e.feed e.body less grows stands.causes)
+              (subst (IsBehindItsMakers files G) its_own (makers_on files before G e less stands.made)))
+        ]
         | inr c ↦ subst (λ (l : List Body). length l ≤ length (list_of G f)) (sym c.1) (less f)
       ]
     where

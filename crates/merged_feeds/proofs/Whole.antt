@@ -45,7 +45,6 @@ left_due files heads G at_ alike are put still l =
 module _ (files : List NodeFile) (heads : List Head) (G : List Entry) (alike : AreAlike files) (are : AreHeads files heads)
     (put : IsPut files G)
     (all : (k : ℕ) (head : Head) → slice_get heads k ≡ Some head → IsAllTaken files G head) where
-
   no_longer : (i : ℕ) (file : NodeFile) (f : Feed) → slice_get files i ≡ Some file
       → length (list_of file.kept f) ≤ length (list_of G f)
   no_longer i file f given = go (are i file given f)
@@ -59,7 +58,7 @@ module _ (files : List NodeFile) (heads : List Head) (G : List Entry) (alike : A
   front_here i file f given =
       front_by (list_of file.kept f) (list_of G f)
       (λ k a b one other.
-          alike f (suc k) a b (kept_by files i file f (suc k) a given one) (put.from f (suc k) b other))
+      alike f (suc k) a b (kept_by files i file f (suc k) a given one) (put.from f (suc k) b other))
       (no_longer i file f given)
 
   longest_here : (f : Feed) → (list_of G f ≡ []) ⊎ ((i : ℕ) × (file : NodeFile) × (slice_get files i ≡ Some file)

@@ -87,7 +87,7 @@ same_history {X} line net rows xs =
     let starts : filter_map (start_at net) (rows ++ skips xs) ≡ filter_map (start_at net) rows =
     same_meaning (start_at net) rows xs refl in
     λ i. option_map_or (λ (f : At). Err (line + f.0, f.1)) (faults i)
-        (Ok (record { net = net; entries = entries i; starts = starts i }))
+    (Ok (record { net = net; entries = entries i; starts = starts i }))
 
 -- The lines of the texts.
 

@@ -185,15 +185,15 @@ module _ {F : Type 0} (S : Folders F) (defs : Defs) where
         many = omega (arith, length-append names (name ∷ []), length-append files (file ∷ []), r.many);
         each = λ i n f named there. elim (get_push names name n i named) [
           | inl h ↦ elim (get_push files file f i there) [
-              | inl g ↦ file_later n f old mid new (r.each i n f h g) looks
-              | inr g ↦ absurd (omega (arith, got_less names i n h, g.0, r.many))
-            ]
+            | inl g ↦ file_later n f old mid new (r.each i n f h g) looks
+            | inr g ↦ absurd (omega (arith, got_less names i n h, g.0, r.many))
+          ]
           | inr h ↦ elim (get_push files file f i there) [
-              | inl g ↦ absurd (omega (arith, got_less files i f g, h.0, r.many))
-              | inr g ↦ subst (λ (x : List ℕ). IsFileOf S defs x f old new) (sym h.1)
-                  (subst (λ (x : NodeFile). IsFileOf S defs name x old new) (sym g.1)
-                  (file_earlier name file old mid new before last))
-            ]
+            | inl g ↦ absurd (omega (arith, got_less files i f g, h.0, r.many))
+            | inr g ↦ subst (λ (x : List ℕ). IsFileOf S defs x f old new) (sym h.1)
+                (subst (λ (x : NodeFile). IsFileOf S defs name x old new) (sym g.1)
+                (file_earlier name file old mid new before last))
+          ]
         ];
       }
 

@@ -19,7 +19,7 @@ pub returns-then-is_of-clause-none : goal.returns-then-is_of-clause-none
 returns-then-is_of-clause-none c = λ none e here.
     let item = c.index-entries-at.result in
     let there = stands_in c.args.file.now.kept c.entries-entries.result.now c.args.at item
-        (c.entries-entries.ensures.list ∙ c.kept.ensures) c.if-at-entries.false c.index-entries-at.is in
+    (c.entries-entries.ensures.list ∙ c.kept.ensures) c.if-at-entries.false c.index-entries-at.is in
     ap (λ (x : Entry). x.feed) (some_same e item (sym here ∙ there)) ∙ c.is_of.ensures.0 c.if-is_of.true
 
 pub returns-clause-some : goal.returns-clause-some

@@ -62,7 +62,7 @@ returns-clause-before c =
     let behind : AreBehind files old f (length (list_of old f) + 1) =
     subst (λ (n : ℕ). AreBehind files old f (n + 1)) c.count-count.ensures (c.in_default-missing_made.ensures.none refl) in
     let taken = c.in_ok-take_body.ensures
-        ∙ ap (λ (n : ℕ). old ++ record { feed = f; place = n + 1; body = body } ∷ []) c.count-count.ensures in
+    ∙ ap (λ (n : ℕ). old ++ record { feed = f; place = n + 1; body = body } ∷ []) c.count-count.ensures in
     let t : TakesNext files file.kept f old new =
     record {
       body = body;
@@ -88,6 +88,6 @@ returns-clause-step c =
     let behind : AreBehind files old f (length (list_of old f) + 1) =
     subst (λ (n : ℕ). AreBehind files old f (n + 1)) c.count-count.ensures (c.in_default-missing_made.ensures.none refl) in
     let taken = c.in_ok-take_body.ensures
-        ∙ ap (λ (n : ℕ). old ++ record { feed = f; place = n + 1; body = body } ∷ []) c.count-count.ensures in
+    ∙ ap (λ (n : ℕ). old ++ record { feed = f; place = n + 1; body = body } ∷ []) c.count-count.ensures in
     step_of files head file old true new given
     (step_takes files file.kept f old new body next (c.in_default-missing_cause.ensures.met refl) (behind_all files old f body behind) taken)

@@ -46,9 +46,9 @@ returns-in-Err-NotThisFile-clause-other g c = λ place same.
     let bytes = c.as_str.result.now in
     let is : c.in-Err-NotThisFile.place ≡ place = cc in
     let other = subst
-        (λ (fault : FileFault). OnlyKeepsMore (S.becomes old) me bytes
-        → IfSome (S.seen new bytes) (IsRefused c.args.net.now me fault))
-        c.in-Err-NotThisFile.field-0-is c.in-Err-NotThisFile.ensures.refused in
+    (λ (fault : FileFault). OnlyKeepsMore (S.becomes old) me bytes
+    → IfSome (S.seen new bytes) (IsRefused c.args.net.now me fault))
+    c.in-Err-NotThisFile.field-0-is c.in-Err-NotThisFile.ensures.refused in
     subst (λ (n : ℕ). IsOther S c.args.workload.now c.args.name.now n old new) is
     (file_refused S c.args.workload.now c.args.net.now c.args.name.now bytes me c.in-Err-NotThisFile.place old new c.requires
     (c.as_str.ensures.value ∙ c.in_ok-file.ensures) (sym c.in-Some.ensures) other)

@@ -141,9 +141,6 @@ lines_are net printable none G ps short =
     ∙ lines_go_on net printable none (codes "$HISTORY\n" ++ (flat_map entry_line G ++ flat_map (lacks_line net) ps))
     ∙ ap (λ (l : List (List ℕ)). network_lines net ++ l) (behind_header net printable G ps short))
 
-rows_behind : (net : Net) (more : List (List ℕ)) → lines_behind (Some (length (network_lines net))) (begun net more) ≡ more
-rows_behind net more = drop-append-add (network_lines net) (codes "$HISTORY" ∷ more) 1
-
 -- the text is read as what the lines behind `$HISTORY` mean
 read_by : (net : Net) → IsPrintable net → net_fault net ≡ None → (G : List Entry) (ps : List FeedPlace)
     → AllByRecursion IsShortPlace ps → (r : Result HistoryText At)
@@ -152,9 +149,11 @@ read_by : (net : Net) → IsPrintable net → net_fault net ≡ None → (G : Li
 read_by net printable none G ps short r means =
     let front = begins net printable none (lines_below net G ps) in
     let place = length (network_lines net) in
+    let behind : lines_behind (Some place) (begun net (lines_below net G ps)) ≡ lines_below net G ps =
+    drop-append-add (network_lines net) (codes "$HISTORY" ∷ lines_below net G ps) 1 in
     read_with (history_text net G [] ++ flat_map (lacks_line net) ps) (Some place) (begun net (lines_below net G ps))
     (as_printed net) r (lines_are net printable none G ps short) (sym front.place) front.network
-    (ap (λ (l : List (List ℕ)). with_rows (place + 2) (map row_of l) (as_printed net)) (rows_behind net (lines_below net G ps))
+    (ap (λ (l : List (List ℕ)). with_rows (place + 2) (map row_of l) (as_printed net)) behind
     ∙ means)
 
 plain_means : (net : Net) → IsPrintable net → net_fault net ≡ None → (G : List Entry) → AreTold net G []

@@ -1,0 +1,104 @@
+//! What the entries tell of the launches of each job, in one pass.
+ghost use Rattle.std.specs.Prelude.{◌≡◌, ◌++◌, ◌∷◌, [], IfOk, OnOk, cond, false, length};
+ghost use Rattle.std.specs.List.{zip};
+ghost use Rattle.night_texts.specs.Marks as spec;
+ghost use Rattle.night_texts.specs.Tables.{marks_at};
+
+use crate::marks::{Mark, told};
+use base_types::{Entry, Items, NoMemory};
+use indexmap::IndexMap;
+use std::alloc::Global;
+
+/// What each workstation tells of each job.
+pub(crate) struct MarkTable {
+    alloc: Global,
+    rows: IndexMap<(u16, u32), Items<Mark>>,
+    none: Items<Mark>,
+}
+
+/// Written out, so that dropping one is a call for whoever owns it.
+impl Drop for MarkTable {
+    fn drop(self) {
+        let MarkTable {
+            alloc: _alloc,
+            rows: _rows,
+            none: _none,
+        } = self;
+    }
+}
+
+impl MarkTable {
+    /// Nothing told, which takes no memory yet.
+    fn new(alloc: Global) -> MarkTable
+        ensures { (q : spec.Key) → marks_at result q ≡ [] }
+    {
+        MarkTable {
+            alloc,
+            rows: IndexMap::new(alloc),
+            none: Items::new(alloc),
+        }
+    }
+
+    /// Takes what is told of a job out of the table.
+    fn take(&mut self, w: u16, j: u32) -> Items<Mark>
+        ensures value { result ≡ marks_at self.old (w, j) }
+        ensures others { (q : spec.Key) → spec.same_key (w, j) q ≡ false → marks_at self.new q ≡ marks_at self.old q }
+    {
+        match self.rows.swap_remove(&(w, j)) {
+            Some(marks) => marks,
+            None => Items::new(self.alloc),
+        }
+    }
+
+    /// Puts one mark more.
+    fn put(&mut self, w: u16, j: u32, mark: Mark) -> Result<(), NoMemory>
+        ensures { OnOk result ((q : spec.Key) → marks_at self.new q
+            ≡ marks_at self.old q ++ cond (spec.same_key (w, j) q) (mark ∷ []) []) }
+    {
+        let mut marks = self.take(w, j);
+        marks.push(mark)?;
+        match self.rows.insert((w, j), marks) {
+            Ok(_) => Ok(()),
+            Err(_) => Err(NoMemory),
+        }
+    }
+
+    /// Takes what an entry tells that was kept at a time.
+    #[tactic(auto, using(crate::proofs::Walks::some_put, crate::proofs::Walks::none_put))]
+    fn tell(&mut self, entry: &Entry, time: Option<u64>) -> Result<(), NoMemory>
+        ensures { OnOk result ((q : spec.Key) → marks_at self.new q
+            ≡ marks_at self.old q ++ spec.marks_of q ((entry.now, time) ∷ [])) }
+    {
+        match told(entry, time) {
+            None => Ok(()),
+            Some(((w, j), mark)) => self.put(w, j, mark),
+        }
+    }
+
+    /// What the entries tell that were kept at these times.
+    pub(crate) fn of(
+        alloc: Global,
+        entries: &[Entry],
+        times: &[Option<u64>],
+    ) -> Result<MarkTable, NoMemory>
+        requires { length times.now ≡ length entries.now }
+        ensures { IfOk result (λ table. (q : spec.Key)
+            → marks_at table q ≡ spec.marks_of q (zip entries.now times.now)) }
+    {
+        let mut table = MarkTable::new(alloc);
+        for i in 0..entries.len() {
+            table.tell(&entries[i], times[i])?;
+        }
+        Ok(table)
+    }
+
+    /// What a workstation tells of a job, in order.
+    pub(crate) fn marks(&self, w: u16, j: u32) -> &[Mark]
+        ensures { result.now ≡ marks_at self.now (w, j) }
+    {
+        match self.rows.get(&(w, j)) {
+            Some(marks) => marks.as_slice(),
+            None => self.none.as_slice(),
+        }
+    }
+}

@@ -1,14 +1,16 @@
 -- What is told of entries, one entry further.
 use Rattle.std.proofs.Common.{[], ℕ, suc, ◌+◌, ◌++◌, ◌∙◌, ◌∷◌, ◌≡◌, ◌≤◌, Bool, List, None, Option, Some, add-one, ap}
-use Rattle.std.proofs.Common.{cond, drop, false, length, refl, sym, true}
+use Rattle.std.proofs.Common.{cond, drop, false, length, refl, subst, sym, true}
 use Rattle.std.proofs.lemmas.List.{append-nil, append_assoc}
 use Rattle.std.specs.List.{zip}
 use Rattle.std.specs.Prelude.{◌==◌, filter, filter_map, slice_get, unwrap_or}
 use Rattle.lemmas.proofs.Lists.{drop_at_end, drop_some}
 use Rattle.model.specs.History.{maker}
-use Rattle.model.specs.Types.{Entry, Feed}
+use Rattle.model.specs.Types.{Entry, Events, Feed, Orders}
 use Rattle.model.specs.Words.{last_or}
 use Rattle.logged_times.specs.Known.{Tells, Timed, is_at, known_time, made_by, row_of, time_of}
+use Rattle.logged_times.specs.Times.{times_in}
+use Rattle.logged_times.specs.declared.lines.KeptLine.{KeptLine}
 use Rattle.logged_times.specs.declared.known.EntryTimes.{EntryTimes}
 
 abbrev last_from : Option ℕ → List Timed → Feed → ℕ → Option ℕ
@@ -44,6 +46,12 @@ pub put_told : (old new : EntryTimes) (p : Timed)
     → (before : List Timed) → Tells before old → Tells (before ++ p ∷ []) new
 put_told old new p put before tells f k =
     put f k ∙ ap (λ t. cond (is_at f k p.0) p.1 t) (tells f k) ∙ sym (known_further before p f k)
+
+-- an empty table tells nothing
+pub none_known : (known : EntryTimes) → known.events.entries ≡ [] → known.orders.entries ≡ [] → Tells [] known
+unfolding known_time
+none_known known first second (Events w) k = rw first refl
+none_known known first second (Orders a w) k = rw second refl
 
 -- what w made of one entry, told or passed over
 pub one_told : (w : ℕ) (e : Entry) (t : Option ℕ) (old new : EntryTimes) → (maker e.feed == w) ≡ true
@@ -87,3 +95,19 @@ pub made_further : (w : ℕ) (entries : List Entry) (times : List (Option ℕ)) 
 made_further w entries times i e t whole so_far first second before =
     before ∙ ap (λ l. so_far ++ l) (made_first w entries times i e t first second)
     ∙ sym (append_assoc so_far (made_by w (e ∷ []) (t ∷ [])) (made_by w (drop (i + 1) entries) (drop (i + 1) times)))
+
+-- and at the end a table tells all of it
+pub made_whole : (w : ℕ) (entries : List Entry) (times : List (Option ℕ)) (i : ℕ) (whole so_far : List Timed)
+    (known : EntryTimes) → length entries ≤ i → Tells so_far known
+    → whole ≡ so_far ++ made_by w (drop i entries) (drop i times) → Tells whole known
+made_whole w entries times i whole so_far known h tells before =
+    subst (λ (l : List Timed). Tells l known)
+    (sym (before ∙ ap (λ l. so_far ++ l) (made_none w entries times i h) ∙ append-nil so_far)) tells
+
+-- times that are those of some lines
+pub told_by : (w : ℕ) (entries : List Entry) (lines : List KeptLine) (times : List (Option ℕ)) (old new : EntryTimes)
+    → times ≡ times_in lines entries
+    → ((before : List Timed) → Tells before old → Tells (before ++ made_by w entries times) new)
+    → (before : List Timed) → Tells before old → Tells (before ++ made_by w entries (times_in lines entries)) new
+told_by w entries lines times old new is tell before tells =
+    subst (λ (l : List (Option ℕ)). Tells (before ++ made_by w entries l) new) is (tell before tells)

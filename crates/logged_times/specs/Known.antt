@@ -1,12 +1,14 @@
 -- When entries were kept that several files tell of.
 use Rattle.std.specs.List.{zip}
-use Rattle.std.specs.Prelude.{ℕ, ◌&&◌, ◌==◌, ◌≡◌, Bool, List, None, Option, Some, filter, filter_map, if◌then◌else◌}
+use Rattle.std.specs.Prelude.{ℕ, ◌&&◌, ◌++◌, ◌==◌, ◌≡◌, Bool, List, None, Option, Some, filter, filter_map, if◌then◌else◌}
 use Rattle.std.specs.Prelude.{unwrap_or}
 use Rattle.model.specs.Equalities.{feed_eq}
 use Rattle.model.specs.History.{maker}
 use Rattle.model.specs.Types.{Entry, Events, Feed, Orders}
 use Rattle.model.specs.Words.{last_or}
 use Rattle.indexmap.specs.IndexMap.{get}
+use Rattle.logged_times.specs.KeptLines.{kept_lines}
+use Rattle.logged_times.specs.Times.{times_in}
 use Rattle.logged_times.specs.declared.known.EntryTimes.{EntryTimes}
 
 -- an entry, and when it was kept where that is known
@@ -28,6 +30,10 @@ known_time timed f k = last_or None (filter_map (time_of f k) timed)
 -- what the file of w tells of the entries that w made
 unfoldable pub made_by : ℕ → List Entry → List (Option ℕ) → List Timed
 made_by w entries times = filter (λ (p : Timed). maker p.0.feed == w) (zip entries times)
+
+-- what w tells by its log and the one before it, where its file keeps these entries
+abbrev pub told_by_logs : ℕ → List ℕ → List ℕ → List Entry → List Timed
+told_by_logs w former last entries = made_by w entries (times_in (kept_lines former ++ kept_lines last) entries)
 
 -- both are one
 abbrev pub same_event : ℕ × ℕ → ℕ × ℕ → Bool

@@ -1,12 +1,11 @@
 //! When entries were kept that several files tell of.
-ghost use Rattle.std.specs.Prelude.{◌≡◌, ◌++◌, ◌∷◌, [], IfOk, List, None, OnOk, cond, length, map, unwrap_or, ℕ};
+ghost use Rattle.std.specs.Prelude.{◌≡◌, ◌==◌, ◌++◌, ◌∷◌, [], IfOk, List, None, OnOk, cond, length, map, unwrap_or, ℕ};
 ghost use Rattle.std.specs.Option.{option_copied};
 ghost use Rattle.indexmap.specs.IndexMap.{get};
-ghost use Rattle.model.specs.History.{maker as made};
+ghost use Rattle.model.specs.History.{maker};
 ghost use Rattle.model.specs.Types.{Entry as Kept, Feed as Feeds};
-ghost use Rattle.logged_times.specs.KeptLines.{kept_lines};
-ghost use Rattle.logged_times.specs.Times.{times_in as times_by};
-ghost use Rattle.logged_times.specs.Known.{Tells, Timed, is_at, known_time, made_by, row_of, same_event, same_order};
+ghost use Rattle.logged_times.specs.Known.{Tells, Timed, is_at, known_time, made_by, row_of, same_event};
+ghost use Rattle.logged_times.specs.Known.{same_order, told_by_logs};
 
 use crate::tables::KeptTimes;
 use crate::times::times_in;
@@ -34,19 +33,19 @@ impl Drop for EntryTimes {
     }
 }
 
-/// Who makes the entries of a feed.
-fn maker(feed: &Feed) -> u16
-    ensures { result ≡ made feed.now }
+/// Whether w makes the entries of a feed.
+fn is_made_by(w: &Ws, feed: &Feed) -> bool
+    ensures { result ≡ (maker feed.now == w.now) }
 {
     match feed {
-        Feed::Events(w) => w.0,
-        Feed::Orders(a, _) => a.0,
+        Feed::Events(own) => own.0 == w.0,
+        Feed::Orders(own, _) => own.0 == w.0,
     }
 }
 
 /// What stands in a row.
 fn at(row: Option<&Option<u64>>) -> Option<u64>
-    ensures { result ≡ unwrap_or (option_copied row) None }
+    ensures { result ≡ unwrap_or (option_copied row.entry) None }
 {
     match row {
         None => None,
@@ -102,16 +101,14 @@ impl EntryTimes {
     }
 
     /// Takes when one entry was kept, where w made it.
-    #[tactic(auto, unfolding(crate::specs::Known::made_by))]
     fn tell_one(&mut self, w: Ws, entry: &Entry, time: Option<u64>) -> Result<(), NoMemory>
         ensures { OnOk result ((before : List Timed) → Tells before self.old
             → Tells (before ++ made_by w (entry.now ∷ []) (time ∷ [])) self.new) }
     {
-        if maker(&entry.feed) == w.0 {
-            self.put(entry, time)
-        } else {
-            Ok(())
+        if !is_made_by(&w, &entry.feed) {
+            return Ok(());
         }
+        self.put(entry, time)
     }
 
     /// Takes when the entries that w made were kept, of those that its file keeps, whose times these are.
@@ -135,8 +132,8 @@ impl EntryTimes {
         former: &[u8],
         last: &[u8],
     ) -> Result<(), NoMemory>
-        ensures { OnOk result ((before : List Timed) → Tells before self.old → Tells (before
-            ++ made_by w entries.now (times_by (kept_lines former.now ++ kept_lines last.now) entries.now)) self.new) }
+        ensures { OnOk result ((before : List Timed) → Tells before self.old
+            → Tells (before ++ told_by_logs w former.now last.now entries.now) self.new) }
     {
         let mut table = KeptTimes::new(self.alloc);
         table.read(former)?;

@@ -1,5 +1,6 @@
 //! What the lines of logs tell, by the place of the gate.
-ghost use Rattle.std.specs.Prelude.{◌≡◌, ◌++◌, ◌∷◌, [], IfOk, List, OnOk, ℕ, map, drop, option_and_then, filter_map};
+ghost use Rattle.std.specs.Prelude.{◌≡◌, ◌==◌, ◌++◌, ◌∷◌, [], IfOk, List, OnOk, Some, ℕ, cond, filter_map, map, nat_eq};
+ghost use Rattle.indexmap.specs.IndexMap.{get};
 ghost use Rattle.syntax.specs.Splits.{lines_of};
 ghost use Rattle.logged_times.specs.KeptLines.{kept_line as line_tells, kept_lines};
 ghost use Rattle.logged_times.specs.Tables.{Knows};
@@ -41,7 +42,8 @@ impl KeptTimes {
 
     /// Takes one more line that tells of a record.
     fn put(&mut self, line: KeptLine) -> Result<(), NoMemory>
-        ensures { OnOk result ((before : List Line) → Knows before self.old → Knows (before ++ line ∷ []) self.new) }
+        ensures { OnOk result ((gate : ℕ) → get nat_eq self.new.rows gate
+            ≡ cond (line.gate == gate) (Some line) (get nat_eq self.old.rows gate)) }
     {
         match self.rows.insert(line.gate, line) {
             Ok(_) => Ok(()),
@@ -50,6 +52,7 @@ impl KeptTimes {
     }
 
     /// Takes what a line tells, if anything.
+    #[tactic(auto, using(crate::proofs::Lasts::none_told))]
     fn tell(&mut self, line: &str) -> Result<(), NoMemory>
         ensures { OnOk result ((before : List Line) → Knows before self.old
             → Knows (before ++ filter_map line_tells (line.now ∷ [])) self.new) }

@@ -29,7 +29,7 @@ fn write_day(out: &mut Vec<u8>, date: (u16, u8, u8)) -> io::Result<()>
 
 /// Writes `HH:MM:SS` of the seconds after midnight.
 #[tactic(auto, unfolding(crate::specs::Moments::clock_text))]
-fn write_clock(out: &mut Vec<u8>, seconds: u32) -> io::Result<()>
+fn write_clock(out: &mut Vec<u8>, seconds: u64) -> io::Result<()>
     requires { seconds < 86400 }
     ensures { OnOk result (out.new.items ≡ out.old.items ++ spec.clock_text seconds) }
 {
@@ -50,7 +50,7 @@ pub fn write_moment(out: &mut Vec<u8>, t: u64) -> io::Result<()>
         Some(date) => {
             write_day(out, date)?;
             write!(out, " ")?;
-            write_clock(out, (t % 86_400) as u32)
+            write_clock(out, t % 86_400)
         }
     }
 }

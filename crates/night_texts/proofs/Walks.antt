@@ -5,13 +5,16 @@ use Rattle.std.proofs.Common.{slice_get}
 use Rattle.std.proofs.lemmas.List.{append-nil}
 use Rattle.std.specs.List.{zip}
 use Rattle.std.specs.Option.{option_to_list}
-use Rattle.std.specs.Prelude.{if◌then◌else◌, option_and_then}
+use Rattle.std.specs.Prelude.{if◌then◌else◌, option_and_then, unwrap_or}
+use Rattle.indexmap.specs.IndexMap.{get}
 use Rattle.lemmas.proofs.Lists.{drop_at_end, drop_some, one_filtered, regroup}
 use Rattle.lemmas.proofs.Options.{cons_is}
 use Rattle.model.specs.Catalogue.{StreamJob}
 use Rattle.model.specs.Types.{Entry, Net}
+use Rattle.owner_rows.proofs.Keys.{key_tells}
+use Rattle.owner_rows.specs.Tables.{same_key}
 use Rattle.night_texts.specs.Times.{Timed}
-use Rattle.night_texts.specs.Marks.{Key, marks_of, same_key, told, under}
+use Rattle.night_texts.specs.Marks.{Key, marks_of, told, under}
 use Rattle.night_texts.specs.Runs.{marked_run, run_lines}
 use Rattle.night_texts.specs.Tables.{marks_at}
 use Rattle.night_texts.specs.declared.marks.Mark.{Mark}
@@ -67,6 +70,19 @@ unfolding marks_of
 no_mark q p e =
     one_filtered (λ (r : Timed). option_and_then (under q) (told r)) p
     ∙ ap (λ (o : Option (Key × Mark)). option_to_list (option_and_then (under q) o)) e
+
+-- one mark more in a table
+pub mark_put : (old mid new : MarkTable) (k : Key) (m : Mark) (list : List Mark) → list ≡ marks_at old k ++ m ∷ []
+    → ((q : Key) → same_key k q ≡ false → marks_at mid q ≡ marks_at old q)
+    → ((q : Key) → get same_key new.rows q ≡ cond (same_key k q) (Some list) (get same_key mid.rows q))
+    → (q : Key) → marks_at new q ≡ marks_at old q ++ cond (same_key k q) (m ∷ []) []
+mark_put old mid new k m list is others put q =
+    ap (λ (o : Option (List Mark)). unwrap_or o []) (put q) ∙ go (same_key k q) refl
+  where
+    go : (b : Bool) → same_key k q ≡ b
+        → unwrap_or (cond b (Some list) (get same_key mid.rows q)) [] ≡ marks_at old q ++ cond b (m ∷ []) []
+    go true e = is ∙ ap (λ (p : Key). marks_at old p ++ m ∷ []) (key_tells k q e)
+    go false e = others q e ∙ sym (append-nil (marks_at old q))
 
 -- a table that tells what one more entry tells
 pub some_put : (old new : MarkTable) (p : Timed) (k : Key) (m : Mark) → told p ≡ Some (k, m)

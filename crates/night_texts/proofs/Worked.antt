@@ -15,9 +15,10 @@ use Rattle.night_texts.specs.Lines.{log_of, timed_line}
 use Rattle.night_texts.specs.Marks.{marks_of}
 use Rattle.moment_texts.specs.Moments.{moment_text}
 use Rattle.night_texts.specs.Names.{job_called, job_text, numbered, stream_called, stream_text}
-use Rattle.night_texts.specs.Runs.{job_runs, marked_run, member_runs, numbered_job_runs, plan_runs, run_line, run_lines}
-use Rattle.night_texts.specs.Runs.{run_heads, runs_of}
+use Rattle.night_texts.specs.Runs.{end_text, job_runs, marked_run, member_runs, numbered_job_runs, plan_runs}
+use Rattle.night_texts.specs.Runs.{run_heads, run_line, run_lines, runs_of}
 use Rattle.night_texts.specs.Sayings.{launch_text, says}
+use Rattle.night_texts.specs.Times.{span_text}
 
 -- the master 0 and its agent 1
 two : Net
@@ -68,14 +69,13 @@ plan = entry (Events 0) 1 (NewPlan 12 [] (7 ∷ 8 ∷ 9 ∷ []) (night ∷ []))
 own : ℕ → Body → Entry
 own k b = entry (Events 1) k b
 
-plan_made : log_of two (plan ∷ []) (Some 180483 ∷ [])
+plan_made : timed_line two (view_of (plan ∷ [])) (plan, Some 180483)
     ≡ moment_text 180483 ++ codes " MDM made plan 12: 1 new streams, 3 carried\n"
-unfolding everything two a_job night entry plan log_of timed_line says name_of
+unfolding everything two a_job night entry plan timed_line says name_of
 plan_made = refl
 
-launched : log_of two (plan ∷ own 1 (Launched 1 1 []) ∷ []) (None ∷ Some 180483 ∷ [])
-    ≡ codes "- MDM made plan 12: 1 new streams, 3 carried\n" ++ moment_text 180483
-    ++ codes " FTA1 launched FTA1#NIGHT.LOAD, launch 1\n"
+launched : log_of two (plan ∷ own 1 (Launched 1 1 []) ∷ []) (None ∷ None ∷ [])
+    ≡ codes "- MDM made plan 12: 1 new streams, 3 carried\n- FTA1 launched FTA1#NIGHT.LOAD, launch 1\n"
 unfolding everything two a_job night entry plan own log_of timed_line says name_of launch_text job_called job_text
 launched = refl
 
@@ -120,9 +120,18 @@ given = refl
 -- two launches of one job: the first ended badly, the second is open
 ran : runs_of two
     (plan ∷ own 1 (Launched 1 1 []) ∷ own 2 (Ended 1 1 (pos 8) false) ∷ own 3 (Launched 1 2 []) ∷ [])
-    (Some 180000 ∷ Some 180483 ∷ Some 180584 ∷ None ∷ [])
-    ≡ run_heads ++ codes "FTA1#NIGHT.LOAD\t1\t" ++ moment_text 180483 ++ codes "\t" ++ moment_text 180584
-    ++ codes "\t101\t8\tbad\n"
-    ++ codes "FTA1#NIGHT.LOAD\t2\t-\t-\t-\t-\topen\n"
-unfolding everything two a_job night entry plan own name_of job_text marks_of job_runs marked_run member_runs numbered_job_runs plan_runs run_line run_lines runs_of
+    (None ∷ None ∷ None ∷ None ∷ [])
+    ≡ run_heads ++ codes "FTA1#NIGHT.LOAD\t1\t-\t-\t-\t8\tbad\n" ++ codes "FTA1#NIGHT.LOAD\t2\t-\t-\t-\t-\topen\n"
+unfolding everything two a_job night entry plan own name_of job_text marks_of job_runs marked_run member_runs
+    numbered_job_runs plan_runs run_line run_lines runs_of span_text end_text
 ran = refl
+
+lasted : span_text (Some 180483) (Some 180584)
+    ≡ moment_text 180483 ++ codes "\t" ++ moment_text 180584 ++ codes "\t101"
+unfolding span_text
+lasted = refl
+
+clock_back : span_text (Some 180584) (Some 180483)
+    ≡ moment_text 180584 ++ codes "\t" ++ moment_text 180483 ++ codes "\t-"
+unfolding span_text
+clock_back = refl

@@ -1,7 +1,7 @@
 -- What the entries tell of the launches of a job.
-use Rattle.std.specs.Prelude.{ℕ, ◌&&◌, ◌==◌, Bool, List, None, Option, Some, false, filter_map, if◌then◌else◌}
-use Rattle.std.specs.Prelude.{option_and_then, option_map}
+use Rattle.std.specs.Prelude.{ℕ, List, None, Option, Some, filter_map, if◌then◌else◌, option_and_then}
 use Rattle.model.specs.Types.{Body, Ended, Events, Failed, Feed, Launched, Lost, Orders}
+use Rattle.owner_rows.specs.Tables.{same_key}
 use Rattle.night_texts.specs.Times.{Timed}
 use Rattle.night_texts.specs.declared.marks.Mark.{Mark}
 use Rattle.night_texts.specs.declared.marks.Mark.TheVariants as mark
@@ -9,10 +9,6 @@ use Rattle.night_texts.specs.declared.marks.Mark.TheVariants as mark
 -- a workstation, and a job by its number
 abbrev pub Key : Type 0
 Key = ℕ × ℕ
-
--- both are one
-abbrev pub same_key : Key → Key → Bool
-same_key p q = (p.0 == q.0) && (p.1 == q.1)
 
 -- the job of which an entry tells a launch or an end, and what it tells
 abbrev pub marked : Body → Option ℕ → Option (ℕ × Mark)

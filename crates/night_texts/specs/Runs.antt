@@ -2,15 +2,15 @@
 use Rattle.std.specs.Fmt.{decimal, signed_decimal}
 use Rattle.std.specs.List.{zip}
 use Rattle.std.specs.Option.{option_map_or}
-use Rattle.std.specs.Prelude.{[], ℕ, ◌++◌, ◌-◌, ◌==◌, ◌∷◌, Bool, List, None, Option, Some, codes, false, find}
-use Rattle.std.specs.Prelude.{flat_map, if◌then◌else◌, nat_le, option_and_then}
+use Rattle.std.specs.Prelude.{[], ℕ, ◌++◌, ◌==◌, ◌∷◌, Bool, List, None, Option, Some, codes, false, find}
+use Rattle.std.specs.Prelude.{flat_map, option_and_then}
 use Rattle.model.specs.Types.{Entry, JobDoc, Net, StreamDoc}
 use Rattle.model.specs.History.{View, view_of}
 use Rattle.model.specs.Catalogue.{StreamJob, job, members, stream}
 use Rattle.report_text.specs.Bodies.{end_word}
 use Rattle.night_texts.specs.Marks.{Key, marks_of}
 use Rattle.night_texts.specs.Names.{job_text}
-use Rattle.night_texts.specs.Times.{seconds_text, time_text}
+use Rattle.night_texts.specs.Times.{span_text}
 use Rattle.night_texts.specs.declared.marks.Mark.{Mark}
 use Rattle.night_texts.specs.declared.marks.Mark.TheVariants.{Ended, Failed, Launched, Lost}
 
@@ -40,12 +40,15 @@ outcome_text (Some (Ended m rc good t)) = end_word good
 outcome_text (Some (Failed m t)) = codes "failed"
 outcome_text (Some (Lost m t)) = codes "lost"
 
+-- `RC OUTCOME`, with a tab between them
+unfoldable pub end_text : Option Mark → List ℕ
+end_text end = code_text end ++ codes "\t" ++ outcome_text end
+
 -- `JOB LAUNCH BEGIN END SECONDS RC OUTCOME`, with tabs between them
 unfoldable pub run_line : Net → StreamJob → ℕ → Option ℕ → Option Mark → List ℕ
 run_line net p n from end =
-    job_text net p ++ codes "\t" ++ decimal n ++ codes "\t" ++ time_text from ++ codes "\t"
-    ++ time_text (option_and_then time_of end) ++ codes "\t" ++ seconds_text from (option_and_then time_of end)
-    ++ codes "\t" ++ code_text end ++ codes "\t" ++ outcome_text end ++ codes "\n"
+    job_text net p ++ codes "\t" ++ decimal n ++ codes "\t" ++ span_text from (option_and_then time_of end)
+    ++ codes "\t" ++ end_text end ++ codes "\n"
 
 -- the line of a launch that a mark tells; it ended as the first end of its number among the later marks says
 unfoldable pub marked_run : Net → StreamJob → Mark → List Mark → List ℕ

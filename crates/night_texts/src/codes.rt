@@ -38,7 +38,7 @@ pub(crate) fn time_of(mark: Mark) -> Option<u64>
 }
 
 /// Writes the return code of an end.
-pub(crate) fn write_code(out: &mut Vec<u8>, end: Option<Mark>) -> io::Result<()>
+fn write_code(out: &mut Vec<u8>, end: Option<Mark>) -> io::Result<()>
     ensures { OnOk result (out.new.items ≡ out.old.items ++ spec.code_text end) }
 {
     match end {
@@ -48,7 +48,7 @@ pub(crate) fn write_code(out: &mut Vec<u8>, end: Option<Mark>) -> io::Result<()>
 }
 
 /// What became of a launch.
-pub(crate) fn outcome_text(end: Option<Mark>) -> &'static str
+fn outcome_text(end: Option<Mark>) -> &'static str
     ensures { result.now ≡ spec.outcome_text end }
 {
     match end {
@@ -58,4 +58,13 @@ pub(crate) fn outcome_text(end: Option<Mark>) -> &'static str
         Some(Mark::Failed(_, _)) => "failed",
         Some(Mark::Lost(_, _)) => "lost",
     }
+}
+
+/// Writes the return code of an end, and what became of the launch.
+#[tactic(auto, unfolding(crate::specs::Runs::end_text))]
+pub(crate) fn write_end(out: &mut Vec<u8>, end: Option<Mark>) -> io::Result<()>
+    ensures { OnOk result (out.new.items ≡ out.old.items ++ spec.end_text end) }
+{
+    write_code(out, end)?;
+    write!(out, "\t{}", outcome_text(end))
 }

@@ -169,17 +169,18 @@ pub(crate) fn write_cmd(out: &mut Vec<u8>, net: &Network, o: &Owners, cmd: &Cmd)
     }
 }
 
-/// Writes an order by its place and its issuer.
+/// Writes a word and an order, by its place and its issuer.
 #[tactic(auto, unfolding(crate::specs::Commands::order_from))]
 pub(crate) fn write_order_from(
     out: &mut Vec<u8>,
     net: &Network,
+    word: &str,
     from: &Ws,
     place: u32,
 ) -> io::Result<()>
-    ensures { OnOk result (out.new.items ≡ out.old.items ++ spec.order_from net.now from.now place) }
+    ensures { OnOk result (out.new.items ≡ out.old.items ++ (word.now ++ spec.order_from net.now from.now place)) }
 {
-    write!(out, "order {place} from {}", name(net.net(), from))
+    write!(out, "{word}order {place} from {}", name(net.net(), from))
 }
 
 /// Writes the command of an order, behind a colon. Nothing where it is not held.

@@ -3,9 +3,9 @@ ghost use Rattle.std.specs.Prelude.{◌≡◌, ◌++◌, OnOk, find, option_and_
 ghost use Rattle.owner_fold.specs.DocPlaces.{stream_job};
 ghost use Rattle.night_texts.specs.Runs as spec;
 
-use crate::codes::{ends, outcome_text, time_of, write_code};
+use crate::codes::{ends, time_of, write_end};
 use crate::marks::Mark;
-use crate::times::{write_seconds, write_time};
+use crate::times::write_span;
 use crate::names::write_job;
 use base_types::{JobDoc, StreamDoc};
 use network_tree::Network;
@@ -49,15 +49,10 @@ fn write_run(
 {
     write_job(out, net, parent, doc)?;
     write!(out, "\t{n}\t")?;
-    write_time(out, from)?;
+    write_span(out, from, end_time(end))?;
     write!(out, "\t")?;
-    let to = end_time(end);
-    write_time(out, to)?;
-    write!(out, "\t")?;
-    write_seconds(out, from, to)?;
-    write!(out, "\t")?;
-    write_code(out, end)?;
-    write!(out, "\t{}\n", outcome_text(end))
+    write_end(out, end)?;
+    write!(out, "\n")
 }
 
 /// Writes the line of a launch, where a mark tells one.

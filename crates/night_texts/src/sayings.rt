@@ -58,8 +58,7 @@ fn write_added(
         ++ (codes "obeyed " ++ order_from net.now from.now place ++ codes ": submit "
         ++ stream_text net.now doc.now)) }
 {
-    write!(out, "obeyed ")?;
-    write_order_from(out, net, from, place)?;
+    write_order_from(out, net, "obeyed ", from, place)?;
     write!(out, ": submit ")?;
     write_stream(out, net, doc)
 }
@@ -160,8 +159,7 @@ fn write_obeyed(
         ++ (codes "obeyed " ++ order_from net.now from.now place ++ codes ": "
         ++ cmd_text net.now (view_of o.now) cmd.now)) }
 {
-    write!(out, "obeyed ")?;
-    write_order_from(out, net, from, place)?;
+    write_order_from(out, net, "obeyed ", from, place)?;
     write!(out, ": ")?;
     write_cmd(out, net, o, cmd)
 }
@@ -197,8 +195,7 @@ fn write_declined(
         ++ (codes "declined " ++ order_from net.now from.now place ++ codes ", " ++ spec.why_text why
         ++ ordered_behind net.now (view_of o.now) from.now to.now place)) }
 {
-    write!(out, "declined ")?;
-    write_order_from(out, net, from, place)?;
+    write_order_from(out, net, "declined ", from, place)?;
     write!(out, ", {}", why_text(why))?;
     write_ordered(out, net, o, from, to, place)
 }

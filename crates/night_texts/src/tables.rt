@@ -1,7 +1,8 @@
 //! What the entries tell of the launches of each job, in one pass.
 ghost use Rattle.std.specs.Prelude.{◌≡◌, ◌++◌, ◌∷◌, [], IfOk, OnOk, cond, false, length};
 ghost use Rattle.std.specs.List.{zip};
-ghost use Rattle.night_texts.specs.Marks as spec;
+ghost use Rattle.owner_rows.specs.Tables.{same_key};
+ghost use Rattle.night_texts.specs.Marks.{Key, marks_of};
 ghost use Rattle.night_texts.specs.Tables.{marks_at};
 
 use crate::marks::{Mark, told};
@@ -30,7 +31,7 @@ impl Drop for MarkTable {
 impl MarkTable {
     /// Nothing told, which takes no memory yet.
     fn new(alloc: Global) -> MarkTable
-        ensures { (q : spec.Key) → marks_at result q ≡ [] }
+        ensures { (q : Key) → marks_at result q ≡ [] }
     {
         MarkTable {
             alloc,
@@ -42,7 +43,7 @@ impl MarkTable {
     /// Takes what is told of a job out of the table.
     fn take(&mut self, w: u16, j: u32) -> Items<Mark>
         ensures value { result ≡ marks_at self.old (w, j) }
-        ensures others { (q : spec.Key) → spec.same_key (w, j) q ≡ false → marks_at self.new q ≡ marks_at self.old q }
+        ensures others { (q : Key) → same_key (w, j) q ≡ false → marks_at self.new q ≡ marks_at self.old q }
     {
         match self.rows.swap_remove(&(w, j)) {
             Some(marks) => marks,
@@ -52,22 +53,20 @@ impl MarkTable {
 
     /// Puts one mark more.
     fn put(&mut self, w: u16, j: u32, mark: Mark) -> Result<(), NoMemory>
-        ensures { OnOk result ((q : spec.Key) → marks_at self.new q
-            ≡ marks_at self.old q ++ cond (spec.same_key (w, j) q) (mark ∷ []) []) }
+        ensures { OnOk result ((q : Key) → marks_at self.new q
+            ≡ marks_at self.old q ++ cond (same_key (w, j) q) (mark ∷ []) []) }
     {
         let mut marks = self.take(w, j);
         marks.push(mark)?;
-        match self.rows.insert((w, j), marks) {
-            Ok(_) => Ok(()),
-            Err(_) => Err(NoMemory),
-        }
+        self.rows.insert((w, j), marks)?;
+        Ok(())
     }
 
     /// Takes what an entry tells that was kept at a time.
     #[tactic(auto, using(crate::proofs::Walks::some_put, crate::proofs::Walks::none_put))]
     fn tell(&mut self, entry: &Entry, time: Option<u64>) -> Result<(), NoMemory>
-        ensures { OnOk result ((q : spec.Key) → marks_at self.new q
-            ≡ marks_at self.old q ++ spec.marks_of q ((entry.now, time) ∷ [])) }
+        ensures { OnOk result ((q : Key) → marks_at self.new q
+            ≡ marks_at self.old q ++ marks_of q ((entry.now, time) ∷ [])) }
     {
         match told(entry, time) {
             None => Ok(()),
@@ -82,8 +81,8 @@ impl MarkTable {
         times: &[Option<u64>],
     ) -> Result<MarkTable, NoMemory>
         requires { length times.now ≡ length entries.now }
-        ensures { IfOk result (λ table. (q : spec.Key)
-            → marks_at table q ≡ spec.marks_of q (zip entries.now times.now)) }
+        ensures { IfOk result (λ table. (q : Key)
+            → marks_at table q ≡ marks_of q (zip entries.now times.now)) }
     {
         let mut table = MarkTable::new(alloc);
         for i in 0..entries.len() {

@@ -16,7 +16,7 @@ pub(crate) fn write_time(out: &mut Vec<u8>, t: Option<u64>) -> io::Result<()>
 }
 
 /// Writes the seconds from one moment to another.
-pub(crate) fn write_seconds(out: &mut Vec<u8>, from: Option<u64>, to: Option<u64>) -> io::Result<()>
+fn write_seconds(out: &mut Vec<u8>, from: Option<u64>, to: Option<u64>) -> io::Result<()>
     ensures { OnOk result (out.new.items ≡ out.old.items ++ spec.seconds_text from to) }
 {
     let Some(from) = from else {
@@ -30,4 +30,16 @@ pub(crate) fn write_seconds(out: &mut Vec<u8>, from: Option<u64>, to: Option<u64
     } else {
         write!(out, "-")
     }
+}
+
+/// Writes a beginning, an end and the seconds between, with tabs between them.
+#[tactic(auto, unfolding(crate::specs::Times::span_text))]
+pub(crate) fn write_span(out: &mut Vec<u8>, from: Option<u64>, to: Option<u64>) -> io::Result<()>
+    ensures { OnOk result (out.new.items ≡ out.old.items ++ spec.span_text from to) }
+{
+    write_time(out, from)?;
+    write!(out, "\t")?;
+    write_time(out, to)?;
+    write!(out, "\t")?;
+    write_seconds(out, from, to)
 }

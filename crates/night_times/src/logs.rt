@@ -1,43 +1,57 @@
 //! The bytes of a log.
-ghost use Rattle.std.specs.Prelude.{◌≡◌, ◌<◌, ◌^◌, IfOk, IfSome, length, take};
-ghost use Rattle.kept_files.specs.Looking.{OnlyLooks};
-ghost use Rattle.night_times.specs.Growth.{OnlyAppends};
+ghost use Rattle.std.specs.Prelude.{◌≡◌, IfOk, IfSome, None, take};
+ghost use Rattle.outside.specs.Causes.{Rose};
+ghost use Rattle.night_times.specs.Logs.{IsLog, OneCall, telling};
 
 use base_types::NoMemory;
 use folders::Folder;
 use std::alloc::Global;
 
-/// How many bytes are read at a time, and how often at most: more than a log has.
-const PIECE: usize = 65_536;
+/// How many bytes of a log are read at first. A log that has more is read anew, with all that a log may have.
+const FIRST: usize = 65_536;
 
-const PIECES: u32 = 1_024;
+const MOST: usize = 33_554_432;
 
-/// The bytes of the log of a name. Where there is none they are none, and where a call fails they are those before.
-///
-/// A node may write the log meanwhile: what is read is its front as the last call found it, and all of it where no call
-/// failed and it has fewer than 67,108,864 bytes.
+/// The bytes at the front of a file, so many at most. None where the call fails.
+fn front_of<F: Folder>(
+    alloc: Global,
+    folder: &mut F,
+    name: &str,
+    size: usize,
+) -> Result<Option<Vec<u8>>, NoMemory>
+    ensures bytes { IfOk result (λ front. IfSome front (λ log. IfSome (F.seen folder.new name.now)
+        (λ file. log.items ≡ take size file))) }
+    ensures failed { IfOk result (λ front. front ≡ None → Rose (F.faults folder.old) (F.faults folder.new)) }
+    ensures call { IfOk result (λ front. OneCall (telling F.seen F.becomes F.faults) folder.old folder.new) }
+{
+    let mut log = vec![in alloc; 0u8; size]?;
+    match folder.read_at(name, 0, &mut log) {
+        Ok(count) => {
+            log.truncate(count);
+            Ok(Some(log))
+        }
+        Err(_) => Ok(None),
+    }
+}
+
+/// The bytes of the log of a name, or its first 33,554,432 bytes. Where there is none, and where the call fails, they are
+/// none. A node may write the log meanwhile: it is as the last call found it.
 pub(crate) fn read_log<F: Folder>(
     alloc: Global,
     folder: &mut F,
     name: &str,
 ) -> Result<Vec<u8>, NoMemory>
-    ensures front { OnlyAppends (F.becomes folder.old) name.now → IfOk result (λ log.
-        IfSome (F.seen folder.new name.now) (λ file. log.items ≡ take (length log.items) file)) }
-    ensures whole { OnlyAppends (F.becomes folder.old) name.now → F.faults folder.new ≡ F.faults folder.old
-        → IfOk result (λ log. length log.items < 2 ^ 26
-        → IfSome (F.seen folder.new name.now) (λ file. log.items ≡ file)) }
-    ensures looks { OnlyLooks F.seen F.becomes F.faults folder.old folder.new }
+    ensures { IfOk result (λ log. IsLog (telling F.seen F.becomes F.faults) folder.old folder.new name.now
+        log.items) }
 {
-    let mut log = Vec::new(alloc);
-    let mut piece = vec![in alloc; 0u8; PIECE]?;
-    for _ in 0..PIECES {
-        let Ok(count) = folder.read_at(name, log.len() as u64, &mut piece) else {
-            return Ok(log);
-        };
-        log.extend_from_slice(&piece[..count])?;
-        if count < PIECE {
-            return Ok(log);
-        }
+    let Some(log) = front_of(alloc, folder, name, FIRST)? else {
+        return Ok(Vec::new(alloc));
+    };
+    if log.len() < FIRST {
+        return Ok(log);
     }
-    Ok(log)
+    match front_of(alloc, folder, name, MOST)? {
+        Some(whole) => Ok(whole),
+        None => Ok(Vec::new(alloc)),
+    }
 }

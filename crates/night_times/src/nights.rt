@@ -1,8 +1,10 @@
 //! When the entries of a night were kept.
-ghost use Rattle.std.specs.Prelude.{◌≡◌, ◌++◌, ◌<◌, IfOk, length};
+ghost use Rattle.std.specs.Prelude.{◌≡◌, ◌++◌, ◌<◌, IfOk, OnOk, length};
 ghost use Rattle.std.specs.String.{string_bytes};
-ghost use Rattle.kept_files.specs.Looking.{OnlyLooks};
 ghost use Rattle.model.specs.Network.{node_count};
+ghost use Rattle.night_times.specs.Logs.{IsLog, telling};
+ghost use Rattle.night_times.specs.Nights.{AreTimes};
+ghost use Rattle.night_times.specs.Steps.{Learns, LearnsOf};
 
 use crate::logs::read_log;
 use base_types::{Items, NoMemory, Ws};
@@ -30,31 +32,14 @@ fn log_of<F: Folder>(
     name: &str,
     ending: &str,
 ) -> Result<Vec<u8>, NoMemory>
-    ensures looks { OnlyLooks F.seen F.becomes F.faults folder.old folder.new }
+    ensures { IfOk result (λ log. IsLog (telling F.seen F.becomes F.faults) folder.old folder.new
+        (name.now ++ ending.now) log.items) }
 {
     let file = file_name(alloc, name, ending)?;
     read_log(alloc, folder, file.as_str())
 }
 
-/// The entries that the file of w keeps. None where the file is missing, or is none of w.
-fn entries_of<F: Folder>(
-    alloc: Global,
-    folder: &mut F,
-    net: &Network,
-    w: Ws,
-) -> Result<Option<Owners>, NoMemory>
-    requires { w < node_count net.now }
-    ensures looks { OnlyLooks F.seen F.becomes F.faults folder.old folder.new }
-{
-    let file = file_name(alloc, name(net.net(), &w), ".msg")?;
-    match read_entries(alloc, folder, file.as_str(), net, w) {
-        Ok(entries) => Ok(Some(entries)),
-        Err(FileFault::NoMemory) => Err(NoMemory),
-        Err(FileFault::Folder) | Err(FileFault::NotThisFile(_)) => Ok(None),
-    }
-}
-
-/// Takes when the entries of another workstation were kept, by its logs.
+/// Takes when the entries of another workstation were kept, by its logs. Without its message file nothing is taken.
 fn tell_other<F: Folder>(
     alloc: Global,
     folder: &mut F,
@@ -65,11 +50,14 @@ fn tell_other<F: Folder>(
     known: &mut EntryTimes,
 ) -> Result<(), NoMemory>
     requires { w < node_count net.now }
-    ensures looks { OnlyLooks F.seen F.becomes F.faults folder.old folder.new }
+    ensures { OnOk result (LearnsOf (telling F.seen F.becomes F.faults) net.now w former.now last.now
+        folder.old folder.new known.old known.new) }
 {
-    match entries_of(alloc, folder, net, w)? {
-        Some(entries) => known.tell_by_logs(w, entries.kept().entries(), former, last),
-        None => Ok(()),
+    let file = file_name(alloc, name(net.net(), &w), ".msg")?;
+    match read_entries(alloc, folder, file.as_str(), net, w) {
+        Ok(entries) => known.tell_by_logs(w, entries.kept().entries(), former, last),
+        Err(FileFault::NoMemory) => Err(NoMemory),
+        Err(FileFault::Folder) | Err(FileFault::NotThisFile(_)) => Ok(()),
     }
 }
 
@@ -84,7 +72,8 @@ fn tell_station<F: Folder>(
     known: &mut EntryTimes,
 ) -> Result<(), NoMemory>
     requires { w < node_count net.now }
-    ensures looks { OnlyLooks F.seen F.becomes F.faults folder.old folder.new }
+    ensures { OnOk result (Learns (telling F.seen F.becomes F.faults) net.now me entries.now w
+        folder.old folder.new known.old known.new) }
 {
     let name = name(net.net(), &w);
     let former = log_of(alloc, folder, name, ".log.1")?;
@@ -111,8 +100,9 @@ pub fn read_times<F: Folder>(
     me: Ws,
     entries: &Owners,
 ) -> Result<Items<Option<u64>>, NoMemory>
+    ensures told { IfOk result (AreTimes (telling F.seen F.becomes F.faults) net.now me entries.now
+        folder.old folder.new) }
     ensures each { IfOk result (λ times. length times ≡ length entries.now) }
-    ensures looks { OnlyLooks F.seen F.becomes F.faults folder.old folder.new }
 {
     let mut known = EntryTimes::new(alloc);
     for w in 0..net.count() {

@@ -8,12 +8,12 @@ ghost use Rattle.night_texts.specs.Dependencies as spec;
 ghost use Rattle.moment_texts.specs.Moments.{moment_text};
 ghost use Rattle.night_texts.specs.Names.{job_called, resource_called, stream_called};
 
-use moment_texts::write_moment;
 use crate::names::{
     write_job_called, write_object_called, write_prompt_called, write_resource_called,
     write_stream_called,
 };
 use base_types::{Dep, JobNo, Moment, Obj, OnUntil, PromptRef, StreamNo, Text};
+use moment_texts::write_moment;
 use network_tree::Network;
 use owner_fold::Owners;
 use std::io::{self, Write};

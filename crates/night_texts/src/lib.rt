@@ -10,12 +10,12 @@ mod commands;
 mod dependencies;
 mod logs;
 mod marks;
-mod times;
 mod names;
 mod plans;
 mod runs;
 mod sayings;
 mod tables;
+mod times;
 
 pub use logs::print_log;
 pub use plans::print_runs;

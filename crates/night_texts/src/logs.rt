@@ -4,8 +4,8 @@ ghost use Rattle.std.specs.List.{zip};
 ghost use Rattle.model.specs.History.{maker as made_by, view_of};
 ghost use Rattle.night_texts.specs.Lines as spec;
 
-use crate::times::write_time;
 use crate::sayings::write_saying;
+use crate::times::write_time;
 use base_types::{Bytes, Entry, Feed, Items, NoMemory, Ws};
 use network_tree::Network;
 use owner_fold::Owners;

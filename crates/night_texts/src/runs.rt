@@ -5,8 +5,8 @@ ghost use Rattle.night_texts.specs.Runs as spec;
 
 use crate::codes::{ends, time_of, write_end};
 use crate::marks::Mark;
-use crate::times::write_span;
 use crate::names::write_job;
+use crate::times::write_span;
 use base_types::{JobDoc, StreamDoc};
 use network_tree::Network;
 use std::io::{self, Write};
@@ -56,6 +56,7 @@ fn write_run(
 }
 
 /// Writes the line of a launch, where a mark tells one.
+#[tactic(auto, unfolding(crate::specs::Runs::marked_run))]
 fn write_mark(
     out: &mut Vec<u8>,
     net: &Network,

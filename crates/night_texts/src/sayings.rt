@@ -13,12 +13,12 @@ ghost use Rattle.night_texts.specs.Sayings as spec;
 use crate::codes::end_word;
 use crate::commands::{write_cmd, write_order_from, write_ordered};
 use crate::dependencies::write_object_dep;
-use moment_texts::write_moment;
 use crate::names::{write_job_called, write_stream, write_stream_called};
 use base_types::{
     Body, Cmd, Entry, Feed, JobNo, Moment, Obj, OnUntil, SharedDocs, StreamDoc, StreamNo,
     StreamNos, Why, Ws,
 };
+use moment_texts::write_moment;
 use network_tree::Network;
 use owner_fold::Owners;
 use report_text::name;

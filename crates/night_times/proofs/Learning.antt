@@ -64,8 +64,8 @@ module _ {F : Type 0} (T : Telling F) (net : Net) (w : ℕ) where
           cause = inr (
             place,
             subst
-            (λ (n : List ℕ). OnlyKeepsMore (T.becomes old) w n → IfSome (T.seen new n) (IsRefused net w (NotThisFile place)))
-            is refused,
+                (λ (n : List ℕ). OnlyKeepsMore (T.becomes old) w n → IfSome (T.seen new n) (IsRefused net w (NotThisFile place)))
+                is refused,
           );
         };
         adds = adds_none known;

@@ -57,7 +57,8 @@ fn tell_other<F: Folder>(
     match read_entries(alloc, folder, file.as_str(), net, w) {
         Ok(entries) => known.tell_by_logs(w, entries.kept().entries(), former, last),
         Err(FileFault::NoMemory) => Err(NoMemory),
-        Err(FileFault::Folder) | Err(FileFault::NotThisFile(_)) => Ok(()),
+        Err(FileFault::Folder) => Ok(()),
+        Err(FileFault::NotThisFile(_)) => Ok(()),
     }
 }
 

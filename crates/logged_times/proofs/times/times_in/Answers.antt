@@ -19,8 +19,8 @@ loop-entry-preserved c =
       omega (arith, inv.0, gate_further entries i e there, c.in-Some.ensures.value, c.from-in-loop-entry.ensures, c.in-Some-checked_add.ensures),
       ap length put ∙ length-append c.loop-entry.times (c.time.result ∷ []) ∙ ap (λ (n : ℕ). n + 1) inv.1,
       λ lines knows.
-      times_further lines entries i e c.time.result c.loop-entry.times c.push.new.self there
-      (c.time.ensures lines knows ∙ ap (λ (g : ℕ). kept_at lines g c.from.result) inv.0
-      ∙ ap (λ (n : ℕ). kept_at lines (gate_behind (take i entries)) n) size)
-      (inv.2 lines knows) put,
+          times_further lines entries i e c.time.result c.loop-entry.times c.push.new.self there
+          (c.time.ensures lines knows ∙ ap (λ (g : ℕ). kept_at lines g c.from.result) inv.0
+          ∙ ap (λ (n : ℕ). kept_at lines (gate_behind (take i entries)) n) size)
+          (inv.2 lines knows) put,
     )

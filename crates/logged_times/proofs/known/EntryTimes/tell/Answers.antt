@@ -18,8 +18,8 @@ loop-i-preserved c =
       inv.0 ++ made_by w (e ∷ []) (t ∷ []),
       c.in_ok-tell_one.ensures inv.0 inv.1,
       made_further w entries times i e t (before ++ made_by w entries times) inv.0
-      (get_there entries i e (omega (arith, low)) c.index-entries-i.is)
-      (get_there times i t (omega (arith, low, c.requires)) c.index-times-i.is) inv.2,
+          (get_there entries i e (omega (arith, low)) c.index-entries-i.is)
+          (get_there times i t (omega (arith, low, c.requires)) c.index-times-i.is) inv.2,
     )
 
 pub returns : goal.returns

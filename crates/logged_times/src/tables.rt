@@ -52,7 +52,6 @@ impl KeptTimes {
     }
 
     /// Takes what a line tells, if anything.
-    #[tactic(auto, using(crate::proofs::Lasts::none_told))]
     fn tell(&mut self, line: &str) -> Result<(), NoMemory>
         ensures { OnOk result ((before : List Line) → Knows before self.old
             → Knows (before ++ filter_map line_tells (line.now ∷ [])) self.new) }

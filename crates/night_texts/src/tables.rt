@@ -63,7 +63,6 @@ impl MarkTable {
     }
 
     /// Takes what an entry tells that was kept at a time.
-    #[tactic(auto, using(crate::proofs::Walks::some_put, crate::proofs::Walks::none_put))]
     fn tell(&mut self, entry: &Entry, time: Option<u64>) -> Result<(), NoMemory>
         ensures { OnOk result ((q : Key) → marks_at self.new q
             ≡ marks_at self.old q ++ marks_of q ((entry.now, time) ∷ [])) }

@@ -31,13 +31,13 @@ module _ {F : Type 0} (T : Telling F) (net : Net) (w : ℕ) where
   learns_kept former last name old new known now entries is looks kept adds =
       record {
         own = told_by_logs w former last entries;
-        tells = FileTells.kept old new entries record {
+        tells = FileTells.kept old new entries (record {
           looks = looks;
           kept =
               subst
-              (λ (n : List ℕ). OnlyKeepsMore (T.becomes old) w n → IfSome (T.seen new n) (λ file. KeepsEntries net w file entries))
-              is kept;
-        };
+              (λ (n : List ℕ). OnlyKeepsMore (T.becomes old) w n
+              → IfSome (T.seen new n) (λ file. KeepsEntries net w file entries)) is kept;
+        });
         adds = adds;
       }
 
@@ -48,7 +48,7 @@ module _ {F : Type 0} (T : Telling F) (net : Net) (w : ℕ) where
   learns_none former last name old new known looks rose =
       record {
         own = [];
-        tells = FileTells.none old new record { looks = looks; cause = inl rose };
+        tells = FileTells.none old new (record { looks = looks; cause = inl rose });
         adds = adds_none known;
       }
 
@@ -59,15 +59,15 @@ module _ {F : Type 0} (T : Telling F) (net : Net) (w : ℕ) where
   learns_refused former last name old new known place is looks refused =
       record {
         own = [];
-        tells = FileTells.none old new record {
+        tells = FileTells.none old new (record {
           looks = looks;
           cause = inr (
             place,
             subst
-                (λ (n : List ℕ). OnlyKeepsMore (T.becomes old) w n → IfSome (T.seen new n) (IsRefused net w (NotThisFile place)))
-                is refused,
+            (λ (n : List ℕ). OnlyKeepsMore (T.becomes old) w n
+            → IfSome (T.seen new n) (IsRefused net w (NotThisFile place))) is refused,
           );
-        };
+        });
         adds = adds_none known;
       }
 
@@ -91,9 +91,9 @@ module _ {F : Type 0} (T : Telling F) (net : Net) (w : ℕ) where
   times_told me kept old new told result e tell are =
       if_ok (λ times. times ≡ map (λ (e : Entry). known_time told e.feed e.place) kept)
       (AreTimes T net me kept old new) result
-      (λ times is. record {
+      (λ times is. (record {
         told = told;
         tell = subst (λ (n : ℕ). AllTell T net me kept n old new told) e tell;
         are = is;
-      })
+      }))
       are

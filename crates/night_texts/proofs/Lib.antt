@@ -1,3 +1,2 @@
 mod Walks
-mod Telling
 mod Worked

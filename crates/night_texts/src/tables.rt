@@ -80,8 +80,7 @@ impl MarkTable {
         times: &[Option<u64>],
     ) -> Result<MarkTable, NoMemory>
         requires { length times.now ≡ length entries.now }
-        ensures { IfOk result (λ table. (q : Key)
-            → marks_at table q ≡ marks_of q (zip entries.now times.now)) }
+        ensures { IfOk result (λ table. marks_at table ≡ (λ q. marks_of q (zip entries.now times.now))) }
     {
         let mut table = MarkTable::new(alloc);
         for i in 0..entries.len() {

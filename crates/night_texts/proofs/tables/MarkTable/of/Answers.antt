@@ -1,4 +1,7 @@
 use Rattle.std.proofs.Common.{arith}
+use Rattle.std.specs.List.{zip}
+use Rattle.night_texts.specs.Marks.{marks_of}
+use Rattle.night_texts.specs.Tables.{marks_at}
 use Rattle.lemmas.proofs.Lists.{get_there}
 use Rattle.night_texts.proofs.Walks.{marks_further, marks_whole}
 use Rattle.night_texts.proofs.tables.MarkTable.of.Goals as goal
@@ -16,5 +19,6 @@ loop-i-preserved c =
 
 pub returns : goal.returns
 returns c =
-    λ q. marks_whole q c.args.entries.now c.args.times.now c.loop-i.i _ _ (omega (arith, c.loop-i-test.false))
-    (c.loop-i.invariant q)
+    λ j q. marks_whole q c.args.entries.now c.args.times.now c.loop-i.i
+    (marks_of q (zip c.args.entries.now c.args.times.now)) (marks_at c.loop-i.table q)
+    (omega (arith, c.loop-i-test.false)) (c.loop-i.invariant q) j

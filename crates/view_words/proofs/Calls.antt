@@ -1,0 +1,91 @@
+-- What inputs and files call for, by their parts.
+use Rattle.std.proofs.Common.{[], ◌<◌, ◌≡◌, ◌∙◌, ℕ, IfSome, List, None, Option, Some, ap, arith, bytes_eq, codes}
+use Rattle.std.proofs.Common.{length, subst, sym}
+use Rattle.std.proofs.lemmas.List.{length-map}
+use Rattle.std.proofs.lemmas.Option.{slice_get_within}
+use Rattle.base_types.specs.declared.LimitName.TheVariants as limit
+use Rattle.composer_parser.specs.declared.CpuDef.{CpuDef}
+use Rattle.composer_parser.specs.declared.Defs.{Defs}
+use Rattle.definition_texts.specs.Kinds.{word_of}
+use Rattle.definition_texts.specs.declared.refusals.Refusal.{Refusal}
+use Rattle.entry_files.specs.Entries.{GoOn, IsRefused, KeepsEntries}
+use Rattle.kept_files.specs.Growth.{OnlyKeepsMore}
+use Rattle.kept_files.specs.declared.faults.FileFault.TheVariants.{NotThisFile}
+use Rattle.model.specs.Network.{node_count}
+use Rattle.model.specs.Types.{Entry, Net}
+use Rattle.outside.specs.Streams.{Stream}
+use Rattle.replies.specs.Texts.{definitions_line, limit_line, limit_word}
+use Rattle.replies.specs.declared.statuses.Status.TheVariants.{DefinitionsRefused, DiskFailed, LimitPassed}
+use Rattle.replies.specs.declared.statuses.Status.TheVariants.{OtherFile, Success, WordsRefused}
+use Rattle.whole_io.specs.Whole.{TakesCount}
+use Rattle.workload_defs.specs.Nets.{net_of, node_of}
+use Rattle.workload_defs.specs.Stations.{number_of, stations}
+use Rattle.workload_defs.proofs.Lists.{first_there}
+use Rattle.view_words.specs.Dues.{FileCallsFor, other_file_line, text_of}
+use Rattle.view_words.specs.Forms.{Request}
+use Rattle.view_words.specs.Readings.{GivesRefusal, HasRead, IsOther, Sight, UnreadCallsFor, file_of}
+
+pub refused_called : (old new : Option Stream) (r : Refusal) (text : List ℕ) → text ≡ definitions_line r.line (word_of r.kind)
+    → GivesRefusal r old new → UnreadCallsFor old new DefinitionsRefused text
+refused_called old new r text is gives =
+    subst (λ (t : List ℕ). UnreadCallsFor old new DefinitionsRefused t) (sym is) (UnreadCallsFor.refused r gives)
+
+pub long_called : (old new : Option Stream) (text : List ℕ) → text ≡ limit_line (limit_word limit.Input) 16777216
+    → TakesCount 16777217 old new → UnreadCallsFor old new LimitPassed text
+long_called old new text is takes =
+    subst (λ (t : List ℕ). UnreadCallsFor old new LimitPassed t) (sym is) (UnreadCallsFor.too_long takes)
+
+module _ (S : Sight) (request : Request) (defs : Defs) where
+  pub unknown_called : (text : List ℕ) → text ≡ codes "words refused\n" → number_of defs request.name ≡ None
+      → FileCallsFor S request defs WordsRefused text
+  unknown_called text is none =
+      subst (λ (t : List ℕ). FileCallsFor S request defs WordsRefused t) (sym is) (FileCallsFor.unknown none)
+
+  pub other_called : (me place : ℕ) (text : List ℕ) → text ≡ other_file_line place → number_of defs request.name ≡ Some me
+      → IsOther S defs me request.name place → FileCallsFor S request defs OtherFile text
+  other_called me place text is there other =
+      subst (λ (t : List ℕ). FileCallsFor S request defs OtherFile t) (sym is) (FileCallsFor.other_file me place there other)
+
+  pub shown_called : (me : ℕ) (entries : List Entry) (text : List ℕ) → text ≡ text_of request.look (net_of defs) me entries
+      → number_of defs request.name ≡ Some me → HasRead S defs me request.name entries
+      → FileCallsFor S request defs Success text
+  shown_called me entries text is there read =
+      subst (λ (t : List ℕ). FileCallsFor S request defs Success t) (sym is) (FileCallsFor.shown me entries there read)
+
+-- a workstation that is found is one of the network
+pub is_inside : (d : Defs) (net : Net) (name : List ℕ) (me : ℕ) → net ≡ net_of d → number_of d name ≡ Some me
+    → me < node_count net
+unfolding net_of
+is_inside d net name me same there =
+    let f = first_there (λ (c : CpuDef). bytes_eq name c.name) 0 me (stations d) there in
+    let inside : f.0 < length (stations d) = slice_get_within (stations d) f.0 f.2.0 f.2.1 in
+    let all : length (net_of d).nodes ≡ length (stations d) = length-map (stations d) (node_of d) in
+    omega (arith, f.1, inside, all, ap node_count same)
+
+-- what was read of a file, told by the names of definitions
+module _ (S : Sight) (defs : Defs) (me : ℕ) (name : List ℕ) where
+  abbrev Last : List Entry → Net → List ℕ → Type 0
+  Last entries net bytes =
+      OnlyKeepsMore S.becomes me bytes → IfSome (S.seen_then bytes) (λ file. KeepsEntries net me file entries)
+
+  abbrev First : List Entry → Net → List ℕ → Type 0
+  First entries net bytes =
+      OnlyKeepsMore S.becomes me bytes
+      → IfSome (S.seen bytes) (λ file. (kept : List Entry) → KeepsEntries net me file kept → GoOn kept entries)
+
+  abbrev Other : ℕ → Net → List ℕ → Type 0
+  Other place net bytes =
+      OnlyKeepsMore S.becomes me bytes → IfSome (S.seen_then bytes) (IsRefused net me (NotThisFile place))
+
+  by_names : (P : Net → List ℕ → Type 0) (net : Net) (bytes : List ℕ) → net ≡ net_of defs → bytes ≡ file_of name
+      → P net bytes → P (net_of defs) (file_of name)
+  by_names P net bytes n b here = subst (λ (x : Net). P x (file_of name)) n (subst (P net) b here)
+
+  pub has_read : (net : Net) (bytes : List ℕ) (entries : List Entry) → net ≡ net_of defs → bytes ≡ file_of name
+      → Last entries net bytes → First entries net bytes → HasRead S defs me name entries
+  has_read net bytes entries n b last first =
+      record { last = by_names (Last entries) net bytes n b last; first = by_names (First entries) net bytes n b first }
+
+  pub is_other : (net : Net) (bytes : List ℕ) (place : ℕ) → net ≡ net_of defs → bytes ≡ file_of name
+      → Other place net bytes → IsOther S defs me name place
+  is_other net bytes place n b other = by_names (Other place) net bytes n b other

@@ -1,0 +1,46 @@
+use Rattle.std.proofs.Common.{◌≡◌, ◌∙◌, IfSome, Some, ap, subst, ℕ}
+use Rattle.entry_files.specs.Entries.{IsRefused}
+use Rattle.kept_files.specs.Growth.{OnlyKeepsMore}
+use Rattle.kept_files.specs.declared.faults.FileFault.{FileFault}
+use Rattle.model.specs.Types.{Net}
+use Rattle.view_words.specs.Dues.{FileCallsFor, text_of}
+use Rattle.view_words.specs.Forms.{requested}
+use Rattle.view_words.specs.Readings.{sight}
+use Rattle.view_words.proofs.Calls.{has_read, is_inside, is_other, other_called, shown_called}
+use Rattle.view_words.proofs.files.reply_of_file.Goals as goal
+
+pub read_entries-requires : goal.read_entries-requires
+read_entries-requires g c =
+    is_inside c.args.workload.now c.in_ok-net.net c.args.name.now c.args.me c.in_ok-net.ensures c.requires.there
+
+pub shown-requires : goal.shown-requires
+shown-requires g c =
+    is_inside c.args.workload.now c.in_ok-net.net c.args.name.now c.args.me c.in_ok-net.ensures c.requires.there
+
+pub returns-in-Ok-clause-due : goal.returns-in-Ok-clause-due
+returns-in-Ok-clause-due g c =
+    let F = g.F.Folder in
+    let S = sight F.seen F.becomes F.faults c.args.folder.now c.read_entries.new.folder in
+    let entries = c.in-Ok.entries in
+    let text = c.in_ok-text.ensures
+        ∙ ap (λ (net : Net). text_of c.args.look net c.args.me entries) c.in_ok-net.ensures in
+    let read = has_read S c.args.workload.now c.args.me c.args.name.now c.in_ok-net.net c.as_str.result.now entries
+        c.in_ok-net.ensures (c.as_str.ensures.value ∙ c.in_ok-file.ensures) c.in-Ok.ensures.kept c.in-Ok.ensures.front in
+    shown_called S (requested c.args.name.now c.args.look) c.args.workload.now c.args.me entries c.in_ok-text.text text
+    c.requires.there read
+
+pub returns-in-Err-NotThisFile-clause-due : goal.returns-in-Err-NotThisFile-clause-due
+returns-in-Err-NotThisFile-clause-due g c =
+    let F = g.F.Folder in
+    let S = sight F.seen F.becomes F.faults c.args.folder.now c.read_entries.new.folder in
+    let net = c.in_ok-net.net in
+    let bytes = c.as_str.result.now in
+    let place = c.in-Err-NotThisFile.place in
+    let other = subst
+        (λ (fault : FileFault). OnlyKeepsMore S.becomes c.args.me bytes
+        → IfSome (S.seen_then bytes) (IsRefused net c.args.me fault))
+        c.in-Err-NotThisFile.field-0-is c.in-Err-NotThisFile.ensures.refused in
+    other_called S (requested c.args.name.now c.args.look) c.args.workload.now c.args.me place
+    c.in_ok-text-in-Err-NotThisFile.text c.in_ok-text-in-Err-NotThisFile.ensures c.requires.there
+    (is_other S c.args.workload.now c.args.me c.args.name.now net bytes place c.in_ok-net.ensures
+    (c.as_str.ensures.value ∙ c.in_ok-file.ensures) other)

@@ -1,0 +1,107 @@
+//! The call.
+ghost use Rattle.std.specs.Prelude.{◌≡◌, ◌≢◌, ◌⊎◌, IfErr, IfOk, List, None, Option, Some, ℕ};
+ghost use Rattle.std.specs.Io.KnownBytes.{Appends, Keeps};
+ghost use Rattle.std.specs.Result.{IsErrOf};
+ghost use Rattle.kept_files.specs.Looking.{OnlyLooks};
+ghost use Rattle.outside.specs.Causes.{Rose};
+ghost use Rattle.replies.specs.Sayings.{Says};
+ghost use Rattle.replies.specs.declared.statuses.Status.{Status as Statuses};
+ghost use Rattle.replies.specs.declared.statuses.Status.TheVariants.{SinkFailed};
+ghost use Rattle.view_words.specs.Dues.{Due};
+ghost use Rattle.view_words.specs.Forms.{request_of, requested};
+ghost use Rattle.view_words.specs.Readings.{sight};
+ghost use Rattle.view_words.specs.declared.replies.Unsaid.TheVariants.{SourceFailed as Unread_};
+
+use crate::files::reply_of_name;
+use crate::forms::{Look, asked};
+use crate::reading::read_workload;
+use crate::replies::{Reply, Unsaid, no_words, reply_unread};
+use base_types::Text;
+use folders::Folder;
+use outside::{Sink, Source};
+use replies::{Status, say};
+use std::alloc::Global;
+
+/// What is replied to words that ask for something.
+fn reply_to<I: Source, F: Folder>(
+    alloc: Global,
+    look: Look,
+    name: &Text,
+    input: &mut I,
+    folder: &mut F,
+) -> Result<Reply, Unsaid>
+    ensures due { (words : List (List ℕ)) → request_of words ≡ Some (requested name.now look)
+        → IfOk result (λ r. Due (sight F.seen F.becomes F.faults folder.old folder.new) words
+        (I.stream input.old) (I.stream input.new) r.status r.text) }
+    ensures said { IfOk result (λ r. r.status ≢ SinkFailed) }
+    ensures source { IsErrOf result Unread_ → Rose (I.faults input.old) (I.faults input.new) }
+    ensures looks { OnlyLooks F.seen F.becomes F.faults folder.old folder.new }
+{
+    match read_workload(alloc, input) {
+        Ok(workload) => reply_of_name(alloc, look, &workload, name, folder),
+        Err(why) => reply_unread(alloc, why),
+    }
+}
+
+/// What is replied to words.
+#[tactic(auto, unfolding(crate::specs::Forms::request_of))]
+fn reply<I: Source, F: Folder>(
+    alloc: Global,
+    words: &[Text],
+    input: &mut I,
+    folder: &mut F,
+) -> Result<Reply, Unsaid>
+    ensures due { IfOk result (λ r. Due (sight F.seen F.becomes F.faults folder.old folder.new) words.now
+        (I.stream input.old) (I.stream input.new) r.status r.text) }
+    ensures said { IfOk result (λ r. r.status ≢ SinkFailed) }
+    ensures source { IsErrOf result Unread_ → Rose (I.faults input.old) (I.faults input.new) }
+    ensures looks { OnlyLooks F.seen F.becomes F.faults folder.old folder.new }
+    ensures untouched { request_of words.now ≡ None → (input.new ≡ input.old) × (folder.new ≡ folder.old) }
+{
+    if let [word, name] = words {
+        if let Some(look) = asked(word.as_str()) {
+            return reply_to(alloc, look, name, input, folder);
+        }
+    }
+    Ok(Reply {
+        status: Status::WordsRefused,
+        text: no_words(alloc)?,
+    })
+}
+
+/// Does all that the program does, and ends with its exit status.
+///
+/// The words are `kept NAME` or `why NAME`. It reads definitions from the input, finds their workstation NAME, and
+/// reads its message file `NAME.msg` in the folder. `kept` writes a line for each entry that the file keeps, in the
+/// order kept: the line that the report of a run has for it. `why` writes what each stream that is not released or
+/// not ended and each job in HOLD, FENCE or READY lacks, by these entries. A node may be writing the file: what is
+/// shown is then that of all that the file kept when the reading began, and perhaps of more.
+///
+/// The statuses are 0 where that was written, 1 for an input that is no definitions, 2 for other words and for a NAME
+/// that is not defined, 4, 5 and 6 where the source, the sink or the folder failed, as it does for a file that is not
+/// there, 7 for a file that a node of NAME would refuse, with the place that shows it, 9 for want of memory, and 10
+/// where the input passes its limit. Nothing is written before all is done. With 4, 6 and 9 nothing is written at
+/// all, and with 5 a front of the text that is due. The folder has no call that writes.
+pub fn view<I: Source, O: Sink, F: Folder>(
+    alloc: Global,
+    words: &[Text],
+    input: &mut I,
+    out: &mut O,
+    folder: &mut F,
+) -> u8
+    // What is due is said, but for a fault of the source and want of memory.
+    ensures due { result ≢ 4 → result ≢ 9 → (status : Statuses) × (text : List ℕ)
+        × Due (sight F.seen F.becomes F.faults folder.old folder.new) words.now (I.stream input.old)
+        (I.stream input.new) status text
+        × Says status text result (O.written out.old) (O.written out.new) (O.faults out.old) (O.faults out.new) }
+    ensures source_failed { result ≡ 4 → Rose (I.faults input.old) (I.faults input.new) }
+    ensures silent { (result ≡ 4) ⊎ (result ≡ 9) → out.new ≡ out.old }
+    // What is left alone.
+    ensures looks { OnlyLooks F.seen F.becomes F.faults folder.old folder.new }
+    ensures untouched { request_of words.now ≡ None → (input.new ≡ input.old) × (folder.new ≡ folder.old) }
+{
+    match reply(alloc, words, input, folder) {
+        Ok(reply) => say(out, reply.text.as_slice(), reply.status),
+        Err(why) => why.status(),
+    }
+}

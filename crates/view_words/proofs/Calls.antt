@@ -46,7 +46,7 @@ module _ (S : Sight) (request : Request) (defs : Defs) where
   other_called me place text is there other =
       subst (λ (t : List ℕ). FileCallsFor S request defs OtherFile t) (sym is) (FileCallsFor.other_file me place there other)
 
-  pub shown_called : (me : ℕ) (entries : List Entry) (text : List ℕ) → text ≡ text_of request.look (net_of defs) me entries
+  pub shown_called : (me : ℕ) (entries : List Entry) (text : List ℕ) → text ≡ text_of request.look request.pattern (net_of defs) me entries
       → number_of defs request.name ≡ Some me → HasRead S defs me request.name entries
       → FileCallsFor S request defs Success text
   shown_called me entries text is there read =

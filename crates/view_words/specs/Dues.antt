@@ -20,10 +20,11 @@ use Rattle.view_words.specs.declared.forms.Look.TheVariants.{Kept, Why}
 abbrev pub other_file_line : ℕ → List ℕ
 other_file_line place = codes "not this message file: offset " ++ decimal place ++ codes "\n"
 
--- what is shown of the entries that the file of workstation me keeps: their lines, or why jobs and streams wait
-abbrev pub text_of : Look → Net → ℕ → List Entry → List ℕ
-text_of Kept net me entries = flat_map (entry_line net) entries
-text_of Why net me entries = waits_of net (view_of entries) me
+-- what is shown of the entries that the file of workstation me keeps: their lines, or why jobs and streams wait, of all or
+-- of those whose names are of a pattern
+abbrev pub text_of : Look → Option (List ℕ) → Net → ℕ → List Entry → List ℕ
+text_of Kept pattern net me entries = flat_map (entry_line net) entries
+text_of Why pattern net me entries = waits_of net (view_of entries) me pattern
 
 -- by definitions that were read, and by the file of the workstation
 pub data FileCallsFor (S : Sight) (request : Request) (defs : Defs) : Status → List ℕ → Type 0 where
@@ -34,7 +35,7 @@ pub data FileCallsFor (S : Sight) (request : Request) (defs : Defs) : Status →
       → FileCallsFor S request defs OtherFile (other_file_line place)
   shown : (me : ℕ) (entries : List Entry) → number_of defs request.name ≡ Some me
       → HasRead S defs me request.name entries
-      → FileCallsFor S request defs Success (text_of request.look (net_of defs) me entries)
+      → FileCallsFor S request defs Success (text_of request.look request.pattern (net_of defs) me entries)
 
 -- all causes, in their order: words without a form, an input that gives no definitions, and the file
 pub data Due (S : Sight) (words : List (List ℕ)) (old new : Option Stream) : Status → List ℕ → Type 0 where

@@ -1,5 +1,6 @@
 //! What the file of a workstation calls for.
 ghost use Rattle.std.specs.Prelude.{◌++◌, ◌<◌, ◌≡◌, ◌≢◌, IfErr, IfOk, IfSome, List, Some};
+ghost use Rattle.std.specs.Option.{option_copied};
 ghost use Rattle.std.specs.Result.{IsErrOf};
 ghost use Rattle.std.specs.String.{string_bytes};
 ghost use Rattle.kept_files.specs.Growth.{OnlyKeepsMore};
@@ -49,16 +50,17 @@ fn network(alloc: Global, workload: &Workload) -> Result<Network, NoMemory>
 fn shown(
     alloc: Global,
     look: Look,
+    pattern: Option<&Text>,
     net: &Network,
     me: Ws,
     entries: &Owners,
 ) -> Result<Bytes, NoMemory>
     requires { me < node_count net.now }
-    ensures { IfOk result (λ text. text ≡ text_of look net.now me entries.now) }
+    ensures { IfOk result (λ text. text ≡ text_of look (option_copied pattern.entry) net.now me entries.now) }
 {
     match look {
         Look::Kept => print_entries(alloc, net.net(), entries.kept().entries()),
-        Look::Why => print_waits(alloc, net, entries, me),
+        Look::Why => print_waits(alloc, net, entries, me, pattern),
     }
 }
 
@@ -66,14 +68,15 @@ fn shown(
 fn reply_of_file<F: Folder>(
     alloc: Global,
     look: Look,
-    workload: &Workload,
     name: &Text,
+    pattern: Option<&Text>,
+    workload: &Workload,
     me: Ws,
     folder: &mut F,
 ) -> Result<Reply, Unsaid>
     requires there { number_of workload.now name.now ≡ Some me }
     ensures due { IfOk result (λ r. FileCallsFor (sight F.seen F.becomes F.faults folder.old folder.new)
-        (requested name.now look) workload.now r.status r.text) }
+        (requested look name.now (option_copied pattern.entry)) workload.now r.status r.text) }
     ensures said { IfOk result (λ r. r.status ≢ SinkFailed) }
     ensures source { IsErrOf result Unread_ → ⊥ }
     ensures looks { OnlyLooks F.seen F.becomes F.faults folder.old folder.new }
@@ -82,7 +85,7 @@ fn reply_of_file<F: Folder>(
     let file = file_name(alloc, name)?;
     match read_entries(alloc, folder, file.as_str(), &net, me) {
         Ok(entries) => {
-            let text = shown(alloc, look, &net, me, &entries)?;
+            let text = shown(alloc, look, pattern, &net, me, &entries)?;
             Ok(Reply {
                 status: Status::Success,
                 text,
@@ -108,18 +111,19 @@ fn reply_of_file<F: Folder>(
 pub(crate) fn reply_of_name<F: Folder>(
     alloc: Global,
     look: Look,
-    workload: &Workload,
     name: &Text,
+    pattern: Option<&Text>,
+    workload: &Workload,
     folder: &mut F,
 ) -> Result<Reply, Unsaid>
     ensures due { IfOk result (λ r. FileCallsFor (sight F.seen F.becomes F.faults folder.old folder.new)
-        (requested name.now look) workload.now r.status r.text) }
+        (requested look name.now (option_copied pattern.entry)) workload.now r.status r.text) }
     ensures said { IfOk result (λ r. r.status ≢ SinkFailed) }
     ensures source { IsErrOf result Unread_ → ⊥ }
     ensures looks { OnlyLooks F.seen F.becomes F.faults folder.old folder.new }
 {
     match workload.station(name) {
-        Some(me) => reply_of_file(alloc, look, workload, name, me, folder),
+        Some(me) => reply_of_file(alloc, look, name, pattern, workload, me, folder),
         None => Ok(Reply {
             status: Status::WordsRefused,
             text: no_words(alloc)?,

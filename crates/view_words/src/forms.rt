@@ -11,7 +11,7 @@ pub(crate) enum Look {
     Why,
 }
 
-/// What the first of two words asks for. None where it is no such word.
+/// What the first word asks for. None where it is no such word.
 #[tactic(auto, unfolding(crate::specs::Forms::look_of))]
 pub(crate) fn asked(word: &str) -> Option<Look>
     ensures { result ≡ spec.look_of word.now }

@@ -1,5 +1,5 @@
 //! The words that see into what nodes left on the disk: `kept NAME` writes a line for each entry that a file keeps, and
-//! `why NAME` tells why the jobs and streams of its plan wait.
+//! `why NAME` tells why the jobs and streams of its plan wait, all or those of a pattern.
 //!
 //! Which words ask for what is `specs/Forms`. `view` reads definitions from the input and the file of a workstation
 //! from the folder. Which status and text are due is `specs/Dues`, from the words on; what a reading is, while a node

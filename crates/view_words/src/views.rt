@@ -1,6 +1,7 @@
 //! The call.
 ghost use Rattle.std.specs.Prelude.{◌≡◌, ◌≢◌, ◌⊎◌, IfErr, IfOk, List, None, Option, Some, ℕ};
 ghost use Rattle.std.specs.Io.KnownBytes.{Appends, Keeps};
+ghost use Rattle.std.specs.Option.{option_copied};
 ghost use Rattle.std.specs.Result.{IsErrOf};
 ghost use Rattle.kept_files.specs.Looking.{OnlyLooks};
 ghost use Rattle.outside.specs.Causes.{Rose};
@@ -27,10 +28,11 @@ fn reply_to<I: Source, F: Folder>(
     alloc: Global,
     look: Look,
     name: &Text,
+    pattern: Option<&Text>,
     input: &mut I,
     folder: &mut F,
 ) -> Result<Reply, Unsaid>
-    ensures due { (words : List (List ℕ)) → request_of words ≡ Some (requested name.now look)
+    ensures due { (words : List (List ℕ)) → request_of words ≡ Some (requested look name.now (option_copied pattern.entry))
         → IfOk result (λ r. Due (sight F.seen F.becomes F.faults folder.old folder.new) words
         (I.stream input.old) (I.stream input.new) r.status r.text) }
     ensures said { IfOk result (λ r. r.status ≢ SinkFailed) }
@@ -38,7 +40,7 @@ fn reply_to<I: Source, F: Folder>(
     ensures looks { OnlyLooks F.seen F.becomes F.faults folder.old folder.new }
 {
     match read_workload(alloc, input) {
-        Ok(workload) => reply_of_name(alloc, look, &workload, name, folder),
+        Ok(workload) => reply_of_name(alloc, look, name, pattern, &workload, folder),
         Err(why) => reply_unread(alloc, why),
     }
 }
@@ -60,7 +62,13 @@ fn reply<I: Source, F: Folder>(
 {
     if let [word, name] = words {
         if let Some(look) = asked(word.as_str()) {
-            return reply_to(alloc, look, name, input, folder);
+            return reply_to(alloc, look, name, None, input, folder);
+        }
+    }
+    if let [word, name, pattern] = words {
+        if word.as_str() == "why" {
+            let pattern = Text::of_upper(alloc, pattern.as_str())?;
+            return reply_to(alloc, Look::Why, name, Some(&pattern), input, folder);
         }
     }
     Ok(Reply {
@@ -71,11 +79,12 @@ fn reply<I: Source, F: Folder>(
 
 /// Does all that the program does, and ends with its exit status.
 ///
-/// The words are `kept NAME` or `why NAME`. It reads definitions from the input, finds their workstation NAME, and
+/// The words are `kept NAME`, `why NAME` or `why NAME PATTERN`. It reads definitions from the input, finds their workstation NAME, and
 /// reads its message file `NAME.msg` in the folder. `kept` writes a line for each entry that the file keeps, in the
 /// order kept: the line that the report of a run has for it. `why` writes what each stream that is not released or
-/// not ended and each job in HOLD, FENCE or READY lacks, by these entries. A node may be writing the file: what is
-/// shown is then that of all that the file kept when the reading began, and perhaps of more.
+/// not ended and each job in HOLD, FENCE or READY lacks, by these entries; with PATTERN, which is read in upper case, only
+/// of those whose name `W#STREAM` or `W#STREAM.JOB` is of it, where an `@` stands for any characters. A node may be writing
+/// the file: what is shown is then that of all that the file kept when the reading began, and perhaps of more.
 ///
 /// The statuses are 0 where that was written, 1 for an input that is no definitions, 2 for other words and for a NAME
 /// that is not defined, 4, 5 and 6 where the source, the sink or the folder failed, as it does for a file that is not

@@ -1,4 +1,5 @@
 use Rattle.std.proofs.Common.{◌≡◌, ◌∙◌, IfSome, Some, ap, subst, ℕ}
+use Rattle.std.specs.Option.{option_copied}
 use Rattle.entry_files.specs.Entries.{IsRefused}
 use Rattle.kept_files.specs.Growth.{OnlyKeepsMore}
 use Rattle.kept_files.specs.declared.faults.FileFault.{FileFault}
@@ -23,10 +24,10 @@ returns-in-Ok-clause-due g c =
     let S = sight F.seen F.becomes F.faults c.args.folder.now c.read_entries.new.folder in
     let entries = c.in-Ok.entries in
     let text = c.in_ok-text.ensures
-        ∙ ap (λ (net : Net). text_of c.args.look net c.args.me entries) c.in_ok-net.ensures in
+        ∙ ap (λ (net : Net). text_of c.args.look (option_copied c.args.pattern.entry) net c.args.me entries) c.in_ok-net.ensures in
     let read = has_read S c.args.workload.now c.args.me c.args.name.now c.in_ok-net.net c.as_str.result.now entries
         c.in_ok-net.ensures (c.as_str.ensures.value ∙ c.in_ok-file.ensures) c.in-Ok.ensures.kept c.in-Ok.ensures.front in
-    shown_called S (requested c.args.name.now c.args.look) c.args.workload.now c.args.me entries c.in_ok-text.text text
+    shown_called S (requested c.args.look c.args.name.now (option_copied c.args.pattern.entry)) c.args.workload.now c.args.me entries c.in_ok-text.text text
     c.requires.there read
 
 pub returns-in-Err-NotThisFile-clause-due : goal.returns-in-Err-NotThisFile-clause-due
@@ -40,7 +41,7 @@ returns-in-Err-NotThisFile-clause-due g c =
         (λ (fault : FileFault). OnlyKeepsMore S.becomes c.args.me bytes
         → IfSome (S.seen_then bytes) (IsRefused net c.args.me fault))
         c.in-Err-NotThisFile.field-0-is c.in-Err-NotThisFile.ensures.refused in
-    other_called S (requested c.args.name.now c.args.look) c.args.workload.now c.args.me place
+    other_called S (requested c.args.look c.args.name.now (option_copied c.args.pattern.entry)) c.args.workload.now c.args.me place
     c.in_ok-text-in-Err-NotThisFile.text c.in_ok-text-in-Err-NotThisFile.ensures c.requires.there
     (is_other S c.args.workload.now c.args.me c.args.name.now net bytes place c.in_ok-net.ensures
     (c.as_str.ensures.value ∙ c.in_ok-file.ensures) other)

@@ -21,8 +21,8 @@ use Rattle.whole_io.specs.Whole.{TakesCount}
 use Rattle.workload_defs.specs.Nets.{net_of, node_of}
 use Rattle.workload_defs.specs.Stations.{number_of, stations}
 use Rattle.workload_defs.proofs.Lists.{first_there}
-use Rattle.view_words.specs.Dues.{FileCallsFor, other_file_line, text_of}
-use Rattle.view_words.specs.Forms.{Request}
+use Rattle.view_words.specs.Dues.{Due, FileCallsFor, other_file_line, text_of}
+use Rattle.view_words.specs.Forms.{Request, request_of}
 use Rattle.view_words.specs.Readings.{GivesRefusal, HasRead, IsOther, Sight, UnreadCallsFor, file_of}
 
 pub refused_called : (old new : Option Stream) (r : Refusal) (text : List ℕ) → text ≡ definitions_line r.line (word_of r.kind)
@@ -34,6 +34,12 @@ pub long_called : (old new : Option Stream) (text : List ℕ) → text ≡ limit
     → TakesCount 16777217 old new → UnreadCallsFor old new LimitPassed text
 long_called old new text is takes =
     subst (λ (t : List ℕ). UnreadCallsFor old new LimitPassed t) (sym is) (UnreadCallsFor.too_long takes)
+
+-- words without a form call for their line
+pub refused_words : (S : Sight) (words : List (List ℕ)) (old new : Option Stream) (text : List ℕ)
+    → text ≡ codes "words refused\n" → request_of words ≡ None → Due S words old new WordsRefused text
+refused_words S words old new text is none =
+    subst (λ (t : List ℕ). Due S words old new WordsRefused t) (sym is) (Due.no_form none)
 
 module _ (S : Sight) (request : Request) (defs : Defs) where
   pub unknown_called : (text : List ℕ) → text ≡ codes "words refused\n" → number_of defs request.name ≡ None

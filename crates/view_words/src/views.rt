@@ -1,5 +1,5 @@
 //! The call.
-ghost use Rattle.std.specs.Prelude.{◌≡◌, ◌≢◌, ◌⊎◌, IfErr, IfOk, List, None, Option, Some, ℕ};
+ghost use Rattle.std.specs.Prelude.{◌∷◌, ◌≡◌, ◌≢◌, ◌⊎◌, [], IfErr, IfOk, List, None, Option, Some, ℕ};
 ghost use Rattle.std.specs.Io.KnownBytes.{Appends, Keeps};
 ghost use Rattle.std.specs.Option.{option_copied};
 ghost use Rattle.std.specs.Result.{IsErrOf};
@@ -45,8 +45,62 @@ fn reply_to<I: Source, F: Folder>(
     }
 }
 
+/// What is replied to a word and a name.
+#[tactic(auto, unfolding(crate::specs::Forms::request_of), using(crate::proofs::Calls::refused_words, crate::proofs::Looked::no_looks))]
+fn reply_alone<I: Source, F: Folder>(
+    alloc: Global,
+    word: &Text,
+    name: &Text,
+    input: &mut I,
+    folder: &mut F,
+) -> Result<Reply, Unsaid>
+    ensures due { IfOk result (λ r. Due (sight F.seen F.becomes F.faults folder.old folder.new) (word.now ∷ name.now ∷ [])
+        (I.stream input.old) (I.stream input.new) r.status r.text) }
+    ensures said { IfOk result (λ r. r.status ≢ SinkFailed) }
+    ensures source { IsErrOf result Unread_ → Rose (I.faults input.old) (I.faults input.new) }
+    ensures looks { OnlyLooks F.seen F.becomes F.faults folder.old folder.new }
+    ensures untouched { request_of (word.now ∷ name.now ∷ []) ≡ None
+        → (input.new ≡ input.old) × (folder.new ≡ folder.old) }
+{
+    match asked(word.as_str()) {
+        Some(look) => reply_to(alloc, look, name, None, input, folder),
+        None => Ok(Reply {
+            status: Status::WordsRefused,
+            text: no_words(alloc)?,
+        }),
+    }
+}
+
+/// What is replied to a word, a name and a pattern.
+#[tactic(auto, unfolding(crate::specs::Forms::request_of), using(crate::proofs::Calls::refused_words, crate::proofs::Looked::no_looks))]
+fn reply_with_pattern<I: Source, F: Folder>(
+    alloc: Global,
+    word: &Text,
+    name: &Text,
+    pattern: &Text,
+    input: &mut I,
+    folder: &mut F,
+) -> Result<Reply, Unsaid>
+    ensures due { IfOk result (λ r. Due (sight F.seen F.becomes F.faults folder.old folder.new)
+        (word.now ∷ name.now ∷ pattern.now ∷ []) (I.stream input.old) (I.stream input.new) r.status r.text) }
+    ensures said { IfOk result (λ r. r.status ≢ SinkFailed) }
+    ensures source { IsErrOf result Unread_ → Rose (I.faults input.old) (I.faults input.new) }
+    ensures looks { OnlyLooks F.seen F.becomes F.faults folder.old folder.new }
+    ensures untouched { request_of (word.now ∷ name.now ∷ pattern.now ∷ []) ≡ None
+        → (input.new ≡ input.old) × (folder.new ≡ folder.old) }
+{
+    if word.as_str() == "why" {
+        let pattern = Text::of_upper(alloc, pattern.as_str())?;
+        return reply_to(alloc, Look::Why, name, Some(&pattern), input, folder);
+    }
+    Ok(Reply {
+        status: Status::WordsRefused,
+        text: no_words(alloc)?,
+    })
+}
+
 /// What is replied to words.
-#[tactic(auto, unfolding(crate::specs::Forms::request_of))]
+#[tactic(auto, unfolding(crate::specs::Forms::request_of), using(crate::proofs::Calls::refused_words, crate::proofs::Looked::no_looks))]
 fn reply<I: Source, F: Folder>(
     alloc: Global,
     words: &[Text],
@@ -60,21 +114,16 @@ fn reply<I: Source, F: Folder>(
     ensures looks { OnlyLooks F.seen F.becomes F.faults folder.old folder.new }
     ensures untouched { request_of words.now ≡ None → (input.new ≡ input.old) × (folder.new ≡ folder.old) }
 {
-    if let [word, name] = words {
-        if let Some(look) = asked(word.as_str()) {
-            return reply_to(alloc, look, name, None, input, folder);
+    match words {
+        [word, name] => reply_alone(alloc, word, name, input, folder),
+        [word, name, pattern] => {
+            reply_with_pattern(alloc, word, name, pattern, input, folder)
         }
+        _ => Ok(Reply {
+            status: Status::WordsRefused,
+            text: no_words(alloc)?,
+        }),
     }
-    if let [word, name, pattern] = words {
-        if word.as_str() == "why" {
-            let pattern = Text::of_upper(alloc, pattern.as_str())?;
-            return reply_to(alloc, Look::Why, name, Some(&pattern), input, folder);
-        }
-    }
-    Ok(Reply {
-        status: Status::WordsRefused,
-        text: no_words(alloc)?,
-    })
 }
 
 /// Does all that the program does, and ends with its exit status.

@@ -25,8 +25,8 @@ use Rattle.view_words.specs.Dues.{Due, FileCallsFor, other_file_line, text_of}
 use Rattle.view_words.specs.Forms.{Request, request_of}
 use Rattle.view_words.specs.Readings.{GivesRefusal, HasRead, IsOther, Sight, UnreadCallsFor, file_of}
 
-pub refused_called : (old new : Option Stream) (r : Refusal) (text : List ℕ) → text ≡ definitions_line r.line (word_of r.kind)
-    → GivesRefusal r old new → UnreadCallsFor old new DefinitionsRefused text
+pub refused_called : (old new : Option Stream) (r : Refusal) (text : List ℕ)
+    → text ≡ definitions_line r.line (word_of r.kind) → GivesRefusal r old new → UnreadCallsFor old new DefinitionsRefused text
 refused_called old new r text is gives =
     subst (λ (t : List ℕ). UnreadCallsFor old new DefinitionsRefused t) (sym is) (UnreadCallsFor.refused r gives)
 
@@ -47,12 +47,14 @@ module _ (S : Sight) (request : Request) (defs : Defs) where
   unknown_called text is none =
       subst (λ (t : List ℕ). FileCallsFor S request defs WordsRefused t) (sym is) (FileCallsFor.unknown none)
 
-  pub other_called : (me place : ℕ) (text : List ℕ) → text ≡ other_file_line place → number_of defs request.name ≡ Some me
-      → IsOther S defs me request.name place → FileCallsFor S request defs OtherFile text
+  pub other_called : (me place : ℕ) (text : List ℕ) → text ≡ other_file_line place
+      → number_of defs request.name ≡ Some me → IsOther S defs me request.name place → FileCallsFor S request defs OtherFile text
   other_called me place text is there other =
-      subst (λ (t : List ℕ). FileCallsFor S request defs OtherFile t) (sym is) (FileCallsFor.other_file me place there other)
+      subst (λ (t : List ℕ). FileCallsFor S request defs OtherFile t) (sym is)
+      (FileCallsFor.other_file me place there other)
 
-  pub shown_called : (me : ℕ) (entries : List Entry) (text : List ℕ) → text ≡ text_of request.look request.pattern (net_of defs) me entries
+  pub shown_called : (me : ℕ) (entries : List Entry) (text : List ℕ)
+      → text ≡ text_of request.look request.pattern (net_of defs) me entries
       → number_of defs request.name ≡ Some me → HasRead S defs me request.name entries
       → FileCallsFor S request defs Success text
   shown_called me entries text is there read =

@@ -9,7 +9,10 @@ module _ {F : Type 0} (seen : F → List ℕ → Option (List ℕ)) (becomes : F
     (faults : F → ℕ) where
   stays : (owner : ℕ) (file : List ℕ) → KeepsMore owner file file
   stays owner file =
-      record { records_stay = λ bodies begins. begins; keeps = λ kept keeps. (kept, ([], sym (append-nil kept)), keeps) }
+      record {
+        records_stay = λ bodies begins. begins;
+        keeps = λ kept keeps. (kept, ([], sym (append-nil kept)), keeps);
+      }
 
   told_still : (owner : ℕ) (told : Option (List ℕ)) → Told (KeepsMore owner) told told
   told_still owner None = tt

@@ -20,8 +20,8 @@ use Rattle.view_words.specs.declared.forms.Look.TheVariants.{Kept, Why}
 abbrev pub other_file_line : ℕ → List ℕ
 other_file_line place = codes "not this message file: offset " ++ decimal place ++ codes "\n"
 
--- what is shown of the entries that the file of workstation me keeps: their lines, or why jobs and streams wait, of all or
--- of those whose names are of a pattern
+-- what is shown of the entries that the file of workstation me keeps: their lines, or why jobs and streams wait, all or
+-- those whose names are of a pattern
 abbrev pub text_of : Look → Option (List ℕ) → Net → ℕ → List Entry → List ℕ
 text_of Kept pattern net me entries = flat_map (entry_line net) entries
 text_of Why pattern net me entries = waits_of net (view_of entries) me pattern

@@ -50,8 +50,8 @@ pub record Sight : Type 1 where
   pub faults : ℕ
   pub faults_then : ℕ
 
-abbrev pub sight : {F : Type 0} → (F → List ℕ → Option (List ℕ)) → (F → List ℕ → List ℕ → List ℕ → Type 0) → (F → ℕ)
-    → F → F → Sight
+abbrev pub sight : {F : Type 0} → (F → List ℕ → Option (List ℕ)) → (F → List ℕ → List ℕ → List ℕ → Type 0)
+    → (F → ℕ) → F → F → Sight
 sight seen becomes faults old new =
     record { seen = seen old; seen_then = seen new; becomes = becomes old; faults = faults old; faults_then = faults new }
 

@@ -32,7 +32,8 @@ fn reply_to<I: Source, F: Folder>(
     input: &mut I,
     folder: &mut F,
 ) -> Result<Reply, Unsaid>
-    ensures due { (words : List (List ℕ)) → request_of words ≡ Some (requested look name.now (option_copied pattern.entry))
+    ensures due { (words : List (List ℕ))
+        → request_of words ≡ Some (requested look name.now (option_copied pattern.entry))
         → IfOk result (λ r. Due (sight F.seen F.becomes F.faults folder.old folder.new) words
         (I.stream input.old) (I.stream input.new) r.status r.text) }
     ensures said { IfOk result (λ r. r.status ≢ SinkFailed) }
@@ -54,8 +55,8 @@ fn reply_alone<I: Source, F: Folder>(
     input: &mut I,
     folder: &mut F,
 ) -> Result<Reply, Unsaid>
-    ensures due { IfOk result (λ r. Due (sight F.seen F.becomes F.faults folder.old folder.new) (word.now ∷ name.now ∷ [])
-        (I.stream input.old) (I.stream input.new) r.status r.text) }
+    ensures due { IfOk result (λ r. Due (sight F.seen F.becomes F.faults folder.old folder.new)
+        (word.now ∷ name.now ∷ []) (I.stream input.old) (I.stream input.new) r.status r.text) }
     ensures said { IfOk result (λ r. r.status ≢ SinkFailed) }
     ensures source { IsErrOf result Unread_ → Rose (I.faults input.old) (I.faults input.new) }
     ensures looks { OnlyLooks F.seen F.becomes F.faults folder.old folder.new }
@@ -116,9 +117,7 @@ fn reply<I: Source, F: Folder>(
 {
     match words {
         [word, name] => reply_alone(alloc, word, name, input, folder),
-        [word, name, pattern] => {
-            reply_with_pattern(alloc, word, name, pattern, input, folder)
-        }
+        [word, name, pattern] => { reply_with_pattern(alloc, word, name, pattern, input, folder) }
         _ => Ok(Reply {
             status: Status::WordsRefused,
             text: no_words(alloc)?,
@@ -128,12 +127,13 @@ fn reply<I: Source, F: Folder>(
 
 /// Does all that the program does, and ends with its exit status.
 ///
-/// The words are `kept NAME`, `why NAME` or `why NAME PATTERN`. It reads definitions from the input, finds their workstation NAME, and
-/// reads its message file `NAME.msg` in the folder. `kept` writes a line for each entry that the file keeps, in the
-/// order kept: the line that the report of a run has for it. `why` writes what each stream that is not released or
-/// not ended and each job in HOLD, FENCE or READY lacks, by these entries; with PATTERN, which is read in upper case, only
-/// of those whose name `W#STREAM` or `W#STREAM.JOB` is of it, where an `@` stands for any characters. A node may be writing
-/// the file: what is shown is then that of all that the file kept when the reading began, and perhaps of more.
+/// The words are `kept NAME`, `why NAME` or `why NAME PATTERN`. It reads definitions from the input, finds their
+/// workstation NAME, and reads its message file `NAME.msg` in the folder. `kept` writes a line for each entry that the
+/// file keeps, in the order kept: the line that the report of a run has for it. `why` writes what each stream that is
+/// not released or not ended and each job in HOLD, FENCE or READY lacks, by these entries. With PATTERN, which is read
+/// in upper case, it writes only of those whose name `W#STREAM` or `W#STREAM.JOB` is of the pattern, where an `@` stands
+/// for any characters. A node may be writing the file: what is shown is then that of all that the file kept when the
+/// reading began, and perhaps of more.
 ///
 /// The statuses are 0 where that was written, 1 for an input that is no definitions, 2 for other words and for a NAME
 /// that is not defined, 4, 5 and 6 where the source, the sink or the folder failed, as it does for a file that is not

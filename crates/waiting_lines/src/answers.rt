@@ -396,7 +396,7 @@ fn next_job(net: &Network, o: &Owners, w: Ws) -> Option<u32>
 /// for each thing that it lacks. What is cancelled is not told. Of what another workstation decides, that is told
 /// first, and then what it lacks by what is held here. A job of w that lacks nothing tells which job w launches
 /// before it. With a pattern that is told only of the streams whose name `W#STREAM` is of the pattern, and of the jobs
-/// whose name `W#STREAM.JOB` is: an `@` of it stands for any characters, none among them, and any other byte for itself.
+/// whose name `W#STREAM.JOB` is: an `@` of it stands for any characters, or none, and any other byte for itself.
 ///
 /// `NoMemory` where memory runs out.
 #[tactic(auto, unfolding(crate::specs::Answers::waits_of))]

@@ -23,12 +23,13 @@ returns-in-Ok-clause-due g c =
     let F = g.F.Folder in
     let S = sight F.seen F.becomes F.faults c.args.folder.now c.read_entries.new.folder in
     let entries = c.in-Ok.entries in
+    let pattern = option_copied c.args.pattern.entry in
     let text = c.in_ok-text.ensures
-        ∙ ap (λ (net : Net). text_of c.args.look (option_copied c.args.pattern.entry) net c.args.me entries) c.in_ok-net.ensures in
+    ∙ ap (λ (net : Net). text_of c.args.look pattern net c.args.me entries) c.in_ok-net.ensures in
     let read = has_read S c.args.workload.now c.args.me c.args.name.now c.in_ok-net.net c.as_str.result.now entries
-        c.in_ok-net.ensures (c.as_str.ensures.value ∙ c.in_ok-file.ensures) c.in-Ok.ensures.kept c.in-Ok.ensures.front in
-    shown_called S (requested c.args.look c.args.name.now (option_copied c.args.pattern.entry)) c.args.workload.now c.args.me entries c.in_ok-text.text text
-    c.requires.there read
+    c.in_ok-net.ensures (c.as_str.ensures.value ∙ c.in_ok-file.ensures) c.in-Ok.ensures.kept c.in-Ok.ensures.front in
+    shown_called S (requested c.args.look c.args.name.now pattern) c.args.workload.now c.args.me entries
+    c.in_ok-text.text text c.requires.there read
 
 pub returns-in-Err-NotThisFile-clause-due : goal.returns-in-Err-NotThisFile-clause-due
 returns-in-Err-NotThisFile-clause-due g c =
@@ -37,11 +38,12 @@ returns-in-Err-NotThisFile-clause-due g c =
     let net = c.in_ok-net.net in
     let bytes = c.as_str.result.now in
     let place = c.in-Err-NotThisFile.place in
+    let request = requested c.args.look c.args.name.now (option_copied c.args.pattern.entry) in
     let other = subst
-        (λ (fault : FileFault). OnlyKeepsMore S.becomes c.args.me bytes
-        → IfSome (S.seen_then bytes) (IsRefused net c.args.me fault))
-        c.in-Err-NotThisFile.field-0-is c.in-Err-NotThisFile.ensures.refused in
-    other_called S (requested c.args.look c.args.name.now (option_copied c.args.pattern.entry)) c.args.workload.now c.args.me place
+    (λ (fault : FileFault). OnlyKeepsMore S.becomes c.args.me bytes
+    → IfSome (S.seen_then bytes) (IsRefused net c.args.me fault))
+    c.in-Err-NotThisFile.field-0-is c.in-Err-NotThisFile.ensures.refused in
+    other_called S request c.args.workload.now c.args.me place
     c.in_ok-text-in-Err-NotThisFile.text c.in_ok-text-in-Err-NotThisFile.ensures c.requires.there
     (is_other S c.args.workload.now c.args.me c.args.name.now net bytes place c.in_ok-net.ensures
     (c.as_str.ensures.value ∙ c.in_ok-file.ensures) other)

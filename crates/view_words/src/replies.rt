@@ -1,5 +1,5 @@
 //! What is replied: a status and a text, or nothing.
-ghost use Rattle.std.specs.Prelude.{◌++◌, ◌≡◌, ◌≢◌, IfErr, IfOk, OnOk, Option, codes};
+ghost use Rattle.std.specs.Prelude.{◌++◌, ◌≡◌, ◌≢◌, ◌⊎◌, IfErr, IfOk, OnOk, Option, codes};
 ghost use Rattle.std.specs.Result.{IsErrOf};
 ghost use Rattle.outside.specs.Streams.{Stream};
 ghost use Rattle.view_words.specs.Dues as spec;
@@ -40,8 +40,8 @@ impl From<NoMemory> for Unsaid {
 impl Unsaid {
     /// The status with which nothing is said.
     pub(crate) fn status(self) -> u8
-        ensures source { self ≡ Unread_ → result ≡ 4 }
-        ensures memory { self ≡ NoRoom → result ≡ 9 }
+        ensures source { result ≡ 4 → self ≡ Unread_ }
+        ensures silent { (result ≡ 4) ⊎ (result ≡ 9) }
     {
         match self {
             Unsaid::SourceFailed => Status::SourceFailed.number(),

@@ -1,6 +1,7 @@
 -- What inputs and files call for, by their parts.
-use Rattle.std.proofs.Common.{[], ◌<◌, ◌≡◌, ◌∙◌, ℕ, IfSome, List, None, Option, Some, ap, arith, bytes_eq, codes}
-use Rattle.std.proofs.Common.{length, subst, sym}
+use Rattle.std.proofs.Common.{[], ◌<◌, ◌≡◌, ◌∙◌, ◌∷◌, ℕ, Err, IfSome, List, None, Ok, Option, Result, Some, ap, arith}
+use Rattle.std.proofs.Common.{bytes_eq, codes, length, option_map, subst, sym}
+use Rattle.std.specs.Prelude.{IfOk}
 use Rattle.std.proofs.lemmas.List.{length-map}
 use Rattle.std.proofs.lemmas.Option.{slice_get_within}
 use Rattle.base_types.specs.declared.LimitName.TheVariants as limit
@@ -22,8 +23,11 @@ use Rattle.workload_defs.specs.Nets.{net_of, node_of}
 use Rattle.workload_defs.specs.Stations.{number_of, stations}
 use Rattle.workload_defs.proofs.Lists.{first_there}
 use Rattle.view_words.specs.Dues.{Due, FileCallsFor, other_file_line, text_of}
-use Rattle.view_words.specs.Forms.{Request, request_of}
-use Rattle.view_words.specs.Readings.{GivesRefusal, HasRead, IsOther, Sight, UnreadCallsFor, file_of}
+use Rattle.view_words.specs.Forms.{Request, look_of, request_of, requested}
+use Rattle.view_words.specs.Readings.{GivesDefs, GivesRefusal, HasRead, IsOther, Sight, UnreadCallsFor, file_of}
+use Rattle.view_words.specs.declared.forms.Look.{Look}
+use Rattle.view_words.specs.declared.replies.Reply.{Reply}
+use Rattle.view_words.specs.declared.replies.Unsaid.{Unsaid}
 
 pub refused_called : (old new : Option Stream) (r : Refusal) (text : List ℕ)
     → text ≡ definitions_line r.line (word_of r.kind) → GivesRefusal r old new → UnreadCallsFor old new DefinitionsRefused text
@@ -40,6 +44,27 @@ pub refused_words : (S : Sight) (words : List (List ℕ)) (old new : Option Stre
     → text ≡ codes "words refused\n" → request_of words ≡ None → Due S words old new WordsRefused text
 refused_words S words old new text is none =
     subst (λ (t : List ℕ). Due S words old new WordsRefused t) (sym is) (Due.no_form none)
+
+-- what words request that are two, and three
+pub alone_requests : (word name text : List ℕ) (look : Look) (asked : Option Look) → text ≡ word → asked ≡ look_of text
+    → asked ≡ Some look → request_of (word ∷ name ∷ []) ≡ Some (requested look name None)
+unfolding request_of
+alone_requests word name text look asked same of is =
+    ap (option_map (λ (l : Look). requested l name None)) (ap look_of (sym same) ∙ sym of ∙ is)
+
+-- what is due of words, by what they request
+module _ (S : Sight) (words : List (List ℕ)) (old new : Option Stream) (request : Request)
+    (is : request_of words ≡ Some request) where
+  pub file_due : (defs : Defs) (result : Result Reply Unsaid) → GivesDefs defs old new
+      → IfOk result (λ (r : Reply). FileCallsFor S request defs r.status r.text)
+      → IfOk result (λ (r : Reply). Due S words old new r.status r.text)
+  file_due defs (Ok r) gives calls = Due.of_file request defs is gives calls
+  file_due defs (Err why) gives calls = calls
+
+  pub unread_due : (result : Result Reply Unsaid) → IfOk result (λ (r : Reply). UnreadCallsFor old new r.status r.text)
+      → IfOk result (λ (r : Reply). Due S words old new r.status r.text)
+  unread_due (Ok r) calls = Due.unread request is calls
+  unread_due (Err why) calls = calls
 
 module _ (S : Sight) (request : Request) (defs : Defs) where
   pub unknown_called : (text : List ℕ) → text ≡ codes "words refused\n" → number_of defs request.name ≡ None

@@ -14,6 +14,7 @@ use Rattle.kept_files.specs.Growth.{OnlyKeepsMore}
 use Rattle.kept_files.specs.declared.faults.FileFault.TheVariants.{NotThisFile}
 use Rattle.model.specs.Network.{node_count}
 use Rattle.model.specs.Types.{Entry, Net}
+use Rattle.outside.specs.Causes.{Rose}
 use Rattle.outside.specs.Streams.{Stream}
 use Rattle.replies.specs.Texts.{definitions_line, limit_line, limit_word}
 use Rattle.replies.specs.declared.statuses.Status.TheVariants.{DefinitionsRefused, DiskFailed, LimitPassed}
@@ -71,6 +72,11 @@ module _ (S : Sight) (request : Request) (defs : Defs) where
       → FileCallsFor S request defs WordsRefused text
   unknown_called text is none =
       subst (λ (t : List ℕ). FileCallsFor S request defs WordsRefused t) (sym is) (FileCallsFor.unknown none)
+
+  pub failed_called : (me : ℕ) (text : List ℕ) → text ≡ [] → number_of defs request.name ≡ Some me
+      → Rose S.faults S.faults_then → FileCallsFor S request defs DiskFailed text
+  failed_called me text is there rose =
+      subst (λ (t : List ℕ). FileCallsFor S request defs DiskFailed t) (sym is) (FileCallsFor.failed me there rose)
 
   pub other_called : (me place : ℕ) (text : List ℕ) → text ≡ other_file_line place
       → number_of defs request.name ≡ Some me → IsOther S defs me request.name place → FileCallsFor S request defs OtherFile text

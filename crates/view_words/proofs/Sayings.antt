@@ -42,12 +42,12 @@ due_speaks S words old new status text (Due.of_file request defs is gives calls)
 
 module _ (result : ℕ) (written written' : Option (List ℕ)) (faults faults' : ℕ) where
   -- where what is due is said, neither 4 nor 9 is answered
-  pub never_silent : (S : Sight) (words : List (List ℕ)) (old new : Option Stream) (status : Status) (text : List ℕ)
-      → Due S words old new status text → Says status text result written written' faults faults'
+  pub never_silent : (S : Sight) (words : List (List ℕ)) (old new : Option Stream) (status : Status)
+      (text said : List ℕ) → Due S words old new status text → Says status said result written written' faults faults'
       → (result ≡ 4) ⊎ (result ≡ 9) → ⊥
-  never_silent S words old new status text due says (inl four) =
+  never_silent S words old new status text said due says (inl four) =
       let five : result ≢ 5 = λ e. omega (arith, four, e) in
       due_speaks S words old new status text due (inl (sym (says.all five).0 ∙ four))
-  never_silent S words old new status text due says (inr nine) =
+  never_silent S words old new status text said due says (inr nine) =
       let five : result ≢ 5 = λ e. omega (arith, nine, e) in
       due_speaks S words old new status text due (inr (sym (says.all five).0 ∙ nine))

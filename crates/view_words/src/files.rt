@@ -91,18 +91,20 @@ fn reply_of_file<F: Folder>(
                 text,
             })
         }
-        Err(FileFault::NotThisFile(place)) => {
-            let text = other_file(alloc, place)?;
-            Ok(Reply {
-                status: Status::OtherFile,
-                text,
-            })
-        }
-        Err(FileFault::Folder) => Ok(Reply {
-            status: Status::DiskFailed,
-            text: Items::new(alloc),
-        }),
-        Err(FileFault::NoMemory) => Err(Unsaid::NoMemory),
+        Err(fault) => match fault {
+            FileFault::NotThisFile(place) => {
+                let text = other_file(alloc, place)?;
+                Ok(Reply {
+                    status: Status::OtherFile,
+                    text,
+                })
+            }
+            FileFault::Folder => Ok(Reply {
+                status: Status::DiskFailed,
+                text: Items::new(alloc),
+            }),
+            FileFault::NoMemory => Err(Unsaid::NoMemory),
+        },
     }
 }
 

@@ -24,7 +24,7 @@ use replies::{Status, say};
 use std::alloc::Global;
 
 /// What is replied to words that ask for something.
-#[tactic(auto, using(crate::proofs::Calls::file_due, crate::proofs::Calls::unread_due, crate::proofs::Looked::no_looks))]
+#[tactic(auto, using(crate::proofs::Looked::no_looks))]
 fn reply_to<I: Source, F: Folder>(
     alloc: Global,
     look: Look,

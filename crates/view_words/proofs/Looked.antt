@@ -1,5 +1,5 @@
 -- Calls that look at no file.
-use Rattle.std.proofs.Common.{◌≡◌, ◌++◌, [], ℕ, List, None, Option, Some, arith, sym}
+use Rattle.std.proofs.Common.{[], ℕ, List, None, Option, Some, arith, sym}
 use Rattle.std.proofs.lemmas.List.{append-nil}
 use Rattle.outside.specs.Files.{Told}
 use Rattle.kept_files.specs.Growth.{KeepsMore}

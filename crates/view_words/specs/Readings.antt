@@ -1,5 +1,5 @@
 -- What was read: definitions of the input, and the entries of a file of the folder.
-use Rattle.std.specs.Prelude.{ℕ, ◌++◌, ◌≡◌, ◌≤◌, IfSome, List, Option, codes, length}
+use Rattle.std.specs.Prelude.{ℕ, ◌++◌, ◌≤◌, IfSome, List, Option, codes, length}
 use Rattle.base_types.specs.declared.LimitName.TheVariants as limit
 use Rattle.composer_parser.specs.declared.Defs.{Defs}
 use Rattle.definition_texts.specs.Kinds.{word_of}

@@ -1,10 +1,10 @@
-use Rattle.std.proofs.Common.{◌≡◌, ◌∙◌, Err, IfSome, Some, ap, subst, ℕ}
+use Rattle.std.proofs.Common.{◌∙◌, Err, IfSome, ap, subst}
 use Rattle.std.specs.Option.{option_copied}
 use Rattle.entry_files.specs.Entries.{IsRefused}
 use Rattle.kept_files.specs.Growth.{OnlyKeepsMore}
 use Rattle.kept_files.specs.declared.faults.FileFault.{FileFault}
 use Rattle.model.specs.Types.{Net}
-use Rattle.view_words.specs.Dues.{FileCallsFor, text_of}
+use Rattle.view_words.specs.Dues.{text_of}
 use Rattle.view_words.specs.Forms.{requested}
 use Rattle.view_words.specs.Readings.{sight}
 use Rattle.view_words.proofs.Calls.{failed_called, has_read, is_inside, is_other, other_called, shown_called}

@@ -7,7 +7,7 @@ ghost use Rattle.waiting_lines.specs.Names.{stream_name};
 use crate::names::{path_of, state_word, text_of, write_job_name, write_stream_name};
 use crate::needs::{
     write_file, write_follows_job, write_follows_stream, write_no_units, write_own_prompt,
-    write_prompt_line, write_time, write_units,
+    write_prompt_line, write_time, write_units, write_until,
 };
 use base_types::{JobNo, Obj, StreamNo, Ws};
 use network_tree::Network;
@@ -102,7 +102,7 @@ fn write_lack(
         Lack::NoPrompt(i, p) => write_two(out, "", *i, " prompt ", u64::from(*p)),
         Lack::OwnPrompt(i, reply) => write_own_prompt(out, *i, text_of(o, obj, *i), *reply),
         Lack::Time(i, due, now) => write_time(out, *i, due.0, now.0),
-        Lack::Before(i, t) => write_two(out, "", *i, " until, which has passed: ", t.0),
+        Lack::Before(i, t) => write_until(out, *i, t.0),
         Lack::File(i) => write_file(out, *i, path_of(o, obj, *i)),
         Lack::Nothing(i) => write_number(out, "", u32::from(*i), " deadline"),
         Lack::Fenced(fence, rank) => write_two(

@@ -27,7 +27,8 @@ ghost use Rattle.launches_at_rest.specs.Told.{IsWorkingRound, is_told, works_at}
 
 /// Each thing that is told lowers what is left: the start of a launch and a file lower what can still be told, and an end or
 /// a failed start lowers what turns can still make. No turn raises the sum: a launch has the count of its start and of its
-/// end from the run that was due, and a rerun has it from the order. So entries and all that is left never grow together.
+/// end from the run that was due, and a rerun has it from the order. So the sum of the entries and
+/// of all that is left never grows.
 pub fn what_is_told_leaves_less()
     ensures told { (net : Net) (caps : ℕ → Caps) (readings : ℕ → List ℕ) (x y : World) (s : WorldStep) → Invariant net x
         → Covers net caps x → IsTrue (is_told s) → free_step net x s ≡ Ok y

@@ -1,2 +1,3 @@
+mod FirstPlaces
 pub mod StepWords
 pub mod Texts

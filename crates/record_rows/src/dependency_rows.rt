@@ -7,11 +7,12 @@ ghost use Rattle.record_rows.specs.declared.rows.DepRow.TheVariants as dep;
 
 use crate::quotes::text;
 use crate::rows::DepRow;
+use crate::spellings::{first_word, is};
 use crate::words::{moment, number_up_to};
 use base_types::{NoMemory, Text};
 use conman_syntax::passed;
 use std::alloc::Global;
-use syntax::{first_word, is, name};
+use syntax::name;
 
 /// `until T suppr`, `until T cont`, `until T canc`
 #[tactic(auto, unfolding(crate::specs::Plans::until_of))]

@@ -19,6 +19,7 @@ mod ranges;
 mod reading;
 mod rows;
 mod shared_lines;
+mod spellings;
 mod step_rows;
 mod words;
 

@@ -10,10 +10,11 @@ ghost use Rattle.record_rows.specs.declared.rows.Row.TheVariants as row;
 use crate::pairs::two_names;
 use crate::quotes::text;
 use crate::rows::{Row, StationRow};
+use crate::spellings::{first_word, is};
 use crate::words::number_up_to;
 use base_types::{Carry, NoMemory, Text};
 use std::alloc::Global;
-use syntax::{first_word, is, name, words};
+use syntax::{name, words};
 
 /// `manager`, `on`
 fn flag(word: &str) -> Option<(bool, bool)>

@@ -3,9 +3,10 @@ ghost use Rattle.std.specs.Prelude.{◌≡◌, IfOk};
 ghost use Rattle.record_rows.specs.Behind as spec;
 ghost use Rattle.record_rows.specs.Steps.{pair_of};
 
+use crate::spellings::first_word;
 use base_types::{NoMemory, Text};
 use std::alloc::Global;
-use syntax::{first_word, name};
+use syntax::name;
 
 /// `B`, behind a name
 fn pair_with(alloc: Global, a: Text, b: &str) -> Result<Option<(Text, Text)>, NoMemory>

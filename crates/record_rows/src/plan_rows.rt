@@ -11,10 +11,11 @@ ghost use Rattle.record_rows.specs.Rows.{plan_row};
 use crate::pairs::two_names;
 use crate::quotes::text;
 use crate::rows::{JobRow, PartRow, Ranged, Row, StreamRow};
+use crate::spellings::is;
 use crate::words::{number_up_to, priority};
 use base_types::{DEFAULT_PRIORITY, NoMemory, Recovery, Text};
 use std::alloc::Global;
-use syntax::{is, words};
+use syntax::words;
 
 /// `[prio N]`, and what is left of the words. None where the number is none.
 fn given_priority<'a>(words: &'a [&'a str]) -> Option<(Ranged<u8>, &'a [&'a str])>

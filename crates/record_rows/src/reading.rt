@@ -12,10 +12,10 @@ use crate::dependency_rows::dep;
 use crate::network_rows::network_row;
 use crate::plan_rows::{object_row, part};
 use crate::rows::Row;
+use crate::spellings::{cut_at, first_word, is};
 use crate::step_rows::{frequent_step, is_frequent, step};
 use base_types::{Items, NoMemory};
 use std::alloc::Global;
-use syntax::{first_word, is};
 
 /// A line that is a header.
 fn header(text: &str) -> Option<Row>
@@ -166,9 +166,12 @@ fn rows_between_feeds(alloc: Global, text: &str) -> Result<Items<Row>, NoMemory>
     ensures { IfOk result (λ rows. rows ≡ map row_of (slice_split (λ b. b == 10) text.now)) }
 {
     let mut rows = Items::new(alloc);
-    for line in text.split('\n') {
+    let mut rest = text;
+    while let Some((line, behind)) = cut_at(b'\n', rest) {
         add_row(alloc, &mut rows, line)?;
+        rest = behind;
     }
+    add_row(alloc, &mut rows, rest)?;
     Ok(rows)
 }
 

@@ -14,12 +14,13 @@ ghost use Rattle.record_rows.specs.declared.rows.StepRow.TheVariants as step;
 use crate::pairs::pair;
 use crate::rows::{CutRow, ObjRow, OwnRow, Ranged, StepRow};
 use crate::shared_lines::SharedLine;
+use crate::spellings::{first_word, is};
 use crate::words::{code, count, dep_no, job_no, moment, stream_no};
 use base_types::{NoMemory, Text};
 use calendars::read_date;
 use conman_syntax::{CommandFault, Line, parse_command};
 use std::alloc::Global;
-use syntax::{first_word, is, name, words};
+use syntax::{name, words};
 
 /// `J RC`
 fn ended(rest: &str) -> Option<OwnRow>

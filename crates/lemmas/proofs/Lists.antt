@@ -244,6 +244,12 @@ got_below [] w h = absurd (omega (arith, h))
 got_below (x ∷ xs) zero h = (x, refl)
 got_below (x ∷ xs) (suc w) h = got_below xs w (omega (arith, h))
 
+-- where an item is found, the place is inside
+pub found_within : {A : Type 0} (xs : List A) (k : ℕ) (a : A) → slice_get xs k ≡ Some a → k < length xs
+found_within [] k a e = cc
+found_within (x ∷ xs) zero a e = omega arith
+found_within (x ∷ xs) (suc k) a e = omega (arith, found_within xs k a e)
+
 -- at the end nothing is left
 pub drop_at_end : {X : Type 0} (xs : List X) (i : ℕ) → length xs ≤ i → drop i xs ≡ []
 drop_at_end xs i h = drop_all i xs h

@@ -13,6 +13,10 @@ key_compared k x a b c = grind (arith, nat_tests)
 pub below_or_last : (k i : ℕ) → k < i + 1 → (k < i) ⊎ (k ≡ i)
 below_or_last k i h = grind arith
 
+-- a number is below another one, or is at least the other
+pub below_or_not : (m n : ℕ) → (m < n) ⊎ (n ≤ m)
+below_or_not m n = grind arith
+
 -- one place further, what is left is one less
 pub minus_further : (i n : ℕ) → i < n → n - i ≡ suc (n - (i + 1))
 minus_further i n h = omega (arith, h)

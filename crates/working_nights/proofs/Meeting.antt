@@ -230,7 +230,7 @@ module _ (defs : Defs) (tree : IsTree (net_of defs)) (few : node_count (net_of d
         shorts : IsShortFrom defs tree few its_law reads x
         shorts = short_from x night old at short
 
-    pub round_work : RoundWork night old new x r
+    round_work : RoundWork night old new x r
     round_work =
         elim one.told [
           | inr more ↦ told (omega (arith, more, more_two, more_three))

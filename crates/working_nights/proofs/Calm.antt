@@ -1,47 +1,38 @@
 -- A pass in which nobody gives an order and the node keeps no event of its own: what was told in it changed nothing, so it
 -- could have been one in which nothing was told.
-use Rattle.std.proofs.Common.{[], ◌++◌, ◌≡◌, ◌≢◌, ◌∙◌, ◌∷◌, ◌⊎◌, ℕ, Bool, List, None, Option, Some, ap, false, inl, inr, refl, subst, sym, true, ℤ}
+use Rattle.std.proofs.Common.{[], ◌++◌, ◌≡◌, ◌∙◌, ◌∷◌, ℕ, Bool, List, None, Option, Some, ap, false, inl, inr, refl, subst, sym, true}
 use Rattle.std.specs.List.{AllByRecursion}
-use Rattle.std.specs.Option.{option_map_or}
-use Rattle.std.specs.Prelude.{if◌then◌else◌, ◌&&◌, filter, Err, Ok, Result, flat_map, is_none, length, map, option_map}
+use Rattle.std.specs.Prelude.{if◌then◌else◌, ◌&&◌, filter, flat_map, length, map, option_map}
 use Rattle.lemmas.proofs.Lists.{all_append}
 use Rattle.lemmas.proofs.Options.{some_is}
-use Rattle.composer_parser.specs.declared.Defs.{Defs}
-use Rattle.model.specs.Types.{Ack, Body, Ended, Entry, Events, Feed, Fulfil, Fulfilled, Input, Launch, LiveJob, Local, Mail, Net, Obj, Out, Packet, Send, Turn}
+use Rattle.model.specs.Types.{Ack, Body, Ended, Entry, Events, Feed, Fulfil, Input, Launch, Local, Mail, Net, Out, Packet, Send, Turn}
 use Rattle.model.specs.Words.{below}
 use Rattle.model.specs.Network.{are_neighbours, node_count}
 use Rattle.model.specs.Forwarding.{to_send}
 use Rattle.model.specs.History.{View, view_with}
-use Rattle.model.specs.NewEntry.{ends_well, event_of, makes, next_entry, own_entry}
+use Rattle.model.specs.NewEntry.{event_of, makes, next_entry, own_entry}
 use Rattle.model.specs.PresentNet.{present_net}
 use Rattle.model.specs.Sessions.{Session, next_session}
 use Rattle.model.specs.Step.{Effect, effect, outs_of, sends}
 use Rattle.model.specs.Turn.{turn_body}
-use Rattle.model_laws.proofs.Faults.{clear}
-use Rattle.outside.specs.Calls.{Asked, Replied}
-use Rattle.outside.specs.declared.Failed.{Failed}
+use Rattle.outside.specs.Calls.{Asked}
 use Rattle.outside.specs.declared.links.Arrival.{Arrival}
 use Rattle.outside.specs.declared.links.Arrival.TheVariants as arrival
-use Rattle.outside.specs.declared.spawners.End.{End}
 use Rattle.mail_frames.specs.declared.frames.Frame.{Frame}
 use Rattle.agent_core.specs.Nodes.{NodeState, session_in, view_in}
 use Rattle.agent_core.specs.Steps.{IsTaken, effect_in}
 use Rattle.agent_core.specs.declared.faults.Step.{Step}
-use Rattle.file_watch.specs.Circle.{DepPlace}
-use Rattle.file_watch.specs.Probes.{next_probe}
 use Rattle.node_inputs.specs.Actions.{Action, Both, Each, If, IfThere, Nothing, Then, Wants}
-use Rattle.node_inputs.specs.Inputs.{Carried, CarryOut, Follow, IsKeeping, Keep, SendFrame, SendIt, Take as TakeIt, frame_of, is_lost, nothing_carried}
+use Rattle.node_inputs.specs.Inputs.{Carried, CarryOut, IsKeeping, Keep, SendFrame, frame_of, is_lost, nothing_carried}
 use Rattle.node_inputs.specs.Traces.{Event, Trace, kept}
 use Rattle.node_inputs.specs.declared.ends.NodeEnd.{NodeEnd}
 use Rattle.node_inputs.proofs.Fronts.{kept-append}
-use Rattle.node_loop.specs.Runs.{Advise, Come, EndOf, Found, Looks, On, Probing, Reports, Running, TurnOf, is_live, running_with}
 use Rattle.run_laws.proofs.Rules.{Gives, IsJoined}
-use Rattle.run_laws.proofs.Taking.{GivesOut, IsAsk, IsEffect, IsRule, Steps, its_effect, take_gives}
-use Rattle.run_laws.proofs.Turning.{advise_gives, come_gives}
+use Rattle.run_laws.proofs.Taking.{GivesOut, IsAsk, IsEffect, IsRule, Steps, its_effect}
 use Rattle.network_runs.proofs.Members.{IsIn, in_either, in_left, in_right}
 use Rattle.nights_at_rest.specs.NodeRounds.{is_inside}
-use Rattle.nights_at_rest.proofs.Doing.{AreInside, silently}
-use Rattle.nights_at_rest.proofs.StillParts.{both_of, no_end, not_still, passes_over, wanted}
+use Rattle.nights_at_rest.proofs.Doing.{AreInside}
+use Rattle.nights_at_rest.proofs.StillParts.{both_of, no_end, not_still, wanted}
 use Rattle.working_nights.specs.Passes.{is_working}
 use Rattle.working_nights.proofs.Working.{AreWorking, back_works, front_works}
 

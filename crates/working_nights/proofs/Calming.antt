@@ -1,14 +1,13 @@
 -- Passes in which nobody gives an order and no node keeps an event of its own could have been passes in which nothing was
 -- told.
-use Rattle.std.proofs.Common.{[], ◌++◌, ◌<◌, ◌≡◌, ◌≢◌, ◌∙◌, ◌∷◌, ◌⊎◌, ℕ, Bool, List, ap, append_assoc, false, inl, inr, refl, subst, sym, true}
+use Rattle.std.proofs.Common.{[], ◌++◌, ◌<◌, ◌≡◌, ◌∙◌, ◌∷◌, ℕ, List, ap, inl, inr, refl, subst, sym}
 use Rattle.std.proofs.lemmas.Bool.Decides.{eqb_tells}
 use Rattle.std.proofs.lemmas.List.Elements.{filter_map-append}
 use Rattle.std.specs.List.{AllByRecursion}
-use Rattle.std.specs.Prelude.{◌==◌, Contains, filter_map, map}
+use Rattle.std.specs.Prelude.{Contains, filter_map, map}
 use Rattle.composer_parser.specs.declared.Defs.{Defs}
 use Rattle.model.specs.Types.{Entry}
 use Rattle.model.specs.Network.{node_count}
-use Rattle.model.specs.Words.{with_at}
 use Rattle.outside.specs.Calls.{Sent}
 use Rattle.workload_defs.specs.Nets.{net_of}
 use Rattle.node_inputs.specs.Traces.{Event, kept}

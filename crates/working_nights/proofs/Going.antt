@@ -1,10 +1,10 @@
 -- Passes in which nobody gives an order, one behind the other, lead on in the world of their night.
-use Rattle.std.proofs.Common.{[], ◌++◌, ◌+◌, ◌<◌, ◌≤◌, ◌≡◌, ◌≢◌, ◌∙◌, ◌∷◌, ◌⊎◌, ℕ, Bool, List, ap, append_assoc, arith, false, inl, inr, length, refl, subst, sym, true}
+use Rattle.std.proofs.Common.{[], ◌++◌, ◌+◌, ◌<◌, ◌≤◌, ◌≡◌, ◌≢◌, ◌∙◌, ◌∷◌, ◌⊎◌, ℕ, List, ap, append_assoc, arith, false, inl, inr, length, refl, subst, sym, true}
 use Rattle.std.proofs.Common.{length-append}
 use Rattle.std.proofs.lemmas.Bool.Decides.{eqb_tells}
 use Rattle.std.proofs.lemmas.List.{append-nil}
 use Rattle.std.specs.List.{AllByRecursion}
-use Rattle.std.specs.Prelude.{◌==◌, Contains}
+use Rattle.std.specs.Prelude.{◌==◌}
 use Rattle.composer_parser.specs.declared.Defs.{Defs}
 use Rattle.model.specs.Types.{Entry, Events, Feed}
 use Rattle.model.specs.Equalities.{feed_eq}
@@ -25,7 +25,6 @@ use Rattle.rest_laws.proofs.Rises.{Rises}
 use Rattle.nights_at_rest.specs.Passes.{ArePasses, Pass, Passes, happened, happened_in}
 use Rattle.nights_at_rest.specs.Still.{Nodes}
 use Rattle.nights_at_rest.proofs.Going.{StandsAt, heard_sent, stands_next}
-use Rattle.nights_at_rest.proofs.Staying.{Stays}
 use Rattle.nights_at_rest.proofs.Ways.{own_of}
 use Rattle.launches_at_rest.proofs.Gaining.{own_gains}
 use Rattle.working_nights.specs.Passes.{IsWorkingPass}

@@ -1,7 +1,6 @@
 -- A round of running nodes in which nothing is told is one of those in which things may be told.
-use Rattle.std.proofs.Common.{◌++◌, ◌≡◌, Bool, ℕ, List, None, Some, false, refl, true}
-use Rattle.std.specs.List.{AllByRecursion}
-use Rattle.std.specs.Prelude.{Err, Ok}
+use Rattle.std.proofs.Common.{◌++◌, ◌≡◌, ℕ, None, false, refl, true}
+use Rattle.std.specs.Prelude.{Ok}
 use Rattle.lemmas.proofs.Lists.{all_such}
 use Rattle.composer_parser.specs.declared.Defs.{Defs}
 use Rattle.network_runs.specs.Happenings.{Night}

@@ -1,5 +1,5 @@
 -- Traces that differ in what was told and changed nothing.
-use Rattle.std.proofs.Common.{[], ◌++◌, ◌≡◌, ◌∙◌, ◌∷◌, ◌⊎◌, ℕ, List, None, Option, ap, inl, inr, refl, sym}
+use Rattle.std.proofs.Common.{[], ◌++◌, ◌≡◌, ◌∙◌, ◌∷◌, ◌⊎◌, None, ap, inl, inr, refl, sym}
 use Rattle.std.specs.List.{cons_option}
 use Rattle.outside.specs.Calls.{Sent}
 use Rattle.node_inputs.specs.Traces.{Event, Trace, kept, kept_by, reading_of, readings}

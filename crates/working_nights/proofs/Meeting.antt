@@ -7,7 +7,7 @@ use Rattle.std.proofs.lemmas.List.Elements.{filter_map-append}
 use Rattle.lemmas.proofs.Booleans.{or_made_left}
 use Rattle.lemmas.proofs.Lists.{all_append, all_left, all_right, all_such}
 use Rattle.composer_parser.specs.declared.Defs.{Defs}
-use Rattle.model.specs.Types.{Entry, WorldStep}
+use Rattle.model.specs.Types.{Entry}
 use Rattle.model.specs.Invariant.{Invariant}
 use Rattle.model.specs.Network.{IsTree, node_count}
 use Rattle.model.specs.World.{World}

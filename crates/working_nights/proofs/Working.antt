@@ -1,5 +1,5 @@
 -- A pass in which nobody gives an order leads on in the world by turns, deliveries and what is told.
-use Rattle.std.proofs.Common.{[], ◌++◌, ◌<◌, ◌≤◌, ◌≡◌, ◌∙◌, ◌∷◌, ◌⊎◌, ◌&&◌, ℕ, Bool, List, None, Option, Some, ap, false, inl, inr, not, refl, subst, sym, true}
+use Rattle.std.proofs.Common.{[], ◌++◌, ◌≤◌, ◌≡◌, ◌∙◌, ◌∷◌, ◌⊎◌, ℕ, Bool, List, None, Option, Some, ap, false, inl, inr, refl, subst, sym, true}
 use Rattle.std.proofs.lemmas.Bool.{eq-eqb}
 use Rattle.std.proofs.lemmas.List.{append-nil}
 use Rattle.std.specs.List.{AllByRecursion}
@@ -9,14 +9,14 @@ use Rattle.lemmas.proofs.Booleans.{not_holds}
 use Rattle.lemmas.proofs.Lists.{all_left, all_right}
 use Rattle.lemmas.proofs.Options.{some_is}
 use Rattle.composer_parser.specs.declared.Defs.{Defs}
-use Rattle.model.specs.Types.{Cmd, Deliver, Entry, Feed, Input, Local, Net, Out, Packet, Take, Turn, Typed, WorldStep}
+use Rattle.model.specs.Types.{Cmd, Deliver, Entry, Feed, Input, Local, Net, Take, Turn, Typed, WorldStep}
 use Rattle.model.specs.FreeSteps.{free_step, recounted}
 use Rattle.model.specs.Kept.{kept_in, made_by, only_if}
 use Rattle.model.specs.Network.{IsTree, node_count}
 use Rattle.model.specs.Step.{Effect, node_step}
-use Rattle.model.specs.World.{Origin, World, apply_effect, delivery, node_effect, step, view_at}
+use Rattle.model.specs.World.{Origin, World, apply_effect, node_effect, step, view_at}
 use Rattle.model_laws.proofs.Steps.{OwnDone, kept_own}
-use Rattle.outside.specs.Calls.{Asked, Replied, Sent}
+use Rattle.outside.specs.Calls.{Sent}
 use Rattle.outside.specs.declared.links.Arrival.{Arrival}
 use Rattle.outside.specs.declared.links.Arrival.TheVariants as arrival
 use Rattle.mail_frames.specs.declared.frames.Frame.{Frame}

@@ -1,16 +1,46 @@
--- A round of running nodes in which nothing is told is one of those in which things may be told.
-use Rattle.std.proofs.Common.{◌++◌, ◌≡◌, ℕ, None, false, refl, true}
+-- A round in which nothing is told is one of those in which things may be told: of the program's world, and of running nodes.
+use Rattle.std.proofs.Common.{[], ◌++◌, ◌∷◌, ◌≡◌, ℕ, None, false, refl, true}
 use Rattle.std.specs.Prelude.{Ok}
+use Rattle.lemmas.proofs.Booleans.{or_made_left}
 use Rattle.lemmas.proofs.Lists.{all_such}
 use Rattle.composer_parser.specs.declared.Defs.{Defs}
+use Rattle.network_world.specs.Stations.{WorldState}
 use Rattle.network_runs.specs.Happenings.{Night}
 use Rattle.node_inputs.specs.Traces.{Event}
 use Rattle.outside.specs.Calls.{Asked}
 use Rattle.outside.specs.declared.links.Arrival.TheVariants as arrival
+use Rattle.rest_laws.specs.Left.{keeps_to}
+use Rattle.rest_laws.specs.Rounds.{is_of_round}
+use Rattle.launches_at_rest.specs.Told.{is_of_work, is_told, works_at}
 use Rattle.nights_at_rest.specs.NodeRounds.{IsInside, IsNodeRound, is_inside}
 use Rattle.nights_at_rest.specs.Passes.{Pass}
 use Rattle.nights_at_rest.specs.Still.{Nodes}
+use Rattle.nights_at_rest.specs.Worlds.{IsWorldRound}
 use Rattle.working_nights.specs.Passes.{IsNodeWork, IsWorkingPass, is_working}
+use Rattle.working_nights.specs.Worlds.{IsWorldWork}
+
+pub world_inside : (reads : ℕ → ℕ) (s t : WorldState) → IsWorldRound reads s t → IsWorldWork reads s t
+world_inside reads s t r = record {
+  turned = r.turned;
+  arrived = r.arrived;
+  turning = r.turning;
+  arriving = r.arriving;
+  answering = r.answering;
+  to_turned = r.to_turned;
+  to_arrived = r.to_arrived;
+  to_end = r.to_end;
+  each =
+      all_such (λ st. is_of_round st ≡ true) (λ st. is_of_work st ≡ true) ((r.turning ++ r.arriving) ++ r.answering)
+      (λ st h. or_made_left (is_of_round st) (is_told st) h) r.each;
+  keep =
+      all_such (λ st. keeps_to (λ w. reads w ∷ []) st ≡ true) (λ st. works_at (λ w. reads w ∷ []) st ≡ true)
+      ((r.turning ++ r.arriving) ++ r.answering)
+      (λ st h. or_made_left (keeps_to (λ w. reads w ∷ []) st) (is_told st) h) r.keep;
+  linked = r.linked;
+  turns = r.turns;
+  sent = r.sent;
+  answers = r.answers;
+}
 
 inside_works : (w : ℕ) (event : Event) → is_inside w event ≡ true → is_working w event ≡ true
 inside_works w (Event.Keeps e) h = h

@@ -18,16 +18,19 @@ ghost use Rattle.network_runs.specs.Happenings.{Night};
 ghost use Rattle.nights_at_rest.specs.NodeRounds.{IsNodeRound};
 ghost use Rattle.nights_at_rest.specs.Passes.{StandBetween};
 ghost use Rattle.nights_at_rest.specs.Still.{Nodes, have_short_answers};
+ghost use Rattle.nights_at_rest.specs.Worlds.{IsWorldRound};
 ghost use Rattle.launches_at_rest.specs.Tells.{work_bound};
 ghost use Rattle.working_nights.specs.Passes.{AreNodeWorks, IsNodeWork, NodesWorkBut};
-ghost use Rattle.working_nights.specs.Worlds.{AreWorldWorks, WorksRestBut};
+ghost use Rattle.working_nights.specs.Worlds.{AreWorldWorks, IsWorldWork, WorksRestBut};
 
 /// The world of the program comes to rest while things are told: of whatever rounds it takes, of turns, deliveries, starts,
 /// ends and files, all but at most so many begin at rest, with the work done, and the world at the start decides that number.
+/// Rounds in which nothing is told are among them.
 pub fn working_worlds_come_to_rest()
-    ensures { (reads : ℕ → ℕ) (k n : ℕ) (s t : WorldState) (x : World) → IsTree s.net → StandsFor s x
+    ensures rest { (reads : ℕ → ℕ) (k n : ℕ) (s t : WorldState) (x : World) → IsTree s.net → StandsFor s x
         → work_bound s.net (λ w. reads w ∷ []) x ≤ gained s.net x + n → (rounds : AreWorldWorks reads k s t)
         → WorksRestBut n reads k s t rounds }
+    ensures untold { (reads : ℕ → ℕ) (s t : WorldState) → IsWorldRound reads s t → IsWorldWork reads s t }
 {}
 
 /// A network of running nodes comes to rest while their processes start and end. From some moment on both ends are up of

@@ -5,7 +5,7 @@ use Rattle.std.specs.List.{AllByRecursion}
 use Rattle.std.specs.Prelude.{if◌then◌else◌, ◌&&◌, filter, flat_map, length, map, option_map}
 use Rattle.lemmas.proofs.Lists.{all_append}
 use Rattle.lemmas.proofs.Options.{some_is}
-use Rattle.model.specs.Types.{Ack, Body, Ended, Entry, Events, Feed, Fulfil, Input, Launch, Local, Mail, Net, Out, Packet, Send, Turn}
+use Rattle.model.specs.Types.{Ack, Body, Entry, Events, Feed, Input, Launch, Local, Mail, Net, Out, Packet, Send, Turn}
 use Rattle.model.specs.Words.{below}
 use Rattle.model.specs.Network.{are_neighbours, node_count}
 use Rattle.model.specs.Forwarding.{to_send}

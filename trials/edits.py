@@ -36,7 +36,7 @@ import tempfile
 
 sys.dont_write_bytecode = True
 from cited import definitions_of, text_of
-from functions import Change, files_below, leave_open, parts_of, paths_of, written
+from functions import Change, files_below, functions_of, leave_open, parts_of, set_body, written
 from kit import begun_of, check, crates_here, libraries_that_lack, rt_of_kit
 
 TOP = os.path.dirname(os.path.dirname(os.path.abspath(__file__)))
@@ -181,7 +181,7 @@ def change_of(rt, crate, edit):
 
 
 def lay_out(rt, crate, room, changes):
-    """Writes the crate into a folder, with the bodies that edits give functions, and with all other proofs left open. Returns
+    """Writes the crate into a folder, with the bodies that edits give functions, and with all other functions left open. Returns
     the paths of the functions with these bodies by their edits, and those of the unchanged twins by their functions."""
     for part in rt.rtlib.PARTS:
         if os.path.isdir(f"{crate.folder}/{part}"):
@@ -189,14 +189,15 @@ def lay_out(rt, crate, room, changes):
     paths, unchanged = {}, {}
     for edit, change in changes.items():
         if change.is_of_trait():
-            change.set_body(room)
+            set_body(room, change.file, change.signature, change.old, change.new)
             paths[edit] = change.path
             continue
         paths[edit] = change.add_twin(room, edit.removesuffix(".edit"), change.new)
         if change.path not in unchanged:
             unchanged[change.path] = change.add_twin(room, "unchanged", change.old)
-    for path in paths_of(crate.folder) - set(paths.values()):
-        leave_open(room, crate.name, path)
+    for path, function in functions_of(crate.folder).items():
+        if path not in paths.values():
+            leave_open(room, crate.name, path, function)
     return paths, unchanged
 
 
@@ -220,8 +221,21 @@ def is_proved(said, crate, path):
     return any(line.startswith((f"{start}no holes", f"{start}depends on a hole in `Rattle.{crate}.")) for line in said)
 
 
+def told_of(said, crate, path, twin):
+    """Whether a check refuses the body of a function, whose unchanged twin is proved if it has one, and what to tell."""
+    reason = reason_of(said, crate, path)
+    if twin and not is_proved(said, crate, twin):
+        return False, "NOT SHOWN: its function is not proved without this edit"
+    if reason:
+        return True, f"refused, as it must be: {reason[:200]}"
+    if is_proved(said, crate, path):
+        return False, "NOT REFUSED: the function is still proved with this edit"
+    told = [line for line in said if line.startswith(f"fn {crate}::{path}: ")]
+    return False, " ".join(["NOT SHOWN to be refused by its contract:", *told])
+
+
 def tried_together(rt, crate, changes):
-    """Tries edits by one check. Gives each one with whether it is refused, or none where that is not shown, and with why."""
+    """Tries edits of one body each by one check."""
     with tempfile.TemporaryDirectory(prefix="edits-") as room:
         paths, unchanged = lay_out(rt, crate, room, changes)
         only = [f"--only={path}" for path in [*paths.values(), *unchanged.values()]]
@@ -229,22 +243,14 @@ def tried_together(rt, crate, changes):
         how = {"cwd": room, "stdin": subprocess.DEVNULL, "stdout": subprocess.PIPE, "stderr": subprocess.STDOUT, "errors": "replace"}
         words = [*rt.rtlib.guarded(), rt.rtlib.RATTLE, "check", *words, "--incremental", begun_of(crate)]
         said = subprocess.run(words, **how).stdout.split("\n")
-    if not any(line.startswith("only=") for line in said):
-        for edit, change in changes.items() if len(changes) > 1 else []:
+    if any(line.startswith("only=") for line in said):
+        for edit, path in paths.items():
+            yield edit, *told_of(said, crate.name, path, unchanged.get(changes[edit].path))
+    elif len(changes) == 1:
+        yield *changes, False, "\n".join(["NOT TRIED: the check says", *said[:6]])
+    else:
+        for edit, change in changes.items():
             yield from tried_together(rt, crate, {edit: change})
-        if len(changes) == 1:
-            yield *changes, False, "\n".join(["NOT TRIED: the check says", *said[:6]])
-        return
-    for edit, path in paths.items():
-        twin, reason = unchanged.get(changes[edit].path), reason_of(said, crate.name, path)
-        if twin and not is_proved(said, crate.name, twin):
-            yield edit, None, "its function is not proved without it"
-        elif reason:
-            yield edit, True, f"refused, as it must be: {reason[:200]}"
-        elif is_proved(said, crate.name, path):
-            yield edit, False, "NOT REFUSED: the function is still proved with this edit"
-        else:
-            yield edit, None, "the check of its function does not show that its contract refuses it"
 
 
 def tried_alone(rt, crate, edits, kept):
@@ -254,7 +260,7 @@ def tried_alone(rt, crate, edits, kept):
         return
     for edit in edits:
         kind, said = rt.must_fail(crate, f"{crate.folder}/edits/{edit}", ["--jobs", "1"], begun_of(crate))
-        yield edit, kind in (rt.REFUSED, rt.AT_LIMIT), said.partition(": ")[2]
+        yield edit, kind in (rt.REFUSED, rt.AT_LIMIT) and "(only because" not in said, said.partition(": ")[2]
 
 
 def tried(rt, crate, edits, kept):
@@ -267,12 +273,7 @@ def tried(rt, crate, edits, kept):
         for edit, change in changes.items():
             if not change.is_of_trait() or change.path not in {it.path for it in group.values()}:
                 group[edit] = change
-        for edit, is_refused, told in tried_together(rt, crate, group):
-            if is_refused is None:
-                others.append(edit)
-                tell(f"{crate.name}/{edit}: {told}")
-            else:
-                yield edit, is_refused, told
+        yield from tried_together(rt, crate, group)
         changes = {edit: change for edit, change in changes.items() if edit not in group}
     yield from tried_alone(rt, crate, others, kept)
 

@@ -81,13 +81,13 @@ def path_of(file, signature):
     return "::".join([*module, owner + of_trait, name])
 
 
-def paths_of(folder):
-    """The paths of the functions of a crate that have a body. Those of a trait are left out."""
-    found = set()
+def functions_of(folder):
+    """The functions of a crate that have a body: file, signature and body, by their paths. Those of a trait are left out."""
+    found = {}
     for file in files_below(f"{folder}/src", ".rt"):
-        for signature, _ in parts_of(text_of(file))[0]:
-            if not signature[-1].endswith(";") and (owner_of(signature[0])[0] or not signature[0]):
-                found.add(path_of(file, signature))
+        for signature, body in parts_of(text_of(file))[0]:
+            if not signature[-1].endswith((";", "{}")) and (owner_of(signature[0])[0] or not signature[0]):
+                found[path_of(file, signature)] = (os.path.relpath(file, folder), signature, body)
     return found
 
 
@@ -105,8 +105,17 @@ def proof_of(folder, path):
     return f"{folder}/proofs/{path.replace('::', '/')}"
 
 
-def leave_open(folder, crate, path):
-    """Takes the proof of a function away, so that a check that allows holes takes the function for proved."""
+def set_body(folder, file, signature, old, new):
+    text = text_of(f"{folder}/{file}")
+    write(f"{folder}/{file}", text.replace(written(signature, old), written(signature, new)))
+
+
+def leave_open(folder, crate, path, function):
+    """Takes away the proof of a function, and its body where that is not part of its type. A check that allows holes then
+    takes the function for proved, and does not ask what it calls."""
+    file, signature, body = function
+    if not re.search(r"\bconst fn\b|-> impl\b", "\n".join(signature)):
+        set_body(folder, file, signature, body, ["unreachable!()"])
     shutil.rmtree(proof_of(folder, path), ignore_errors=True)
     os.makedirs(proof_of(folder, path))
     statement, name = f"Rattle.{crate}.proofs.{path.replace('::', '.')}.Statement", path.rpartition("::")[2] + "_spec"
@@ -123,11 +132,6 @@ class Change:
 
     def is_of_trait(self):
         return bool(owner_of(self.signature[0])[1])
-
-    def set_body(self, folder):
-        """Gives the function its other body in a copy of the crate."""
-        text = text_of(f"{folder}/{self.file}")
-        write(f"{folder}/{self.file}", text.replace(written(self.signature, self.old), written(self.signature, self.new)))
 
     def add_twin(self, folder, ending, body):
         """Writes beside the function in a copy of the crate another one with its attributes, contract and proof, and with

@@ -203,14 +203,15 @@ def lay_out(rt, crate, room, changes):
 
 def reason_of(said, crate, path):
     """Why a check refuses the body of a function, or nothing where it does not show that its contract does."""
-    told = [line for line in said if line.startswith(f"fn {crate}::{path}: ")]
-    if not any(re.match(r"fn \S+: (not proved|no proof)(?!.*(it calls|it passes|a call of))", line) for line in told):
+    told = [line for line in said if re.match(rf"fn {crate}::{path}: (not proved|no proof)", line)]
+    if not told:
         return None
     proof = rf"(\./)?proofs/{path.replace('::', '/')}/\S+"
     if "did not prove" in told[0]:
         goals = [line for line in said if re.match(rf"note: `\S+` of {proof} must prove: ", line)]
         return re.sub(r"^note: | of \S+(?= must prove)|^fn \S+: ", "", (goals or told)[0])
-    lost = r".*(has no field|is not in scope|has no `|was not admitted)"
+    # a name that the proof file alone has is lost in one of these words
+    lost = r".*(has no field|is not in scope|has no `|was not admitted|error: (`[^`]*`: )*(module|record) `)"
     lines = [line for line in said if re.match(rf"(note: )?{proof}:\d+:\d+: ", line) and not re.match(lost, line)]
     return lines[0] if lines else None
 

@@ -212,7 +212,7 @@ def reason_of(said, crate, path):
         return re.sub(r"^note: | of \S+(?= must prove)|^fn \S+: ", "", (goals or told)[0])
     # a name that the proof file alone has is lost in one of these words
     lost = r".*(has no field|is not in scope|has no `|was not admitted|error: (`[^`]*`: )*(module|record) `)"
-    lines = [line for line in said if re.match(rf"(note: )?{proof}:\d+:\d+: ", line) and not re.match(lost, line)]
+    lines = [line for line in said if re.match(rf"{proof}:\d+:\d+: error: ", line) and not re.match(lost, line)]
     return lines[0] if lines else None
 
 

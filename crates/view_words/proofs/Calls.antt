@@ -27,8 +27,8 @@ use Rattle.view_words.specs.Dues.{Due, FileCallsFor, other_file_line, text_of}
 use Rattle.view_words.specs.Forms.{Request, look_of, request_of, requested}
 use Rattle.view_words.specs.Readings.{GivesDefs, GivesRefusal, HasRead, IsOther, Sight, UnreadCallsFor, file_of}
 use Rattle.view_words.specs.declared.forms.Look.{Look}
-use Rattle.view_words.specs.declared.replies.Reply.{Reply}
-use Rattle.view_words.specs.declared.replies.Unsaid.{Unsaid}
+use Rattle.view_words.specs.declared.outcomes.Reply.{Reply}
+use Rattle.view_words.specs.declared.outcomes.Unsaid.{Unsaid}
 
 pub refused_called : (old new : Option Stream) (r : Refusal) (text : List ℕ)
     → text ≡ definitions_line r.line (word_of r.kind) → GivesRefusal r old new → UnreadCallsFor old new DefinitionsRefused text

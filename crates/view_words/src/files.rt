@@ -12,10 +12,10 @@ ghost use Rattle.workload_defs.specs.Stations.{number_of};
 ghost use Rattle.view_words.specs.Dues.{FileCallsFor, text_of};
 ghost use Rattle.view_words.specs.Forms.{requested};
 ghost use Rattle.view_words.specs.Readings.{file_of, sight};
-ghost use Rattle.view_words.specs.declared.replies.Unsaid.TheVariants.{SourceFailed as Unread_};
+ghost use Rattle.view_words.specs.declared.outcomes.Unsaid.TheVariants.{SourceFailed as Unread_};
 
 use crate::forms::Look;
-use crate::replies::{Reply, Unsaid, no_words, other_file};
+use crate::outcomes::{Reply, Unsaid, no_words, other_file};
 use base_types::{Bytes, Copied, Items, NoMemory, Text, Ws};
 use entry_files::{FileFault, read_entries};
 use entry_lines::print_entries;

@@ -8,8 +8,8 @@
 
 mod files;
 mod forms;
+mod outcomes;
 mod reading;
-mod replies;
 mod views;
 
 pub use views::view;

@@ -11,12 +11,12 @@ ghost use Rattle.replies.specs.declared.statuses.Status.TheVariants.{SinkFailed}
 ghost use Rattle.view_words.specs.Dues.{Due};
 ghost use Rattle.view_words.specs.Forms.{request_of, requested};
 ghost use Rattle.view_words.specs.Readings.{sight};
-ghost use Rattle.view_words.specs.declared.replies.Unsaid.TheVariants.{SourceFailed as Unread_};
+ghost use Rattle.view_words.specs.declared.outcomes.Unsaid.TheVariants.{SourceFailed as Unread_};
 
 use crate::files::reply_of_name;
 use crate::forms::{Look, asked};
+use crate::outcomes::{Reply, Unsaid, no_words, reply_unread};
 use crate::reading::read_workload;
-use crate::replies::{Reply, Unsaid, no_words, reply_unread};
 use base_types::Text;
 use folders::Folder;
 use outside::{Sink, Source};

@@ -6,7 +6,7 @@ ghost use Rattle.view_words.specs.Dues as spec;
 ghost use Rattle.view_words.specs.Readings.{UnreadCallsFor};
 ghost use Rattle.view_words.specs.Unread.{IsUnread};
 ghost use Rattle.view_words.specs.declared.reading.Unread.TheVariants.{SourceFailed as Failed_};
-ghost use Rattle.view_words.specs.declared.replies.Unsaid.TheVariants.{NoMemory as NoRoom, SourceFailed as Unread_};
+ghost use Rattle.view_words.specs.declared.outcomes.Unsaid.TheVariants.{NoMemory as NoRoom, SourceFailed as Unread_};
 ghost use Rattle.replies.specs.declared.statuses.Status.TheVariants.{SinkFailed};
 
 use crate::reading::Unread;

@@ -27,12 +27,12 @@ put_sends-requires c =
 
 pub keep_room-requires : goal.keep_room-requires
 keep_room-requires c =
-    subst (λ (outs : List Out). HaveRoomBut outs c.put_sends.new.lanes) (c.as_slice.ensures ∙ sym c.as_slice-2.ensures)
+    subst (λ (outs : List Out). HaveRoomBut outs c.put_sends.new.lanes) (c.as_slice.ensures ∙ sym c.as_slice-in-Ok.ensures)
     (room_but c.as_slice.result.now c.make_room.new.lanes c.put_sends.new.lanes c.in_ok-make_room.ensures.room
     c.put_sends.ensures)
 
-pub invariant_of-self-2 : goal.invariant_of-self-2
-invariant_of-self-2 c =
+pub invariant_of-self-in-Ok : goal.invariant_of-self-in-Ok
+invariant_of-self-in-Ok c =
     λ known. tested c.keep_room.result c.keep_room.ensures.room (sym c.is_ok.ensures.value ∙ known)
 
 pub returns-in-Ok-clause-taken : goal.returns-in-Ok-clause-taken

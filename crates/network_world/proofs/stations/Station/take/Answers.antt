@@ -33,7 +33,7 @@ keep_room-requires c =
 
 pub invariant_of-self-in-Ok : goal.invariant_of-self-in-Ok
 invariant_of-self-in-Ok c =
-    λ known. tested c.keep_room.result c.keep_room.ensures.room (sym c.is_ok.ensures.value ∙ known)
+    λ known. tested c.keep_room.result c.keep_room.ensures.room (sym c.is_ok-self-inside.ensures.value ∙ known)
 
 pub returns-in-Ok-clause-taken : goal.returns-in-Ok-clause-taken
 returns-in-Ok-clause-taken c =

@@ -15,3 +15,4 @@ pub mod Elsewhere
 pub mod Taking
 pub mod Days
 pub mod Holding
+pub mod Numbered

@@ -20,7 +20,7 @@ loop-row-preserved c =
       resources = picked_on resource_of (filter_map resource_of rows) c.loop-row.resources c.add_some-in-loop-row.new.self
           (drop i rows) (drop (i + 1) rows) r left c.loop-row.invariant.resources
           (c.in_ok-add_some-2.ensures ∙ ap (λ o. c.loop-row.resources ++ cons_option o []) c.resource_of.ensures);
-      prompts = picked_on prompt_of (filter_map prompt_of rows) c.loop-row.prompts c.add_some-2.new.self (drop i rows)
+      prompts = picked_on prompt_of (filter_map prompt_of rows) c.loop-row.prompts c.add_some-in-loop-row-2.new.self (drop i rows)
           (drop (i + 1) rows) r left c.loop-row.invariant.prompts
           (c.in_ok-add_some-3.ensures ∙ ap (λ o. c.loop-row.prompts ++ cons_option o []) c.prompt_of.ensures);
     }
@@ -32,4 +32,4 @@ returns c =
     let stations = picked_all station_name (filter_map station_name rows) c.loop-row.stations rows i c.loop-row-test.false c.loop-row.invariant.stations in
     let resources = picked_all resource_of (filter_map resource_of rows) c.loop-row.resources rows i c.loop-row-test.false c.loop-row.invariant.resources in
     let prompts = picked_all prompt_of (filter_map prompt_of rows) c.loop-row.prompts rows i c.loop-row-test.false c.loop-row.invariant.prompts in
-    rw (stations, resources, prompts) refl
+    λ j. record { stations = stations j; resources = resources j; prompts = prompts j }

@@ -284,11 +284,11 @@ steps() {
       put("$STEPS\nnext\nnext\n")
     }
     if (kind == "history_needs") {
-      # open launches, each of which needs nothing of 64 resources. It is a sixteenth of what an input may have, since the
-      # time grows with the square
+      # open launches, each of which needs nothing of 64 resources. They are an eightieth of those that an input may have,
+      # since the time grows with their square
       for (r = 10; r < 74; r++) put("res M R" r " 1\n")
       put("$PLAN\nstream M S\n")
-      n = int(bytes / 16000)
+      n = int(bytes / 80000)
       for (j = 0; j < n; j++) {
         put("job M J" j " prio 101\n")
         for (r = 10; r < 74; r++) put("needs 0 R" r "\n")

@@ -3,8 +3,9 @@ use Rattle.std.proofs.Common.{◌≡◌, ℕ, zero, suc, ◌+◌, ◌-◌, ◌<�
 use Rattle.std.proofs.Common.{◌++◌, length, take, map, refl, ap, sym, subst, ◌∙◌, arith, Option, Some, None, cond}
 use Rattle.std.proofs.lemmas.Bool.Decides.{eqb_tells}
 use Rattle.std.specs.List.{AllByRecursion}
-use Rattle.std.specs.Prelude.{Ok, Result, filter, flat_map, option_map}
+use Rattle.std.specs.Prelude.{Ok, Result, filter, flat_map}
 use Rattle.lemmas.proofs.Lists.{all_left, all_right}
+use Rattle.lemmas.proofs.Options.{map_none}
 use Rattle.model.specs.Types.{Entry, Events, Feed, Input, Mail, Net, Orders, Out, Send, Turn}
 use Rattle.model.specs.Words.{below, numbers_from}
 use Rattle.model.specs.Network.{are_neighbours, node_count}
@@ -122,10 +123,6 @@ from_ok None d e =
     (ap (λ (p : Option Entry × List Out). p.0) k, ap (λ (p : Option Entry × List Out). p.1) k)
 from_ok (Some f) d e = cc
 
-pub no_value : {A B : Type 0} (f : A → B) (o : Option A) → option_map f o ≡ None → o ≡ None
-no_value f None e = refl
-no_value f (Some a) e = cc
-
 module _ (net : Net) (x : World) (w t : ℕ) (quiet : IsQuiet net x w t) where
   nothing_left : ((effect net w (view_at x w) (x.sessions w) (Input.Local (Turn t))).made ≡ None)
       × ((effect net w (view_at x w) (x.sessions w) (Input.Local (Turn t))).outs ≡ [])
@@ -137,7 +134,7 @@ module _ (net : Net) (x : World) (w t : ℕ) (quiet : IsQuiet net x w t) where
   pub no_rule : turn_body (net_at net x w) (view_at x w) w (x.sessions w).live t ≡ None
   unfolding effect makes own_entry event_of
   no_rule =
-      no_value (next_entry (view_at x w) (Events w))
+      map_none (next_entry (view_at x w) (Events w))
       (turn_body (net_at net x w) (view_at x w) w (x.sessions w).live t) nothing_left.0
 
   made_here : Option Entry

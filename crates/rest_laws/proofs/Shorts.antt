@@ -52,19 +52,25 @@ short_same : (net : Net) (x z : World) → z.history ≡ x.history → are_answe
 unfolding are_answers_short
 short_same net x z e h = rw e h
 
+pub short_behind : (net : Net) (x z : World) (w : ℕ) (b : Body)
+    → z.history ≡ x.history ++ next_entry (view_at x w) (Events w) b ∷ [] → has_short_answer b ≡ true
+    → are_answers_short net x ≡ true → are_answers_short net z ≡ true
+unfolding are_answers_short
+short_behind net x z w b history this h =
+    and_made _ _ (and_left _ _ h)
+    (subst (λ (G : List Entry). list_all (λ (e : Entry). has_short_answer e.body) G ≡ true) (sym history)
+    (all_pushed (λ (e : Entry). has_short_answer e.body) x.history (next_entry (view_at x w) (Events w) b)
+    (and_right _ _ h) this))
+
 short_made : (net : Net) (x z : World) (w t : ℕ) (b : Body) → Made net x z w t b → are_answers_short net x ≡ true
     → are_answers_short net z ≡ true
-unfolding are_answers_short
 short_made net x z w t b made h =
-    and_made _ _ (and_left _ _ h)
-    (subst (λ (G : List Entry). list_all (λ (e : Entry). has_short_answer e.body) G ≡ true) (sym made.history)
-    (all_pushed (λ (e : Entry). has_short_answer e.body) x.history (next_entry (view_at x w) (Events w) b)
-    (and_right _ _ h)
+    short_behind net x z w b made.history
     (event_answered (net_at net x w) (view_at x w) w (x.sessions w).live t b
     (there_if (TurnGives (net_at net x w) (view_at x w) w (x.sessions w).live t) _ b
-    (turn_gives (net_at net x w) (view_at x w) w (x.sessions w).live t) made.body))))
+    (turn_gives (net_at net x w) (view_at x w) w (x.sessions w).live t) made.body)) h
 
-step_short : (net : Net) (readings : ℕ → List ℕ) (x z : World) (s : WorldStep) → are_answers_short net x ≡ true
+pub step_short : (net : Net) (readings : ℕ → List ℕ) (x z : World) (s : WorldStep) → are_answers_short net x ≡ true
     → keeps_to readings s ≡ true → free_step net x s ≡ Ok z → are_answers_short net z ≡ true
 step_short net readings x z (Take w (Turn t)) h keep e = go (turn_makes net x z w t e).1
   where

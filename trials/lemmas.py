@@ -113,78 +113,75 @@ def group_at(tokens, start):
         colon += 1
     if colon == start + 1 or colon >= len(tokens) or tokens[colon] != ":":
         return None
-    end, depth = colon, 1
+    return tokens[start + 1 : colon], colon, end_of(tokens, start)
+
+
+def end_of(tokens, start):
+    """Where the bracket that begins here ends."""
+    end, depth = start, 1
     while depth and end + 1 < len(tokens):
         end += 1
         depth += (tokens[end] in CLOSING) - (tokens[end] in CLOSING.values())
-    return tokens[start + 1:colon], colon, end
+    return end
 
 
-class Lettered:
-    """A statement without its letters: each bound name is the number of its binding."""
+class Unlettered:
+    """Tokens in which each bound name is the number of its binding."""
 
     def __init__(self):
         self.bound = 0
 
-    def fresh(self, scope, names):
-        """The scope with these names bound, and what each is now."""
-        places = [f"#{self.bound + place}" for place in range(len(names))]
+    def bind(self, scope, names):
+        """The scope with these names bound, and the numbers that they have."""
+        numbers = [f"#{self.bound + place}" for place in range(len(names))]
         self.bound += len(names)
-        return {**scope, **dict(zip(names, places))}, places
+        return {**scope, **dict(zip(names, numbers))}, numbers
 
     def of(self, tokens, scope):
-        """The tokens without their letters. A name is bound up to the end of what is handed in."""
+        """The tokens with numbers for names. A name is bound up to the end of what is handed in."""
         said, at = [], 0
         while at < len(tokens):
             token = tokens[at]
             group = group_at(tokens, at) if token in CLOSING else None
             if group:
                 names, colon, end = group
-                kind = self.of(tokens[colon + 1:end], scope)
-                scope, places = self.fresh(scope, names)
-                for place in places:
-                    said += [token, place, ":", *kind, CLOSING[token]]
+                kind = self.of(tokens[colon + 1 : end], scope)
+                scope, numbers = self.bind(scope, names)
+                said += [word for number in numbers for word in (token, number, ":", *kind, CLOSING[token])]
                 at = end + 1
             elif token == "λ":
                 said.append(token)
                 at += 1
                 while at < len(tokens) and tokens[at] != "." and tokens[at] not in CLOSING:
-                    scope, places = self.fresh(scope, [tokens[at]])
-                    said += places
+                    scope, numbers = self.bind(scope, [tokens[at]])
+                    said += numbers
                     at += 1
             elif token in CLOSING:
-                end = self.end_of(tokens, at)
-                said += [token, *self.of(tokens[at + 1:end], scope), *tokens[end:end + 1]]
+                end = end_of(tokens, at)
+                said += [token, *self.of(tokens[at + 1 : end], scope), *tokens[end : end + 1]]
                 at = end + 1
             else:
                 said.append(scope.get(token, token))
                 at += 1
         return said
 
-    @staticmethod
-    def end_of(tokens, start):
-        end, depth = start, 1
-        while depth and end + 1 < len(tokens):
-            end += 1
-            depth += (tokens[end] in CLOSING) - (tokens[end] in CLOSING.values())
-        return end
-
 
 def unlettered(statement):
     """The statement with a number for each name that it binds."""
-    return " ".join(Lettered().of(TOKEN.findall(statement), {}))
+    return " ".join(Unlettered().of(TOKEN.findall(statement), {}))
 
 
 def copies(top, seen_as):
-    """The statements that stand in two or more crates, as this look sees them: for each its text and its places."""
-    places = {}
+    """The statements that stand in two or more crates, as this look sees them: for each its first text and its places."""
+    statements = {}
     for path in sorted(glob.glob("crates/*/proofs/**/*.antt", root_dir=top, recursive=True)):
         if os.path.basename(path) in ANSWERS:
             continue
         found, meaning = lemmas_of(os.path.join(top, path))
         for number, name, statement in found:
-            places.setdefault(meant(seen_as(statement), meaning), []).append((path, number, name))
-    return [(key[0], found) for key, found in places.items() if len({path.split("/")[1] for path, _, _ in found}) > 1]
+            _, places = statements.setdefault(meant(seen_as(statement), meaning), (statement, []))
+            places.append((path, number, name))
+    return [(said, places) for said, places in statements.values() if len({path.split("/")[1] for path, _, _ in places}) > 1]
 
 
 def told(twice, how):

@@ -30,7 +30,7 @@ use Rattle.rest_laws.proofs.Phases.{all_pushed, turn_inside}
 use Rattle.rest_laws.proofs.Exists.{steps_named}
 use Rattle.rest_laws.proofs.Shown.{in_feed}
 use Rattle.rest_laws.proofs.Sizes.{event_short}
-use Rattle.rest_laws.proofs.Taken.{count_at}
+use Rattle.rest_laws.proofs.Taken.{count_at, not_beyond}
 
 -- what a turn makes is no order
 pub event_answered : (N : Net) (V : View) (w : ℕ) (live : List LiveJob) (t : ℕ) (b : Body) → TurnGives N V w live t b
@@ -135,13 +135,10 @@ module _ (net : Net) (x : World) (w t : ℕ) (inv : Invariant net x) (names : na
   turn_short w_in =
       go (turn_body (net_at net x w) (view_at x w) w (x.sessions w).live t) (λ b e. kept_short w_in b e)
     where
-      not_long : (n : ℕ) → n ≤ 4194304 → nat_lt 4194304 n ≡ false
-      not_long n h = grind (arith, h, nat_tests)
-
       go : (o : Option Body) → ((b : Body) → o ≡ Some b → entry_size (next_entry (view_at x w) (Events w) b) ≤ 4194304)
           → is_too_long (option_map (next_entry (view_at x w) (Events w)) o) ≡ false
       go None h = refl
-      go (Some b) h = not_long (entry_size (next_entry (view_at x w) (Events w) b)) (h b refl)
+      go (Some b) h = not_beyond 4194304 (entry_size (next_entry (view_at x w) (Events w) b)) (h b refl)
 
 pub always_short : (net : Net) (readings : ℕ → List ℕ) (x : World) → Invariant net x → names_inside net x ≡ true
     → are_answers_short net x ≡ true → AlwaysShort net readings x

@@ -48,6 +48,10 @@ no_fault N me V s i inside peer next process dep place plan long =
 pub count_at : (net : Net) (x : World) (w : ℕ) → node_count (net_at net x w) ≡ node_count net
 count_at net x w = one_count net (net_at net x w) (by_one net (view_at x w (Events 0)))
 
+-- a number that is at most another is not beyond it
+pub not_beyond : (most n : ℕ) → n ≤ most → nat_lt most n ≡ false
+not_beyond most n h = grind (arith, h, nat_tests)
+
 pub all_low : (n : ℕ) (ws : List ℕ) → AllByRecursion (λ w. w < n) ws → list_all (λ w. nat_lt w n) ws ≡ true
 all_low n [] h = refl
 all_low n (w ∷ ws) h = and_made (nat_lt w n) (list_all (λ w. nat_lt w n) ws) (lt_told w n h.0) (all_low n ws h.1)
@@ -164,11 +168,8 @@ module _ (net : Net) (x : World) (a b : ℕ) (inv : Invariant net x) (names : na
         few n h = grind (arith, nat_tests)
 
     placed : nat_lt 4294967295 m ≡ false
-    placed = few m (omega (arith, low, nth_within (list_of x.history f) m body there))
+    placed = not_beyond 4294967295 m (omega (arith, low, nth_within (list_of x.history f) m body there))
       where
-        few : (n : ℕ) → n ≤ 4294967295 → nat_lt 4294967295 n ≡ false
-        few n h = grind (arith, h, nat_tests)
-
         none : (f : Feed) → list_of [] f ≡ []
         none f = none_yet f
 

@@ -191,7 +191,7 @@ last_launch_other j (x ∷ L) b e = rw (last_launch_other j L b e) (go (last_lau
     go (Some l) = refl
 
 -- an entry that is no launch opens none
-pub opens_none : (j : ℕ) (L : List Body) (b : Body) → is_launch_of j b ≡ false
+opens_none : (j : ℕ) (L : List Body) (b : Body) → is_launch_of j b ≡ false
     → done (is_open j (L ++ b ∷ [])) ≤ done (is_open j L)
 unfolding is_open open_launch
 opens_none j L b none = rw (last_launch_other j L b none) (go (last_launch j L))

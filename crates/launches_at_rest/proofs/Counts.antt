@@ -15,10 +15,11 @@ use Rattle.model.specs.Outcomes.{Outcome}
 use Rattle.model_laws.proofs.Answered.{answered-append}
 use Rattle.model_laws.proofs.Growth.{launches-append}
 use Rattle.model_laws.proofs.Tidy.{launches_none}
+use Rattle.model_laws.proofs.Starts.{launches_one}
 use Rattle.rest_laws.specs.Gains.{sum_over}
 use Rattle.rest_laws.specs.Left.{Caps, done, is_below, job_left, left_of, stream_left, undone}
 use Rattle.rest_laws.proofs.Falls.{answered_one, clock_low, hits, job_low, orders_low, rerun_target, stream_low, sum_over_falls}
-use Rattle.rest_laws.proofs.Falls.{any_more, any_now, at_most_one, launches_one, records_low, reruns_more, reruns_none}
+use Rattle.rest_laws.proofs.Falls.{any_more, any_now, at_most_one, records_low, reruns_more, reruns_none}
 use Rattle.rest_laws.proofs.Falls.{reruns_one}
 use Rattle.rest_laws.proofs.Gains.{sum_over_low}
 use Rattle.rest_laws.proofs.Lefts.{sum_over_more}
@@ -109,7 +110,7 @@ launch_lowers caps L j n seen due =
     (omega (
       arith,
       due,
-      launches_one j (Launched j n seen) (eq-eqb j j refl),
+      launches_one j n seen,
       reruns_none j (Launched j n seen) refl,
       at_most_one (awaits_start j (L ++ Launched j n seen ∷ [])),
       files_low L (Launched j n seen) (caps.of_deps (Job j)) (Job j),

@@ -23,6 +23,7 @@ use Rattle.model.specs.Outcomes.{Outcome}
 use Rattle.model_laws.proofs.Growth.{launches-append}
 use Rattle.model_laws.proofs.Answered.{answered-append}
 use Rattle.model_laws.proofs.Tidy.{launched_none, launches_none}
+use Rattle.model_laws.proofs.Starts.{launches_one}
 use Rattle.rest_laws.specs.Gains.{sum_over}
 use Rattle.rest_laws.specs.Left.{Caps, done, job_left, orders_left, records_left, stream_left, undone}
 use Rattle.rest_laws.proofs.Gains.{sum_over_low}
@@ -247,10 +248,6 @@ lost_shuts j n L e = rw (last_launch_other j L (Lost j n) refl) (go (last_launch
     go (Some l) e = shut l (first_end j l.number l.later) refl e
 
 -- launches and reruns are counted
-pub launches_one : (j : ℕ) (b : Body) → is_launch_of j b ≡ true → launches j (b ∷ []) ≡ 1
-unfolding launches
-launches_one j b e = rw e refl
-
 pub reruns_more : (j : ℕ) (L : List Body) (b : Body) → reruns j (L ++ b ∷ []) ≡ reruns j L + reruns j (b ∷ [])
 unfolding reruns commands
 reruns_more j L b =
@@ -308,7 +305,7 @@ launch_falls caps L j n seen due =
     (omega (
       arith,
       due,
-      launches_one j (Launched j n seen) (eq-eqb j j refl),
+      launches_one j n seen,
       reruns_none j (Launched j n seen) refl,
       at_most_one (is_open j (L ++ Launched j n seen ∷ [])),
       records_low (caps.of_deps (Job j)) L (Launched j n seen) (Job j),

@@ -301,14 +301,14 @@ module _ (net : Net) (G : List Entry) (e : Entry) (w : ℕ) (feed : e.feed ≡ E
   given v a = list_of G (Orders a v)
 
   -- w's commands, and the orders to it, add no more than before
-  abbrev pub TailFalls : Type 0
+  abbrev TailFalls : Type 0
   TailFalls =
       (o : Obj)
       → Tail (node_count net) o (given w) (list_of G (Events w) ++ e.body ∷ [])
       ≤ Tail (node_count net) o (given w) (list_of G (Events w))
 
   -- at the master it brings no more than drafts that were ahead
-  abbrev pub BringsDrafted : Type 0
+  abbrev BringsDrafted : Type 0
   BringsDrafted = 0 ≡ w → brought (e.body ∷ []) ≤ drafted_ahead net G
 
   added_by : (v : ℕ) (o : Obj) (L : List Body) → list_of after (Events v) ≡ L
@@ -411,7 +411,7 @@ module _ (net : Net) (G : List Entry) (e : Entry) (w : ℕ) (feed : e.feed ≡ E
               )
               (omega arith)
 
-  pub deps_behind : TailFalls → BringsDrafted → (v : ℕ) (o : Obj) → deps_ahead net after v o ≤ deps_ahead net G v o
+  deps_behind : TailFalls → BringsDrafted → (v : ℕ) (o : Obj) → deps_ahead net after v o ≤ deps_ahead net G v o
   unfolding deps_ahead
   deps_behind falls drafted v o = omega (arith, written_less drafted v o, added_less falls v o)
 

@@ -26,9 +26,9 @@ append_none : {A : Type 0} (xs ys : List A) → xs ++ ys ≡ [] → (xs ≡ []) 
 append_none [] ys e = (refl, e)
 append_none (x ∷ xs) ys e = cc
 
-map_none : {A B : Type 0} (f : A → B) (xs : List A) → map f xs ≡ [] → xs ≡ []
-map_none f [] e = refl
-map_none f (x ∷ xs) e = cc
+map_nothing : {A B : Type 0} (f : A → B) (xs : List A) → map f xs ≡ [] → xs ≡ []
+map_nothing f [] e = refl
+map_nothing f (x ∷ xs) e = cc
 
 take_none : {A : Type 0} (n : ℕ) (xs : List A) → take (suc n) xs ≡ [] → xs ≡ []
 take_none n [] e = refl
@@ -98,7 +98,7 @@ unfolding places_beyond
 nothing_beyond V acked f e =
     let z : length (V f) - acked f ≡ 0 =
     numbers_none (1 + acked f) (length (V f) - acked f)
-    (map_none (λ p. (f, p)) (numbers_from (1 + acked f) (length (V f) - acked f)) e) in
+    (map_nothing (λ p. (f, p)) (numbers_from (1 + acked f) (length (V f) - acked f)) e) in
     omega (arith, z)
 
 all_acked : (net : Net) (V : View) (n m : ℕ) (acked : Holding) → to_send net V n m acked ≡ [] → (f : Feed)

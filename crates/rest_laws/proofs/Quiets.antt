@@ -157,7 +157,7 @@ module _ (net : Net) (x : World) (w t : ℕ) (quiet : IsQuiet net x w t) where
       → length (view_at x w f) ≤ (x.sessions w).acked m f
   acked_all m low near up f inside passes =
       all_acked (net_at net x w) (view_at x w) w m ((x.sessions w).acked m)
-      (map_none (λ (p : Feed × ℕ). Send m (Mail p.0 p.1)) (to_send (net_at net x w) (view_at x w) w m
+      (map_nothing (λ (p : Feed × ℕ). Send m (Mail p.0 p.1)) (to_send (net_at net x w) (view_at x w) w m
       ((x.sessions w).acked m))
       (below_holds (λ m. (are_neighbours (net_at net x w) w m && (x.sessions w).links m) ≡ true
       → map (λ (p : Feed × ℕ). Send m (Mail p.0 p.1)) (to_send (net_at net x w) (view_at x w) w m

@@ -12,11 +12,10 @@ use Rattle.merged_feeds.specs.declared.files.FeedPlace.{FeedPlace}
 use Rattle.merged_feeds.specs.declared.files.NodeFile.{NodeFile}
 use Rattle.model.specs.Sound.{IsSound}
 use Rattle.model.specs.Types.{Entry, Net, Start}
-use Rattle.outside.specs.Causes.{Rose}
 use Rattle.replies.specs.declared.statuses.Status.{Status}
 use Rattle.replies.specs.declared.statuses.Status.TheVariants.{NotSound, RecordRefused, SinkFailed, Success}
 use Rattle.merged_words.specs.Dues.{FilesCallFor, HistoryCallsFor, NamesCallFor}
-use Rattle.merged_words.specs.Readings.{AreKnown, Folders, HasOther, HasUnknown}
+use Rattle.merged_words.specs.Readings.{AreKnown, Folders, HasFailed, HasOther, HasUnknown}
 use Rattle.merged_words.specs.Replies.{IsReplyTo, IsVerdict}
 use Rattle.merged_words.specs.Texts.{differ_line, merged_text, no_order_line}
 use Rattle.merged_words.specs.declared.files.Unread.{Unread}
@@ -75,7 +74,7 @@ verdict_said (audit.Not n) entries r is e = let h : NotSound ≡ SinkFailed = sy
 -- where no files were read
 module _ {F : Type 0} (S : Folders F) (defs : Defs) (names : List (List ℕ)) (wish : Wish) (old new : F) where
   pub unread_called : (why : Unread) (r : Reply) → AreKnown defs names
-      → (why ≡ Unknown → HasUnknown defs names) → (why ≡ Folder → Rose (S.faults old) (S.faults new))
+      → (why ≡ Unknown → HasUnknown defs names) → (why ≡ Folder → HasFailed S defs names old new)
       → ((place : ℕ) → why ≡ Other place → HasOther S defs names place old new) → IsReplyTo why r
       → NamesCallFor S defs names wish old new r.status r.text
   unread_called Unknown r known unknown failed other is =

@@ -20,7 +20,8 @@ use Rattle.outside.specs.Causes.{Rose}
 use Rattle.workload_defs.specs.Nets.{net_of, node_of}
 use Rattle.workload_defs.specs.Stations.{number_of, stations}
 use Rattle.workload_defs.proofs.Lists.{first_there}
-use Rattle.merged_words.specs.Readings.{AreKnown, AreRead, Folders, HasOther, HasRead, HasUnknown, IsFileOf, IsOther, Looks, file_of}
+use Rattle.merged_words.specs.Readings.{AreKnown, AreRead, Folders, HasFailed, HasOther, HasRead, HasUnknown, IsFileOf}
+use Rattle.merged_words.specs.Readings.{IsOther, IsReached, Looks, file_of}
 
 -- a workstation that is found is one of the network
 pub found_inside_net : (d : Defs) (name : List ℕ) (w : ℕ) → number_of d name ≡ Some w → w < node_count (net_of d)
@@ -70,7 +71,7 @@ module _ {F : Type 0} (S : Folders F) where
   pub looks_on : (old mid new : F) → Looks S old mid → Looks S mid new → Looks S old new
   looks_on old mid new first second = more_looks S.seen S.becomes S.faults old mid new first second
 
-  pub rose_on : (old mid new : F) → Looks S old mid → Rose (S.faults mid) (S.faults new) → Rose (S.faults old) (S.faults new)
+  rose_on : (old mid new : F) → Looks S old mid → Rose (S.faults mid) (S.faults new) → Rose (S.faults old) (S.faults new)
   rose_on old mid new first rose = omega (arith, first.later, rose)
 
 module _ {F : Type 0} (S : Folders F) (defs : Defs) where
@@ -209,7 +210,37 @@ module _ {F : Type 0} (S : Folders F) (defs : Defs) where
   read_all names i files old new past r =
       subst (λ (l : List (List ℕ)). AreRead S defs l files old new) (take_whole names i past) r
 
-  pub other_there : (names : List (List ℕ)) (i place : ℕ) (name : List ℕ) (old mid new : F) → slice_get names i ≡ Some name
-      → Looks S old mid → IsOther S defs name place mid new → HasOther S defs names place old new
-  other_there names i place name old mid new there looks other =
-      record { number = i; name = name; there = there; other = other_earlier name place old mid new looks other }
+  -- the names before this one
+  pub reached : (names : List (List ℕ)) (i : ℕ) (name : List ℕ) (files : List NodeFile) (old mid new : F)
+      → slice_get names i ≡ Some name → AreRead S defs (take i names) files old mid → Looks S mid new
+      → IsReached S defs names i old new
+  reached names i name files old mid new there r looks =
+      record {
+        name = name;
+        there = there;
+        files = files;
+        read = record {
+          many = r.many;
+          each = λ k n f named given. file_later n f old mid new (r.each k n f named given) looks;
+        };
+      }
+
+  pub other_there : (names : List (List ℕ)) (i place : ℕ) (name : List ℕ) (files : List NodeFile) (old mid new : F)
+      → slice_get names i ≡ Some name → AreRead S defs (take i names) files old mid → Looks S old mid → Looks S mid new
+      → IsOther S defs name place mid new → HasOther S defs names place old new
+  other_there names i place name files old mid new there r before looks other =
+      record {
+        number = i;
+        reached = reached names i name files old mid new there r looks;
+        other = other_earlier name place old mid new before other;
+      }
+
+  pub failed_there : (names : List (List ℕ)) (i : ℕ) (name : List ℕ) (files : List NodeFile) (old mid new : F)
+      → slice_get names i ≡ Some name → AreRead S defs (take i names) files old mid → Looks S old mid → Looks S mid new
+      → Rose (S.faults mid) (S.faults new) → HasFailed S defs names old new
+  failed_there names i name files old mid new there r before looks rose =
+      record {
+        number = i;
+        reached = reached names i name files old mid new there r looks;
+        rose = rose_on S old mid new before rose;
+      }

@@ -10,13 +10,12 @@ use Rattle.merged_feeds.specs.declared.files.FeedPlace.{FeedPlace}
 use Rattle.merged_feeds.specs.declared.files.NodeFile.{NodeFile}
 use Rattle.model.specs.Sound.{IsSound}
 use Rattle.model.specs.Types.{Entry, Net}
-use Rattle.outside.specs.Causes.{Rose}
 use Rattle.replies.specs.Texts.{limit_line, limit_word}
 use Rattle.replies.specs.declared.statuses.Status.{Status}
 use Rattle.replies.specs.declared.statuses.Status.TheVariants.{DiskFailed, LimitPassed, NotSound, OtherFile, RecordRefused}
 use Rattle.replies.specs.declared.statuses.Status.TheVariants.{Success, WordsRefused}
 use Rattle.workload_defs.specs.Nets.{net_of}
-use Rattle.merged_words.specs.Readings.{AreKnown, AreRead, Folders, HasOther, HasUnknown}
+use Rattle.merged_words.specs.Readings.{AreKnown, AreRead, Folders, HasFailed, HasOther, HasUnknown}
 use Rattle.merged_words.specs.Texts.{differ_line, merged_text, no_order_line, not_sound_line, other_file_line, sound_line}
 use Rattle.merged_words.specs.declared.replying.Wish.{Wish}
 use Rattle.merged_words.specs.declared.replying.Wish.TheVariants.{Audit, History}
@@ -40,11 +39,12 @@ pub data FilesCallFor (net : Net) (files : List NodeFile) (wish : Wish) : Status
       → HistoryCallsFor net files G wish status text → FilesCallFor net files wish status text
 
 -- What names call for, by definitions and by the files of a folder between two moments: 2 where one of them is not
--- defined, 6 where the folder failed, 7 where a file is another, and else what the files call for.
+-- defined, else 6 or 7 where the folder failed at a file or a file is another and those before it were read, and else
+-- what the files call for.
 pub data NamesCallFor {F : Type 0} (S : Folders F) (defs : Defs) (names : List (List ℕ)) (wish : Wish) (old new : F)
     : Status → List ℕ → Type 0 where
   unknown : HasUnknown defs names → NamesCallFor S defs names wish old new WordsRefused (codes "words refused\n")
-  failed : AreKnown defs names → Rose (S.faults old) (S.faults new) → NamesCallFor S defs names wish old new DiskFailed []
+  failed : AreKnown defs names → HasFailed S defs names old new → NamesCallFor S defs names wish old new DiskFailed []
   other_file : (place : ℕ) → AreKnown defs names → HasOther S defs names place old new
       → NamesCallFor S defs names wish old new OtherFile (other_file_line place)
   read : {status : Status} {text : List ℕ} (files : List NodeFile) → AreRead S defs names files old new

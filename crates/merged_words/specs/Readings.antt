@@ -1,6 +1,6 @@
 -- The files of several workstations, each read at a moment of its own while nodes may write them.
 use Rattle.std.specs.List.{All}
-use Rattle.std.specs.Prelude.{ℕ, ◌++◌, ◌≡◌, IfSome, IsTrue, List, None, Option, Some, codes, length, slice_get}
+use Rattle.std.specs.Prelude.{ℕ, ◌++◌, ◌≡◌, IfSome, IsTrue, List, None, Option, Some, codes, length, slice_get, take}
 use Rattle.composer_parser.specs.declared.Defs.{Defs}
 use Rattle.entry_files.specs.Entries.{GoOn, KeepsEntries, IsRefused}
 use Rattle.history_script.specs.Histories.{is_inside}
@@ -9,6 +9,7 @@ use Rattle.kept_files.specs.Looking.{OnlyLooks}
 use Rattle.kept_files.specs.declared.faults.FileFault.TheVariants.{NotThisFile}
 use Rattle.merged_feeds.specs.declared.files.NodeFile.{NodeFile}
 use Rattle.model.specs.Types.{Entry, Net}
+use Rattle.outside.specs.Causes.{Rose}
 use Rattle.workload_defs.specs.Nets.{net_of}
 use Rattle.workload_defs.specs.Stations.{number_of}
 
@@ -85,13 +86,26 @@ pub record IsOther {F : Type 0} (S : Folders F) (defs : Defs) (name : List ℕ) 
       → IfSome (S.seen ended (file_of name)) (IsRefused (net_of defs) me (NotThisFile place))
   pub behind : Looks S ended new
 
--- that of one of these names
+-- one of these names, by its number; the files of those before it were read
+pub record IsReached {F : Type 0} (S : Folders F) (defs : Defs) (names : List (List ℕ)) (number : ℕ) (old new : F)
+    : Type 0 where
+  pub name : List ℕ
+  pub there : slice_get names number ≡ Some name
+  pub files : List NodeFile
+  pub read : AreRead S defs (take number names) files old new
+
+-- the file of the first name whose file was not read is another
 pub record HasOther {F : Type 0} (S : Folders F) (defs : Defs) (names : List (List ℕ)) (place : ℕ) (old new : F)
     : Type 0 where
   pub number : ℕ
-  pub name : List ℕ
-  pub there : slice_get names number ≡ Some name
-  pub other : IsOther S defs name place old new
+  pub reached : IsReached S defs names number old new
+  pub other : IsOther S defs reached.name place old new
+
+-- the folder failed at the first name whose file was not read
+pub record HasFailed {F : Type 0} (S : Folders F) (defs : Defs) (names : List (List ℕ)) (old new : F) : Type 0 where
+  pub number : ℕ
+  pub reached : IsReached S defs names number old new
+  pub rose : Rose (S.faults old) (S.faults new)
 
 -- entries that name workstations of the network alone
 abbrev pub AreInside : Net → List Entry → Type 0

@@ -8,7 +8,8 @@ ghost use Rattle.model.specs.Sound.{Each, HasItsPlace};
 ghost use Rattle.outside.specs.Causes.{Rose};
 ghost use Rattle.workload_defs.specs.Nets.{net_of};
 ghost use Rattle.workload_defs.specs.Stations.{number_of};
-ghost use Rattle.merged_words.specs.Readings.{AreInside, AreInsideFiles, AreRead, HasOther, HasUnknown, IsFileOf, IsOther, Looks, file_of, folders};
+ghost use Rattle.merged_words.specs.Readings.{AreInside, AreInsideFiles, AreRead, HasFailed, HasOther, HasUnknown};
+ghost use Rattle.merged_words.specs.Readings.{IsFileOf, IsOther, Looks, file_of, folders};
 ghost use Rattle.merged_words.specs.declared.files.Unread.TheVariants.{Folder as OfFolder, Other as OtherAt, Unknown as NoName};
 
 use base_types::{Items, NoMemory, Text};
@@ -107,7 +108,8 @@ pub(crate) fn read_files<F: Folder>(
     ensures fit { IfOk result AreFitFiles }
     ensures inside { IfOk result (AreInsideFiles net.now) }
     ensures unknown { IsErrOf result NoName → HasUnknown workload.now names.now }
-    ensures failed { IsErrOf result OfFolder → Rose (F.faults folder.old) (F.faults folder.new) }
+    ensures failed { IsErrOf result OfFolder
+        → HasFailed (folders F.seen F.becomes F.faults) workload.now names.now folder.old folder.new }
     ensures other { (place : ℕ) → IsErrOf result (OtherAt place)
         → HasOther (folders F.seen F.becomes F.faults) workload.now names.now place folder.old folder.new }
     ensures looks { Looks (folders F.seen F.becomes F.faults) folder.old folder.new }

@@ -6,7 +6,7 @@ use Rattle.merged_feeds.specs.declared.files.NodeFile.{NodeFile}
 use Rattle.model.specs.Fit.{AreFitEntries}
 use Rattle.model.specs.Sound.{Each, HasItsPlace}
 use Rattle.merged_words.specs.Readings.{AreInside, AreInsideFiles, AreRead, folders}
-use Rattle.merged_words.proofs.Reads.{looks_on, no_files, one_more_file, other_there, read_all, read_further, read_nothing, rose_on}
+use Rattle.merged_words.proofs.Reads.{failed_there, looks_on, no_files, one_more_file, other_there, read_all, read_further, read_nothing}
 use Rattle.merged_words.proofs.files.read_files.Goals as goal
 
 pub loop-name-init : goal.loop-name-init
@@ -64,8 +64,13 @@ returns-in-Err-clause-unknown g c = λ e.
 
 pub returns-in-Err-clause-failed : goal.returns-in-Err-clause-failed
 returns-in-Err-clause-failed g c = λ e.
-    rose_on (folders g.F.Folder.seen g.F.Folder.becomes g.F.Folder.faults) c.args.folder.now c.loop-name.folder
-    c.read_file.new.folder c.loop-name.invariant.looks (c.in-Err.ensures.failed e)
+    let names = c.args.names.now in
+    let i = c.loop-name.name-index in
+    let name = c.name-item.result in
+    failed_there (folders g.F.Folder.seen g.F.Folder.becomes g.F.Folder.faults) c.args.workload.now names i name
+    c.loop-name.files c.args.folder.now c.loop-name.folder c.read_file.new.folder
+    (get_there names i name c.loop-name-test.true c.name-item.is) c.loop-name.invariant.read c.loop-name.invariant.looks
+    c.in-Err.ensures.looks (c.in-Err.ensures.failed e)
 
 pub returns-in-Err-clause-other : goal.returns-in-Err-clause-other
 returns-in-Err-clause-other g c = λ place e.
@@ -73,8 +78,9 @@ returns-in-Err-clause-other g c = λ place e.
     let i = c.loop-name.name-index in
     let name = c.name-item.result in
     other_there (folders g.F.Folder.seen g.F.Folder.becomes g.F.Folder.faults) c.args.workload.now names i place name
-    c.args.folder.now c.loop-name.folder c.read_file.new.folder
-    (get_there names i name c.loop-name-test.true c.name-item.is) c.loop-name.invariant.looks (c.in-Err.ensures.other place e)
+    c.loop-name.files c.args.folder.now c.loop-name.folder c.read_file.new.folder
+    (get_there names i name c.loop-name-test.true c.name-item.is) c.loop-name.invariant.read c.loop-name.invariant.looks
+    c.in-Err.ensures.looks (c.in-Err.ensures.other place e)
 
 pub returns-in-Err-clause-looks : goal.returns-in-Err-clause-looks
 returns-in-Err-clause-looks g c =

@@ -1,4 +1,6 @@
 //! What is merged, and what comes of it.
+ghost use Rattle.std.specs.Prelude.{◌≡◌};
+
 use base_types::{Feed, NoMemory, Ws};
 use owner_fold::Owners;
 
@@ -36,6 +38,10 @@ pub enum MergeFault {
 }
 
 impl From<NoMemory> for MergeFault {
+    ghost use Rattle.merged_feeds.specs.declared.files.MergeFault.TheVariants.{NoMemory as NoRoom};
+
+    ghost from_gives = { λ _ fault. fault ≡ NoRoom };
+
     fn from(_error: NoMemory) -> MergeFault {
         MergeFault::NoMemory
     }

@@ -11,8 +11,8 @@ pub returns-in-Some-clause-differ : goal.returns-in-Some-clause-differ
 returns-in-Some-clause-differ c = λ at_ same.
     let is : c.in-Some.place ≡ at_ = cc in subst (DifferFirstAt c.args.files.now) is c.in-Some.ensures.some
 
-pub put_in_order-taken-requires : goal.put_in_order-taken-requires
-put_in_order-taken-requires c = record { placed = c.requires; alike = c.in_default.ensures.none refl }
+pub put_in_order-requires : goal.put_in_order-requires
+put_in_order-requires c = record { placed = c.requires; alike = c.in_default.ensures.none refl }
 
 pub returns-in-Some-first_left-clause-alike : goal.returns-in-Some-first_left-clause-alike
 returns-in-Some-first_left-clause-alike c = λ at_ same. c.in_default.ensures.none refl
@@ -27,16 +27,16 @@ returns-in-Some-first_left-clause-no_order c = λ at_ same.
     (subst (λ (l : List Head). AreHeads files l) (sym c.as_slice-lists.ensures) c.in_ok-heads.ensures)
     c.in_ok-taken.ensures.put c.in_ok-taken.ensures.still c.in-Some-first_left.ensures.some)
 
-pub returns-in-None-clause-history : goal.returns-in-None-clause-history
-returns-in-None-clause-history c =
+pub returns-clause-history : goal.returns-clause-history
+returns-clause-history c =
     let files = c.args.files.now in
     let heads = c.as_slice-lists.result.now in
     all_due files heads c.in_ok-taken.taken (c.in_default.ensures.none refl)
     (subst (λ (l : List Head). AreHeads files l) (sym c.as_slice-lists.ensures) c.in_ok-heads.ensures)
     c.in_ok-taken.ensures.put (c.in-None.ensures.none refl)
 
-pub returns-in-None-clause-fit : goal.returns-in-None-clause-fit
-returns-in-None-clause-fit c = λ fit.
+pub returns-clause-fit : goal.returns-clause-fit
+returns-clause-fit c = λ fit.
     let files = c.args.files.now in
     let heads = c.as_slice-lists.result.now in
     all_of_history IsFit files c.in_ok-taken.taken c.requires fit

@@ -3,7 +3,8 @@
 # A case is a folder cases/NAME. `args` has the words, one a line; `stdin` is the input and `stdout` what must be
 # written, each empty where it is missing; `status` is the exit status, 0 where it is missing. In place of `stdin` and
 # `stdout` may stand a bash script, `make-stdin` or `make-stdout`, that writes it. It runs in the case's folder, and TWS
-# names the program there. `program` has the name of a crate whose program is run in place of this one.
+# names the program there. `program` has the name of a crate whose program is run in place of this one. `make-files` is a
+# bash script that writes files in the folder in which the program runs; TOP names the top folder there.
 # For each case that fails it says what differs first. The last line is `cases: N passed, M failed`, and the status is 1
 # where one failed or none was found.
 # Usage: trials/cases.sh [PROGRAM] [NAME..]. PROGRAM is named from the top folder on; with names, only these cases run.
@@ -90,6 +91,13 @@ fails() {
     return
   fi
   input=$part
+  if [ -f "$1/make-files" ]; then
+    rm -rf "$room/run" && mkdir "$room/run"
+    if ! (cd "$room/run" && TOP=$top timeout 60 bash "$1/make-files"); then
+      fault="make-files fails"
+      return
+    fi
+  fi
   (cd "$room/run" && timeout 60 "$program" ${words[@]+"${words[@]}"}) < "$input" > "$room/got"
   status=$?
   if ! part "$1" stdout; then

@@ -13,73 +13,51 @@ alone; it counts, and is told.
 
 trials/untried.txt lists the edits that wait to be tried again after a large change, a line each: a crate and an edit.
 
-Edits that change the bodies of different functions are tried by one check. One that this check does not show refused, for
-its function calls another one that failed, say, is tried by itself.
+An edit of one body is tried on a twin of its function, which stands beside it under the same attributes, contract and
+proof, with that body. So one check tries all such edits of a crate. It takes every function of the crate itself for
+proved, and proves nothing but the twins. Beside them stands a twin without an edit, which it must prove. A method of a
+trait has no twin: there the method itself gets the body. An edit is refused where the check shows a goal that is not
+proved, or a wrong answer: a name that only a proof file has, or a call of a function that is not proved, does not count.
+Any other edit, as that of a definition, is tried by a check of the whole crate.
 
 Usage: trials/edits.py          says which edits were not tried on what they stand on, and ends with 1 where one was not
                                 and is not listed as waiting, or where one that was tried is listed. It proves nothing.
        trials/edits.py NAME..   tries those of these crates, with those of before, and writes the sums of those that were
-                                refused. It works over the libraries that `rt ci` kept on this machine, as trials/over.py
-                                does, and checks the crate itself first where that is not kept.
+                                refused, after each check. It works over the libraries that `rt ci` kept on this machine,
+                                as trials/over.py does.
 """
 import hashlib
 import os
 import re
+import shutil
+import subprocess
 import sys
+import tempfile
 
 sys.dont_write_bytecode = True
 from cited import definitions_of, text_of
+from functions import Change, files_below, leave_open, parts_of, paths_of, written
 from kit import begun_of, check, crates_here, libraries_that_lack, rt_of_kit
 
 TOP = os.path.dirname(os.path.dirname(os.path.abspath(__file__)))
-HEAD = re.compile(r"(\s*)(pub(\([a-z]+\))? )?(const )?(unsafe )?fn ")
+
+
+def tell(line):
+    """Prints a line, and goes on where nobody reads it any more."""
+    try:
+        print(line, flush=True)
+    except BrokenPipeError:
+        os.dup2(os.open(os.devnull, os.O_WRONLY), sys.stdout.fileno())
 
 
 def short_sum(text):
     return hashlib.sha256(text.encode()).hexdigest()[:7]
 
 
-def parts_of(text):
-    """The functions of a source, each with its lines up to its body and with its body, and the other lines. A body stands
-    between lines that have the indent of its function. A line comes with the last line before it without an indent."""
-    functions, others = [], []
-    head, indent, signature, body = "", None, None, None
-    for line in text.split("\n"):
-        if body is not None:
-            if line in (indent + "}", indent + "};"):
-                functions.append((signature, body))
-                signature = body = None
-            else:
-                body.append(line)
-            continue
-        found = HEAD.match(line)
-        if signature is None and found:
-            indent, signature = found.group(1), [head if found.group(1) else ""]
-        if signature is None:
-            if not line.startswith((" ", "}")):
-                head = line
-            others.append((head if line.startswith(" ") else "", line))
-            continue
-        signature.append(line)
-        if line == indent + "{" or line.endswith(" {") and not re.match(r"\s*(ensures|requires|ghost)\b", line):
-            body = []
-        elif line.endswith(";") or line.endswith("{}"):
-            functions.append((signature, []))
-            signature = None
-    return functions, others
-
-
 def bare(text):
     """The source without imports, constants, attributes, comments and empty lines."""
     text = re.sub(r"^ *(pub(\([a-z]+\))? )?(use|mod|const) [^;]*;\n|^ *ghost use [^;]*\};\n", "", text, flags=re.M)
     return re.sub(r"^ *(//|#\[).*\n|^\n", "", text, flags=re.M)
-
-
-def files_below(folder, ending):
-    found = []
-    for at, _, names in os.walk(folder):
-        found += [os.path.join(at, name) for name in names if name.endswith(ending)]
-    return sorted(found)
 
 
 def said_by(crate):
@@ -140,9 +118,11 @@ def seen_of(crate):
 
 
 def write_seen(crate, sums):
-    with open(f"{crate}/edits/seen", "w", encoding="utf-8") as file:
+    path = f"{crate}/edits/seen"
+    with open(f"{path}.new", "w", encoding="utf-8") as file:
         file.write(" ".join(sorted(said_by(crate))) + "\n")
         file.writelines(f"{name} {sums[name]}\n" for name in sorted(sums))
+    os.replace(f"{path}.new", path)
 
 
 def tried_and_untried(crate):
@@ -185,115 +165,116 @@ def look():
     return status
 
 
-def module_of(file):
-    module = file.split("/src/")[1][:-3].replace("/", "::")
-    return [] if module == "lib" else [module]
+def change_of(rt, crate, edit):
+    """The function whose body alone an edit changes, with its body then; none where the edit changes anything else."""
+    texts, why = rt.read_edit(f"{crate.folder}/edits/{edit}", crate.folder)
+    changed = []
+    for name, text in {} if why else texts.items():
+        was = text_of(f"{crate.folder}/{name}")
+        (old, others), (new, new_others) = parts_of(was), parts_of(text)
+        if others != new_others or [signature for signature, _ in old] != [signature for signature, _ in new]:
+            return None
+        changed += [(name, was, *it, body) for it, (_, body) in zip(old, new) if it[1] != body]
+    if len(changed) != 1 or changed[0][1].count(written(*changed[0][2:4])) != 1:
+        return None
+    return Change(crate.folder, changed[0][0], *changed[0][2:])
 
 
-def module_of_type(file, owner):
-    """The module that declares a type, by which a check names its methods; that of the file where the crate has none."""
-    declared = re.compile(rf"^(pub(\([a-z]+\))? )?(struct|enum) {owner}\b", re.M)
-    found = [path for path in files_below(f"{file.split('/src/')[0]}/src", ".rt") if declared.search(text_of(path))]
-    return module_of(found[0] if found else file)
+def lay_out(rt, crate, room, changes):
+    """Writes the crate into a folder, with the bodies that edits give functions, and with all other proofs left open. Returns
+    the paths of the functions with these bodies by their edits, and those of the unchanged twins by their functions."""
+    for part in rt.rtlib.PARTS:
+        if os.path.isdir(f"{crate.folder}/{part}"):
+            shutil.copytree(f"{crate.folder}/{part}", f"{room}/{part}")
+    paths, unchanged = {}, {}
+    for edit, change in changes.items():
+        if change.is_of_trait():
+            change.set_body(room)
+            paths[edit] = change.path
+            continue
+        paths[edit] = change.add_twin(room, edit.removesuffix(".edit"), change.new)
+        if change.path not in unchanged:
+            unchanged[change.path] = change.add_twin(room, "unchanged", change.old)
+    for path in paths_of(crate.folder) - set(paths.values()):
+        leave_open(room, crate.name, path)
+    return paths, unchanged
 
 
-def path_of(file, signature):
-    """The path of a function below its crate, as a check prints it, by its file and its `impl`."""
-    name = re.search(r"\bfn (\w+)", "\n".join(signature)).group(1)
-    owner = re.match(r"impl(?:<.*?>)? (?:.* for )?(\w+)", signature[0])
-    if not owner:
-        return "::".join([*module_of(file), name])
-    return "::".join([*module_of_type(file, owner.group(1)), owner.group(1), name])
-
-
-def bodies_of(crate, edit):
-    """The functions whose bodies alone an edit changes, by their paths; none where it changes anything else."""
-    found = set()
-    for file, old in changed_by(crate, edit):
-        functions, _ = parts_of(bare(text_of(file))) if file.endswith(".rt") else ([], [])
-        changed = [signature for signature, body in functions if old in "\n".join(body)]
-        if len(changed) != 1:
-            return set()
-        found.add(path_of(file, changed[0]))
-    return found
-
-
-def joined(crate, edits):
-    """The texts of the files that edits change, one after the other, or nothing where one no longer applies."""
-    texts = {}
-    for edit in edits:
-        file = old = None
-        for line in text_of(f"{crate}/edits/{edit}").split("\n"):
-            if line.startswith("file: "):
-                file = line[6:].strip()
-            elif line.startswith("old: "):
-                old = line[5:]
-            elif line.startswith("new:"):
-                text = texts.get(file) or text_of(f"{crate}/{file}")
-                if text.count(old) != 1:
-                    return {}
-                texts[file] = text.replace(old, line[4:].removeprefix(" "))
-    return texts
-
-
-def group_of(crate, edits):
-    """Edits that one check can try, with what they change: bodies of functions, and each those that no other one does."""
-    group, taken = {}, set()
-    for edit in edits:
-        bodies = bodies_of(crate, f"{crate}/edits/{edit}")
-        if bodies and not bodies & taken and joined(crate, [*group, edit]):
-            group[edit] = bodies
-            taken |= bodies
-    return group
-
-
-def is_refused(said, crate, path):
-    """Whether a check says of one function that its body does not meet its contract. A function that may have failed for
-    one that it calls, or for a name that only a proof file has, does not count."""
+def reason_of(said, crate, path):
+    """Why a check refuses the body of a function, or nothing where it does not show that its contract does."""
     told = [line for line in said if line.startswith(f"fn {crate}::{path}: ")]
     if not any(re.match(r"fn \S+: (not proved|no proof)(?!.*(it calls|it passes|a call of))", line) for line in told):
-        return False
-    folder = path.replace("::", "/")
-    lines = [line for line in said if re.match(rf"(note: )?(\./)?proofs/{folder}/\S+:\d+:\d+: ", line)]
+        return None
+    proof = rf"(\./)?proofs/{path.replace('::', '/')}/\S+"
+    if "did not prove" in told[0]:
+        goals = [line for line in said if re.match(rf"note: `\S+` of {proof} must prove: ", line)]
+        return re.sub(r"^note: | of \S+(?= must prove)|^fn \S+: ", "", (goals or told)[0])
     lost = r".*(has no field|is not in scope|has no `|was not admitted)"
-    return "did not prove" in told[0] or any(not re.match(lost, line) for line in lines)
+    lines = [line for line in said if re.match(rf"(note: )?{proof}:\d+:\d+: ", line) and not re.match(lost, line)]
+    return lines[0] if lines else None
 
 
-def refused_together(rt, crate, group):
-    """The edits of a group that one check of the functions that they change shows refused. Each of these functions is
-    proved without the edits, as the crate is."""
-    only = [f"--only={path}" for path in sorted(set().union(*group.values()))]
-    ran = rt.checked(crate, joined(crate.folder, group), ["--jobs", "1", *only], begun_of(crate))
-    said = ran.stdout.split("\n")
-    if ran.returncode != 1 or not any(line.startswith("only=") for line in said):
-        return []
-    return [edit for edit in group if any(is_refused(said, crate.name, path) for path in group[edit])]
+def is_proved(said, crate, path):
+    """Whether a check proves a function, where what the crate itself has is taken for proved."""
+    start = f"fn {crate}::{path}: "
+    return any(line.startswith((f"{start}no holes", f"{start}depends on a hole in `Rattle.{crate}.")) for line in said)
 
 
-def refused_of(rt, crate, edits):
-    """The edits that are refused: tried in groups, then each by itself, and the others over a check of the crate."""
-    left, seen, groups = list(edits), [], []
-    while group := group_of(crate.folder, left):
-        groups.append(group)
-        left = [edit for edit in left if edit not in group]
-    for group in groups:
-        found = refused_together(rt, crate, group)
-        if 0 < len(found) < len(group):
-            missed = [edit for edit in group if edit not in found]
-            found += [edit for edit in missed if refused_together(rt, crate, {edit: group[edit]})]
-        for edit in found:
-            print(f"{crate.name}/{edit}: refused, as it must be", flush=True)
-        seen += found
-    others = [edit for edit in edits if edit not in seen]
-    if others and check(rt, crate, []):
-        print(f"{crate.name}: the crate itself is not proved")
-        return seen
-    for edit in others:
+def tried_together(rt, crate, changes):
+    """Tries edits by one check. Gives each one with whether it is refused, or none where that is not shown, and with why."""
+    with tempfile.TemporaryDirectory(prefix="edits-") as room:
+        paths, unchanged = lay_out(rt, crate, room, changes)
+        only = [f"--only={path}" for path in [*paths.values(), *unchanged.values()]]
+        words = crate.words(["--jobs", "1", "--allow-holes", *only], keeps=False)
+        how = {"cwd": room, "stdin": subprocess.DEVNULL, "stdout": subprocess.PIPE, "stderr": subprocess.STDOUT, "errors": "replace"}
+        words = [*rt.rtlib.guarded(), rt.rtlib.RATTLE, "check", *words, "--incremental", begun_of(crate)]
+        said = subprocess.run(words, **how).stdout.split("\n")
+    if not any(line.startswith("only=") for line in said):
+        for edit, change in changes.items() if len(changes) > 1 else []:
+            yield from tried_together(rt, crate, {edit: change})
+        if len(changes) == 1:
+            yield *changes, False, "\n".join(["NOT TRIED: the check says", *said[:6]])
+        return
+    for edit, path in paths.items():
+        twin, reason = unchanged.get(changes[edit].path), reason_of(said, crate.name, path)
+        if twin and not is_proved(said, crate.name, twin):
+            yield edit, None, "its function is not proved without it"
+        elif reason:
+            yield edit, True, f"refused, as it must be: {reason[:200]}"
+        elif is_proved(said, crate.name, path):
+            yield edit, False, "NOT REFUSED: the function is still proved with this edit"
+        else:
+            yield edit, None, "the check of its function does not show that its contract refuses it"
+
+
+def tried_alone(rt, crate, edits, kept):
+    """Tries edits by a check of the whole crate each."""
+    if edits and not kept and check(rt, crate, []):
+        tell(f"{crate.name}: the crate itself is not proved")
+        return
+    for edit in edits:
         kind, said = rt.must_fail(crate, f"{crate.folder}/edits/{edit}", ["--jobs", "1"], begun_of(crate))
-        print(said, flush=True)
-        if kind in (rt.REFUSED, rt.AT_LIMIT):
-            seen.append(edit)
-    return seen
+        yield edit, kind in (rt.REFUSED, rt.AT_LIMIT), said.partition(": ")[2]
+
+
+def tried(rt, crate, edits, kept):
+    """Tries edits: gives each one with whether it is refused, and with what to tell."""
+    changes = {edit: change_of(rt, crate, edit) for edit in edits}
+    changes = {edit: it for edit, it in changes.items() if it and (kept or not it.is_of_trait())}
+    others = [edit for edit in edits if edit not in changes]
+    while changes:
+        group = {}
+        for edit, change in changes.items():
+            if not change.is_of_trait() or change.path not in {it.path for it in group.values()}:
+                group[edit] = change
+        for edit, is_refused, told in tried_together(rt, crate, group):
+            if is_refused is None:
+                others.append(edit)
+                tell(f"{crate.name}/{edit}: {told}")
+            else:
+                yield edit, is_refused, told
+        changes = {edit: change for edit, change in changes.items() if edit not in group}
+    yield from tried_alone(rt, crate, others, kept)
 
 
 def is_kept(rt, crate, crates):
@@ -309,25 +290,28 @@ def try_edits(name):
     if not files_below(f"{crate}/edits", ".edit"):
         print(f"the crate {name} has no edits", file=sys.stderr)
         return 1
-    tried, untried = tried_and_untried(crate)
+    seen, untried = tried_and_untried(crate)
     rows = seen_of(crate)[1]
-    untried |= {edit: tried.pop(edit) for edit in list(tried) if " " not in rows[edit]}
+    untried |= {edit: made for edit, made in seen.items() if " " not in rows[edit]}
+    seen = {edit: made.split(" ")[0] if edit in untried else made for edit, made in seen.items()}
     if not untried:
-        write_seen(crate, tried)
-        print(f"{name}: all edits were tried on what they stand on")
+        write_seen(crate, seen)
+        tell(f"{name}: all edits were tried on what they stand on")
         return 0
     rt = rt_of_kit()
     crates = crates_here(rt)
     lacking = libraries_that_lack(rt, crates[name], crates)
     if lacking:
-        print("not kept yet:", *lacking)
+        tell(" ".join(["not kept yet:", *lacking]))
         return 4
-    if not is_kept(rt, crates[name], crates) and check(rt, crates[name], []):
-        print(f"{name}: the crate itself is not proved")
-        return 1
-    refused = {edit: untried[edit] for edit in refused_of(rt, crates[name], sorted(untried))}
-    write_seen(crate, {**tried, **refused})
-    return 0 if len(refused) == len(untried) else 1
+    for edit, is_refused, told in tried(rt, crates[name], sorted(untried), is_kept(rt, crates[name], crates)):
+        tell(f"{name}/{edit}: {told}")
+        if is_refused:
+            seen[edit] = untried.pop(edit)
+        else:
+            seen.pop(edit, None)
+        write_seen(crate, seen)
+    return 1 if untried else 0
 
 
 def main():

@@ -1,9 +1,10 @@
 #!/usr/bin/env bash
-# A day of a real network on this machine: a master MDM and two agents A1 and A2 on loopback ports run 40 jobs, and A1 is
-# killed at random moments and started again from its file. It does what an operator does about a job that was lost:
-# where the job has done its work it is confirmed, and else it is rerun. At the end all streams have ended well, each job
-# ran once, all three show the same, each node ends with a shutdown, and the entries of all three files are a sound history,
-# causes first. It prints what it saw, and ends with 0, or with 1 where something of this is not so.
+# A day of a real network on this machine: a master MDM, its agent A2, and the manager A1 of a domain with the agent A3 in
+# it run 40 jobs on loopback ports, and A1 is killed at random moments and started again from its file. It does what an
+# operator does about a job that was lost: where the job has done its work it is confirmed, and else it is rerun. At the
+# end all streams have ended well, each job ran once, MDM, A1 and A2 show the same, each node ends with a shutdown, and
+# the entries of all four files are a sound history, causes first. It prints what it saw, and ends with 0, or with 1
+# where something of this is not so.
 # Usage: trials/two_nodes.sh [SEED]. TWS may name another program, from the top folder on, and KILLS how often A1 is
 # killed, 6 without it. It is run by hand and takes about a minute; the gate does not run it. It needs the folder /proc.
 set -u
@@ -42,7 +43,7 @@ touch ran.txt
 
 fail() {
   echo "$*" >&2
-  for name in MDM A1 A2; do
+  for name in MDM A1 A2 A3; do
     if [ -s "$name/node.log" ]; then
       echo "$name wrote: $(tail -n 3 "$name/node.log")" >&2
     fi
@@ -64,15 +65,18 @@ free_port() {
   return 1
 }
 
-# definitions MASTER FIRST SECOND: the network at these ports. There are eight streams of five jobs, which follow each
-# other on both agents: each job follows the one before, the third job of a stream runs on the other agent, and the last
-# job of every fourth stream on the master. A job tells that it ran, and then lasts a little.
+# definitions MASTER FIRST SECOND THIRD: the network at these ports. There are eight streams of five jobs, which follow
+# each other on A1 and A2: each job follows the one before, the second job of a stream of A1 runs on A3, the third job of
+# a stream on the other of A1 and A2, and the last job of every fourth stream on the master. A job tells that it ran, and
+# then lasts a little.
 definitions() {
   local s k job agent other ws follows
   echo "CPUNAME MDM OS UNIX NODE 127.0.0.1 TCPADDR $1 DOMAIN MASTERDM FOR MAESTRO TYPE MANAGER END"
-  echo "CPUNAME A1 OS UNIX NODE 127.0.0.1 TCPADDR $2 DOMAIN MASTERDM FOR MAESTRO TYPE FTA FULLSTATUS ON END"
+  echo "CPUNAME A1 OS UNIX NODE 127.0.0.1 TCPADDR $2 DOMAIN ONE FOR MAESTRO TYPE MANAGER FULLSTATUS ON END"
   echo "CPUNAME A2 OS UNIX NODE 127.0.0.1 TCPADDR $3 DOMAIN MASTERDM FOR MAESTRO TYPE FTA FULLSTATUS ON END"
+  echo "CPUNAME A3 OS UNIX NODE 127.0.0.1 TCPADDR $4 DOMAIN ONE FOR MAESTRO TYPE FTA END"
   echo "DOMAIN MASTERDM MANAGER MDM ISMASTER END"
+  echo "DOMAIN ONE MANAGER A1 PARENT MASTERDM END"
   job=0
   for s in 1 2 3 4 5 6 7 8; do
     agent=A$((2 - s % 2))
@@ -86,7 +90,9 @@ definitions() {
     for k in 1 2 3 4 5; do
       job=$((job + 1))
       ws=$agent
-      if [ "$k" -eq 3 ]; then
+      if [ "$k" -eq 2 ] && [ "$agent" = A1 ]; then
+        ws=A3
+      elif [ "$k" -eq 3 ]; then
         ws=$other
       elif [ "$k" -eq 5 ] && [ $((s % 4)) -eq 0 ]; then
         ws=MDM
@@ -205,7 +211,7 @@ have_ended() {
   [ "$(grep -c '' <<< "$streams")" -eq 8 ] && [ "$(grep -c ' SUCC$' <<< "$streams")" -eq 8 ]
 }
 
-# agree: all three nodes show the same jobs, streams and workstations
+# agree: the three nodes that hear of all show the same jobs, streams and workstations
 agree() {
   local line shown
   for line in showjobs showschedules showcpus; do
@@ -240,27 +246,28 @@ shut_down() {
   fi
 }
 
-# what all three keep of a day is a sound history, causes first: each launch stood on what its workstation held
+# what all four keep of a day is a sound history, causes first: each launch stood on what its workstation held
 is_sound() {
   local entries judged
-  entries=$("$causes" MDM/MDM.msg A1/A1.msg A2/A2.msg) || fail "the files are of no one history"
-  judged=$(printf '$NETWORK\nws MDM\nws A1 MDM\nws A2 MDM\n$HISTORY\n%s\n' "$entries" | "$tws" audit)
-  echo "the history of all three files: $judged"
+  entries=$("$causes" MDM/MDM.msg A1/A1.msg A2/A2.msg A3/A3.msg) || fail "the files are of no one history"
+  judged=$(printf '$NETWORK\nws MDM\nws A1 MDM manager\nws A2 MDM\nws A3 A1\n$HISTORY\n%s\n' "$entries" | "$tws" audit)
+  echo "the history of all four files: $judged"
   case "$judged" in
     "sound "*) ;;
-    *) fail "the history of all three files is not sound" ;;
+    *) fail "the history of all four files is not sound" ;;
   esac
 }
 
-if ! master=$(free_port) || ! first=$(free_port "$master") || ! second=$(free_port "$master" "$first"); then
+if ! master=$(free_port) || ! first=$(free_port "$master") || ! second=$(free_port "$master" "$first") \
+  || ! third=$(free_port "$master" "$first" "$second"); then
   fail "no free ports were found"
 fi
-definitions "$master" "$first" "$second" > defs.txt
-echo "seed $seed, ports $master, $first and $second"
-for name in MDM A1 A2; do
+definitions "$master" "$first" "$second" "$third" > defs.txt
+echo "seed $seed, ports $master, $first, $second and $third"
+for name in MDM A1 A2 A3; do
   start "$name"
 done
-for name in MDM A1 A2; do
+for name in MDM A1 A2 A3; do
   answers "$name"
 done
 
@@ -276,7 +283,7 @@ until have_ended; do
   if [ $((SECONDS - begin)) -ge "$most" ]; then
     fail "the day does not end: $(ask MDM showschedules)"
   fi
-  for name in MDM A1 A2; do
+  for name in MDM A1 A2 A3; do
     lives "$name"
   done
   if listing=$(ask MDM showjobs); then
@@ -297,14 +304,14 @@ until agree; do
   if [ $((SECONDS - begin)) -ge 60 ]; then
     fail "the nodes do not show the same"
   fi
-  for name in MDM A1 A2; do
+  for name in MDM A1 A2 A3; do
     lives "$name"
   done
   sleep 0.2
 done
-echo "all three nodes show the same:"
+echo "MDM, A1 and A2 show the same:"
 ask MDM showjobs
-for name in A1 A2 MDM; do
+for name in A3 A1 A2 MDM; do
   shut_down "$name"
 done
 echo "each node ended with its shutdown"
@@ -321,7 +328,7 @@ done
 if [ "$(grep -c '' ran.txt)" -ne 40 ]; then
   fail "ran.txt has other lines than those of the jobs"
 fi
-for name in MDM A1 A2; do
+for name in MDM A1 A2 A3; do
   if [ -s "$name/node.log" ]; then
     fail "a node wrote what it should not"
   fi

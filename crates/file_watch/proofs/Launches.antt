@@ -4,8 +4,9 @@ use Rattle.std.proofs.Common.{length, refl, subst, suc, sym, true, zero}
 use Rattle.std.proofs.lemmas.Bool.{eqb-true}
 use Rattle.std.specs.List.{list_all}
 use Rattle.std.specs.Option.{option_map_or}
-use Rattle.std.specs.Prelude.{◌<◌, ◌==◌, slice_get}
+use Rattle.std.specs.Prelude.{◌<◌, ◌==◌}
 use Rattle.lemmas.proofs.Booleans.{and_left, and_right}
+use Rattle.lemmas.proofs.Lists.{found_within}
 use Rattle.model_laws.proofs.Decisions.{job_number}
 use Rattle.model.specs.Types.{Dep, Events, Job, Net, Obj, Outside}
 use Rattle.model.specs.Words.{all_of, numbers_from}
@@ -31,12 +32,6 @@ numbers_all p from (suc n) (suc k) h less =
     subst (λ (m : ℕ). p m ≡ true) e
     (numbers_all p (from + 1) n k (and_right (p from) (list_all p (numbers_from (from + 1) n)) h) (omega (arith, less)))
 
-got_below : {X : Type 0} (xs : List X) (k : ℕ) (x : X) → slice_get xs k ≡ Some x → k < length xs
-got_below [] zero x e = cc
-got_below [] (suc k) x e = cc
-got_below (y ∷ xs) zero x e = grind arith
-got_below (y ∷ xs) (suc k) x e = let h = got_below xs k x e in omega (arith, h)
-
 satisfied_at : (net : Net) (V : View) (w : ℕ) (o : Obj) (i : ℕ) (d : Dep) → owner V o ≡ Some w
     → all_satisfied net V w o ≡ true → dep V o i ≡ Some d → is_satisfied net V o i ≡ true
 satisfied_at net V w o zero d mine h e = cc
@@ -46,7 +41,7 @@ satisfied_at net V w o (suc k) d mine h e =
     in
     let n : 1 + k ≡ suc k = omega arith in
     subst (λ (m : ℕ). is_satisfied net V o m ≡ true) n
-    (numbers_all (is_satisfied net V o) 1 (length (deps V o)) k all (got_below (deps V o) k d e))
+    (numbers_all (is_satisfied net V o) 1 (length (deps V o)) k all (found_within (deps V o) k d e))
 
 file_told : (net : Net) (V : View) (w : ℕ) (o : Obj) (i : ℕ) (path : List ℕ) → owner V o ≡ Some w
     → dep V o i ≡ Some (Outside path) → is_waived V o i ≡ false → is_satisfied net V o i ≡ true

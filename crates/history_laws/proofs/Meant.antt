@@ -225,7 +225,7 @@ past_all (row.CarryForward c ∷ rows) e = ap (λ k. 1 + k) (past_all rows e) �
 past_all (row.Steps ∷ rows) e = ap (λ k. 1 + k) (past_all rows e) ∙ one_more (length rows)
 past_all (r ∷ rows) e = absurd (cc)
 
-no_place : (p n : ℕ) → p ≡ n → cond (nat_lt p n) (Some p) None ≡ None
+pub no_place : (p n : ℕ) → p ≡ n → cond (nat_lt p n) (Some p) None ≡ None
 no_place p n e = let none : nat_lt p n ≡ false = grind (arith, nat_tests) in ap (λ b. cond b (Some p) None) none
 
 pub no_definitions : (net : Net) (m : Node) (others : List Node) → definitions_line (net_rows net m others) ≡ None

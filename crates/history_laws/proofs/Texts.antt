@@ -43,7 +43,7 @@ low_at (b ∷ w) h (suc i) = low_at w (and_parts (is_low b) (list_all is_low w) 
 low_utf8 : (w : List ℕ) → list_all is_low w ≡ true → IsUtf8 w
 low_utf8 w h = IsUtf8-from_ascii w (low_at w h)
 
-word_utf8 : (w : List ℕ) → list_all (λ b. ltb b 128) w ≡ true → IsUtf8 w
+pub word_utf8 : (w : List ℕ) → list_all (λ b. ltb b 128) w ≡ true → IsUtf8 w
 unfolding is_low
 word_utf8 w h = low_utf8 w h
 
@@ -58,13 +58,13 @@ name_low : (b : ℕ) → is_name_byte b ≡ true → is_low b ≡ true
 unfolding is_low
 name_low b h = grind (arith, nat_tests)
 
-name_utf8 : (n : List ℕ) → IsKeptName n → IsUtf8 n
+pub name_utf8 : (n : List ℕ) → IsKeptName n → IsUtf8 n
 name_utf8 n h =
     low_utf8 n
     (follow is_name_byte name_low n
     (and_parts (starts_with_letter n && leb (length n) 40) (list_all is_name_byte n) (kept_form n h)).1)
 
-number_utf8 : (n : ℕ) → n < 2 ^ 64 → IsUtf8 (decimal n)
+pub number_utf8 : (n : ℕ) → n < 2 ^ 64 → IsUtf8 (decimal n)
 number_utf8 n h = IsUtf8-from_ascii (decimal n) (IsAscii-decimal n h)
 
 digit_low : (n : ℕ) → n < 16 → is_low (digit n) ≡ true
@@ -97,7 +97,7 @@ quoted_utf8 v h =
 
 -- Lines.
 
-each_utf8 : {A : Type 0} (P : A → Type 0) (f : A → List ℕ) → ((x : A) → P x → IsUtf8 (f x)) → (xs : List A)
+pub each_utf8 : {A : Type 0} (P : A → Type 0) (f : A → List ℕ) → ((x : A) → P x → IsUtf8 (f x)) → (xs : List A)
     → AllByRecursion P xs → IsUtf8 (flat_map f xs)
 each_utf8 P f each [] all = IsUtf8-nil
 each_utf8 P f each (x ∷ xs) all =

@@ -1,12 +1,8 @@
 -- Digits, two at a time.
-use Rattle.std.proofs.Common.{◌≡◌, ◌≤◌, ◌-◌, ℕ, List, [], ◌∷◌, ◌++◌, length, take, drop, get_or, Option, Some, None, option_map, append_assoc, ap, ◌∙◌, refl, arith}
+use Rattle.std.proofs.Common.{◌≡◌, ◌≤◌, ◌-◌, ℕ, List, [], ◌∷◌, ◌++◌, length, take, drop, get_or, Some, None, option_map, ◌∙◌, refl, arith}
 use Rattle.std.proofs.Math.Seq.{take-length}
+use Rattle.syntax.proofs.Escapes.{joined}
 use Rattle.history_script.specs.Digits.{byte_of, bytes_of}
-
-joined : (front : List ℕ) (b : ℕ) (o : Option (List ℕ))
-    → option_map (λ more. front ++ more) (option_map (λ v. b ∷ v) o) ≡ option_map (λ more. (front ++ b ∷ []) ++ more) o
-joined front b None = refl
-joined front b (Some x) = ap Some (rw append_assoc refl)
 
 behind : (a b : ℕ) (rest : List ℕ) → take (length (a ∷ b ∷ rest) - 2) (drop 2 (a ∷ b ∷ rest)) ≡ rest
 behind a b rest = let e : length (a ∷ b ∷ rest) - 2 ≡ length rest = omega arith in rw e (take-length rest)

@@ -1,5 +1,5 @@
 mod Growing
-mod Looked
+pub mod Looked
 mod Beginning
 mod FirstBytes
 mod ToldFiles

@@ -1,28 +1,28 @@
 -- What one more entry of a workstation's own leaves of what can still be told there.
-use Rattle.std.proofs.Common.{◌≡◌, ℕ, ◌+◌, ◌-◌, ◌<◌, ◌≤◌, Bool, true, false, ◌||◌, inl, inr}
-use Rattle.std.proofs.Common.{List, [], ◌∷◌, ◌++◌, refl, sym, subst, ◌∙◌, arith, Some, None, cond}
+use Rattle.std.proofs.Common.{◌≡◌, ℕ, ◌+◌, ◌-◌, ◌<◌, ◌≤◌, true, false, inl, inr}
+use Rattle.std.proofs.Common.{List, [], ◌∷◌, ◌++◌, refl, sym, subst, arith, Some, None}
 use Rattle.std.proofs.lemmas.Bool.{eq-eqb}
 use Rattle.std.proofs.lemmas.Bool.Decides.{eqb_tells}
-use Rattle.std.proofs.lemmas.List.Elements.{filter_map-append}
-use Rattle.std.proofs.lemmas.List.Sums.{sum_by-append}
 use Rattle.std.specs.List.{list_any}
-use Rattle.std.specs.Prelude.{eqb, filter_map}
-use Rattle.lemmas.proofs.Lists.{any_with}
-use Rattle.model.specs.Types.{Body, Cmd, Job, Launched, Obeyed, Obj, Rerun, Started, Stream}
+use Rattle.std.specs.Prelude.{eqb}
+use Rattle.model.specs.Types.{Body, Cmd, Job, Launched, Obeyed, Obj, Started, Stream}
 use Rattle.model.specs.Words.{below}
 use Rattle.model.specs.History.{Seen}
-use Rattle.model.specs.Facts.{answered, commands, end_of, is_fulfilled, is_fulfilment, is_last_started, is_late}
-use Rattle.model.specs.Facts.{is_launch_of, is_late_record, is_until_record, is_until_recorded, launches, obeyed_command}
+use Rattle.model.specs.Facts.{answered, end_of, is_fulfilled, is_fulfilment, is_last_started}
+use Rattle.model.specs.Facts.{is_launch_of, launches, obeyed_command}
 use Rattle.model.specs.Facts.{open_launch, reruns}
 use Rattle.model.specs.Outcomes.{Outcome}
 use Rattle.model_laws.proofs.Answered.{answered-append}
 use Rattle.model_laws.proofs.Growth.{launches-append}
 use Rattle.model_laws.proofs.Tidy.{launches_none}
+use Rattle.model_laws.proofs.Starts.{launches_one}
 use Rattle.rest_laws.specs.Gains.{sum_over}
-use Rattle.rest_laws.specs.Left.{Caps, done, is_below, job_left, left_of, records_left, stream_left, undone}
-use Rattle.rest_laws.proofs.Ahead.{answers_one}
-use Rattle.rest_laws.proofs.Falls.{clock_low, hits, job_low, orders_low, rerun_target, stream_low, sum_over_falls}
+use Rattle.rest_laws.specs.Left.{Caps, done, is_below, job_left, left_of, stream_left, undone}
+use Rattle.rest_laws.proofs.Falls.{answered_one, clock_low, hits, job_low, orders_low, rerun_target, stream_low, sum_over_falls}
+use Rattle.rest_laws.proofs.Falls.{any_more, any_now, at_most_one, records_low, reruns_more, reruns_none}
+use Rattle.rest_laws.proofs.Falls.{reruns_one}
 use Rattle.rest_laws.proofs.Gains.{sum_over_low}
+use Rattle.rest_laws.proofs.Lefts.{sum_over_more}
 use Rattle.launches_at_rest.specs.Tells.{awaits_start, files_left, starts_left, tells_of}
 use Rattle.launches_at_rest.proofs.Launches.{awaited, awaits_low, end_told, opened, start_told}
 
@@ -31,46 +31,18 @@ module _ (L : List Body) (b : Body) where
   abbrev pub L' : List Body
   L' = L ++ b ∷ []
 
-  stays_done : (p : Body → Bool) → undone (list_any p (L ++ b ∷ [])) ≤ undone (list_any p L)
-  stays_done p = rw (any_with p L b) (go (list_any p L) (p b))
-    where
-      go : (a c : Bool) → undone (a || c) ≤ undone a
-      go true c = omega arith
-      go false true = omega arith
-      go false false = omega arith
-
-  now_done : (p : Body → Bool) → list_any p L ≡ false → p b ≡ true
-      → undone (list_any p (L ++ b ∷ [])) + 1 ≤ undone (list_any p L)
-  now_done p none this = rw (any_with p L b, none, this) (omega arith)
-
   pub files_low : (n : ℕ) (o : Obj) → files_left n (L ++ b ∷ []) o ≤ files_left n L o
   unfolding files_left is_fulfilled
   files_low n o =
       sum_over_low (λ i. undone (list_any (is_fulfilment o i) (L ++ b ∷ []))) (λ i. undone (list_any (is_fulfilment o i) L))
-      (below n) (λ i. stays_done (is_fulfilment o i))
+      (below n) (λ i. any_more (is_fulfilment o i) L b)
 
   pub file_falls : (n : ℕ) (o : Obj) (i : ℕ) → i < n → is_fulfilled o i L ≡ false → is_fulfilment o i b ≡ true
       → files_left n (L ++ b ∷ []) o + 1 ≤ files_left n L o
   unfolding files_left is_fulfilled
   file_falls n o i low none this =
       sum_over_falls (λ i. undone (list_any (is_fulfilment o i) (L ++ b ∷ []))) (λ i. undone (list_any (is_fulfilment o i) L))
-      1 n i (λ i. stays_done (is_fulfilment o i)) low (now_done (is_fulfilment o i) none this)
-
-  records_stay : (n : ℕ) (o : Obj) → records_left n (L ++ b ∷ []) o ≤ records_left n L o
-  unfolding records_left is_until_recorded is_late
-  records_stay n o =
-      sum_over_low (λ i. undone (list_any (is_until_record o i) (L ++ b ∷ [])) + undone (list_any (is_late_record o i) (L ++ b ∷ [])))
-      (λ i. undone (list_any (is_until_record o i) L) + undone (list_any (is_late_record o i) L)) (below n)
-      (λ i. omega (arith, stays_done (is_until_record o i), stays_done (is_late_record o i)))
-
-  reruns_after : (j : ℕ) → reruns j (L ++ b ∷ []) ≡ reruns j L + reruns j (b ∷ [])
-  unfolding reruns commands
-  reruns_after j =
-      rw filter_map-append (sum_by-append _ (filter_map obeyed_command L) (filter_map obeyed_command (b ∷ [])))
-
-  no_rerun : (j : ℕ) → obeyed_command b ≡ None → reruns j (b ∷ []) ≡ 0
-  unfolding reruns commands
-  no_rerun j e = rw e refl
+      1 n i (λ i. any_more (is_fulfilment o i) L b) low (any_now (is_fulfilment o i) L b none this)
 
   pub answered_more : (given : ℕ → ℕ) (a : ℕ) → given a - answered a (L ++ b ∷ []) ≤ given a - answered a L
   answered_more given a = omega (arith, answered-append a L (b ∷ []))
@@ -79,11 +51,11 @@ module _ (L : List Body) (b : Body) where
       → starts_left caps (L ++ b ∷ []) j ≤ starts_left caps L j
   unfolding starts_left
   starts_low caps j no_launch no_command =
-      rw (launches-append, reruns_after j)
+      rw (launches-append, reruns_more j L b)
       (omega (
         arith,
         launches_none j b no_launch,
-        no_rerun j no_command,
+        reruns_none j b no_command,
         awaits_low j L b no_launch,
         files_low (caps.of_deps (Job j)) (Job j),
       ))
@@ -93,12 +65,12 @@ module _ (L : List Body) (b : Body) where
       → obeyed_command b ≡ None → end_of j n b ≡ Some out → job_left caps (L ++ b ∷ []) j + 1 ≤ job_left caps L j
   unfolding job_left
   end_lowers caps j n out open_ no_launch no_command ends =
-      rw (launches-append, reruns_after j, end_told j n L b out open_ no_launch ends, opened j n L open_)
+      rw (launches-append, reruns_more j L b, end_told j n L b out open_ no_launch ends, opened j n L open_)
       (omega (
         arith,
         launches_none j b no_launch,
-        no_rerun j no_command,
-        records_stay (caps.of_deps (Job j)) (Job j),
+        reruns_none j b no_command,
+        records_low (caps.of_deps (Job j)) L b (Job j),
       ))
 
 -- a start of an open launch
@@ -106,11 +78,11 @@ start_lowers : (caps : Caps) (L : List Body) (j n : ℕ) → open_launch j L ≡
     → starts_left caps (L ++ Started j n ∷ []) j + 1 ≤ starts_left caps L j
 unfolding starts_left
 start_lowers caps L j n open_ none =
-    rw (launches-append, reruns_after L (Started j n) j, start_told j n L open_, awaited j n L open_ none)
+    rw (launches-append, reruns_more j L (Started j n), start_told j n L open_, awaited j n L open_ none)
     (omega (
       arith,
       launches_none j (Started j n) refl,
-      no_rerun L (Started j n) j refl,
+      reruns_none j (Started j n) refl,
       files_low L (Started j n) (caps.of_deps (Job j)) (Job j),
     ))
 
@@ -120,66 +92,43 @@ starts_by_file : (caps : Caps) (L : List Body) (b : Body) (j : ℕ) → is_launc
     → starts_left caps (L ++ b ∷ []) j + 1 ≤ starts_left caps L j
 unfolding starts_left
 starts_by_file caps L b j no_launch no_command falls =
-    rw (launches-append, reruns_after L b j)
+    rw (launches-append, reruns_more j L b)
     (omega (
       arith,
       launches_none j b no_launch,
-      no_rerun L b j no_command,
+      reruns_none j b no_command,
       awaits_low j L b no_launch,
       falls,
     ))
-
-awaits_one : (j : ℕ) (L : List Body) → done (awaits_start j L) ≤ 1
-awaits_one j L = go (awaits_start j L)
-  where
-    go : (b : Bool) → done b ≤ 1
-    go true = omega arith
-    go false = omega arith
-
-one_launch : (j n : ℕ) (seen : Seen) (L : List Body) → launches j (L ++ Launched j n seen ∷ []) ≡ launches j L + 1
-unfolding launches
-one_launch j n seen L = launches-append j L (Launched j n seen ∷ []) ∙ rw (eq-eqb j j refl) (omega arith)
 
 -- a launch that is due
 launch_lowers : (caps : Caps) (L : List Body) (j n : ℕ) (seen : Seen) → launches j L ≤ reruns j L
     → starts_left caps (L ++ Launched j n seen ∷ []) j ≤ starts_left caps L j
 unfolding starts_left
 launch_lowers caps L j n seen due =
-    rw (one_launch j n seen L, reruns_after L (Launched j n seen) j)
+    rw (launches-append, reruns_more j L (Launched j n seen))
     (omega (
       arith,
       due,
-      no_rerun L (Launched j n seen) j refl,
-      awaits_one j (L ++ Launched j n seen ∷ []),
+      launches_one j n seen,
+      reruns_none j (Launched j n seen) refl,
+      at_most_one (awaits_start j (L ++ Launched j n seen ∷ [])),
       files_low L (Launched j n seen) (caps.of_deps (Job j)) (Job j),
     ))
 
 -- a command that is obeyed
-one_rerun : (j a k : ℕ) (c : Cmd) → reruns j (Obeyed a k c ∷ []) ≤ done (eqb j (rerun_target c))
-unfolding reruns commands
-one_rerun j a k (Rerun i) = go (eqb j i)
-  where
-    go : (e : Bool) → 0 + cond e 1 0 ≤ done e
-    go true = omega arith
-    go false = omega arith
-one_rerun j a k _ = omega arith
-
 starts_rise : (caps : Caps) (L : List Body) (a k : ℕ) (c : Cmd) (j : ℕ)
     → starts_left caps (L ++ Obeyed a k c ∷ []) j ≤ starts_left caps L j + done (eqb j (rerun_target c))
 unfolding starts_left
 starts_rise caps L a k c j =
-    rw (launches-append, reruns_after L (Obeyed a k c) j)
+    rw (launches-append, reruns_more j L (Obeyed a k c))
     (omega (
       arith,
       launches_none j (Obeyed a k c) refl,
-      one_rerun j a k c,
+      reruns_one j a k c,
       awaits_low j L (Obeyed a k c) refl,
       files_low L (Obeyed a k c) (caps.of_deps (Job j)) (Job j),
     ))
-
-sums_rise : (f g h : ℕ → ℕ) (xs : List ℕ) → ((j : ℕ) → f j ≤ g j + h j) → sum_over f xs ≤ sum_over g xs + sum_over h xs
-sums_rise f g h [] low = omega arith
-sums_rise f g h (x ∷ xs) low = omega (arith, low x, sums_rise f g h xs low)
 
 -- of one more entry that is no command: at most this is left to be told
 module _ (caps : Caps) (n : ℕ) (given : ℕ → ℕ) (L : List Body) (b : Body) where
@@ -279,12 +228,12 @@ module _ (caps : Caps) (n : ℕ) (given : ℕ → ℕ) (L : List Body) where
       omega (
         arith,
         files_sum caps n given L (Obeyed a k c),
-        sums_rise (starts_left caps (L ++ Obeyed a k c ∷ [])) (starts_left caps L) (λ j. done (eqb j (rerun_target c)))
+        sum_over_more (starts_left caps (L ++ Obeyed a k c ∷ [])) (starts_left caps L) (λ j. done (eqb j (rerun_target c)))
             (below caps.of_jobs) (starts_rise caps L a k c),
         hits (rerun_target c) 0 caps.of_jobs,
         sum_over_falls (λ i. given i - answered i (L ++ Obeyed a k c ∷ [])) (λ i. given i - answered i L) 1 n a
             (answered_more L (Obeyed a k c) given) low
-            (omega (arith, here, answered-append a L (Obeyed a k c ∷ []), answers_one a (Obeyed a k c) (eq-eqb a a refl))),
+            (omega (arith, here, answered-append a L (Obeyed a k c ∷ []), answered_one a (Obeyed a k c) (eq-eqb a a refl))),
       )
 
   pub tells_still : (b : Body) → ((j : ℕ) → is_launch_of j b ≡ false) → obeyed_command b ≡ None

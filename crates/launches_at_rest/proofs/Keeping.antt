@@ -6,7 +6,7 @@ use Rattle.std.specs.List.{AllByRecursion}
 use Rattle.std.specs.Option.{option_map_or}
 use Rattle.std.specs.Prelude.{if◌then◌else◌, Ok, eqb, nat_lt}
 use Rattle.lemmas.proofs.Booleans.{and_made, or_cases}
-use Rattle.lemmas.proofs.Lists.{all_append, all_map}
+use Rattle.lemmas.proofs.Lists.{all_append, all_map, found_within}
 use Rattle.model.specs.Types.{Body, Deliver, Dep, Ended, Events, Failed, Fulfilled, Job, Linked, LiveJob, Net, Obj}
 use Rattle.model.specs.Types.{Order, Orders, Started, Stream, StreamDoc, Take, Turn, WorldStep}
 use Rattle.model.specs.Equalities.{obj_among, obj_eq}
@@ -35,14 +35,15 @@ use Rattle.model_laws.proofs.Turns.{TurnGives, turn_gives}
 use Rattle.rest_laws.specs.Left.{Caps, Covers, entries, is_below, jobs_ahead, keeps_to, left, left_of, streams_ahead}
 use Rattle.rest_laws.specs.Rest.{count_of, net_at}
 use Rattle.rest_laws.specs.Rounds.{AreTaken}
-use Rattle.rest_laws.proofs.Ahead.{owned_below, within}
-use Rattle.rest_laws.proofs.Deps.{deps_few, nth_within}
+use Rattle.rest_laws.proofs.Ahead.{owned_below}
+use Rattle.rest_laws.proofs.Deps.{deps_few}
 use Rattle.rest_laws.proofs.Entered.{Made, issuer_in, next_given, own_events, turn_makes}
-use Rattle.rest_laws.proofs.Lefts.{Keeps, delivered_same, linked_same, step_keeps}
+use Rattle.rest_laws.proofs.Lefts.{Keeps, covers_plain, delivered_same, linked_same, one_entry, step_keeps}
+use Rattle.rest_laws.proofs.Rounds.{nth_within}
 use Rattle.launches_at_rest.specs.Tells.{tells_left, tells_of}
 use Rattle.launches_at_rest.specs.Told.{is_told, works_at}
 use Rattle.launches_at_rest.proofs.Counts.{left_by_end, left_stays, tells_found, tells_launch, tells_obeyed, tells_started, tells_still}
-use Rattle.launches_at_rest.proofs.Plain.{Tally, covers_stay, one_more, tallies_fall}
+use Rattle.launches_at_rest.proofs.Plain.{Tally, tallies_fall}
 use Rattle.launches_at_rest.proofs.Telling.{Makes, Tells, ToldBy, told_by}
 
 -- an object among a workstation's own is owned by it
@@ -133,7 +134,7 @@ module _ (net : Net) (caps : ℕ → Caps) (x : World) (w : ℕ) (inv : Invarian
       go c (TurnGives.obeyed a d g) =
           let there = next_given net x w inv a d g in
           tells_obeyed (caps w) (node_count net) given own a _ d (issuer_in net x w inv a _ (Order d) there)
-          (within (list_of x.history (Orders a w)) _ (Order d) there)
+          (found_within (list_of x.history (Orders a w)) _ (Order d) there)
       go c (TurnGives.until o p u m g l) = tells_still (caps w) (node_count net) given own c (λ j. refl) refl
       go c (TurnGives.late o p m g) = tells_still (caps w) (node_count net) given own c (λ j. refl) refl
       go c (TurnGives.released s g) = tells_still (caps w) (node_count net) given own c (λ j. refl) refl
@@ -311,9 +312,9 @@ module _ (net : Net) (caps : ℕ → Caps) (readings : ℕ → List ℕ) (x z : 
             s.one,
           ),
           (
-            one_more net x.history (next_entry (view_at x t.ws) (Events t.ws) t.told.body) t.ws refl x z refl m.history,
-            covers_stay net x.history (next_entry (view_at x t.ws) (Events t.ws) t.told.body) t.ws refl plain.0 plain.1 caps x z
-                refl m.history covers,
+            one_entry net x z t.ws t.told.body m.history,
+            covers_plain net caps x z t.ws (next_entry (view_at x t.ws) (Events t.ws) t.told.body) refl m.history covers plain.0
+                plain.1,
           ),
         )
 

@@ -5,46 +5,19 @@ use Rattle.std.proofs.lemmas.Bool.{eq-eqb}
 use Rattle.std.proofs.lemmas.List.Elements.{filter_map-append}
 use Rattle.std.specs.Bool.{then_some}
 use Rattle.std.specs.List.{list_any}
-use Rattle.std.specs.Option.{option_map_or, option_or}
-use Rattle.std.specs.Prelude.{eqb, filter_map, is_none, is_some, option_and_then, option_map, slice_get}
+use Rattle.std.specs.Option.{option_map_or}
+use Rattle.std.specs.Prelude.{filter_map, is_none, is_some, option_and_then, option_map, slice_get}
 use Rattle.lemmas.proofs.Lists.{any_with, no_first}
-use Rattle.model.specs.Types.{Body, Launched, Started}
+use Rattle.lemmas.proofs.Options.{some_same}
+use Rattle.model.specs.Types.{Body, Started}
 use Rattle.model.specs.Facts.{LastLaunch, end_of, first_end, is_last_started, is_launch_of, is_open, is_start_of, last_launch}
-use Rattle.model.specs.Facts.{launch_here, open_launch}
+use Rattle.model.specs.Facts.{open_launch}
 use Rattle.model.specs.Outcomes.{Outcome}
-use Rattle.model_laws.proofs.Tidy.{launched_none}
 use Rattle.rest_laws.specs.Left.{done}
+use Rattle.rest_laws.proofs.Falls.{last_launch_other, more}
 use Rattle.launches_at_rest.specs.Tells.{awaits_start}
 
 module _ (j : ℕ) where
-  abbrev pub longer : Body → LastLaunch → LastLaunch
-  longer b l = record { number = l.number; later = l.later ++ b ∷ [] }
-
-  longer_here : (x b : Body) (later : List Body)
-      → launch_here j x (later ++ b ∷ []) ≡ option_map (longer b) (launch_here j x later)
-  longer_here (Launched k n seen) b later = go (eqb j k)
-    where
-      go : (c : Bool)
-          → then_some {T = LastLaunch} c (record { number = n; later = later ++ b ∷ [] }) ≡ option_map
-          (λ (l : LastLaunch). record { number = l.number; later = l.later ++ b ∷ [] })
-          (then_some {T = LastLaunch} c (record { number = n; later = later }))
-      go true = refl
-      go false = refl
-  longer_here _ b later = refl
-
-  -- the last launch stays the last
-  pub last_stays : (L : List Body) (b : Body) → is_launch_of j b ≡ false
-      → last_launch j (L ++ b ∷ []) ≡ option_map (longer b) (last_launch j L)
-  unfolding last_launch
-  last_stays [] b e = launched_none j b [] e
-  last_stays (x ∷ L) b e = rw (last_stays L b e) (go (last_launch j L))
-    where
-      go : (o : Option (LastLaunch))
-          → option_or (option_map (longer b) o) (launch_here j x (L ++ b ∷ [])) ≡ option_map (longer b)
-          (option_or o (launch_here j x L))
-      go None = longer_here x b L
-      go (Some l) = refl
-
   -- of a launch: it has no end, and its start was not told
   abbrev pub is_fresh : LastLaunch → Bool
   is_fresh l = is_none (first_end j l.number l.later) && not (list_any (is_start_of j l.number) l.later)
@@ -64,7 +37,7 @@ module _ (j : ℕ) where
       go None = refl
       go (Some l) = one l.number (is_none (first_end j l.number l.later)) (list_any (is_start_of j l.number) l.later)
 
-  fresh_low : (l : LastLaunch) (b : Body) → done (is_fresh (longer b l)) ≤ done (is_fresh l)
+  fresh_low : (l : LastLaunch) (b : Body) → done (is_fresh (more b l)) ≤ done (is_fresh l)
   fresh_low l b =
       rw (filter_map-append (end_of j l.number) l.later (b ∷ []), any_with (is_start_of j l.number) l.later b)
       (go (filter_map (end_of j l.number) l.later) (filter_map (end_of j l.number) (b ∷ []))
@@ -82,15 +55,12 @@ module _ (j : ℕ) where
   pub awaits_low : (L : List Body) (b : Body) → is_launch_of j b ≡ false
       → done (awaits_start j (L ++ b ∷ [])) ≤ done (awaits_start j L)
   awaits_low L b none =
-      rw (awaits_is (L ++ b ∷ []), awaits_is L, last_stays L b none) (go (last_launch j L))
+      rw (awaits_is (L ++ b ∷ []), awaits_is L, last_launch_other j L b none) (go (last_launch j L))
     where
       go : (o : Option LastLaunch)
-          → done (option_map_or is_fresh (option_map (longer b) o) false) ≤ done (option_map_or is_fresh o false)
+          → done (option_map_or is_fresh (option_map (more b) o) false) ≤ done (option_map_or is_fresh o false)
       go None = omega arith
       go (Some l) = fresh_low l b
-
-  some_same : (a c : ℕ) → Some a ≡ Some c → a ≡ c
-  some_same a c e = cc
 
   numbered : (l : LastLaunch) (n : ℕ) (c : Bool) → then_some c l.number ≡ Some n → (l.number ≡ n) × (c ≡ true)
   numbered l n true e = (some_same l.number n e, refl)
@@ -100,9 +70,9 @@ module _ (j : ℕ) where
   pub start_told : (n : ℕ) (L : List Body) → open_launch j L ≡ Some n → awaits_start j (L ++ Started j n ∷ []) ≡ false
   unfolding open_launch
   start_told n L e =
-      rw (awaits_is (L ++ Started j n ∷ []), last_stays L (Started j n) refl) (go (last_launch j L) e)
+      rw (awaits_is (L ++ Started j n ∷ []), last_launch_other j L (Started j n) refl) (go (last_launch j L) e)
     where
-      told : (l : LastLaunch) → l.number ≡ n → is_fresh (longer (Started j n) l) ≡ false
+      told : (l : LastLaunch) → l.number ≡ n → is_fresh (more (Started j n) l) ≡ false
       told l same =
           rw (any_with (is_start_of j l.number) l.later (Started j n), eq-eqb j j refl, same, eq-eqb n n refl)
           (never (is_none (first_end j n (l.later ++ Started j n ∷ []))) (list_any (is_start_of j n) l.later))
@@ -114,7 +84,7 @@ module _ (j : ℕ) where
 
       go : (o : Option LastLaunch)
           → option_and_then (λ (l : LastLaunch). then_some (is_none (first_end j l.number l.later)) l.number) o ≡ Some n
-          → option_map_or is_fresh (option_map (longer (Started j n)) o) false ≡ false
+          → option_map_or is_fresh (option_map (more (Started j n)) o) false ≡ false
       go None e = cc
       go (Some l) e = told l (numbered l n (is_none (first_end j l.number l.later)) e).0
 
@@ -122,32 +92,11 @@ module _ (j : ℕ) where
   unfolding is_open
   awaited n L e none = rw (e, none) refl
 
-  -- no entry but a launch opens the job
-  pub open_low : (L : List Body) (b : Body) → is_launch_of j b ≡ false → done (is_open j (L ++ b ∷ [])) ≤ done (is_open j L)
-  unfolding is_open open_launch
-  open_low L b none = rw (last_stays L b none) (go (last_launch j L))
-    where
-      first : (n : ℕ) (xs ys : List Outcome)
-          → done (is_some (then_some (is_none (slice_get (xs ++ ys) 0)) n))
-          ≤ done (is_some (then_some (is_none (slice_get xs 0)) n))
-      first n [] [] = omega arith
-      first n [] (y ∷ ys) = omega arith
-      first n (x ∷ xs) ys = omega arith
-
-      go : (o : Option LastLaunch)
-          → done (is_some (option_and_then (λ (l : LastLaunch). then_some (is_none (first_end j l.number l.later)) l.number)
-          (option_map (λ (l : LastLaunch). record { number = l.number; later = l.later ++ b ∷ [] }) o)))
-          ≤ done (is_some (option_and_then (λ (l : LastLaunch). then_some (is_none (first_end j l.number l.later)) l.number) o))
-      go None = omega arith
-      go (Some l) =
-          rw (filter_map-append (end_of j l.number) l.later (b ∷ []))
-          (first l.number (filter_map (end_of j l.number) l.later) (filter_map (end_of j l.number) (b ∷ [])))
-
   -- an end of the open launch leaves none open
   pub end_told : (n : ℕ) (L : List Body) (b : Body) (out : Outcome) → open_launch j L ≡ Some n → is_launch_of j b ≡ false
       → end_of j n b ≡ Some out → is_open j (L ++ b ∷ []) ≡ false
   unfolding is_open open_launch
-  end_told n L b out e none ends = rw (last_stays L b none) (go (last_launch j L) e)
+  end_told n L b out e none ends = rw (last_launch_other j L b none) (go (last_launch j L) e)
     where
       shut : (l : LastLaunch) (o : Option Outcome) → slice_get (filter_map (end_of j l.number) l.later) 0 ≡ o
           → then_some (is_none o) l.number ≡ Some n

@@ -22,8 +22,8 @@ use Rattle.history_laws.specs.Printables.{IsKeptName}
 use Rattle.history_laws.proofs.Lines.{Lacks, lacks_append}
 use Rattle.history_laws.proofs.Words.{name_lacks_feed, name_lacks_space, number_lacks_feed, number_lacks_space, plain_first, plain_lacks_feed}
 use Rattle.history_laws.proofs.Words.{total_back}
+use Rattle.history_laws.proofs.Texts.{name_utf8, number_utf8, word_utf8}
 use Rattle.listing_laws.specs.Listables.{IsListableLimit}
-use Rattle.listing_laws.proofs.Chars.{name_utf8, number_utf8, plain_utf8}
 use Rattle.listing_laws.proofs.DepLines.{plain_word}
 use Rattle.listing_laws.proofs.Spelled.{Spells, spells_as, spells_line}
 use Rattle.listing_laws.proofs.Words.{form_in, line_by, spaced, spaced_both, spaced_lacks_feed, words_back}
@@ -84,7 +84,7 @@ priority_are_words n h = go (eqb n 10)
         record {
           blanks = (plain_word (codes "prio") refl, (number_lacks_space n h, tt));
           feeds = (plain_lacks_feed (codes "prio") refl, (number_lacks_feed n h, tt));
-          chars = (plain_utf8 (codes "prio") refl, (number_utf8 n h, tt));
+          chars = (word_utf8 (codes "prio") refl, (number_utf8 n h, tt));
         }
 
 limit_are_words : (o : Option ℕ) → IsListableLimit o → AreWords (limit_words o)
@@ -93,7 +93,7 @@ limit_are_words (Some n) h =
     record {
       blanks = (plain_word (codes "limit") refl, (number_lacks_space n (omega (arith, h)), tt));
       feeds = (plain_lacks_feed (codes "limit") refl, (number_lacks_feed n (omega (arith, h)), tt));
-      chars = (plain_utf8 (codes "limit") refl, (number_utf8 n (omega (arith, h)), tt));
+      chars = (word_utf8 (codes "limit") refl, (number_utf8 n (omega (arith, h)), tt));
     }
 
 carry_are_words : (b : Bool) → AreWords (carry_words b)
@@ -101,7 +101,7 @@ carry_are_words true =
     record {
       blanks = (plain_word (codes "carry") refl, tt);
       feeds = (plain_lacks_feed (codes "carry") refl, tt);
-      chars = (plain_utf8 (codes "carry") refl, tt);
+      chars = (word_utf8 (codes "carry") refl, tt);
     }
 carry_are_words false = no_words
 

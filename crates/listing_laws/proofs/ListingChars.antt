@@ -10,6 +10,7 @@ use Rattle.base_types.specs.declared.Recovery.TheVariants.{Stop, Continue, Rerun
 use Rattle.history_laws.specs.Printables.{IsLineText, IsPrintable}
 use Rattle.history_laws.specs.Returns.{AreTold}
 use Rattle.history_laws.proofs.Whole.{history_is_text}
+use Rattle.history_laws.proofs.Texts.{each_utf8, name_utf8, number_utf8, word_utf8}
 use Rattle.history_script.specs.Printed.{IsStartInRange, head_text, history_text}
 use Rattle.model.specs.Fit.{IsFit}
 use Rattle.model.specs.Ranges.{InRange}
@@ -26,7 +27,7 @@ use Rattle.report_text.specs.Names.{name_of}
 use Rattle.syntax.specs.Quotes.{quoted_text}
 use Rattle.listing_laws.specs.Listables.{IsLineWork}
 use Rattle.listing_laws.specs.ListingReturns.{with_next}
-use Rattle.listing_laws.proofs.Chars.{flat_utf8, led_utf8, name_utf8, number_utf8, plain_utf8, quoted_utf8}
+use Rattle.listing_laws.proofs.Chars.{led_utf8, quoted_utf8}
 use Rattle.listing_laws.proofs.DepLines.{IsDepLine, dep_line_is, dep_text}
 use Rattle.listing_laws.proofs.HeadLines.{job_are_words, job_line, job_line_is, priority_words, stream_are_words, stream_line, stream_line_is, stream_words}
 use Rattle.listing_laws.proofs.ObjectLines.{IsCondLine, IsJobText, IsStreamText}
@@ -57,9 +58,9 @@ network_chars net p none =
 -- Dependencies.
 
 until_chars : (o : OnUntil) → IsUtf8 (until_word o)
-until_chars Suppr = plain_utf8 (codes "suppr") refl
-until_chars Cont = plain_utf8 (codes "cont") refl
-until_chars Canc = plain_utf8 (codes "canc") refl
+until_chars Suppr = word_utf8 (codes "suppr") refl
+until_chars Cont = word_utf8 (codes "cont") refl
+until_chars Canc = word_utf8 (codes "canc") refl
 
 dep_chars : (net : Net) (d : DraftDep) → IsDepLine net d → IsUtf8 (dep_text net d)
 dep_chars net (Follows w s None) h =
@@ -88,11 +89,11 @@ dep_chars net (Plain (Deadline t)) h = led_utf8 (codes "deadline ") (decimal t) 
 
 -- a line
 lined : (text line : List ℕ) → text ≡ line ++ 10 ∷ [] → IsUtf8 line → IsUtf8 text
-lined text line is u = subst IsUtf8 (sym is) (IsUtf8-append line (10 ∷ []) u (plain_utf8 (10 ∷ []) refl))
+lined text line is u = subst IsUtf8 (sym is) (IsUtf8-append line (10 ∷ []) u (word_utf8 (10 ∷ []) refl))
 
 deps_chars : (net : Net) (deps : List DraftDep) → AllByRecursion (IsDepLine net) deps → IsUtf8 (flat_map (draft_dep_line net) deps)
 deps_chars net deps all =
-    flat_utf8 (IsDepLine net) (draft_dep_line net)
+    each_utf8 (IsDepLine net) (draft_dep_line net)
     (λ d h. lined (draft_dep_line net d) (dep_text net d) (dep_line_is net d h) (dep_chars net d h)) deps all
 
 -- Jobs.
@@ -105,25 +106,25 @@ spaced_chars (w ∷ ws) all =
 quoted_line : (word text : List ℕ) → IsUtf8 word → IsLineText text → IsUtf8 (word ++ quoted_text text ++ codes "\n")
 quoted_line word text u h =
     IsUtf8-append (word ++ quoted_text text) (codes "\n") (IsUtf8-append word (quoted_text text) u (quoted_utf8 text h))
-    (plain_utf8 (codes "\n") refl)
+    (word_utf8 (codes "\n") refl)
 
 unless_empty : (b : Bool) (text : List ℕ) → IsUtf8 text → IsUtf8 (if b then codes "" else text)
 unless_empty true text u = IsUtf8-nil
 unless_empty false text u = u
 
 work_chars : (w : Work) → IsLineWork w → IsUtf8 (work_line w)
-work_chars (Command text) h = unless_empty _ _ (quoted_line (codes "do ") text (plain_utf8 (codes "do ") refl) h)
-work_chars (Script path) h = quoted_line (codes "script ") path (plain_utf8 (codes "script ") refl) h
+work_chars (Command text) h = unless_empty _ _ (quoted_line (codes "do ") text (word_utf8 (codes "do ") refl) h)
+work_chars (Script path) h = quoted_line (codes "script ") path (word_utf8 (codes "script ") refl) h
 
 cond_chars : (ops : List CondOp) → IsCondLine ops → IsUtf8 (cond_line (eqb (length ops) 0) (cond_text ops))
 cond_chars [] h = IsUtf8-nil
 cond_chars (op ∷ ops) h =
-    unless_empty _ _ (quoted_line (codes "succ ") (cond_text (op ∷ ops)) (plain_utf8 (codes "succ ") refl) h.0)
+    unless_empty _ _ (quoted_line (codes "succ ") (cond_text (op ∷ ops)) (word_utf8 (codes "succ ") refl) h.0)
 
 recovery_chars : (r : Recovery) → IsUtf8 (recovery_line r)
 recovery_chars Stop = IsUtf8-nil
-recovery_chars Continue = plain_utf8 (codes "recovery continue\n") refl
-recovery_chars Rerun = plain_utf8 (codes "recovery rerun\n") refl
+recovery_chars Continue = word_utf8 (codes "recovery continue\n") refl
+recovery_chars Rerun = word_utf8 (codes "recovery rerun\n") refl
 
 body_chars : (net : Net) (j : JobDraft) → IsJobText net j → IsUtf8 (job_body j (cond_text j.cond))
 unfolding job_body
@@ -131,7 +132,7 @@ body_chars net j h =
     IsUtf8-append (work_line j.work ++ logon_line j.logon ++ cond_line (eqb (length j.cond) 0) (cond_text j.cond)) (recovery_line j.recovery)
     (IsUtf8-append (work_line j.work ++ logon_line j.logon) (cond_line (eqb (length j.cond) 0) (cond_text j.cond))
     (IsUtf8-append (work_line j.work) (logon_line j.logon) (work_chars j.work h.work)
-    (unless_empty _ _ (quoted_line (codes "logon ") j.logon (plain_utf8 (codes "logon ") refl) h.logon)))
+    (unless_empty _ _ (quoted_line (codes "logon ") j.logon (word_utf8 (codes "logon ") refl) h.logon)))
     (cond_chars j.cond h.cond)) (recovery_chars j.recovery)
 
 job_chars : (net : Net) (j : JobDraft) → IsJobText net j → IsUtf8 (job_text net j)
@@ -159,7 +160,7 @@ stream_chars net s h =
     IsUtf8-append (stream_head net s ++ flat_map (draft_dep_line net) s.deps) (flat_map (job_text net) s.jobs)
     (IsUtf8-append (stream_head net s) (flat_map (draft_dep_line net) s.deps)
     (lined (stream_head net s) (stream_line net s) (stream_line_is net s) head) (deps_chars net s.deps h.deps))
-    (flat_utf8 (IsJobText net) (job_text net) (job_chars net) s.jobs h.jobs)
+    (each_utf8 (IsJobText net) (job_text net) (job_chars net) s.jobs h.jobs)
 
 pub listing_chars : (net : Net) (drafts : List StreamDraft) → IsPrintable net → net_fault net ≡ None
     → AllByRecursion (IsStreamText net) drafts → IsUtf8 (with_next (listing_of net drafts))
@@ -167,5 +168,5 @@ unfolding listing_of
 listing_chars net drafts p none all =
     IsUtf8-append (network_text net ++ codes "$PLAN\n" ++ flat_map (stream_text net) drafts) (codes "$STEPS\nnext\n")
     (IsUtf8-append (network_text net ++ codes "$PLAN\n") (flat_map (stream_text net) drafts)
-    (IsUtf8-append (network_text net) (codes "$PLAN\n") (network_chars net p none) (plain_utf8 (codes "$PLAN\n") refl))
-    (flat_utf8 (IsStreamText net) (stream_text net) (stream_chars net) drafts all)) (plain_utf8 (codes "$STEPS\nnext\n") refl)
+    (IsUtf8-append (network_text net) (codes "$PLAN\n") (network_chars net p none) (word_utf8 (codes "$PLAN\n") refl))
+    (each_utf8 (IsStreamText net) (stream_text net) (stream_chars net) drafts all)) (word_utf8 (codes "$STEPS\nnext\n") refl)

@@ -1,10 +1,8 @@
 -- The listing of drafts is read back.
-use Rattle.std.proofs.Common.{◌≡◌, ◌+◌, ℕ, suc, Bool, true, false, cond, not, List, [], ◌∷◌, ◌++◌, Some, None, Ok, Err}
+use Rattle.std.proofs.Common.{◌≡◌, ◌+◌, ℕ, suc, Bool, true, false, cond, not, List, [], ◌∷◌, ◌++◌, None, Ok, Err}
 use Rattle.std.proofs.Common.{length, refl, ap, sym, ◌∙◌, arith, flat_map, map, append-nil, append_assoc, codes, option_map, length-append, IsUtf8}
-use Rattle.std.specs.Prelude.{nat_lt}
 use Rattle.std.specs.List.{AllByRecursion, list_all, position_or_len, prefix_len}
 use Rattle.std.specs.Option.{option_map_or}
-use Rattle.std.proofs.lemmas.Bool.Decides.{nat_tests}
 use Rattle.std.proofs.lemmas.List.{length-map}
 use Rattle.lemmas.proofs.Booleans.{and_parts}
 use Rattle.lemmas.proofs.Numbers.{suc_not_zero}
@@ -14,6 +12,7 @@ use Rattle.history_laws.proofs.Accepted.{Accepted, Headed, accepted, headed}
 use Rattle.history_laws.proofs.Printed.{end_is, told}
 use Rattle.history_laws.proofs.Sections.{prompt_row, resource_row, station_row}
 use Rattle.history_laws.proofs.Words.{plain_lacks_feed}
+use Rattle.history_laws.proofs.Meant.{no_place}
 use Rattle.model.specs.Types.{JobDraft, Net, Node, StreamDraft}
 use Rattle.network_tree.specs.Faults.{net_fault}
 use Rattle.plan_listing.specs.Listings.{listing_of}
@@ -177,9 +176,6 @@ past_rows (x ∷ rows) r e other =
     ap (λ b. cond (not b) (1 + prefix_len (λ y. not (is_definitions y)) (rows ++ r ∷ [])) 0) (before_definitions x parts.0)
     ∙ ap (λ k. 1 + k) (past_rows rows r parts.1 other) ∙ (let next : 1 + length (rows ++ r ∷ []) ≡ suc (length (rows ++ r ∷ [])) = omega arith in next)
 
-nowhere : (p long : ℕ) → p ≡ long → cond (nat_lt p long) (Some p) None ≡ None
-nowhere p long e = let none : nat_lt p long ≡ false = grind (arith, nat_tests) in ap (λ b. cond b (Some p) None) none
-
 -- rows of the network before a section
 abbrev is_front : Row → Bool
 is_front row.Network = true
@@ -293,7 +289,7 @@ module _ (net : Net) (p : IsPrintable net) (a : Accepted net) (h : Headed net) (
   no_definitions : definitions_line rows ≡ None
   no_definitions =
       ap (λ o. option_map (λ i. i + 1) o)
-      (nowhere (position_or_len is_definitions rows) (length rows)
+      (no_place (position_or_len is_definitions rows) (length rows)
       (ap (position_or_len is_definitions) (rows_split net h.master h.others drafts)
       ∙ past_rows (before_rows net h.master h.others drafts) (row.Step step.Next) (before_are net h.master h.others drafts) refl
       ∙ ap length (sym (rows_split net h.master h.others drafts))))

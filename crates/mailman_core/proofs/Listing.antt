@@ -1,13 +1,14 @@
 -- Feeds of events among which are all that go to a neighbour.
 use Rattle.std.proofs.Common.{◌≡◌, ◌⊎◌, ◌∷◌, ◌∙◌, ◌+◌, ◌<◌, ◌≤◌, [], ℕ, Bool, List, None, Option, Some, ap, append-nil, arith, drop, false, get_or}
-use Rattle.std.proofs.Common.{inl, inr, length, length-append, map, refl, subst, suc, sym, zero}
+use Rattle.std.proofs.Common.{inl, inr, length, length-append, map, refl, subst, sym}
 use Rattle.std.proofs.lemmas.Bool.{lt-ltb}
 use Rattle.std.proofs.lemmas.List.{map-append}
 use Rattle.std.proofs.lemmas.List.Elements.{filter-append}
 use Rattle.std.specs.List.{AllByRecursion, list_all}
 use Rattle.std.specs.Prelude.{◌++◌, IfSome, IsTrue, filter, flat_map, nat_lt, slice_get}
-use Rattle.lemmas.proofs.Lists.{all_append, drop_here, get_in_front, get_last, got_below}
-use Rattle.lemmas.proofs.Options.{some_same}
+use Rattle.lemmas.proofs.Lists.{all_append, drop_here, found_within, get_in_front, get_last, got_below}
+use Rattle.lemmas.proofs.Options.{none_some, some_same}
+use Rattle.lemmas.proofs.Numbers.{below_or_not}
 use Rattle.model_laws.proofs.Numbers.{below_more}
 use Rattle.model.specs.Types.{Events, Feed, Net}
 use Rattle.model.specs.Words.{below}
@@ -52,25 +53,14 @@ pub inside_more : (n : ℕ) (ws : List ℕ) (w : ℕ) → AllByRecursion (λ (u 
 inside_more n ws w all h = all_append (λ (u : ℕ). u < n) ws (w ∷ []) all (h, tt)
 
 -- one row more
-in_front_or_behind : {X : Type 0} (xs : List X) (i : ℕ) → (i < length xs) ⊎ (length xs ≤ i)
-in_front_or_behind xs i = grind arith
-
-within : {X : Type 0} (xs : List X) (i : ℕ) (x : X) → slice_get xs i ≡ Some x → i < length xs
-within [] i x e = cc
-within (y ∷ ys) zero x e = omega arith
-within (y ∷ ys) (suc i) x e = omega (arith, within ys i x e)
-
 last_row : (net : Net) (V : View) (n m : ℕ) (row : Option (List ℕ)) (ws : List ℕ) → IfSome row (IsListed net V n m)
     → row ≡ Some ws → IsListed net V n m ws
-last_row net V n m None ws h e = absurd (none_some ws e)
-  where
-    none_some : (vs : List ℕ) → None ≡ Some vs → ⊥
-    none_some vs c = cc
+last_row net V n m None ws h e = absurd (none_some e)
 last_row net V n m (Some vs) ws h e = subst (IsListed net V n m) (some_same vs ws e) h
 
 pub rows_more : (net : Net) (V : View) (n w : ℕ) (rows : List (Option (List ℕ))) (row : Option (List ℕ))
     → length rows ≡ w → AreListed net V n rows → IfSome row (IsListed net V n w) → AreListed net V n (rows ++ row ∷ [])
-rows_more net V n w rows row count are one m ws e = go (in_front_or_behind rows m)
+rows_more net V n w rows row count are one m ws e = go (below_or_not m (length rows))
   where
     go : ((m < length rows) ⊎ (length rows ≤ m)) → IsListed net V n m ws
     go (inl low) =
@@ -78,7 +68,7 @@ rows_more net V n w rows row count are one m ws e = go (in_front_or_behind rows 
         are m ws (here.1 ∙ sym (get_in_front rows (row ∷ []) m here.0 here.1) ∙ e)
     go (inr high) =
         let last : m ≡ w =
-        omega (arith, high, count, within (rows ++ row ∷ []) m (Some ws) e, length-append rows (row ∷ [])) in
+        omega (arith, high, count, found_within (rows ++ row ∷ []) m (Some ws) e, length-append rows (row ∷ [])) in
         let same : row ≡ Some ws =
         some_same row (Some ws)
         (sym (get_last rows row) ∙ ap (slice_get (rows ++ row ∷ [])) (count ∙ sym last) ∙ e) in

@@ -4,7 +4,8 @@ use Rattle.std.proofs.lemmas.Bool.Decides.{eqb_tells}
 use Rattle.std.proofs.lemmas.List.{append-nil}
 use Rattle.std.specs.Option.{option_to_list}
 use Rattle.std.specs.Prelude.{◌==◌}
-use Rattle.lemmas.proofs.Options.{some_is}
+use Rattle.lemmas.proofs.Options.{none_some, some_is}
+use Rattle.lemmas.proofs.Lists.{same_head, same_tail}
 use Rattle.model.specs.Types.{Entry, Input, Net, Out}
 use Rattle.model.specs.Kept.{HasKept}
 use Rattle.model.specs.Sessions.{restarted}
@@ -80,12 +81,6 @@ minor_shows x w s outs (Event.Kills j n) o h = tt
 minor_shows x w s outs (Event.Replies c) o h = tt
 minor_shows x w s outs (Event.Asks c) o h = tt
 
-same_event : {X : Type 0} {a b : X} {xs ys : List X} → a ∷ xs ≡ b ∷ ys → a ≡ b
-same_event e = cc
-
-same_later : {X : Type 0} {a b : X} {xs ys : List X} → a ∷ xs ≡ b ∷ ys → xs ≡ ys
-same_later e = cc
-
 -- where some quiet steps were made before
 advanced_on : (net : Net) (x y : World) (w : ℕ) (past : Trace) (event : Event) (later : Trace) (end : Option NodeEnd)
     (new old middle : NodeState) → Grows net x y w → y.history ≡ x.history → middle.kept ≡ old.kept
@@ -118,8 +113,8 @@ pub advance : (net : Net) (law : ReadLaw net) (w : ℕ) (event : Event) (later :
 advance net law w event later past node outs trace end new (Story.rests _ _ _ _ _ _ none same) x r written at o links is = cc
 advance net law w event later past node outs trace end new (Story.spent _ _ _ _ _ _ none why) x r written at o links is = cc
 advance net law w event later past node outs trace end new (Story.passes _ _ _ _ _ _ other rest split minor h) x r written at o links is =
-    let same : other ≡ event = same_event (sym split ∙ is) in
-    let behind : rest ≡ later = same_later (sym split ∙ is) in
+    let same : other ≡ event = same_head (sym split ∙ is) in
+    let behind : rest ≡ later = same_tail (sym split ∙ is) in
     let its : IsMinor node outs event = subst (IsMinor node outs) same minor in
     let plain : IsPlain w event = minor_plain w node outs event its in
     Advanced.went x node outs (grows_not net x w) at o
@@ -141,8 +136,8 @@ advance net law w event later past node outs trace end new (Story.quiet _ _ _ _ 
     (subst AreWritten (sym same) written) stands (outs_in net x y w it.origin node input step middle law.few at taken it.moves stands)
     (links_on net x y w w past g links) is)
 advance net law w event later past node outs trace end new (Story.keeps _ _ _ _ _ _ input step middle e rest split came taken some h) x r written at o links is =
-    let same : Event.Keeps e ≡ event = same_event (sym split ∙ is) in
-    let behind : rest ≡ later = same_later (sym split ∙ is) in
+    let same : Event.Keeps e ≡ event = same_head (sym split ∙ is) in
+    let behind : rest ≡ later = same_tail (sym split ∙ is) in
     let it : Took net x w (effect_in step middle) (effect_in step middle) =
     node_takes net x w node middle input step at (came_there x w past input (law.reads x r written) links came) taken in
     let y : World = it.world in
@@ -156,7 +151,7 @@ advance net law w event later past node outs trace end new (Story.keeps _ _ _ _ 
     ∙ ap (λ (l : List Entry). node.kept ++ l) (sym (kept_one w e))) refl tt)
 advance net law w event later past node outs trace end new (Story.refused _ _ _ _ _ _ input step middle e why split ends came taken some) x r written at o links is =
     Advanced.stuck x node middle input step e why (grows_not net x w) at refl refl came taken some
-    (sym (same_event (sym split ∙ is))) (sym (same_later (sym split ∙ is)))
+    (sym (same_head (sym split ∙ is))) (sym (same_tail (sym split ∙ is)))
 
 -- w stops, with this entry left
 pub record Stopped (net : Net) (x : World) (w : ℕ) (left : Option Entry) (old : List Entry) : Type 0 where
@@ -213,9 +208,6 @@ minor_untried s outs (Event.Sends c) h = refl
 minor_untried s outs (Event.Replies c) h = refl
 minor_untried s outs (Event.Asks c) h = refl
 
-pub no_some : {X : Type 0} {a : X} → None ≡ Some a → ⊥
-no_some q = cc
-
 -- where the next event was to keep an entry, it is left by a stop
 pub cut_off : (net : Net) (law : ReadLaw net) (w : ℕ) (e : Entry) (event : Event) (later : Trace) (past : Trace) (node : NodeState) (outs : List Out)
     (trace : Trace) (end : Option NodeEnd) (new : NodeState) → Story past node outs trace end new → (x : World) → IsReached net x
@@ -224,7 +216,7 @@ pub cut_off : (net : Net) (law : ReadLaw net) (w : ℕ) (e : Entry) (event : Eve
 cut_off net law w e event later past node outs trace end new (Story.rests _ _ _ _ _ _ none same) x r written at links is tried = cc
 cut_off net law w e event later past node outs trace end new (Story.spent _ _ _ _ _ _ none why) x r written at links is tried = cc
 cut_off net law w e event later past node outs trace end new (Story.passes _ _ _ _ _ _ other rest split minor h) x r written at links is tried =
-    absurd (no_some (sym (minor_untried node outs event (subst (IsMinor node outs) (same_event (sym split ∙ is)) minor)) ∙ tried))
+    absurd (none_some (sym (minor_untried node outs event (subst (IsMinor node outs) (same_head (sym split ∙ is)) minor)) ∙ tried))
 cut_off net law w e event later past node outs trace end new (Story.quiet _ _ _ _ _ _ input step middle came taken none h) x r written at links is tried =
     let it : Took net x w (effect_in step middle) (effect_in step middle) =
     node_takes net x w node middle input step at (came_there x w past input (law.reads x r written) links came) taken in
@@ -245,8 +237,8 @@ cut_off net law w e event later past node outs trace end new (Story.quiet _ _ _ 
       history_ = s.history_ ∙ ap (λ (G : List Entry). G ++ made (Stops w (Some e) ∷ [])) same;
     }
 cut_off net law w e event later past node outs trace end new (Story.keeps _ _ _ _ _ _ input step middle d rest split came taken some h) x r written at links is tried =
-    let same : d ≡ e = some_is (ap tried_by (same_event (sym split ∙ is)) ∙ tried) in
+    let same : d ≡ e = some_is (ap tried_by (same_head (sym split ∙ is)) ∙ tried) in
     stopped_in net x w node middle input step e law r written past links at came taken (some ∙ ap Some same)
 cut_off net law w e event later past node outs trace end new (Story.refused _ _ _ _ _ _ input step middle d why split ends came taken some) x r written at links is tried =
-    let same : d ≡ e = some_is (ap tried_by (same_event (sym split ∙ is)) ∙ tried) in
+    let same : d ≡ e = some_is (ap tried_by (same_head (sym split ∙ is)) ∙ tried) in
     stopped_in net x w node middle input step e law r written past links at came taken (some ∙ ap Some same)

@@ -3,6 +3,7 @@ use Rattle.std.proofs.Common.{[], ◌++◌, ◌<◌, ◌≤◌, ◌≡◌, ◌�
 use Rattle.std.proofs.lemmas.Bool.Decides.{eqb_tells, leb_tells}
 use Rattle.std.proofs.lemmas.List.{append-nil}
 use Rattle.std.specs.Prelude.{nat_le}
+use Rattle.lemmas.proofs.Options.{none_some}
 use Rattle.composer_parser.specs.declared.Defs.{Defs}
 use Rattle.model.specs.Types.{Entry, Input, Net, Out, Start}
 use Rattle.model.specs.Kept.{HasKept}
@@ -24,7 +25,7 @@ use Rattle.network_runs.specs.Nights.{IsLeftAtStop, IsLife, IsNight, IsSent}
 use Rattle.network_runs.proofs.Worlds.{IsReached, empty_reached, invariant, kept_first}
 use Rattle.network_runs.proofs.Growing.{Grows, NodeIn, grows_not}
 use Rattle.network_runs.proofs.Carrying.{AreWritten, IsCarried, Links, OutsIn, ReadLaw, carried_on, outs_none, outs_on}
-use Rattle.network_runs.proofs.Advancing.{Advanced, Shows, Stopped, advance, cut_off, no_some, stopped_in, stopped_plain}
+use Rattle.network_runs.proofs.Advancing.{Advanced, Shows, Stopped, advance, cut_off, stopped_in, stopped_plain}
 use Rattle.network_runs.proofs.Members.{IsIn, in_either, in_of}
 use Rattle.network_runs.proofs.Counting.{kept_next, kept_other, left_other, left_stops, made_next, place_of, refusals_next, since_begins}
 use Rattle.network_runs.proofs.Counting.{since_does, since_other, since_stops, started_next, until_does, until_other, until_stops}
@@ -128,7 +129,7 @@ no_started : (w : ℕ) (left : Option Entry) (s : Start) (P : Type 0) → IsIn s
 no_started w left s P h = absurd h
 
 clash_none : {X : Type 0} {a : X} {o : Option X} → o ≡ None → o ≡ Some a → ⊥
-clash_none none some = no_some (sym none ∙ some)
+clash_none none some = none_some (sym none ∙ some)
 
 -- what was heard was sent
 links_of : (defs : Defs) (night before behind : Night) (x : World) (w : ℕ) (past : Trace) → IsNight defs night
@@ -151,7 +152,7 @@ pub record Next (net : Net) (before behind : Night) (h : Happening) : Type 0 whe
   pub stands : Stands net world (before ++ h ∷ []) behind
 
 pub not_up : {X : Type 0} {a : X} {o : Option X} {P : Type 0} → o ≡ None → o ≡ Some a → P
-not_up none some = absurd (no_some (sym none ∙ some))
+not_up none some = absurd (none_some (sym none ∙ some))
 
 -- a workstation begins
 begins_on : (defs : Defs) (night before behind : Night) (w : ℕ) (entries : List Entry) (x : World) → IsNight defs night

@@ -4,6 +4,7 @@ use Rattle.std.proofs.Common.{subst, suc, sym, take, zero}
 use Rattle.std.proofs.lemmas.Option.{slice_get-map}
 use Rattle.std.specs.Prelude.{slice_get}
 use Rattle.lemmas.proofs.Options.{map_some, some_same}
+use Rattle.lemmas.proofs.Numbers.{below_or_not}
 use Rattle.base_types.specs.declared.NodePart.{NodePart}
 use Rattle.model.specs.Types.{Events, Feed, Net}
 use Rattle.model.specs.Words.{below, numbers_from}
@@ -13,7 +14,6 @@ use Rattle.model.specs.Invariant.{Invariant}
 use Rattle.model.specs.Locality.{SameEvents}
 use Rattle.model.specs.World as model
 use Rattle.model.specs.World.{view_at}
-use Rattle.rest_laws.proofs.Gains.{either}
 use Rattle.rest_laws.proofs.Shown.{outside_none}
 use Rattle.agent_core.specs.Nodes.{NodeState}
 use Rattle.symphony_view.specs.Listings.{listing_of}
@@ -25,7 +25,7 @@ use Rattle.network_world.proofs.Showing.{held_count}
 pub alike : (net : Net) (x : model.World) (a b : ℕ) → Invariant net x → HoldAsMany net x a b
     → SameEvents (view_at x a) (view_at x b)
 alike net x a b inv same w =
-    ap (λ (n : ℕ). take n (list_of x.history (Events w))) (go (either w (node_count net)))
+    ap (λ (n : ℕ). take n (list_of x.history (Events w))) (go (below_or_not w (node_count net)))
   where
     go : ((w < node_count net) ⊎ (node_count net ≤ w)) → x.holdings a (Events w) ≡ x.holdings b (Events w)
     go (inl low) = same w low
@@ -40,7 +40,7 @@ pub one_more : (net : Net) (x : model.World) (a b v : ℕ) (one other : NodeStat
     → length (list_of one.kept (Events v)) ≡ length (list_of other.kept (Events v))
     → ((w : ℕ) → w < v → x.holdings a (Events w) ≡ x.holdings b (Events w)) → (w : ℕ) → w < v + 1
     → x.holdings a (Events w) ≡ x.holdings b (Events w)
-one_more net x a b v one other within first second here below w h = go (either w v)
+one_more net x a b v one other within first second here below w h = go (below_or_not w v)
   where
     go : ((w < v) ⊎ (v ≤ w)) → x.holdings a (Events w) ≡ x.holdings b (Events w)
     go (inl low) = below w low

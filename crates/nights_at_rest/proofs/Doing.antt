@@ -246,7 +246,7 @@ pub record PassedIn (input : Input) (old : NodeState) (trace : Trace) (new : Nod
   pub over : PassedOver input old new
   pub silent : trace ≡ []
 
-silently : (f : StepFault) (old : NodeState) (trace : Trace) (new : NodeState) → PassOver f old trace None new → trace ≡ []
+pub silently : (f : StepFault) (old : NodeState) (trace : Trace) (new : NodeState) → PassOver f old trace None new → trace ≡ []
 silently fault.NotInNetwork old trace new h = h.0
 silently fault.NotNeighbour old trace new h = h.0
 silently fault.NotMaster old trace new h = h.0

@@ -3,6 +3,7 @@ use Rattle.std.proofs.Common.{◌≡◌, ℕ, zero, suc, ◌+◌, ◌*◌, ◌<�
 use Rattle.std.proofs.Common.{refl, arith}
 use Rattle.std.specs.List.{AllByRecursion}
 use Rattle.lemmas.proofs.Lists.{all_append}
+use Rattle.lemmas.proofs.Numbers.{below_or_not}
 use Rattle.model.specs.Types.{Feed, Net, WorldStep}
 use Rattle.model.specs.Words.{below}
 use Rattle.model.specs.Network.{IsTree, node_count}
@@ -16,7 +17,7 @@ use Rattle.rest_laws.specs.Rounds.{AreTaken, BringsNoMore, is_of_round}
 use Rattle.rest_laws.proofs.Bounds.{covered, most_is, times_low}
 use Rattle.rest_laws.proofs.Busy.{gained_more}
 use Rattle.rest_laws.proofs.Done as works
-use Rattle.rest_laws.proofs.Gains.{Outside, at_most, either, feed_or_none, kept_run, outside_run, sum_over_low}
+use Rattle.rest_laws.proofs.Gains.{Outside, at_most, feed_or_none, kept_run, outside_run, sum_over_low}
 use Rattle.rest_laws.proofs.Lefts.{Keeps, steps_keep}
 use Rattle.rest_laws.proofs.Quiets.{IsFeed, below_holds, feeds_hold}
 use Rattle.rest_laws.proofs.Rises.{Rises, run_rises}
@@ -57,7 +58,7 @@ no_gain net x y inv rises out low = record { held = held; acked = acked }
         w_in
 
     held : (w : ℕ) (f : Feed) → y.holdings w f ≤ x.holdings w f
-    held w f = go (either w (node_count net)) (feed_or_none net y inv f)
+    held w f = go (below_or_not w (node_count net)) (feed_or_none net y inv f)
       where
         go : ((w < node_count net) ⊎ (node_count net ≤ w)) → (IsFeed net f ⊎ (count_of y f ≡ 0))
             → y.holdings w f ≤ x.holdings w f
@@ -72,7 +73,7 @@ no_gain net x y inv rises out low = record { held = held; acked = acked }
             )
 
     acked : (w m : ℕ) (f : Feed) → (y.sessions w).acked m f ≤ (x.sessions w).acked m f
-    acked w m f = go (either w (node_count net)) (either m (node_count net)) (feed_or_none net y inv f)
+    acked w m f = go (below_or_not w (node_count net)) (below_or_not m (node_count net)) (feed_or_none net y inv f)
       where
         go : ((w < node_count net) ⊎ (node_count net ≤ w)) → ((m < node_count net) ⊎ (node_count net ≤ m))
             → (IsFeed net f ⊎ (count_of y f ≡ 0)) → (y.sessions w).acked m f ≤ (x.sessions w).acked m f
@@ -111,7 +112,7 @@ module _ (net : Net) (reads : ℕ → ℕ) (x y : World) (r : IsFrameRound net r
   rises_of = run_rises net steps_of x y each_of taken_of
 
   pub round_gains : IsTree net → Invariant net x → (gained net x < gained net y) ⊎ IsAtRest net reads x
-  round_gains tree inv = go (either (gained net x) (gained net y))
+  round_gains tree inv = go (below_or_not (gained net x) (gained net y))
     where
       go : ((gained net x < gained net y) ⊎ (gained net y ≤ gained net x))
           → (gained net x < gained net y) ⊎ IsAtRest net reads x

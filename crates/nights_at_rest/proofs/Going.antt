@@ -131,7 +131,7 @@ in_pass w a event [] h = absurd h
 in_pass w a event (e ∷ trace) (inl q) = (same_place q, inl (same_event q))
 in_pass w a event (e ∷ trace) (inr k) = let it = in_pass w a event trace k in (it.0, inr it.1)
 
-pass_has : (w : ℕ) (event : Event) (trace : Trace) → IsIn event trace → IsIn (Does w event) (map (Does w) trace)
+pub pass_has : (w : ℕ) (event : Event) (trace : Trace) → IsIn event trace → IsIn (Does w event) (map (Does w) trace)
 pass_has w event [] h = absurd h
 pass_has w event (e ∷ trace) (inl q) = inl (ap (Does w) q)
 pass_has w event (e ∷ trace) (inr k) = inr (pass_has w event trace k)
@@ -211,7 +211,7 @@ module _ (defs : Defs) (tree : IsTree (net_of defs)) (few : node_count (net_of d
     history =
         stays.history_ ∙ parts_same at.history_ (sym (made_is p.ws p.trace)) ∙ sym (made_on night part)
 
-    stands_next : StandsAt defs (night ++ part) new y
+    pub stands_next : StandsAt defs (night ++ part) new y
     stands_next = record {
       reached = stays.grows.reached at.reached;
       history_ = history;
@@ -226,7 +226,7 @@ module _ (defs : Defs) (tree : IsTree (net_of defs)) (few : node_count (net_of d
     }
 
   -- what is heard in it was sent
-  heard_sent : (night : Night) (p : Pass) (old new : Nodes) (x : World) → StandsAt defs night old x
+  pub heard_sent : (night : Night) (p : Pass) (old new : Nodes) (x : World) → StandsAt defs night old x
       → (h : Passes defs night p old new) → (a : ℕ) (f : Frame) → HearsFrom (old p.ws) h.after a f → IsForNodes f
       → (g : Frame) × IsCarried x a p.ws g × (frame_bytes f ≡ frame_bytes g)
   heard_sent night p old new x at h a f hears for =

@@ -193,7 +193,7 @@ record StepWay (net : Net) (reads : ℕ → ℕ) (w : ℕ) (x y : World) (old ne
 -- the step of an input that is taken is a way
 module _ (net : Net) (tree : IsTree net) (few : node_count net ≤ 65536) (reads : ℕ → ℕ) (w : ℕ) (x : World)
     (r : IsReached net x) (old : NodeState) (at : NodeStandsFor net x w old) where
-  node_effect_is : (i : Input) (step_ : Step) (new : NodeState) → IsTaken old i step_ new
+  pub node_effect_is : (i : Input) (step_ : Step) (new : NodeState) → IsTaken old i step_ new
       → node_step net w (view_at x w) (x.sessions w) i ≡ Ok (effect_in step_ new)
   node_effect_is i step_ new taken = sym (at_node net x w old i (node_in net x w old at)) ∙ taken.effect
 

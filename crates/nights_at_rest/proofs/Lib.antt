@@ -1,17 +1,17 @@
-mod Arriving
-mod Beginning
-mod Coming
-mod Doing
-mod Few
-mod Going
-mod Hearing
-mod Meeting
-mod Passing
-mod Playing
-mod Posts
-mod Standing
-mod Staying
-mod StillParts
-mod Taken
-mod Waiting
-mod Ways
+pub mod Arriving
+pub mod Beginning
+pub mod Coming
+pub mod Doing
+pub mod Few
+pub mod Going
+pub mod Hearing
+pub mod Meeting
+pub mod Passing
+pub mod Playing
+pub mod Posts
+pub mod Standing
+pub mod Staying
+pub mod StillParts
+pub mod Taken
+pub mod Waiting
+pub mod Ways

@@ -221,7 +221,7 @@ module _ (defs : Defs) (tree : IsTree (net_of defs)) (few : node_count (net_of d
     stands_behind = three.at
 
   -- a night at rest
-  rests_by : (night : Night) (nodes : Nodes) (x : World) → StandsAt defs night nodes x
+  pub rests_by : (night : Night) (nodes : Nodes) (x : World) → StandsAt defs night nodes x
       → IsAtRest (net_of defs) reads x × HasDoneItsWork (net_of defs) reads x → RestsBy defs reads night nodes
   rests_by night nodes x at rest = (
     x,

@@ -108,7 +108,7 @@ probing_quiet w old trace new each h = go (next_probe (view_in old.node) old.nod
     go (Some place) k = looks_quiet w place old trace new each k
 
 -- the node types no advice
-typed_own : (net : Net) (me : ℕ) (V : View) (s : Session) (to : ℕ) (c : Cmd) (d : Effect)
+pub typed_own : (net : Net) (me : ℕ) (V : View) (s : Session) (to : ℕ) (c : Cmd) (d : Effect)
     → node_step net me V s (Input.Local (Typed to c)) ≡ Ok d → (e : Entry) × (d.made ≡ Some e) × (e.feed ≡ Orders me to)
 unfolding node_step effect makes own_entry
 typed_own net me V s to c d e = go (step_fault (present_net net V) me V s (Input.Local (Typed to c))) e

@@ -106,7 +106,7 @@ module _ (s : WorldState) (x y : World) (st : WorldStep) (stands : StandsFor s x
   only_limits (Step fault.NoMemory) due = absurd due
 
 -- the same world, but for what it counts
-abbrev Alike : World → World → Type 0
+abbrev pub Alike : World → World → Type 0
 Alike z y = recounted z ≡ recounted y
 
 -- steps from such a world lead to such a world
@@ -157,10 +157,10 @@ chain net (st ∷ steps) s t x e stands h =
       };
     }
 
-same_packets : (z y : World) → Alike z y → (a b : ℕ) → next_packet z a b ≡ next_packet y a b
+pub same_packets : (z y : World) → Alike z y → (a b : ℕ) → next_packet z a b ≡ next_packet y a b
 same_packets z y alike a b = ap (λ (w : World). next_packet w a b) alike
 
-same_gained : (net : Net) (z y : World) → Alike z y → gained net z ≡ gained net y
+pub same_gained : (net : Net) (z y : World) → Alike z y → gained net z ≡ gained net y
 unfolding gained
 same_gained net z y alike = ap (gained net) alike
 

@@ -65,7 +65,7 @@ way_stays net reads w x y old new trace g =
     record { grows = g.grows; here = g.here; history_ = g.history_; disk = g.disk; sent_ = g.sent_ }
 
 module _ (net : Net) (w : ℕ) where
-  stays_plain : (x : World) (node : NodeState) (trace : Trace) → NodeStandsFor net x w node → Outputs node [] trace
+  pub stays_plain : (x : World) (node : NodeState) (trace : Trace) → NodeStandsFor net x w node → Outputs node [] trace
       → Stays net w x x node node trace
   stays_plain x node trace at out = record {
     grows = grows_not net x w;
@@ -75,7 +75,7 @@ module _ (net : Net) (w : ℕ) where
     sent_ = λ call k. absurd ((out.sends.only call k).given);
   }
 
-  stays_on : (x y z : World) (a b c : NodeState) (front back : Trace) → Stays net w x y a b front → Stays net w y z b c back
+  pub stays_on : (x y z : World) (a b c : NodeState) (front back : Trace) → Stays net w x y a b front → Stays net w y z b c back
       → Stays net w x z a c (front ++ back)
   stays_on x y z a b c front back g h = record {
     grows = grows_on net x y z w g.grows h.grows;
@@ -132,7 +132,7 @@ module _ (x : World) (a : ℕ) where
           ∙ nth_front (list_of x.history f) (list_of more f) k b is) ∙ h
 
 -- outputs keep nothing
-outputs_keep_none : (node : NodeState) (outs : List Out) (trace : Trace) → AllByRecursion (IsOutput node outs) trace → kept trace ≡ []
+pub outputs_keep_none : (node : NodeState) (outs : List Out) (trace : Trace) → AllByRecursion (IsOutput node outs) trace → kept trace ≡ []
 outputs_keep_none node outs [] h = refl
 outputs_keep_none node outs (Event.Keeps e ∷ trace) h = absurd h.0.0
 outputs_keep_none node outs (Event.Refuses e why ∷ trace) h = absurd h.0.0
@@ -146,24 +146,24 @@ outputs_keep_none node outs (Event.Sends c ∷ trace) h = outputs_keep_none node
 outputs_keep_none node outs (Event.Replies c ∷ trace) h = outputs_keep_none node outs trace h.1
 outputs_keep_none node outs (Event.Asks c ∷ trace) h = outputs_keep_none node outs trace h.1
 
-is_output : (node : NodeState) (outs : List Out) (trace : Trace) (event : Event) → AllByRecursion (IsOutput node outs) trace
+pub is_output : (node : NodeState) (outs : List Out) (trace : Trace) (event : Event) → AllByRecursion (IsOutput node outs) trace
     → IsIn event trace → IsOutput node outs event
 is_output node outs [] event h k = absurd k
 is_output node outs (e ∷ trace) event h (inl q) = subst (IsOutput node outs) q h.0
 is_output node outs (e ∷ trace) event h (inr k) = is_output node outs trace event h.1 k
 
-no_reply : (c : Replied) (call : Sent) → Event.Replies c ≡ Event.Sends call → ⊥
+pub no_reply : (c : Replied) (call : Sent) → Event.Replies c ≡ Event.Sends call → ⊥
 no_reply c call q = cc
 
 -- at one workstation, from this world on
 module _ (net : Net) (tree : IsTree net) (few : node_count net ≤ 65536) (w : ℕ) (first : World) where
   -- an input of the node itself, or one that a packet brings that is there
-  abbrev CameAt : Input → Type 0
+  abbrev pub CameAt : Input → Type 0
   CameAt (Input.Local l) = Unit {0}
   CameAt (Input.Mail a e) = (q : Packet) × IsIn q (first.packets a w) × (packet_input first a q ≡ Some (Input.Mail a e))
   CameAt (Input.Ack a f n) = (q : Packet) × IsIn q (first.packets a w) × (packet_input first a q ≡ Some (Input.Ack a f n))
 
-  came_at : (a : ℕ) (q : Packet) (i : Input) → IsIn q (first.packets a w) → packet_input first a q ≡ Some i → CameAt i
+  pub came_at : (a : ℕ) (q : Packet) (i : Input) → IsIn q (first.packets a w) → packet_input first a q ≡ Some i → CameAt i
   unfolding sender
   came_at a q (Input.Local l) k h = tt
   came_at a q (Input.Mail b e) k h =
@@ -187,7 +187,7 @@ module _ (net : Net) (tree : IsTree net) (few : node_count net ≤ 65536) (w : �
         ap (λ (o : Option Packet). option_map_or (packet_input x a) o None) place.1 ∙ input_stays first a x g.more q i g.history_ h,
       )
 
-  there_at : (x : World) → Grows net first x w → (i : Input) → CameAt i → IsThere x w i
+  pub there_at : (x : World) → Grows net first x w → (i : Input) → CameAt i → IsThere x w i
   there_at x g (Input.Local l) c = tt
   there_at x g (Input.Mail a e) c = brought x g a (Input.Mail a e) c.0 c.1 c.2
   there_at x g (Input.Ack a f n) c = brought x g a (Input.Ack a f n) c.0 c.1 c.2

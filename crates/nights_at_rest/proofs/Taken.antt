@@ -29,7 +29,7 @@ pub record Stepped (net : Net) (x y : World) (w : ℕ) (s : WorldStep) (o : Orig
 
 -- the step of a fault that is not there has that effect
 module _ (net : Net) (x : World) (w : ℕ) (i : Input) (d : Effect) (e : node_step net w (view_at x w) (x.sessions w) i ≡ Ok d) where
-  its_fault : (step_fault (here net x w) w (view_at x w) (x.sessions w) i ≡ None) × (step_of net x w i ≡ d)
+  pub its_fault : (step_fault (here net x w) w (view_at x w) (x.sessions w) i ≡ None) × (step_of net x w i ≡ d)
   unfolding node_step
   its_fault = go (step_fault (here net x w) w (view_at x w) (x.sessions w) i) refl e
     where
@@ -39,7 +39,7 @@ module _ (net : Net) (x : World) (w : ℕ) (i : Input) (d : Effect) (e : node_st
       go None none same = (none, same_done (step_of net x w i) d same)
       go (Some f) none same = cc
 
-  its_effect : node_effect net (recounted x) w (Some i) ≡ Ok d
+  pub its_effect : node_effect net (recounted x) w (Some i) ≡ Ok d
   unfolding node_effect
   its_effect = rw (nothing_reached x, e) refl
 
@@ -79,7 +79,7 @@ module _ (net : Net) (x y : World) (s : WorldStep) (w : ℕ) (o : Origin) (d : E
   sent_to b p (Out.Kill j n ∷ outs) (inl e) = cc
   sent_to b p (Out.Kill j n ∷ outs) (inr h) = sent_to b p outs h
 
-  moved : Moves net x y w o d
+  pub moved : Moves net x y w o d
   unfolding free_step
   moved = record {
     reached = λ r. reached_next net x y s r taken;

@@ -102,7 +102,7 @@ own_of w es = filter_map of_its_maker (map (pair_of w) es)
 
 -- what a trace of w keeps, in a night
 module _ (w : ℕ) where
-  kept_pairs : (trace : Trace) → filter_map kept_in (map (Does w) trace) ≡ map (pair_of w) (kept trace)
+  pub kept_pairs : (trace : Trace) → filter_map kept_in (map (Does w) trace) ≡ map (pair_of w) (kept trace)
   kept_pairs [] = refl
   kept_pairs (event ∷ trace) = go (kept_by event) refl (kept_pairs trace)
     where

@@ -1,7 +1,6 @@
 -- What an answer of a call on one input says of a stretch of a run.
 use Rattle.std.proofs.Common.{[], ◌++◌, ◌≡◌, ◌≢◌, ◌∙◌, ℕ, Bool, Err, List, None, Ok, Option, Result, Some, ap, inl, inr, refl, subst, sym}
 use Rattle.std.proofs.lemmas.List.{append-nil}
-use Rattle.std.specs.Prelude.{OnOk}
 use Rattle.model.specs.Types.{Entry, Input, Out}
 use Rattle.agent_core.specs.Nodes.{NodeState}
 use Rattle.agent_core.specs.Steps.{IsTaken}
@@ -30,10 +29,6 @@ pub then_nothing : {S : Type 0} (act : Action S) (old : S) (trace : Trace) (end 
 then_nothing act old trace None new h =
     inl (record { front = trace; back = []; middle = new; split = sym (append-nil trace); begins = h; goes_on = (refl, refl, refl) })
 then_nothing act old trace (Some why) new h = inr (record { why = why; for_that_cause = refl; ends = h })
-
-pub on_ok : {A E : Type 0} {P : Type 0} (r : Result A E) → P → OnOk r P
-on_ok (Ok a) p = p
-on_ok (Err e) p = tt
 
 -- a fault that the run goes on with
 pub passed_over : (f : StepFault) (old : NodeState) (trace : Trace) (end : Option NodeEnd) (new : NodeState)

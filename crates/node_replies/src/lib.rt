@@ -9,5 +9,6 @@ mod patterns;
 mod picks;
 mod replies;
 
+pub use patterns::matches;
 pub use picks::{Shows, shown};
 pub use replies::{Refusal, kept, link_asked, planned, refused, shutdown, unlink_asked};

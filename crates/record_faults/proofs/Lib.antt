@@ -6,3 +6,4 @@ pub mod Kept
 pub mod RowsAbove
 pub mod SameFaults
 pub mod Walks
+pub mod NamedRows

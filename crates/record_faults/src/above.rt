@@ -125,8 +125,8 @@ impl<'a> Above<'a> {
         }
     }
 
-    /// Takes the row, so that it stands above. The only error is that memory ran out; the value is of no use then.
-    pub(crate) fn note(&mut self, alloc: Global, row: &'a Row) -> Result<(), NoMemory>
+    /// Takes the row with what it defines, so that it stands above.
+    fn note_all(&mut self, alloc: Global, row: &'a Row) -> Result<(), NoMemory>
         requires { self.old.rows < 2 ^ 64 - 1 }
         ensures { OnOk result (IsNoted self.old row.now self.new) }
     {
@@ -139,6 +139,20 @@ impl<'a> Above<'a> {
         self.ws = ws_behind(self.ws, row);
         self.counts = self.counts.with(row);
         Ok(())
+    }
+
+    /// Takes the row, so that it stands above. The only error is that memory ran out; the value is of no use then. A step
+    /// defines nothing, and most rows of a long record are steps.
+    #[tactic(auto, using(lemmas::proofs::Booleans::or_false))]
+    pub(crate) fn note(&mut self, alloc: Global, row: &'a Row) -> Result<(), NoMemory>
+        requires { self.old.rows < 2 ^ 64 - 1 }
+        ensures { OnOk result (IsNoted self.old row.now self.new) }
+    {
+        if let Row::Step(_) = row {
+            self.counts = self.counts.with(row);
+            return Ok(());
+        }
+        self.note_all(alloc, row)
     }
 
     /// The workstation of the last object.

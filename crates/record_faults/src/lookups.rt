@@ -1,14 +1,14 @@
 //! What a record names: its workstations, its resources, its prompts, and the jobs of a stream.
 ghost use Rattle.std.specs.Prelude.{◌≡◌, ℕ, List, IfOk, option_map};
 ghost use Rattle.record_faults.specs.Known as known;
-ghost use Rattle.record_faults.specs.Known.{Key, has_key, has_name};
+ghost use Rattle.record_faults.specs.Known.{has_name};
 ghost use Rattle.record_faults.specs.Faults as spec;
 ghost use Rattle.record_faults.specs.Noted.{IsSameNamed};
 
 use crate::keys::Keys;
 use crate::names::Names;
 use crate::picks::{begins_stream, job_of, prompt_of, resource_of};
-use crate::stations::{Found, stations, unlinked};
+use crate::stations::{Found, add_station, unlinked};
 use base_types::{NoMemory, Text};
 use record_rows::{DepRow, Row};
 use std::alloc::Global;
@@ -39,28 +39,6 @@ impl<'a> Model for Named<'a> {
     ghost view = { λ n. record { stations = n.stations.items; resources = n.resources; prompts = n.prompts } };
 }
 
-/// The resources that rows define.
-fn resources<'a>(alloc: Global, rows: &'a [Row]) -> Result<Keys<'a>, NoMemory>
-    ensures { IfOk result (λ keys. (k : Key) → has_key keys k ≡ has_key (known.resources rows.now) k) }
-{
-    let mut keys = Keys::new(alloc);
-    for row in rows {
-        keys.note(resource_of(row))?;
-    }
-    Ok(keys)
-}
-
-/// The prompts that rows define.
-fn prompts<'a>(alloc: Global, rows: &'a [Row]) -> Result<Names<'a>, NoMemory>
-    ensures { IfOk result (λ names. (n : List ℕ) → has_name names n ≡ has_name (known.prompts rows.now) n) }
-{
-    let mut names = Names::new(alloc);
-    for row in rows {
-        names.note(prompt_of(row))?;
-    }
-    Ok(names)
-}
-
 /// The jobs before the next stream or section.
 pub(crate) fn jobs_ahead<'a>(alloc: Global, rows: &'a [Row]) -> Result<Names<'a>, NoMemory>
     ensures { IfOk result (λ names. (n : List ℕ) →
@@ -77,13 +55,18 @@ pub(crate) fn jobs_ahead<'a>(alloc: Global, rows: &'a [Row]) -> Result<Names<'a>
 }
 
 impl<'a> Named<'a> {
-    /// What the rows of a record with a network name. The only error is that memory ran out.
+    /// What the rows of a record with a network name, in one pass over them. The only error is that memory ran out.
     pub fn of_rows(alloc: Global, rows: &'a [Row]) -> Result<Named<'a>, NoMemory>
         ensures { IfOk result (λ n. IsSameNamed n (known.named_in rows.now)) }
     {
-        let stations = stations(alloc, rows)?;
-        let resources = resources(alloc, rows)?;
-        let prompts = prompts(alloc, rows)?;
+        let mut stations = Vec::new(alloc);
+        let mut resources = Keys::new(alloc);
+        let mut prompts = Names::new(alloc);
+        for row in rows {
+            add_station(&mut stations, row)?;
+            resources.note(resource_of(row))?;
+            prompts.note(prompt_of(row))?;
+        }
         Ok(Named {
             stations,
             resources,

@@ -1,5 +1,6 @@
 //! The workstations that rows define.
-ghost use Rattle.std.specs.Prelude.{◌≡◌, IfOk, map, option_map};
+ghost use Rattle.std.specs.Prelude.{◌≡◌, ◌++◌, [], IfOk, OnOk, map, option_map};
+ghost use Rattle.std.specs.List.{cons_option};
 ghost use Rattle.std.specs.Option.{option_copied};
 ghost use Rattle.record_faults.specs.Known as spec;
 
@@ -53,17 +54,14 @@ fn station_of<'a>(row: &'a Row) -> Option<Found<'a>>
     }
 }
 
-/// The workstations that rows define, in order.
-pub(crate) fn stations<'a>(alloc: Global, rows: &'a [Row]) -> Result<Vec<Found<'a>>, NoMemory>
-    ensures { IfOk result (λ v. v.items ≡ spec.stations rows.now) }
+/// Puts the workstation that a row defines behind others.
+pub(crate) fn add_station<'a>(all: &mut Vec<Found<'a>>, row: &'a Row) -> Result<(), NoMemory>
+    ensures { OnOk result (all.new.items ≡ all.old.items ++ cons_option (spec.station_of row.now) []) }
 {
-    let mut all = Vec::new(alloc);
-    for row in rows {
-        if let Some(found) = station_of(row) {
-            all.push(found)?;
-        }
+    match station_of(row) {
+        Some(found) => Ok(all.push(found)?),
+        None => Ok(()),
     }
-    Ok(all)
 }
 
 /// Workstations with these names, of whose hops nothing is known.

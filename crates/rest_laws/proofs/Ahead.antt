@@ -1,48 +1,30 @@
 -- What can still come to the catalogue never grows by a turn, and what is there has numbers below it.
-use Rattle.std.proofs.Common.{◌≡◌, ℕ, zero, suc, ◌+◌, ◌-◌, ◌<◌, ◌≤◌, Bool, true, false}
-use Rattle.std.proofs.Common.{List, [], ◌∷◌, ◌++◌, length, map, drop, refl, ap, sym, subst, arith, Option, Some, None, cond}
+use Rattle.std.proofs.Common.{◌≡◌, ℕ, zero, suc, ◌+◌, ◌-◌, ◌<◌, ◌≤◌, true}
+use Rattle.std.proofs.Common.{List, [], ◌∷◌, ◌++◌, length, map, drop, refl, ap, sym, subst, arith, Option, Some, None}
 use Rattle.std.proofs.Common.{length-append}
 use Rattle.std.proofs.lemmas.Bool.{eq-eqb, eqb-true}
 use Rattle.std.proofs.lemmas.Grind.{flat_map-append}
 use Rattle.std.specs.List.{AllByRecursion, enumerate_from}
 use Rattle.std.specs.Prelude.{eqb, flat_map, option_map, slice_get}
-use Rattle.lemmas.proofs.Lists.{all_append, all_such}
+use Rattle.lemmas.proofs.Lists.{all_such, flat_all, found_within}
 use Rattle.model.specs.Types.{Added, Body, Events, Job, Obj, Order, Stream}
 use Rattle.model.specs.Types.{StreamDoc, StreamDraft, Submit}
-use Rattle.model.specs.Words.{below, firsts, has, numbers_from}
+use Rattle.model.specs.Words.{below, numbers_from}
 use Rattle.model.specs.History.{View}
 use Rattle.model.specs.Catalogue.{StreamJob, catalogue, docs_in, job, jobs, jobs_in, owner, stream}
-use Rattle.model.specs.Facts.{answered, answers_to}
+use Rattle.model.specs.Facts.{answered}
 use Rattle.model.specs.NewPlan.{last_job, numbered}
 use Rattle.model.specs.Invariant.{IsNumbered, docs_of, jobs_of_docs}
 use Rattle.model_laws.proofs.Lists.{all_flat}
 use Rattle.model_laws.proofs.Options.{find_passes, there_if}
 use Rattle.model_laws.proofs.Answered.{answered-append}
-use Rattle.model_laws.proofs.Inside.{find_all}
+use Rattle.model_laws.proofs.Inside.{find_all, firsts_all}
 use Rattle.model_laws.proofs.Numbers.{map-length}
 use Rattle.rest_laws.specs.Gains.{sum_over}
 use Rattle.rest_laws.specs.Left.{Caps, drafted, is_below}
 use Rattle.rest_laws.proofs.Gains.{sum_over_low}
-use Rattle.rest_laws.proofs.Falls.{sum_over_falls}
+use Rattle.rest_laws.proofs.Falls.{answered_one, sum_over_falls}
 use Rattle.rest_laws.proofs.Quiets.{map_holds}
-
--- words
-all_firsts : {X : Type 0} (P : X → Type 0) (number : X → ℕ) (known : List ℕ) (xs : List X) → AllByRecursion P xs
-    → AllByRecursion P (firsts number known xs)
-all_firsts P number known [] h = tt
-all_firsts {X} P number known (x ∷ xs) h =
-    go (has known (number x)) (all_firsts P number known xs h.1) (all_firsts P number (number x ∷ known) xs h.1)
-  where
-    go : (b : Bool) → AllByRecursion P (firsts number known xs)
-        → AllByRecursion P (firsts number (number x ∷ known) xs)
-        → AllByRecursion P (cond b (firsts number known xs) (x ∷ firsts number (number x ∷ known) xs))
-    go true k l = k
-    go false k l = (h.0, l)
-
-pub flat_all : {A B : Type 0} (P : B → Type 0) (f : A → List B) (xs : List A)
-    → AllByRecursion (λ a. AllByRecursion P (f a)) xs → AllByRecursion P (flat_map f xs)
-flat_all P f [] h = tt
-flat_all P f (x ∷ xs) h = all_append P (f x) (flat_map f xs) h.0 (flat_all P f xs h.1)
 
 pub low_numbers : (a n : ℕ) → AllByRecursion (λ m. m < a + n) (numbers_from a n)
 low_numbers a zero = tt
@@ -67,7 +49,7 @@ module _ (V : View) (h : IsNumbered (V (Events 0))) where
       let low : d.no < 1 + length (docs_of (V (Events 0))) =
       there_if (λ (d : StreamDoc). d.no < 1 + length (docs_of (V (Events 0)))) _ d
       (find_all (λ (d : StreamDoc). d.no < 1 + length (docs_of (V (Events 0)))) (λ (d : StreamDoc). eqb d.no s) _
-      (all_firsts (λ (d : StreamDoc). d.no < 1 + length (docs_of (V (Events 0)))) (λ (d : StreamDoc). d.no) []
+      (firsts_all (λ (d : StreamDoc). d.no < 1 + length (docs_of (V (Events 0)))) (λ (d : StreamDoc). d.no) []
       (docs_of (V (Events 0))) (numbered_low (λ (d : StreamDoc). d.no) (docs_of (V (Events 0))) h.streams))) e in
       let same : d.no ≡ s =
       eqb-true d.no s (there_if (λ (d : StreamDoc). eqb d.no s ≡ true) _ d (find_passes _ (catalogue V)) e) in
@@ -82,9 +64,9 @@ module _ (V : View) (h : IsNumbered (V (Events 0))) where
       let low : p.doc.no < 1 + length (jobs_of_docs (V (Events 0))) =
       there_if Low _ p
       (find_all Low (λ (p : StreamJob). eqb p.doc.no j) _
-      (all_firsts Low (λ (p : StreamJob). p.doc.no) [] (flat_map jobs_in (catalogue V))
+      (firsts_all Low (λ (p : StreamJob). p.doc.no) [] (flat_map jobs_in (catalogue V))
       (flat_all Low jobs_in (catalogue V)
-      (all_firsts (λ (d : StreamDoc). AllByRecursion Low (jobs_in d)) (λ (d : StreamDoc). d.no) [] (docs_of (V (Events 0)))
+      (firsts_all (λ (d : StreamDoc). AllByRecursion Low (jobs_in d)) (λ (d : StreamDoc). d.no) [] (docs_of (V (Events 0)))
       (all_flat Low jobs_in (docs_of (V (Events 0)))
       (numbered_low (λ (p : StreamJob). p.doc.no) (jobs_of_docs (V (Events 0))) h.jobs_)))))) e in
       let same : p.doc.no ≡ j =
@@ -104,12 +86,6 @@ module _ (V : View) (h : IsNumbered (V (Events 0))) where
       go : (o : Option StreamJob) → job V j ≡ o → option_map (λ (p : StreamJob). p.doc.ws) o ≡ Some w → j < caps.of_jobs
       go None e k = cc
       go (Some p) e k = omega (arith, g, job_below j p e)
-
--- what is found at a place stands within
-pub within : {A : Type 0} (xs : List A) (k : ℕ) (a : A) → slice_get xs k ≡ Some a → k < length xs
-within [] k a e = cc
-within (x ∷ xs) zero a e = omega arith
-within (x ∷ xs) (suc k) a e = omega (arith, within xs k a e)
 
 -- documents
 docs_more : (L : List Body) (b : Body) → length (docs_of (L ++ b ∷ [])) ≡ length (docs_of L) + length (docs_in b)
@@ -161,10 +137,6 @@ drop_next f k xs b e = let same : 1 + k ≡ suc k = omega arith in rw same (go k
     go (suc k) [] e = cc
     go (suc k) (x ∷ xs) e = go k xs e
 
-pub answers_one : (a : ℕ) (b : Body) → answers_to a b ≡ true → answered a (b ∷ []) ≡ 1
-unfolding answered
-answers_one a b e = rw e refl
-
 -- with the master's list, the orders that it was given, and how many of them there are
 module _ (n : ℕ) (orders : ℕ → List Body) (L : List Body) (b : Body) where
   abbrev pub Streams : List Body → ℕ
@@ -210,7 +182,7 @@ draft_ahead n orders L V a k draft low e = (
     docs_more L b,
     sum_over_falls (λ a. length (orders a) - answered a (L ++ b ∷ [])) (λ a. length (orders a) - answered a L) 1 n a
         (orders_less n orders L b) low
-        (omega (arith, within (orders a) (answered a L) (Order (Submit draft)) e, one)),
+        (omega (arith, found_within (orders a) (answered a L) (Order (Submit draft)) e, one)),
   ),
   omega (
     arith,
@@ -231,5 +203,5 @@ draft_ahead n orders L V a k draft low e = (
         omega (
           arith,
           answered-append a L (Added a k (numbered V draft) ∷ []),
-          answers_one a (Added a k (numbered V draft)) (eq-eqb a a refl),
+          answered_one a (Added a k (numbered V draft)) (eq-eqb a a refl),
         )

@@ -1,5 +1,5 @@
 -- How many dependencies a workstation can find an object of its own to have never grows by a turn.
-use Rattle.std.proofs.Common.{◌≡◌, ◌≢◌, ℕ, zero, suc, ◌+◌, ◌-◌, ◌<◌, ◌≤◌, Bool, true, false, inl, inr}
+use Rattle.std.proofs.Common.{◌≡◌, ◌≢◌, ℕ, ◌+◌, ◌-◌, ◌<◌, ◌≤◌, Bool, true, false, inl, inr}
 use Rattle.std.proofs.Common.{List, [], ◌∷◌, ◌++◌, length, map, drop, refl, ap, sym, subst, ◌∙◌, arith, Option, Some, None, cond}
 use Rattle.std.proofs.Common.{append-nil, length-append, take}
 use Rattle.std.proofs.lemmas.Bool.{eq-eqb}
@@ -10,11 +10,11 @@ use Rattle.std.proofs.lemmas.List.Elements.{filter_map-append}
 use Rattle.std.specs.List.{AllByRecursion, enumerate_from}
 use Rattle.std.specs.Option.{option_map_or}
 use Rattle.std.specs.Prelude.{if◌then◌else◌, IfSome, eqb, filter_map, find, flat_map, option_map, slice_get}
-use Rattle.lemmas.proofs.Lists.{all_such, filter_map_short}
+use Rattle.lemmas.proofs.Lists.{all_such, filter_map_short, flat_all, found_within}
 use Rattle.lemmas.proofs.Options.{map_none}
 use Rattle.model.specs.Types.{AddDep, Added, Body, Cmd, Dep, Entry, Events, Job, JobDoc, JobDraft, Net, Obeyed, Obj}
 use Rattle.model.specs.Types.{Order, Orders, Stream, StreamDoc, StreamDraft, Submit}
-use Rattle.model.specs.Words.{below, firsts, nth}
+use Rattle.model.specs.Words.{below, firsts}
 use Rattle.model.specs.Equalities.{obj_eq}
 use Rattle.model.specs.Network.{node_count}
 use Rattle.model.specs.History.{View, list_of}
@@ -35,15 +35,10 @@ use Rattle.model_laws.proofs.Turns.{TurnGives, turn_gives}
 use Rattle.rest_laws.specs.Gains.{sum_over}
 use Rattle.rest_laws.specs.Left.{added_ahead, deps_ahead, drafted_ahead, drafted_deps, written_ahead}
 use Rattle.rest_laws.specs.Rest.{net_at}
-use Rattle.rest_laws.proofs.Ahead.{answers_one, drop_low, drop_next, flat_all, within}
+use Rattle.rest_laws.proofs.Ahead.{drop_low, drop_next}
 use Rattle.rest_laws.proofs.Entered.{Made, all_orders_same, events_here, events_same, issuer_in, next_given, own_events}
-use Rattle.rest_laws.proofs.Falls.{sum_over_falls}
+use Rattle.rest_laws.proofs.Falls.{answered_one, one_of_all, sum_over_falls}
 use Rattle.rest_laws.proofs.Gains.{sum_over_low}
-
--- a number of a list's element is within the list
-pub nth_within : {A : Type 0} (xs : List A) (k : ℕ) (a : A) → nth xs k ≡ Some a → k ≤ length xs
-nth_within xs zero a e = omega arith
-nth_within xs (suc k) a e = omega (arith, within xs k a e)
 
 -- each of a sum is at most the sum
 sum_over_each : {X : Type 0} (f : X → ℕ) (xs : List X) → AllByRecursion (λ x. f x ≤ sum_over f xs) xs
@@ -292,54 +287,29 @@ tail_obeyed n o given L a k c low more =
           (omega (
             arith,
             answered-append a L (Obeyed a k c ∷ []),
-            answers_one a (Obeyed a k c) (eq-eqb a a refl),
+            answered_one a (Obeyed a k c) (eq-eqb a a refl),
             more,
           )),
     )
 
-one_issuer : (n : ℕ) (f : ℕ → ℕ) (a : ℕ) → a < n → f a ≤ sum_over f (below n)
-one_issuer n f a low = omega (arith, sum_over_falls (λ i. 0) f (f a) n a (λ i. omega arith) low (omega arith))
-
-module _ (net : Net) (x z : World) (w t : ℕ) (inv : Invariant net x) (b : Body) (made : Made net x z w t b) where
-  abbrev e : Entry
-  e = next_entry (view_at x w) (Events w) b
-
-  abbrev G : List Entry
-  G = x.history
-
+-- after an entry of w's own
+module _ (net : Net) (G : List Entry) (e : Entry) (w : ℕ) (feed : e.feed ≡ Events w) where
   abbrev after : List Entry
   after = G ++ e ∷ []
-
-  gives : TurnGives (net_at net x w) (view_at x w) w (x.sessions w).live t b
-  gives =
-      there_if (TurnGives (net_at net x w) (view_at x w) w (x.sessions w).live t) _ b
-      (turn_gives (net_at net x w) (view_at x w) w (x.sessions w).live t) made.body
 
   abbrev given : ℕ → ℕ → List Body
   given v a = list_of G (Orders a v)
 
-  -- commands of its own, and orders to it
-  own_tail : (o : Obj) → Tail (node_count net) o (given w) (list_of G (Events w) ++ b ∷ [])
+  -- w's commands, and the orders to it, add no more than before
+  abbrev TailFalls : Type 0
+  TailFalls =
+      (o : Obj)
+      → Tail (node_count net) o (given w) (list_of G (Events w) ++ e.body ∷ [])
       ≤ Tail (node_count net) o (given w) (list_of G (Events w))
-  own_tail o = go b gives
-    where
-      go : (c : Body) → TurnGives (net_at net x w) (view_at x w) w (x.sessions w).live t c
-          → Tail (node_count net) o (given w) (list_of G (Events w) ++ c ∷ [])
-          ≤ Tail (node_count net) o (given w) (list_of G (Events w))
-      go c (TurnGives.clocked g) = tail_low (node_count net) o (given w) (list_of G (Events w)) c refl
-      go c (TurnGives.lost j n f dead) = tail_low (node_count net) o (given w) (list_of G (Events w)) c refl
-      go c (TurnGives.declined a d why g) = tail_low (node_count net) o (given w) (list_of G (Events w)) c refl
-      go c (TurnGives.added a draft g v) = tail_low (node_count net) o (given w) (list_of G (Events w)) c refl
-      go c (TurnGives.obeyed a d g) =
-          let there : slice_get (list_of G (Orders a w)) (answered a (list_of G (Events w))) ≡ Some (Order d) =
-          next_given net x w inv a d g in
-          tail_obeyed (node_count net) o (given w) (list_of G (Events w)) a _ d (issuer_in net x w inv a _ (Order d) there)
-          (within (list_of G (Orders a w)) _ (Order d) there)
-      go c (TurnGives.until o p u m g l) = tail_low (node_count net) _ (given w) (list_of G (Events w)) c refl
-      go c (TurnGives.late o p m g) = tail_low (node_count net) _ (given w) (list_of G (Events w)) c refl
-      go c (TurnGives.released s g) = tail_low (node_count net) o (given w) (list_of G (Events w)) c refl
-      go c (TurnGives.ended s g) = tail_low (node_count net) o (given w) (list_of G (Events w)) c refl
-      go c (TurnGives.launched j ready) = tail_low (node_count net) o (given w) (list_of G (Events w)) c refl
+
+  -- at the master it brings no more than drafts that were ahead
+  abbrev BringsDrafted : Type 0
+  BringsDrafted = 0 ≡ w → brought (e.body ∷ []) ≤ drafted_ahead net G
 
   added_by : (v : ℕ) (o : Obj) (L : List Body) → list_of after (Events v) ≡ L
       → Tail (node_count net) o (given v) L ≤ Tail (node_count net) o (given v) (list_of G (Events v))
@@ -348,16 +318,16 @@ module _ (net : Net) (x z : World) (w t : ℕ) (inv : Invariant net x) (b : Body
   added_by v o L same low =
       let whole : added_ahead net after v o ≡ Tail (node_count net) o (given v) L =
       ap (λ (given : ℕ → List Body). Tail (node_count net) o given (list_of after (Events v)))
-      (all_orders_same net G e w refl v)
+      (all_orders_same net G e w feed v)
       ∙ ap (Tail (node_count net) o (given v)) same in
       omega (arith, whole, low)
 
-  added_less : (v : ℕ) (o : Obj) → added_ahead net after v o ≤ added_ahead net G v o
-  added_less v o =
+  added_less : TailFalls → (v : ℕ) (o : Obj) → added_ahead net after v o ≤ added_ahead net G v o
+  added_less falls v o =
       elim (eqb_tells v w) [
         | inl k ↦ subst (λ (v : ℕ). added_ahead net after v o ≤ added_ahead net G v o) (sym k.1)
-            (added_by w o (list_of G (Events w) ++ b ∷ []) (events_here net G e w refl) (own_tail o))
-        | inr k ↦ added_by v o (list_of G (Events v)) (events_same net G e w refl v k.1) (omega arith)
+            (added_by w o (list_of G (Events w) ++ e.body ∷ []) (events_here net G e w feed) (falls o))
+        | inr k ↦ added_by v o (list_of G (Events v)) (events_same net G e w feed v k.1) (omega arith)
       ]
 
   -- documents that can still come to the master's list
@@ -380,13 +350,13 @@ module _ (net : Net) (x z : World) (w t : ℕ) (inv : Invariant net x) (b : Body
   drafts_are : (L : List Body) → list_of after (Events 0) ≡ L → drafted_ahead net after ≡ Drafts L
   drafts_are L same =
       ap (λ (given : ℕ → List Body). sum_over (λ a. sum_over drafted_deps (drop (answered a (list_of after (Events 0))) (given a)))
-      (below (node_count net))) (all_orders_same net G e w refl 0)
+      (below (node_count net))) (all_orders_same net G e w feed 0)
       ∙ ap Drafts same
 
   by_others : 0 ≢ w → Longer
   unfolding brought
   by_others other =
-      let same : list_of after (Events 0) ≡ list_of G (Events 0) = events_same net G e w refl 0 other in
+      let same : list_of after (Events 0) ≡ list_of G (Events 0) = events_same net G e w feed 0 other in
       record {
         rest = [];
         more = same ∙ sym (append-nil (list_of G (Events 0)));
@@ -394,55 +364,26 @@ module _ (net : Net) (x z : World) (w t : ℕ) (inv : Invariant net x) (b : Body
         less = omega (arith, drafts_are (list_of G (Events 0)) same);
       }
 
-  nothing_brought : (c : Body) → docs_in c ≡ [] → brought (c ∷ []) ≡ 0
-  unfolding brought
-  nothing_brought c none = rw none refl
-
-  master_brings : 0 ≡ w → brought (b ∷ []) ≤ drafted_ahead net G
-  master_brings same = go b gives
-    where
-      go : (c : Body) → TurnGives (net_at net x w) (view_at x w) w (x.sessions w).live t c
-          → brought (c ∷ []) ≤ drafted_ahead net G
-      go c (TurnGives.clocked g) = omega (arith, nothing_brought c refl)
-      go c (TurnGives.lost j n f dead) = omega (arith, nothing_brought c refl)
-      go c (TurnGives.declined a d why g) = omega (arith, nothing_brought c refl)
-      go c (TurnGives.added a draft g v) =
-          let there : slice_get (given 0 a) (answered a (list_of G (Events 0))) ≡ Some (Order (Submit draft)) =
-          subst (λ (w : ℕ). slice_get (list_of G (Orders a w)) (answered a (list_of G (Events w))) ≡ Some (Order (Submit draft)))
-          (sym same) (next_given net x w inv a (Submit draft) g) in
-          omega (
-            arith,
-            draft_brought (view_at x w) a (1 + answered a (view_at x w (Events w))) draft,
-            drop_next drafted_deps (answered a (list_of G (Events 0))) (given 0 a) (Order (Submit draft)) there,
-            one_issuer (node_count net) (λ a. sum_over drafted_deps (drop (answered a (list_of G (Events 0))) (given 0 a))) a
-                (issuer_in net x 0 inv a _ (Order (Submit draft)) there),
-          )
-      go c (TurnGives.obeyed a d g) = omega (arith, nothing_brought c refl)
-      go c (TurnGives.until o p u m g l) = omega (arith, nothing_brought c refl)
-      go c (TurnGives.late o p m g) = omega (arith, nothing_brought c refl)
-      go c (TurnGives.released s g) = omega (arith, nothing_brought c refl)
-      go c (TurnGives.ended s g) = omega (arith, nothing_brought c refl)
-      go c (TurnGives.launched j ready) = omega (arith, nothing_brought c refl)
-
-  by_master : 0 ≡ w → Longer
-  by_master is =
-      let same : list_of after (Events 0) ≡ list_of G (Events 0) ++ b ∷ [] =
-      subst (λ (v : ℕ). list_of after (Events v) ≡ list_of G (Events v) ++ b ∷ []) (sym is) (events_here net G e w refl) in
+  by_master : BringsDrafted → 0 ≡ w → Longer
+  by_master drafted is =
+      let same : list_of after (Events 0) ≡ list_of G (Events 0) ++ e.body ∷ [] =
+      subst (λ (v : ℕ). list_of after (Events v) ≡ list_of G (Events v) ++ e.body ∷ []) (sym is) (events_here net G e w feed) in
       record {
-        rest = b ∷ [];
+        rest = e.body ∷ [];
         more = same;
-        brings = master_brings is;
+        brings = drafted is;
         less =
             omega (
               arith,
-              drafts_are (list_of G (Events 0) ++ b ∷ []) same,
-              drafts_low (list_of G (Events 0)) (list_of G (Events 0) ++ b ∷ [])
-                  (λ a. omega (arith, answered-append a (list_of G (Events 0)) (b ∷ []))),
+              drafts_are (list_of G (Events 0) ++ e.body ∷ []) same,
+              drafts_low (list_of G (Events 0)) (list_of G (Events 0) ++ e.body ∷ [])
+                  (λ a. omega (arith, answered-append a (list_of G (Events 0)) (e.body ∷ []))),
             );
       }
 
-  written_less : (v : ℕ) (o : Obj) → written_ahead net after v o ≤ written_ahead net G v o
-  written_less v o = elim (eqb_tells 0 w) [ inl k ↦ with_list (by_master k.1) | inr k ↦ with_list (by_others k.1) ]
+  written_less : BringsDrafted → (v : ℕ) (o : Obj) → written_ahead net after v o ≤ written_ahead net G v o
+  written_less drafted v o =
+      elim (eqb_tells 0 w) [ inl k ↦ with_list (by_master drafted k.1) | inr k ↦ with_list (by_others k.1) ]
     where
       with_list : Longer → written_ahead net after v o ≤ written_ahead net G v o
       with_list l = go (owner (list_of G) o) refl
@@ -470,8 +411,86 @@ module _ (net : Net) (x z : World) (w t : ℕ) (inv : Invariant net x) (b : Body
               )
               (omega arith)
 
-  pub deps_less : (v : ℕ) (o : Obj) → deps_ahead net z.history v o ≤ deps_ahead net x.history v o
+  deps_behind : TailFalls → BringsDrafted → (v : ℕ) (o : Obj) → deps_ahead net after v o ≤ deps_ahead net G v o
   unfolding deps_ahead
-  deps_less v o =
-      subst (λ (H : List Entry). written_ahead net H v o + added_ahead net H v o ≤ written_ahead net G v o + added_ahead net G v o)
-      (sym made.history) (omega (arith, written_less v o, added_less v o))
+  deps_behind falls drafted v o = omega (arith, written_less drafted v o, added_less falls v o)
+
+nothing_brought : (c : Body) → docs_in c ≡ [] → brought (c ∷ []) ≡ 0
+unfolding brought
+nothing_brought c none = rw none refl
+
+-- an entry without a document and without a command leaves no more
+pub deps_plain : (net : Net) (G : List Entry) (e : Entry) (w : ℕ) → e.feed ≡ Events w → docs_in e.body ≡ []
+    → obeyed_command e.body ≡ None → (v : ℕ) (o : Obj) → deps_ahead net (G ++ e ∷ []) v o ≤ deps_ahead net G v o
+deps_plain net G e w feed no_docs no_command =
+    deps_behind net G e w feed
+    (λ o. tail_low (node_count net) o (λ a. list_of G (Orders a w)) (list_of G (Events w)) e.body no_command)
+    (λ same. omega (arith, nothing_brought e.body no_docs))
+
+-- one that a turn makes leaves no more
+module _ (net : Net) (x z : World) (w t : ℕ) (inv : Invariant net x) (b : Body) (made : Made net x z w t b) where
+  abbrev new : Entry
+  new = next_entry (view_at x w) (Events w) b
+
+  abbrev old : List Entry
+  old = x.history
+
+  gives : TurnGives (net_at net x w) (view_at x w) w (x.sessions w).live t b
+  gives =
+      there_if (TurnGives (net_at net x w) (view_at x w) w (x.sessions w).live t) _ b
+      (turn_gives (net_at net x w) (view_at x w) w (x.sessions w).live t) made.body
+
+  abbrev orders : ℕ → ℕ → List Body
+  orders v a = list_of old (Orders a v)
+
+  -- commands of its own, and orders to it
+  own_tail : (o : Obj) → Tail (node_count net) o (orders w) (list_of old (Events w) ++ b ∷ [])
+      ≤ Tail (node_count net) o (orders w) (list_of old (Events w))
+  own_tail o = go b gives
+    where
+      go : (c : Body) → TurnGives (net_at net x w) (view_at x w) w (x.sessions w).live t c
+          → Tail (node_count net) o (orders w) (list_of old (Events w) ++ c ∷ [])
+          ≤ Tail (node_count net) o (orders w) (list_of old (Events w))
+      go c (TurnGives.clocked g) = tail_low (node_count net) o (orders w) (list_of old (Events w)) c refl
+      go c (TurnGives.lost j n f dead) = tail_low (node_count net) o (orders w) (list_of old (Events w)) c refl
+      go c (TurnGives.declined a d why g) = tail_low (node_count net) o (orders w) (list_of old (Events w)) c refl
+      go c (TurnGives.added a draft g v) = tail_low (node_count net) o (orders w) (list_of old (Events w)) c refl
+      go c (TurnGives.obeyed a d g) =
+          let there : slice_get (list_of old (Orders a w)) (answered a (list_of old (Events w))) ≡ Some (Order d) =
+          next_given net x w inv a d g in
+          tail_obeyed (node_count net) o (orders w) (list_of old (Events w)) a _ d (issuer_in net x w inv a _ (Order d) there)
+          (found_within (list_of old (Orders a w)) _ (Order d) there)
+      go c (TurnGives.until o p u m g l) = tail_low (node_count net) _ (orders w) (list_of old (Events w)) c refl
+      go c (TurnGives.late o p m g) = tail_low (node_count net) _ (orders w) (list_of old (Events w)) c refl
+      go c (TurnGives.released s g) = tail_low (node_count net) o (orders w) (list_of old (Events w)) c refl
+      go c (TurnGives.ended s g) = tail_low (node_count net) o (orders w) (list_of old (Events w)) c refl
+      go c (TurnGives.launched j ready) = tail_low (node_count net) o (orders w) (list_of old (Events w)) c refl
+
+  master_brings : 0 ≡ w → brought (b ∷ []) ≤ drafted_ahead net old
+  master_brings same = go b gives
+    where
+      go : (c : Body) → TurnGives (net_at net x w) (view_at x w) w (x.sessions w).live t c
+          → brought (c ∷ []) ≤ drafted_ahead net old
+      go c (TurnGives.clocked g) = omega (arith, nothing_brought c refl)
+      go c (TurnGives.lost j n f dead) = omega (arith, nothing_brought c refl)
+      go c (TurnGives.declined a d why g) = omega (arith, nothing_brought c refl)
+      go c (TurnGives.added a draft g v) =
+          let there : slice_get (orders 0 a) (answered a (list_of old (Events 0))) ≡ Some (Order (Submit draft)) =
+          subst (λ (w : ℕ). slice_get (list_of old (Orders a w)) (answered a (list_of old (Events w))) ≡ Some (Order (Submit draft)))
+          (sym same) (next_given net x w inv a (Submit draft) g) in
+          omega (
+            arith,
+            draft_brought (view_at x w) a (1 + answered a (view_at x w (Events w))) draft,
+            drop_next drafted_deps (answered a (list_of old (Events 0))) (orders 0 a) (Order (Submit draft)) there,
+            one_of_all (λ a. sum_over drafted_deps (drop (answered a (list_of old (Events 0))) (orders 0 a))) (node_count net) a
+                (issuer_in net x 0 inv a _ (Order (Submit draft)) there),
+          )
+      go c (TurnGives.obeyed a d g) = omega (arith, nothing_brought c refl)
+      go c (TurnGives.until o p u m g l) = omega (arith, nothing_brought c refl)
+      go c (TurnGives.late o p m g) = omega (arith, nothing_brought c refl)
+      go c (TurnGives.released s g) = omega (arith, nothing_brought c refl)
+      go c (TurnGives.ended s g) = omega (arith, nothing_brought c refl)
+      go c (TurnGives.launched j ready) = omega (arith, nothing_brought c refl)
+
+  pub deps_less : (v : ℕ) (o : Obj) → deps_ahead net (x.history ++ new ∷ []) v o ≤ deps_ahead net x.history v o
+  deps_less = deps_behind net old new w refl own_tail master_brings

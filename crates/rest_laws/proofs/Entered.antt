@@ -3,6 +3,7 @@ use Rattle.std.proofs.Common.{◌≡◌, ◌≢◌, ℕ, ◌<◌, ◌⊎◌, inl
 use Rattle.std.proofs.Common.{List, [], ◌∷◌, ◌++◌, length, refl, ap, sym, subst, ◌∙◌, arith, Option, Some, None}
 use Rattle.std.proofs.Math.Seq.{take-length}
 use Rattle.std.specs.Prelude.{Ok, option_map, slice_get}
+use Rattle.lemmas.proofs.Lists.{found_within}
 use Rattle.model.specs.Types.{Body, Cmd, Entry, Events, Input, Net, Order, Orders, Take, Turn}
 use Rattle.model.specs.Network.{node_count}
 use Rattle.model.specs.History.{list_of}
@@ -17,7 +18,6 @@ use Rattle.model_laws.proofs.Feeds.{pushed_cases}
 use Rattle.model_laws.proofs.Orders.{next_is}
 use Rattle.model_laws.proofs.Orders.{slice_get_take}
 use Rattle.rest_laws.specs.Rest.{count_of, net_at}
-use Rattle.rest_laws.proofs.Ahead.{within}
 use Rattle.rest_laws.proofs.Gains.{are_inside, feed_or_none, first_in}
 use Rattle.rest_laws.proofs.Leads.{took}
 use Rattle.rest_laws.proofs.Quiets.{IsFeed}
@@ -70,7 +70,7 @@ module _ (net : Net) (x : World) (w : ℕ) (inv : Invariant net x) where
     where
       go : IsFeed net (Orders a w) ⊎ (count_of x (Orders a w) ≡ 0) → a < node_count net
       go (inl h) = h.0
-      go (inr h) = absurd (omega (arith, h, within (list_of x.history (Orders a w)) k b e))
+      go (inr h) = absurd (omega (arith, h, found_within (list_of x.history (Orders a w)) k b e))
 
 -- after an entry of w's own
 module _ (net : Net) (G : List Entry) (e : Entry) (w : ℕ) (here : e.feed ≡ Events w) where

@@ -4,7 +4,8 @@ use Rattle.std.proofs.Common.{List, [], ◌∷◌, ◌++◌, length, length-appe
 use Rattle.std.proofs.lemmas.Bool.Decides.{eqb_tells}
 use Rattle.std.specs.List.{AllByRecursion}
 use Rattle.std.specs.Prelude.{Ok, flat_map, slice_get}
-use Rattle.lemmas.proofs.Lists.{all_append, all_map}
+use Rattle.lemmas.proofs.Lists.{all_append, all_map, flat_all}
+use Rattle.lemmas.proofs.Numbers.{below_or_not}
 use Rattle.model.specs.Types.{Deliver, Linked, Net, Packet, Take, Turn, WorldStep}
 use Rattle.model.specs.Words.{below, nth, numbers_from}
 use Rattle.model.specs.Network.{IsTree, node_count}
@@ -17,11 +18,9 @@ use Rattle.rest_laws.specs.Leads.{next_packet}
 use Rattle.rest_laws.specs.Left.{keeps_to}
 use Rattle.rest_laws.specs.Rounds.{AreTaken, IsAmong, IsRound, is_of_round}
 use Rattle.rest_laws.specs.ToRest.{AlwaysHasRoom, AreAmong, names_inside}
-use Rattle.rest_laws.proofs.Ahead.{flat_all}
-use Rattle.rest_laws.proofs.Gains.{either}
 use Rattle.rest_laws.proofs.Lefts.{delivered_same, linked_same}
 use Rattle.rest_laws.proofs.Sending.{IsAck, IsMail, IsNone, Near, Sends, Sent}
-use Rattle.rest_laws.proofs.Rounds.{taken_append}
+use Rattle.rest_laws.proofs.Rounds.{nth_more, taken_append}
 use Rattle.rest_laws.proofs.Phases.{names_same, turn_named, Done, mail_done, ack_done, Phase, phase_none, phase_on}
 use Rattle.rest_laws.proofs.Phases.{turn_of, phase_turns}
 
@@ -35,15 +34,6 @@ record IsDue (net : Net) (P : Packet → Type 0) (y : World) (d : ℕ × (ℕ ×
 delivery_of : ℕ × (ℕ × ℕ) → WorldStep
 delivery_of d = Deliver d.0 d.1.0 d.1.1
 
-get_append : {A : Type 0} (xs ys : List A) (k : ℕ) (a : A) → slice_get xs k ≡ Some a → slice_get (xs ++ ys) k ≡ Some a
-get_append [] ys k a e = cc
-get_append (x ∷ xs) ys zero a e = e
-get_append (x ∷ xs) ys (suc k) a e = get_append xs ys k a e
-
-nth_append : {A : Type 0} (xs ys : List A) (k : ℕ) (a : A) → nth xs k ≡ Some a → nth (xs ++ ys) k ≡ Some a
-nth_append xs ys zero a e = cc
-nth_append xs ys (suc k) a e = get_append xs ys k a e
-
 still_due : (net : Net) (P Q : Packet → Type 0) (y z : World) → Sends net Q y z → (ds : List (ℕ × (ℕ × ℕ)))
     → AllByRecursion (IsDue net P y) ds → AllByRecursion (IsDue net P z) ds
 still_due net P Q y z sends [] h = tt
@@ -53,7 +43,7 @@ still_due net P Q y z sends (d ∷ ds) h = (
     packet = h.0.packet;
     there =
         subst (λ (l : List Packet). nth l d.1.1 ≡ Some h.0.packet) (sym (sends d.0 d.1.0).more)
-        (nth_append (y.packets d.0 d.1.0) (sends d.0 d.1.0).rest d.1.1 h.0.packet h.0.there);
+        (nth_more (y.packets d.0 d.1.0) (sends d.0 d.1.0).rest d.1.1 h.0.packet h.0.there);
     is = h.0.is;
   },
   still_due net P Q y z sends ds h.1,
@@ -182,10 +172,8 @@ has_number s (suc n) k low high =
     ]
   where
     further : (s k : ℕ) → s ≤ k → s ≢ k → s + 1 ≤ k
-    further s k low other = elim (either s k) [ inl h ↦ h | inr h ↦ absurd (other (omega (arith, h, low))) ]
-      where
-        either : (s k : ℕ) → (s + 1 ≤ k) ⊎ (k ≤ s)
-        either s k = grind arith
+    further s k low other =
+        elim (below_or_not s k) [ inl h ↦ omega (arith, h) | inr h ↦ absurd (other (omega (arith, h, low))) ]
 
 among_has : (s : WorldStep) (steps : List WorldStep) → Has s steps → IsAmong s steps
 unfolding Has
@@ -267,7 +255,7 @@ module _ (net : Net) (readings : ℕ → List ℕ) (reads : ℕ → ℕ) (x : Wo
   unfolding S1 S2 S3
   round_deliveries a b k low high =
       among_right (Deliver a b k) S1 (S2 ++ S3)
-      (elim (either k (next_packet turns.end_ a b)) [
+      (elim (below_or_not k (next_packet turns.end_ a b)) [
         | inl h ↦ among_left (Deliver a b k) S2 S3 (sent_among net IsMail x turns.end_ a b k turns.sends low h)
         | inr h ↦ among_right (Deliver a b k) S2 S3
             (sent_among net (IsAck net) turns.end_ mails.end_ a b k mails.sends h

@@ -1,5 +1,5 @@
 -- What one more entry of a workstation's own leaves of what its turns can still make.
-use Rattle.std.proofs.Common.{◌≡◌, ◌≢◌, ℕ, zero, suc, ◌+◌, ◌-◌, ◌*◌, ◌<◌, ◌≤◌, Bool, true, false, ◌||◌, ◌⊎◌, inl, inr}
+use Rattle.std.proofs.Common.{◌≡◌, ◌≢◌, ℕ, zero, suc, ◌+◌, ◌-◌, ◌*◌, ◌<◌, ◌≤◌, Bool, true, false, ◌||◌, inl, inr}
 use Rattle.std.proofs.Common.{List, [], ◌∷◌, ◌++◌, refl, sym, subst, arith, Option, Some, None, cond}
 use Rattle.std.proofs.lemmas.Bool.{eq-eqb}
 use Rattle.std.proofs.lemmas.Bool.Decides.{eqb_tells, nat_tests}
@@ -10,6 +10,9 @@ use Rattle.std.specs.Bool.{then_some}
 use Rattle.std.specs.List.{list_any}
 use Rattle.std.specs.Option.{option_or}
 use Rattle.std.specs.Prelude.{eqb, filter_map, is_none, is_some, nat_lt, option_and_then, option_map, slice_get}
+use Rattle.lemmas.proofs.Lists.{no_first}
+use Rattle.lemmas.proofs.Options.{some_same}
+use Rattle.lemmas.proofs.Numbers.{below_or_not}
 use Rattle.model.specs.Types.{Body, Clock, Cmd, Job, Launched, Lost, Obeyed, Obj, Rerun, Stream}
 use Rattle.model.specs.Words.{below, greatest, has, numbers_from}
 use Rattle.model.specs.Facts.{LastLaunch, answered, answers_to, commands, end_of, first_end, is_ended, is_late, is_end_of, is_launch_of}
@@ -20,6 +23,7 @@ use Rattle.model.specs.Outcomes.{Outcome}
 use Rattle.model_laws.proofs.Growth.{launches-append}
 use Rattle.model_laws.proofs.Answered.{answered-append}
 use Rattle.model_laws.proofs.Tidy.{launched_none, launches_none}
+use Rattle.model_laws.proofs.Starts.{launches_one}
 use Rattle.rest_laws.specs.Gains.{sum_over}
 use Rattle.rest_laws.specs.Left.{Caps, done, job_left, orders_left, records_left, stream_left, undone}
 use Rattle.rest_laws.proofs.Gains.{sum_over_low}
@@ -41,15 +45,17 @@ fall_from f g c s (suc n) x low from to at_x =
     ]
   where
     further : (s x : ℕ) → s ≤ x → x ≢ s → s + 1 ≤ x
-    further s x low other = elim (either x s) [ inl h ↦ h | inr h ↦ absurd (other (omega (arith, h, low))) ]
-      where
-        either : (x s : ℕ) → (s + 1 ≤ x) ⊎ (x ≤ s)
-        either x s = grind arith
+    further s x low other =
+        elim (below_or_not s x) [ inl h ↦ omega (arith, h) | inr h ↦ absurd (other (omega (arith, h, low))) ]
 
 -- one of a sum falls by so much, and none rises
 pub sum_over_falls : (f g : ℕ → ℕ) (c n x : ℕ) → ((a : ℕ) → f a ≤ g a) → x < n → f x + c ≤ g x
     → sum_over f (below n) + c ≤ sum_over g (below n)
 sum_over_falls f g c n x low to at_x = fall_from f g c 0 n x low (omega arith) (omega (arith, to)) at_x
+
+-- each number of a sum is at most the sum
+pub one_of_all : (g : ℕ → ℕ) (n w : ℕ) → w < n → g w ≤ sum_over g (below n)
+one_of_all g n w low = omega (arith, sum_over_falls (λ v. 0) g (g w) n w (λ v. omega arith) low (omega arith))
 
 hits_above : (k s n : ℕ) → k < s → sum_over (λ j. done (eqb j k)) (numbers_from s n) ≡ 0
 hits_above k s zero low = refl
@@ -79,7 +85,7 @@ sum_over_rises f g k n low =
     omega (arith, rises_once f g (λ j. done (eqb j k)) (below n) low, hits k 0 n)
 
 -- what is once done stays so
-any_more : (p : Body → Bool) (L : List Body) (b : Body) → undone (list_any p (L ++ b ∷ [])) ≤ undone (list_any p L)
+pub any_more : (p : Body → Bool) (L : List Body) (b : Body) → undone (list_any p (L ++ b ∷ [])) ≤ undone (list_any p L)
 any_more p L b = rw list_any-append (go (list_any p L) (list_any p (b ∷ [])))
   where
     go : (a c : Bool) → undone (a || c) ≤ undone a
@@ -87,11 +93,11 @@ any_more p L b = rw list_any-append (go (list_any p L) (list_any p (b ∷ [])))
     go false true = omega arith
     go false false = omega arith
 
-any_now : (p : Body → Bool) (L : List Body) (b : Body) → list_any p L ≡ false → p b ≡ true
+pub any_now : (p : Body → Bool) (L : List Body) (b : Body) → list_any p L ≡ false → p b ≡ true
     → undone (list_any p (L ++ b ∷ [])) + 1 ≤ undone (list_any p L)
 any_now p L b none this = rw (list_any-append, none, this) (omega arith)
 
-records_low : (n : ℕ) (L : List Body) (b : Body) (o : Obj) → records_left n (L ++ b ∷ []) o ≤ records_left n L o
+pub records_low : (n : ℕ) (L : List Body) (b : Body) (o : Obj) → records_left n (L ++ b ∷ []) o ≤ records_left n L o
 unfolding records_left is_until_recorded is_late
 records_low n L b o =
     sum_over_low _ _ (below n)
@@ -158,7 +164,7 @@ stream_record_falls caps L b s falls =
     omega (arith, any_more (is_release_of s) L b, any_more (is_end_of s) L b, falls)
 
 -- a job's last launch, and whether it is open
-abbrev more : Body → LastLaunch → LastLaunch
+abbrev pub more : Body → LastLaunch → LastLaunch
 more b l = record { number = l.number; later = l.later ++ b ∷ [] }
 
 launched_more : (j : ℕ) (x b : Body) (later : List Body)
@@ -173,7 +179,7 @@ launched_more j (Launched k n seen) b later = go (eqb j k)
     go false = refl
 launched_more j _ b later = refl
 
-last_launch_other : (j : ℕ) (L : List Body) (b : Body) → is_launch_of j b ≡ false
+pub last_launch_other : (j : ℕ) (L : List Body) (b : Body) → is_launch_of j b ≡ false
     → last_launch j (L ++ b ∷ []) ≡ option_map (more b) (last_launch j L)
 unfolding last_launch
 last_launch_other j [] b e = launched_none j b [] e
@@ -207,7 +213,7 @@ opens_none j L b none = rw (last_launch_other j L b none) (go (last_launch j L))
         rw (filter_map-append (end_of j l.number) l.later (b ∷ []))
         (first_stays l (filter_map (end_of j l.number) l.later) (filter_map (end_of j l.number) (b ∷ [])))
 
-at_most_one : (b : Bool) → done b ≤ 1
+pub at_most_one : (b : Bool) → done b ≤ 1
 at_most_one true = omega arith
 at_most_one false = omega arith
 
@@ -217,16 +223,13 @@ lost_shuts : (j n : ℕ) (L : List Body) → open_launch j L ≡ Some n
 unfolding is_open open_launch
 lost_shuts j n L e = rw (last_launch_other j L (Lost j n) refl) (go (last_launch j L) e)
   where
-    inside : (a c : ℕ) → Some a ≡ Some c → a ≡ c
-    inside a c e = cc
-
     shut : (l : LastLaunch) (o : Option Outcome) → slice_get (filter_map (end_of j l.number) l.later) 0 ≡ o
         → then_some (is_none o) l.number ≡ Some n
         → done (is_some (then_some (is_none (slice_get (filter_map (end_of j l.number) (l.later ++ Lost j n ∷ [])) 0))
         l.number)) + 1 ≤ done (is_some (then_some (is_none o) l.number))
     shut l (Some out) f e = cc
     shut l None f e =
-        let this : l.number ≡ n = inside l.number n e in
+        let this : l.number ≡ n = some_same l.number n e in
         rw (this, filter_map-append)
         (rw (
           no_first (filter_map (end_of j n) l.later)
@@ -235,10 +238,6 @@ lost_shuts j n L e = rw (last_launch_other j L (Lost j n) refl) (go (last_launch
           eq-eqb n n refl,
         )
         (omega arith))
-      where
-        no_first : {A : Type 0} (xs : List A) → slice_get xs 0 ≡ None → xs ≡ []
-        no_first [] e = refl
-        no_first (x ∷ xs) e = cc
 
     go : (o : Option LastLaunch)
         → option_and_then (λ (l : LastLaunch). then_some (is_none (first_end j l.number l.later)) l.number) o ≡ Some n
@@ -249,16 +248,12 @@ lost_shuts j n L e = rw (last_launch_other j L (Lost j n) refl) (go (last_launch
     go (Some l) e = shut l (first_end j l.number l.later) refl e
 
 -- launches and reruns are counted
-launches_one : (j : ℕ) (b : Body) → is_launch_of j b ≡ true → launches j (b ∷ []) ≡ 1
-unfolding launches
-launches_one j b e = rw e refl
-
-reruns_more : (j : ℕ) (L : List Body) (b : Body) → reruns j (L ++ b ∷ []) ≡ reruns j L + reruns j (b ∷ [])
+pub reruns_more : (j : ℕ) (L : List Body) (b : Body) → reruns j (L ++ b ∷ []) ≡ reruns j L + reruns j (b ∷ [])
 unfolding reruns commands
 reruns_more j L b =
     rw filter_map-append (sum_by-append _ (filter_map obeyed_command L) (filter_map obeyed_command (b ∷ [])))
 
-reruns_none : (j : ℕ) (b : Body) → obeyed_command b ≡ None → reruns j (b ∷ []) ≡ 0
+pub reruns_none : (j : ℕ) (b : Body) → obeyed_command b ≡ None → reruns j (b ∷ []) ≡ 0
 unfolding reruns commands
 reruns_none j b e = rw e refl
 
@@ -267,7 +262,7 @@ abbrev pub rerun_target : Cmd → ℕ
 rerun_target (Rerun k) = k
 rerun_target _ = 0
 
-reruns_one : (j a k : ℕ) (c : Cmd) → reruns j (Obeyed a k c ∷ []) ≤ done (eqb j (rerun_target c))
+pub reruns_one : (j a k : ℕ) (c : Cmd) → reruns j (Obeyed a k c ∷ []) ≤ done (eqb j (rerun_target c))
 unfolding reruns commands
 reruns_one j a k (Rerun i) = go (eqb j i)
   where
@@ -310,7 +305,7 @@ launch_falls caps L j n seen due =
     (omega (
       arith,
       due,
-      launches_one j (Launched j n seen) (eq-eqb j j refl),
+      launches_one j n seen,
       reruns_none j (Launched j n seen) refl,
       at_most_one (is_open j (L ++ Launched j n seen ∷ [])),
       records_low (caps.of_deps (Job j)) L (Launched j n seen) (Job j),
@@ -407,7 +402,7 @@ clock_falls L t (u ∷ ts) among h =
     ]
 
 -- orders
-answered_one : (a : ℕ) (b : Body) → answers_to a b ≡ true → answered a (b ∷ []) ≡ 1
+pub answered_one : (a : ℕ) (b : Body) → answers_to a b ≡ true → answered a (b ∷ []) ≡ 1
 unfolding answered
 answered_one a b e = rw e refl
 

@@ -7,6 +7,7 @@ use Rattle.std.specs.List.{AllByRecursion, list_all}
 use Rattle.std.specs.Option.{option_or}
 use Rattle.std.specs.Prelude.{Ok, nat_lt, option_map}
 use Rattle.lemmas.proofs.Booleans.{and_left, and_right}
+use Rattle.lemmas.proofs.Numbers.{below_or_not}
 use Rattle.model.specs.Types.{Deliver, Entry, Events, Feed, Input, LimitName, Local, Net, Orders, Take, Turn, WorldStep}
 use Rattle.model.specs.Words.{below, first_of_these, some_is, with_at}
 use Rattle.model.specs.Network.{IsTree, node_count}
@@ -43,9 +44,6 @@ sum_over_each : {X : Type 0} (f g : X → ℕ) (xs : List X) → ((a : X) → f 
 sum_over_each f g [] h k = tt
 sum_over_each f g (x ∷ xs) h k =
     (omega (arith, h x, sum_over_low f g xs h, k), sum_over_each f g xs h (omega (arith, h x, sum_over_low f g xs h, k)))
-
-pub either : (m n : ℕ) → (m < n) ⊎ (n ≤ m)
-either m n = grind arith
 
 -- a step that is taken is of workstations of the network
 went : (o : Option LimitName) (f : Option StepFault) (d : Effect) (g : Effect → World) (y : World)
@@ -225,7 +223,7 @@ module _ (net : Net) where
   -- a feed is one of the network, or has no entries
   pub feed_or_none : (y : World) → Invariant net y → (f : Feed) → IsFeed net f ⊎ (count_of y f ≡ 0)
   unfolding list_of
-  feed_or_none y inv (Events w) = go (either w (node_count net))
+  feed_or_none y inv (Events w) = go (below_or_not w (node_count net))
     where
       go : ((w < node_count net) ⊎ (node_count net ≤ w))
           → IsFeed net (Events w) ⊎ (count_of y (Events w) ≡ 0)
@@ -238,7 +236,7 @@ module _ (net : Net) where
         where
           clash : node_count net ≤ w → nat_lt w (node_count net) ≡ true → ⊥
           clash h k = absurd (omega (arith, h, inside net w k))
-  feed_or_none y inv (Orders a w) = go (either a (node_count net)) (either w (node_count net))
+  feed_or_none y inv (Orders a w) = go (below_or_not a (node_count net)) (below_or_not w (node_count net))
     where
       none : (nat_lt a (node_count net) ≡ true → nat_lt w (node_count net) ≡ true → ⊥)
           → count_of y (Orders a w) ≡ 0
@@ -284,7 +282,7 @@ module _ (net : Net) where
           w_in
 
       held : (w : ℕ) (f : Feed) → y.holdings w f ≤ x.holdings w f
-      held w f = go (either w (node_count net)) (feed_or_none y inv f)
+      held w f = go (below_or_not w (node_count net)) (feed_or_none y inv f)
         where
           go : ((w < node_count net) ⊎ (node_count net ≤ w)) → (IsFeed net f ⊎ (count_of y f ≡ 0))
               → y.holdings w f ≤ x.holdings w f
@@ -299,7 +297,7 @@ module _ (net : Net) where
               )
 
       acked : (w m : ℕ) (f : Feed) → (y.sessions w).acked m f ≤ (x.sessions w).acked m f
-      acked w m f = go (either w (node_count net)) (either m (node_count net)) (feed_or_none y inv f)
+      acked w m f = go (below_or_not w (node_count net)) (below_or_not m (node_count net)) (feed_or_none y inv f)
         where
           go : ((w < node_count net) ⊎ (node_count net ≤ w)) → ((m < node_count net) ⊎ (node_count net ≤ m))
               → (IsFeed net f ⊎ (count_of y f ≡ 0)) → (y.sessions w).acked m f ≤ (x.sessions w).acked m f
@@ -314,7 +312,7 @@ module _ (net : Net) where
   pub gains : (readings : ℕ → ℕ) (x y : World) (steps : List WorldStep) → IsTree net → Invariant net x
       → AreLinked net x → IsOpenRound net readings x steps y
       → (gained net x < gained net y) ⊎ IsAtRest net readings x
-  gains readings x y steps tree inv linked round = go (either (gained net x) (gained net y))
+  gains readings x y steps tree inv linked round = go (below_or_not (gained net x) (gained net y))
     where
       taken : AreTaken net x steps y
       taken = open_taken net readings x y steps round

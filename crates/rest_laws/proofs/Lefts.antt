@@ -1,10 +1,11 @@
 -- Each entry that a turn makes lowers what is left of a world, and what can still come to the catalogue stays covered.
-use Rattle.std.proofs.Common.{◌≡◌, ◌≢◌, ℕ, ◌+◌, ◌<◌, ◌≤◌, true, false, ◌⊎◌, inl, inr}
-use Rattle.std.proofs.Common.{List, [], ◌∷◌, ◌++◌, length, map, length-append, refl, ap, sym, subst, ◌∙◌, arith, Option, Some, None}
+use Rattle.std.proofs.Common.{◌≡◌, ◌≢◌, ℕ, ◌+◌, ◌<◌, ◌≤◌, true, ◌⊎◌, inl, inr}
+use Rattle.std.proofs.Common.{List, [], ◌∷◌, ◌++◌, length, map, length-append, refl, ap, sym, subst, ◌∙◌, arith, None, Some}
 use Rattle.std.proofs.lemmas.Bool.Decides.{eqb_tells}
 use Rattle.std.specs.List.{AllByRecursion}
-use Rattle.std.specs.Prelude.{Ok, ◌==◌, flat_map, slice_get}
-use Rattle.model.specs.Types.{Body, Deliver, Entry, Events, Feed, Linked, Net, Order, Orders, Submit, Take, Turn, WorldStep}
+use Rattle.std.specs.Prelude.{Ok, flat_map, slice_get}
+use Rattle.lemmas.proofs.Lists.{found_within}
+use Rattle.model.specs.Types.{Body, Deliver, Entry, Events, Feed, Linked, Net, Obj, Order, Orders, Submit, Take, Turn, WorldStep}
 use Rattle.model.specs.Words.{below, has}
 use Rattle.model.specs.Network.{node_count}
 use Rattle.model.specs.Equalities.{feed_eq}
@@ -12,29 +13,32 @@ use Rattle.model.specs.Forwarding.{feeds}
 use Rattle.model.specs.History.{list_of}
 use Rattle.model.specs.Catalogue.{docs_in}
 use Rattle.model.specs.Dependencies.{deps}
-use Rattle.model.specs.Facts.{answered}
+use Rattle.model.specs.Facts.{answered, obeyed_command}
 use Rattle.model.specs.FreeSteps.{free_step, recounted}
 use Rattle.model.specs.Invariant.{Invariant}
 use Rattle.model.specs.NewEntry.{event_of, makes, next_entry, own_entry}
 use Rattle.model.specs.Step.{effect}
-use Rattle.model.specs.World.{Origin, World, apply_effect, history_with, mark_delivered, view_at}
+use Rattle.model.specs.World.{World, apply_effect, mark_delivered, view_at}
 use Rattle.model_laws.proofs.Feeds.{feed_cases, list_of-append, list_of_elsewhere, list_of_here}
 use Rattle.model_laws.proofs.FreeRuns.{free_kept}
 use Rattle.model_laws.proofs.Growth.{owned_grows, view_grows}
 use Rattle.model_laws.proofs.Options.{there_if}
 use Rattle.model_laws.proofs.Turns.{TurnGives, turn_gives}
 use Rattle.model_laws.proofs.Steps.{step_of}
+use Rattle.model_laws.proofs.Answered.{mailed_history}
 use Rattle.rest_laws.specs.Gains.{sum_over}
 use Rattle.rest_laws.specs.Left.{Caps, Covers, done, entries, jobs_ahead, keeps_to, left, left_at, left_of, streams_ahead}
+use Rattle.rest_laws.specs.Left.{deps_ahead}
 use Rattle.rest_laws.specs.Rounds.{AreTaken}
 use Rattle.rest_laws.specs.Rest.{count_of, net_at}
-use Rattle.rest_laws.proofs.Ahead.{Jobs, Streams, draft_ahead, none_ahead, owned_below, within}
+use Rattle.rest_laws.proofs.Ahead.{Jobs, Streams, draft_ahead, none_ahead, owned_below}
 use Rattle.rest_laws.proofs.Falls.{hits, sum_over_falls}
 use Rattle.rest_laws.proofs.Leads.{came, took}
 use Rattle.rest_laws.proofs.Lowers.{Fits, turn_lowers}
 use Rattle.rest_laws.proofs.Entered.{Made, all_orders_same, events_here, events_same, given_same, issuer_in, next_given}
 use Rattle.rest_laws.proofs.Entered.{own_events, turn_makes}
-use Rattle.rest_laws.proofs.Deps.{deps_few, deps_less, nth_within}
+use Rattle.rest_laws.proofs.Deps.{deps_few, deps_less, deps_plain}
+use Rattle.rest_laws.proofs.Rounds.{nth_within}
 
 -- what a workstation finds fits
 module _ (net : Net) (x : World) (w : ℕ) (inv : Invariant net x) where
@@ -53,7 +57,7 @@ module _ (net : Net) (x : World) (w : ℕ) (inv : Invariant net x) where
             λ a c e. (
               issuer_in net x w inv a _ (Order c) (next_given net x w inv a c e),
               subst (λ (l : List Body). answered a l < count_of x (Orders a w)) (sym (own_events net x w inv))
-                  (within (list_of x.history (Orders a w)) _ (Order c) (next_given net x w inv a c e)),
+                  (found_within (list_of x.history (Orders a w)) _ (Order c) (next_given net x w inv a c e)),
             );
       }
 
@@ -114,16 +118,72 @@ module _ (net : Net) (caps : ℕ → Caps) (readings : ℕ → List ℕ) (x z : 
         sum_over_falls (left_at net caps readings z) (left_at net caps readings x) 1 (node_count net) w none_rises w_in own_falls,
       )
 
--- what can still come to the catalogue
-module _ (net : Net) (caps : ℕ → Caps) (x z : World) (w t : ℕ) (inv : Invariant net x)
-    (covers : Covers net caps x) (b : Body) (made : Made net x z w t b) where
+-- what can still come to the catalogue, after an entry of w's own
+module _ (net : Net) (caps : ℕ → Caps) (x z : World) (w : ℕ) (e : Entry) (feed : e.feed ≡ Events w)
+    (history : z.history ≡ x.history ++ e ∷ []) (covers : Covers net caps x) where
   abbrev given : ℕ → List Body
   given a = list_of x.history (Orders a 0)
 
+  abbrev NoMoreDocs : List Body → Type 0
+  NoMoreDocs M =
+      (Streams (node_count net) given M e.body M ≤ Streams (node_count net) given M e.body (list_of x.history (Events 0)))
+      × (Jobs (node_count net) given M e.body M ≤ Jobs (node_count net) given M e.body (list_of x.history (Events 0)))
+
+  abbrev NoMoreDeps : Type 0
+  NoMoreDeps = (v : ℕ) (o : Obj) → deps_ahead net (x.history ++ e ∷ []) v o ≤ deps_ahead net x.history v o
+
+  -- where the master's list becomes this one
+  by_list : (M : List Body) → list_of (x.history ++ e ∷ []) (Events 0) ≡ M → NoMoreDocs M → NoMoreDeps → Covers net caps z
+  unfolding streams_ahead jobs_ahead
+  by_list M same h fewer =
+      let streams : streams_ahead net z ≡ Streams (node_count net) given M e.body M =
+      ap (λ (G : List Entry). Streams (node_count net) (λ a. list_of G (Orders a 0)) M e.body (list_of G (Events 0))) history
+      ∙ ap (λ (o : ℕ → List Body). Streams (node_count net) o M e.body (list_of (x.history ++ e ∷ []) (Events 0)))
+      (all_orders_same net x.history e w feed 0)
+      ∙ ap (Streams (node_count net) given M e.body) same in
+      let jobs_ : jobs_ahead net z ≡ Jobs (node_count net) given M e.body M =
+      ap (λ (G : List Entry). Jobs (node_count net) (λ a. list_of G (Orders a 0)) M e.body (list_of G (Events 0))) history
+      ∙ ap (λ (o : ℕ → List Body). Jobs (node_count net) o M e.body (list_of (x.history ++ e ∷ []) (Events 0)))
+      (all_orders_same net x.history e w feed 0)
+      ∙ ap (Jobs (node_count net) given M e.body) same in
+      record {
+        streams = λ v. omega (arith, streams, h.0, covers.streams v);
+        jobs_ = λ v. omega (arith, jobs_, h.1, covers.jobs_ v);
+        deps_ =
+            λ v o.
+            omega (
+              arith,
+              subst (λ (H : List Entry). deps_ahead net H v o ≤ deps_ahead net x.history v o) (sym history) (fewer v o),
+              covers.deps_ v o,
+            );
+      }
+
+  covers_behind : (w ≡ 0 → NoMoreDocs (list_of x.history (Events 0) ++ e.body ∷ [])) → NoMoreDeps → Covers net caps z
+  covers_behind none fewer =
+      elim (eqb_tells 0 w) [
+        | inl k ↦ by_list (list_of x.history (Events 0) ++ e.body ∷ [])
+            (subst (λ (v : ℕ). list_of (x.history ++ e ∷ []) (Events v) ≡ list_of x.history (Events v) ++ e.body ∷ []) (sym k.1)
+            (events_here net x.history e w feed)) (none (sym k.1)) fewer
+        | inr k ↦ by_list (list_of x.history (Events 0)) (events_same net x.history e w feed 0 k.1)
+            (omega arith, omega arith) fewer
+      ]
+
+  -- where it brings no document and no command
+  pub covers_plain : docs_in e.body ≡ [] → obeyed_command e.body ≡ None → Covers net caps z
+  covers_plain no_docs no_command =
+      covers_behind (λ same. none_ahead (node_count net) given (list_of x.history (Events 0)) e.body no_docs)
+      (deps_plain net x.history e w feed no_docs no_command)
+
+-- where it is one that a turn makes
+module _ (net : Net) (caps : ℕ → Caps) (x z : World) (w t : ℕ) (inv : Invariant net x)
+    (covers : Covers net caps x) (b : Body) (made : Made net x z w t b) where
+  abbrev orders : ℕ → List Body
+  orders a = list_of x.history (Orders a 0)
+
   abbrev NoneAhead : List Body → Type 0
   NoneAhead M =
-      (Streams (node_count net) given M b M ≤ Streams (node_count net) given M b (list_of x.history (Events 0)))
-      × (Jobs (node_count net) given M b M ≤ Jobs (node_count net) given M b (list_of x.history (Events 0)))
+      (Streams (node_count net) orders M b M ≤ Streams (node_count net) orders M b (list_of x.history (Events 0)))
+      × (Jobs (node_count net) orders M b M ≤ Jobs (node_count net) orders M b (list_of x.history (Events 0)))
 
   by_master : w ≡ 0 → NoneAhead (list_of x.history (Events 0) ++ b ∷ [])
   by_master e = go b (there_if (TurnGives net_w (view_at x w) w (x.sessions w).live t) _ b (turn_gives net_w (view_at x w) w (x.sessions w).live t) made.body)
@@ -135,17 +195,17 @@ module _ (net : Net) (caps : ℕ → Caps) (x z : World) (w t : ℕ) (inv : Inva
       L = list_of x.history (Events 0)
 
       none : (c : Body) → docs_in c ≡ [] → NoneAhead (L ++ c ∷ [])
-      none c k = none_ahead (node_count net) given L c k
+      none c k = none_ahead (node_count net) orders L c k
 
       go : (c : Body) → TurnGives net_w (view_at x w) w (x.sessions w).live t c → NoneAhead (L ++ c ∷ [])
       go c (TurnGives.clocked g) = none _ refl
       go c (TurnGives.lost j n f dead) = none _ refl
       go c (TurnGives.declined a d why g) = none _ refl
       go c (TurnGives.added a draft g v) =
-          let there : slice_get (given a) (answered a L) ≡ Some (Order (Submit draft)) =
+          let there : slice_get (orders a) (answered a L) ≡ Some (Order (Submit draft)) =
           subst (λ (w : ℕ). slice_get (list_of x.history (Orders a w)) (answered a (list_of x.history (Events w)))
           ≡ Some (Order (Submit draft))) e (next_given net x w inv a (Submit draft) g) in
-          draft_ahead (node_count net) given L (view_at x w) a (1 + answered a (view_at x w (Events w))) draft
+          draft_ahead (node_count net) orders L (view_at x w) a (1 + answered a (view_at x w (Events w))) draft
           (issuer_in net x 0 inv a _ (Order (Submit draft)) there) there
       go c (TurnGives.obeyed a d g) = none _ refl
       go c (TurnGives.until o p u m g l) = none _ refl
@@ -156,46 +216,9 @@ module _ (net : Net) (caps : ℕ → Caps) (x z : World) (w t : ℕ) (inv : Inva
 
 covers_made : (net : Net) (caps : ℕ → Caps) (x z : World) (w t : ℕ) → Invariant net x → Covers net caps x → (b : Body)
     → Made net x z w t b → Covers net caps z
-unfolding streams_ahead jobs_ahead
-covers_made net caps x z w t inv covers b made = go (eqb_tells 0 w)
-  where
-    new : Entry
-    new = next_entry (view_at x w) (Events w) b
-
-    orders : ℕ → List Body
-    orders a = list_of x.history (Orders a 0)
-
-    -- of a longer list of the master
-    by_list : (M : List Body) → list_of (x.history ++ new ∷ []) (Events 0) ≡ M
-        → (Streams (node_count net) orders M b M ≤ Streams (node_count net) orders M b (list_of x.history (Events 0)))
-        × (Jobs (node_count net) orders M b M ≤ Jobs (node_count net) orders M b (list_of x.history (Events 0)))
-        → Covers net caps z
-    by_list M e h =
-        let streams : streams_ahead net z ≡ Streams (node_count net) orders M b M =
-        ap (λ (G : List Entry). Streams (node_count net) (λ a. list_of G (Orders a 0)) M b (list_of G (Events 0))) made.history
-        ∙ ap (λ (o : ℕ → List Body). Streams (node_count net) o M b (list_of (x.history ++ new ∷ []) (Events 0)))
-        (all_orders_same net x.history new w refl 0)
-        ∙ ap (Streams (node_count net) orders M b) e in
-        let jobs_ : jobs_ahead net z ≡ Jobs (node_count net) orders M b M =
-        ap (λ (G : List Entry). Jobs (node_count net) (λ a. list_of G (Orders a 0)) M b (list_of G (Events 0))) made.history
-        ∙ ap (λ (o : ℕ → List Body). Jobs (node_count net) o M b (list_of (x.history ++ new ∷ []) (Events 0)))
-        (all_orders_same net x.history new w refl 0)
-        ∙ ap (Jobs (node_count net) orders M b) e in
-        record {
-          streams = λ v. omega (arith, streams, h.0, covers.streams v);
-          jobs_ = λ v. omega (arith, jobs_, h.1, covers.jobs_ v);
-          deps_ = λ v o. omega (arith, deps_less net x z w t inv b made v o, covers.deps_ v o);
-        }
-
-    go : (((0 == w) ≡ true) × (0 ≡ w)) ⊎ (((0 == w) ≡ false) × (0 ≢ w)) → Covers net caps z
-    go (inl e) =
-        by_list (list_of x.history (Events 0) ++ b ∷ [])
-        (subst (λ (v : ℕ). list_of (x.history ++ new ∷ []) (Events v) ≡ list_of x.history (Events v) ++ b ∷ []) (sym e.1)
-        (events_here net x.history new w refl))
-        (by_master net caps x z w t inv covers b made (sym e.1))
-    go (inr e) =
-        by_list (list_of x.history (Events 0)) (events_same net x.history new w refl 0 e.1)
-        (omega arith, omega arith)
+covers_made net caps x z w t inv covers b made =
+    covers_behind net caps x z w (next_entry (view_at x w) (Events w) b) refl made.history covers
+    (by_master net caps x z w t inv covers b made) (deps_less net x z w t inv b made)
 
 -- how many entries there are
 pub sum_over_append : {X : Type 0} (f : X → ℕ) (xs ys : List X) → sum_over f (xs ++ ys) ≡ sum_over f xs + sum_over f ys
@@ -215,7 +238,7 @@ flat_none : {X Y : Type 0} (f : Y → ℕ) (g : X → List Y) (xs : List X) → 
 flat_none f g [] h = refl
 flat_none f g (x ∷ xs) h = omega (arith, sum_over_append f (g x) (flat_map g xs), h x, flat_none f g xs h)
 
-sum_over_more : {X : Type 0} (f g h : X → ℕ) (xs : List X) → ((x : X) → f x ≤ g x + h x)
+pub sum_over_more : {X : Type 0} (f g h : X → ℕ) (xs : List X) → ((x : X) → f x ≤ g x + h x)
     → sum_over f xs ≤ sum_over g xs + sum_over h xs
 sum_over_more f g h [] low = omega arith
 sum_over_more f g h (x ∷ xs) low = omega (arith, low x, sum_over_more f g h xs low)
@@ -235,9 +258,11 @@ feeds_once net w =
           ∙ sum_over_none (λ b. done (feed_eq (Orders a b) (Events w))) (below (node_count net)) (λ b. refl)),
     )
 
-one_entry : (net : Net) (x z : World) (w t : ℕ) (b : Body) → Made net x z w t b → entries net z ≤ entries net x + 1
+-- one entry more of a workstation's own
+pub one_entry : (net : Net) (x z : World) (w : ℕ) (b : Body)
+    → z.history ≡ x.history ++ next_entry (view_at x w) (Events w) b ∷ [] → entries net z ≤ entries net x + 1
 unfolding entries
-one_entry net x z w t b made =
+one_entry net x z w b history =
     omega (
       arith,
       sum_over_more (count_of z) (count_of x) (λ f. done (feed_eq f (Events w))) (feeds net) at_feed,
@@ -250,7 +275,7 @@ one_entry net x z w t b made =
     at_feed : (f : Feed) → count_of z f ≤ count_of x f + done (feed_eq f (Events w))
     at_feed f =
         let whole : count_of z f ≡ length (list_of x.history f) + length (list_of (new ∷ []) f) =
-        ap (λ (G : List Entry). length (list_of G f)) made.history
+        ap (λ (G : List Entry). length (list_of G f)) history
         ∙ ap length (list_of-append x.history (new ∷ []) f)
         ∙ length-append (list_of x.history f) (list_of (new ∷ []) f) in
         elim (feed_cases f (Events w)) [
@@ -262,15 +287,11 @@ entries_same : (net : Net) (x z : World) → z.history ≡ x.history → entries
 unfolding entries
 entries_same net x z e = rw e refl
 
-mailed_same : (G : List Entry) (o : Option Entry) → history_with Origin.Mailed G o ≡ G
-mailed_same G None = refl
-mailed_same G (Some e) = refl
-
 pub delivered_same : (net : Net) (x z : World) (a b k : ℕ) → free_step net x (Deliver a b k) ≡ Ok z → z.history ≡ x.history
 unfolding free_step apply_effect mark_delivered
 delivered_same net x z a b k e =
     let p = came net (recounted x) z a b k e in
-    sym (ap (λ (y : World). y.history) p.2) ∙ mailed_same x.history (step_of net (recounted x) b p.0).made
+    sym (ap (λ (y : World). y.history) p.2) ∙ mailed_history x.history (step_of net (recounted x) b p.0).made
 
 pub linked_same : (net : Net) (x z : World) (w v : ℕ) → free_step net x (Take w (Linked v)) ≡ Ok z → z.history ≡ x.history
 unfolding free_step apply_effect effect makes own_entry event_of
@@ -316,7 +337,7 @@ turn_keeps net caps readings x z w t among inv covers e =
               omega (
                 arith,
                 left_falls net caps readings x z w t among inv covers h.0 h.1 w_in,
-                one_entry net x z w t h.0 h.1,
+                one_entry net x z w h.0 h.1.history,
               );
           covers = covers_made net caps x z w t inv covers h.0 h.1;
         }

@@ -7,6 +7,7 @@ use Rattle.std.specs.Option.{option_map_or}
 use Rattle.std.specs.Prelude.{eqb, filter, find, slice_get, unwrap_or}
 use Rattle.lemmas.proofs.Booleans.{and_made, or_made_left, or_made_right}
 use Rattle.lemmas.proofs.Lists.{all_such}
+use Rattle.lemmas.proofs.Numbers.{below_or_not}
 use Rattle.model.specs.Types.{Events, Job, Net, Node, Stream, StreamDoc}
 use Rattle.model.specs.Words.{has}
 use Rattle.model.specs.Network.{IsTree, domain, has_full_status, hop, is_behind, is_manager, node_count}
@@ -161,13 +162,10 @@ module _ (N : Net) (V : View) (w : ℕ) (p : StreamJob) (there : job V p.doc.no 
 
 module _ (net : Net) (readings : ℕ → ℕ) (x : World) (tree : IsTree net) (inv : Invariant net x)
     (rest : IsAtRest net readings x) where
-  either : (m n : ℕ) → (m < n) ⊎ (n ≤ m)
-  either m n = grind arith
-
   -- what is wanted is seen as it stands in the history
   pub whole : (v : ℕ) → v < node_count net → (y : ℕ) → wants (net_at net x v) (view_at x v) v y ≡ true
       → view_at x v (Events y) ≡ list_of x.history (Events y)
-  whole v v_in y want = go (either y (node_count net))
+  whole v v_in y want = go (below_or_not y (node_count net))
     where
       go : ((y < node_count net) ⊎ (node_count net ≤ y)) → view_at x v (Events y) ≡ list_of x.history (Events y)
       go (inl y_in) =

@@ -3,8 +3,9 @@ use Rattle.std.proofs.Common.{◌≡◌, ℕ, zero, suc, ◌+◌, ◌-◌, ◌<�
 use Rattle.std.proofs.Common.{◌++◌, length, take, map, refl, ap, sym, subst, ◌∙◌, arith, Option, Some, None, cond}
 use Rattle.std.proofs.lemmas.Bool.Decides.{eqb_tells}
 use Rattle.std.specs.List.{AllByRecursion}
-use Rattle.std.specs.Prelude.{Ok, Result, filter, flat_map, option_map}
+use Rattle.std.specs.Prelude.{Ok, Result, filter, flat_map}
 use Rattle.lemmas.proofs.Lists.{all_left, all_right}
+use Rattle.lemmas.proofs.Options.{map_none}
 use Rattle.model.specs.Types.{Entry, Events, Feed, Input, Mail, Net, Orders, Out, Send, Turn}
 use Rattle.model.specs.Words.{below, numbers_from}
 use Rattle.model.specs.Network.{are_neighbours, node_count}
@@ -25,9 +26,9 @@ append_none : {A : Type 0} (xs ys : List A) → xs ++ ys ≡ [] → (xs ≡ []) 
 append_none [] ys e = (refl, e)
 append_none (x ∷ xs) ys e = cc
 
-map_none : {A B : Type 0} (f : A → B) (xs : List A) → map f xs ≡ [] → xs ≡ []
-map_none f [] e = refl
-map_none f (x ∷ xs) e = cc
+map_nothing : {A B : Type 0} (f : A → B) (xs : List A) → map f xs ≡ [] → xs ≡ []
+map_nothing f [] e = refl
+map_nothing f (x ∷ xs) e = cc
 
 take_none : {A : Type 0} (n : ℕ) (xs : List A) → take (suc n) xs ≡ [] → xs ≡ []
 take_none n [] e = refl
@@ -97,7 +98,7 @@ unfolding places_beyond
 nothing_beyond V acked f e =
     let z : length (V f) - acked f ≡ 0 =
     numbers_none (1 + acked f) (length (V f) - acked f)
-    (map_none (λ p. (f, p)) (numbers_from (1 + acked f) (length (V f) - acked f)) e) in
+    (map_nothing (λ p. (f, p)) (numbers_from (1 + acked f) (length (V f) - acked f)) e) in
     omega (arith, z)
 
 all_acked : (net : Net) (V : View) (n m : ℕ) (acked : Holding) → to_send net V n m acked ≡ [] → (f : Feed)
@@ -122,10 +123,6 @@ from_ok None d e =
     (ap (λ (p : Option Entry × List Out). p.0) k, ap (λ (p : Option Entry × List Out). p.1) k)
 from_ok (Some f) d e = cc
 
-pub no_value : {A B : Type 0} (f : A → B) (o : Option A) → option_map f o ≡ None → o ≡ None
-no_value f None e = refl
-no_value f (Some a) e = cc
-
 module _ (net : Net) (x : World) (w t : ℕ) (quiet : IsQuiet net x w t) where
   nothing_left : ((effect net w (view_at x w) (x.sessions w) (Input.Local (Turn t))).made ≡ None)
       × ((effect net w (view_at x w) (x.sessions w) (Input.Local (Turn t))).outs ≡ [])
@@ -137,7 +134,7 @@ module _ (net : Net) (x : World) (w t : ℕ) (quiet : IsQuiet net x w t) where
   pub no_rule : turn_body (net_at net x w) (view_at x w) w (x.sessions w).live t ≡ None
   unfolding effect makes own_entry event_of
   no_rule =
-      no_value (next_entry (view_at x w) (Events w))
+      map_none (next_entry (view_at x w) (Events w))
       (turn_body (net_at net x w) (view_at x w) w (x.sessions w).live t) nothing_left.0
 
   made_here : Option Entry
@@ -160,7 +157,7 @@ module _ (net : Net) (x : World) (w t : ℕ) (quiet : IsQuiet net x w t) where
       → length (view_at x w f) ≤ (x.sessions w).acked m f
   acked_all m low near up f inside passes =
       all_acked (net_at net x w) (view_at x w) w m ((x.sessions w).acked m)
-      (map_none (λ (p : Feed × ℕ). Send m (Mail p.0 p.1)) (to_send (net_at net x w) (view_at x w) w m
+      (map_nothing (λ (p : Feed × ℕ). Send m (Mail p.0 p.1)) (to_send (net_at net x w) (view_at x w) w m
       ((x.sessions w).acked m))
       (below_holds (λ m. (are_neighbours (net_at net x w) w m && (x.sessions w).links m) ≡ true
       → map (λ (p : Feed × ℕ). Send m (Mail p.0 p.1)) (to_send (net_at net x w) (view_at x w) w m

@@ -4,9 +4,9 @@ use Rattle.std.proofs.Common.{List, [], ◌∷◌, ◌++◌, length, refl, ap, s
 use Rattle.std.proofs.Common.{length-append}
 use Rattle.std.specs.List.{AllByRecursion}
 use Rattle.std.specs.Option.{option_map_or}
-use Rattle.std.specs.Prelude.{Ok, slice_get}
+use Rattle.std.specs.Prelude.{Ok}
 use Rattle.std.proofs.lemmas.List.{append-nil}
-use Rattle.lemmas.proofs.Lists.{all_append, all_left, all_right}
+use Rattle.lemmas.proofs.Lists.{all_append, all_left, all_right, found_within, get_in_front}
 use Rattle.model.specs.Types.{Ack, Deliver, Entry, Events, Feed, Input, Mail, Net}
 use Rattle.model.specs.Types.{Out, Packet, Take, Turn, WorldStep}
 use Rattle.model.specs.Words.{nth}
@@ -31,23 +31,14 @@ use Rattle.rest_laws.proofs.Rises.{Rises, Same, same_on, same_self, Moves, rises
 use Rattle.rest_laws.proofs.Rises.{stays_recounted, step_moves, run_rises}
 
 -- packets that are there stay at their numbers, and none is delivered before it is there
-nth_more : {A : Type 0} (xs rest : List A) (k : ℕ) (a : A) → nth xs k ≡ Some a → nth (xs ++ rest) k ≡ Some a
+pub nth_more : {A : Type 0} (xs rest : List A) (k : ℕ) (a : A) → nth xs k ≡ Some a → nth (xs ++ rest) k ≡ Some a
 nth_more xs rest zero a e = cc
-nth_more xs rest (suc k) a e = go xs k e
-  where
-    go : (xs : List _) (k : ℕ) → slice_get xs k ≡ Some a → slice_get (xs ++ rest) k ≡ Some a
-    go [] k e = cc
-    go (x ∷ xs) zero e = e
-    go (x ∷ xs) (suc k) e = go xs k e
+nth_more xs rest (suc k) a e = get_in_front xs rest k a e
 
-nth_within : {A : Type 0} (xs : List A) (k : ℕ) (a : A) → nth xs k ≡ Some a → k ≤ length xs
+-- a number of a list's element is within the list
+pub nth_within : {A : Type 0} (xs : List A) (k : ℕ) (a : A) → nth xs k ≡ Some a → k ≤ length xs
 nth_within xs zero a e = omega arith
-nth_within xs (suc k) a e = go xs k e
-  where
-    go : (xs : List _) (k : ℕ) → slice_get xs k ≡ Some a → k < length xs
-    go [] k e = cc
-    go (x ∷ xs) zero e = omega arith
-    go (x ∷ xs) (suc k) e = omega (arith, go xs k e)
+nth_within xs (suc k) a e = omega (arith, found_within xs k a e)
 
 there_then : (x y : World) → Rises x y → (a b k : ℕ) (p : Packet) → nth (x.packets a b) k ≡ Some p
     → nth (y.packets a b) k ≡ Some p

@@ -6,7 +6,7 @@ use Rattle.std.proofs.lemmas.List.{append-nil, append_assoc}
 use Rattle.std.specs.List.{AllByRecursion}
 use Rattle.std.specs.Option.{option_map_or}
 use Rattle.std.specs.Prelude.{filter}
-use Rattle.lemmas.proofs.Lists.{all_append, all_map, all_such}
+use Rattle.lemmas.proofs.Lists.{all_append, all_map, all_such, flat_all}
 use Rattle.model.specs.Types.{Ack, Body, Entry, Events, Feed, Input, Kill, Launch, Launched, Mail, Net, Obeyed, Out, Packet, Send, Turn}
 use Rattle.model.specs.Words.{below, some_is}
 use Rattle.model.specs.Network.{IsTree, are_neighbours, hop, node_count}
@@ -26,7 +26,7 @@ use Rattle.model_laws.proofs.Options.{filter_all}
 use Rattle.model_laws.proofs.PresentNets.{by_one, by_tree, no_own_hop, one_count}
 use Rattle.model_laws.proofs.Steps.{step_of}
 use Rattle.rest_laws.specs.Rest.{net_at}
-use Rattle.rest_laws.proofs.Ahead.{flat_all, low_numbers}
+use Rattle.rest_laws.proofs.Ahead.{low_numbers}
 
 -- two workstations of the network
 abbrev pub Near : Net → ℕ → ℕ → Type 0

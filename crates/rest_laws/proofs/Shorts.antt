@@ -1,5 +1,5 @@
 -- Where each order has a short answer, no entry that a turn would make is ever too long.
-use Rattle.std.proofs.Common.{◌≡◌, ℕ, ◌+◌, ◌*◌, ◌<◌, ◌≤◌, true, false, ◌&&◌, ◌⊎◌, inl, inr, List, [], ◌∷◌, refl, sym, subst}
+use Rattle.std.proofs.Common.{◌≡◌, ℕ, ◌+◌, ◌*◌, ◌<◌, ◌≤◌, true, false, ◌&&◌, ◌⊎◌, inl, inr, List, [], ◌∷◌, ◌++◌, refl, sym, subst}
 use Rattle.std.proofs.Common.{arith, Option, Some, None}
 use Rattle.std.proofs.lemmas.Bool.Decides.{nat_tests}
 use Rattle.std.specs.List.{AllByRecursion, list_all}
@@ -30,7 +30,7 @@ use Rattle.rest_laws.proofs.Phases.{all_pushed, turn_inside}
 use Rattle.rest_laws.proofs.Exists.{steps_named}
 use Rattle.rest_laws.proofs.Shown.{in_feed}
 use Rattle.rest_laws.proofs.Sizes.{event_short}
-use Rattle.rest_laws.proofs.Taken.{count_at}
+use Rattle.rest_laws.proofs.Taken.{count_at, not_beyond}
 
 -- what a turn makes is no order
 pub event_answered : (N : Net) (V : View) (w : ℕ) (live : List LiveJob) (t : ℕ) (b : Body) → TurnGives N V w live t b
@@ -52,19 +52,25 @@ short_same : (net : Net) (x z : World) → z.history ≡ x.history → are_answe
 unfolding are_answers_short
 short_same net x z e h = rw e h
 
+pub short_behind : (net : Net) (x z : World) (w : ℕ) (b : Body)
+    → z.history ≡ x.history ++ next_entry (view_at x w) (Events w) b ∷ [] → has_short_answer b ≡ true
+    → are_answers_short net x ≡ true → are_answers_short net z ≡ true
+unfolding are_answers_short
+short_behind net x z w b history this h =
+    and_made _ _ (and_left _ _ h)
+    (subst (λ (G : List Entry). list_all (λ (e : Entry). has_short_answer e.body) G ≡ true) (sym history)
+    (all_pushed (λ (e : Entry). has_short_answer e.body) x.history (next_entry (view_at x w) (Events w) b)
+    (and_right _ _ h) this))
+
 short_made : (net : Net) (x z : World) (w t : ℕ) (b : Body) → Made net x z w t b → are_answers_short net x ≡ true
     → are_answers_short net z ≡ true
-unfolding are_answers_short
 short_made net x z w t b made h =
-    and_made _ _ (and_left _ _ h)
-    (subst (λ (G : List Entry). list_all (λ (e : Entry). has_short_answer e.body) G ≡ true) (sym made.history)
-    (all_pushed (λ (e : Entry). has_short_answer e.body) x.history (next_entry (view_at x w) (Events w) b)
-    (and_right _ _ h)
+    short_behind net x z w b made.history
     (event_answered (net_at net x w) (view_at x w) w (x.sessions w).live t b
     (there_if (TurnGives (net_at net x w) (view_at x w) w (x.sessions w).live t) _ b
-    (turn_gives (net_at net x w) (view_at x w) w (x.sessions w).live t) made.body))))
+    (turn_gives (net_at net x w) (view_at x w) w (x.sessions w).live t) made.body)) h
 
-step_short : (net : Net) (readings : ℕ → List ℕ) (x z : World) (s : WorldStep) → are_answers_short net x ≡ true
+pub step_short : (net : Net) (readings : ℕ → List ℕ) (x z : World) (s : WorldStep) → are_answers_short net x ≡ true
     → keeps_to readings s ≡ true → free_step net x s ≡ Ok z → are_answers_short net z ≡ true
 step_short net readings x z (Take w (Turn t)) h keep e = go (turn_makes net x z w t e).1
   where
@@ -129,13 +135,10 @@ module _ (net : Net) (x : World) (w t : ℕ) (inv : Invariant net x) (names : na
   turn_short w_in =
       go (turn_body (net_at net x w) (view_at x w) w (x.sessions w).live t) (λ b e. kept_short w_in b e)
     where
-      not_long : (n : ℕ) → n ≤ 4194304 → nat_lt 4194304 n ≡ false
-      not_long n h = grind (arith, h, nat_tests)
-
       go : (o : Option Body) → ((b : Body) → o ≡ Some b → entry_size (next_entry (view_at x w) (Events w) b) ≤ 4194304)
           → is_too_long (option_map (next_entry (view_at x w) (Events w)) o) ≡ false
       go None h = refl
-      go (Some b) h = not_long (entry_size (next_entry (view_at x w) (Events w) b)) (h b refl)
+      go (Some b) h = not_beyond 4194304 (entry_size (next_entry (view_at x w) (Events w) b)) (h b refl)
 
 pub always_short : (net : Net) (readings : ℕ → List ℕ) (x : World) → Invariant net x → names_inside net x ≡ true
     → are_answers_short net x ≡ true → AlwaysShort net readings x

@@ -7,6 +7,7 @@ use Rattle.std.specs.Bool.{then_some}
 use Rattle.std.specs.List.{AllByRecursion, list_all}
 use Rattle.std.specs.Prelude.{Ok, nat_le, nat_lt, slice_get}
 use Rattle.lemmas.proofs.Booleans.{and_left, and_made, and_right}
+use Rattle.lemmas.proofs.Numbers.{lt_told}
 use Rattle.model.specs.Types.{Ack, Body, Deliver, Entry, Events, Feed, Input, Linked, Mail, Net, Take, Turn}
 use Rattle.model.specs.Words.{nth, some_is}
 use Rattle.model.specs.Network.{node_count}
@@ -33,6 +34,7 @@ use Rattle.rest_laws.specs.ToRest.{HasRoom, names_inside}
 use Rattle.rest_laws.proofs.Sending.{FeedIsIn, Near}
 use Rattle.rest_laws.proofs.Shown.{in_feed}
 use Rattle.rest_laws.proofs.Gains.{inside}
+use Rattle.rest_laws.proofs.Rounds.{nth_within}
 
 no_fault : (N : Net) (me : ℕ) (V : View) (s : Session) (i : Input)
     → list_all (λ w. nat_lt w (node_count N)) (me ∷ ws_in i) ≡ true → some_is (peer_of i) me ≡ false
@@ -46,12 +48,13 @@ no_fault N me V s i inside peer next process dep place plan long =
 pub count_at : (net : Net) (x : World) (w : ℕ) → node_count (net_at net x w) ≡ node_count net
 count_at net x w = one_count net (net_at net x w) (by_one net (view_at x w (Events 0)))
 
-is_low : (m n : ℕ) → m < n → nat_lt m n ≡ true
-is_low m n h = grind (arith, h, nat_tests)
+-- a number that is at most another is not beyond it
+pub not_beyond : (most n : ℕ) → n ≤ most → nat_lt most n ≡ false
+not_beyond most n h = grind (arith, h, nat_tests)
 
 pub all_low : (n : ℕ) (ws : List ℕ) → AllByRecursion (λ w. w < n) ws → list_all (λ w. nat_lt w n) ws ≡ true
 all_low n [] h = refl
-all_low n (w ∷ ws) h = and_made (nat_lt w n) (list_all (λ w. nat_lt w n) ws) (is_low w n h.0) (all_low n ws h.1)
+all_low n (w ∷ ws) h = and_made (nat_lt w n) (list_all (λ w. nat_lt w n) ws) (lt_told w n h.0) (all_low n ws h.1)
 
 all_inside : (net : Net) (ws : List ℕ) → list_all (λ w. nat_lt w (node_count net)) ws ≡ true
     → AllByRecursion (λ w. w < node_count net) ws
@@ -165,11 +168,8 @@ module _ (net : Net) (x : World) (a b : ℕ) (inv : Invariant net x) (names : na
         few n h = grind (arith, nat_tests)
 
     placed : nat_lt 4294967295 m ≡ false
-    placed = few m (omega (arith, low, nth_low (list_of x.history f) m body there))
+    placed = not_beyond 4294967295 m (omega (arith, low, nth_within (list_of x.history f) m body there))
       where
-        few : (n : ℕ) → n ≤ 4294967295 → nat_lt 4294967295 n ≡ false
-        few n h = grind (arith, h, nat_tests)
-
         none : (f : Feed) → list_of [] f ≡ []
         none f = none_yet f
 
@@ -177,15 +177,6 @@ module _ (net : Net) (x : World) (a b : ℕ) (inv : Invariant net x) (names : na
         low =
             places_few [] x.history f (subst (λ (l : List Body). length l ≤ 4294967295) (sym (none f)) (omega arith))
             inv.sound.places inv.sized
-
-        slice_low : (xs : List Body) (k : ℕ) (c : Body) → slice_get xs k ≡ Some c → k < length xs
-        slice_low [] k c e = cc
-        slice_low (y ∷ ys) zero c e = omega arith
-        slice_low (y ∷ ys) (suc k) c e = omega (arith, slice_low ys k c e)
-
-        nth_low : (xs : List Body) (k : ℕ) (c : Body) → nth xs k ≡ Some c → k ≤ length xs
-        nth_low xs zero c e = omega arith
-        nth_low xs (suc k) c e = omega (arith, slice_low xs k c e)
 
     unspent : (V : View) (c : Bool) → is_place_spent V (then_some c mail) ≡ false
     unspent V true = placed

@@ -1,4 +1,4 @@
--- Why the members of a plan and their jobs wait, as one text.
+-- Why the members of a plan and their jobs wait, as one text: of all, or of those whose names are of a pattern.
 use Rattle.std.specs.Option.{option_map_or}
 use Rattle.std.specs.Prelude.{[], if◌then◌else◌, ℕ, ◌++◌, ◌==◌, ◌∷◌, Bool, List, None, Option, Some, codes, false}
 use Rattle.std.specs.Prelude.{flat_map, true}
@@ -7,11 +7,16 @@ use Rattle.model.specs.History.{View}
 use Rattle.model.specs.Catalogue.{StreamJob, job, members, stream}
 use Rattle.model.specs.Readiness.{best}
 use Rattle.model.specs.States as model
+use Rattle.node_replies.specs.Patterns.{matches}
 use Rattle.symphony_view.specs.Words.{job_word, stream_word}
 use Rattle.waiting.specs.Lacks.{end_lacks, job_lacks, release_lacks}
 use Rattle.waiting.specs.declared.lacks.Lack.{Lack}
 use Rattle.waiting_lines.specs.Lines.{lack_line}
 use Rattle.waiting_lines.specs.Names.{job_name, job_text, stream_text}
+
+-- A name is asked for where it is of the pattern; without a pattern each name is.
+abbrev pub is_asked : Option (List ℕ) → List ℕ → Bool
+is_asked pattern name = option_map_or (λ (p : List ℕ). matches p name) pattern true
 
 -- Jobs.
 
@@ -47,9 +52,14 @@ job_answer net V w next j p =
     if is_waiting_state (model.job_state net V p)
     then job_head net p (model.job_state net V p) ++ job_lines net V j next (job_lacks net V w j) else []
 
+-- the same, where its name is asked for
+unfoldable pub asked_job_answer : Net → View → ℕ → Option ℕ → Option (List ℕ) → ℕ → StreamJob → List ℕ
+asked_job_answer net V w next pattern j p =
+    if is_asked pattern (job_text net p) then job_answer net V w next j p else []
+
 -- the job of a number
-unfoldable pub numbered_job_answer : Net → View → ℕ → Option ℕ → ℕ → List ℕ
-numbered_job_answer net V w next j = option_map_or (job_answer net V w next j) (job V j) []
+unfoldable pub numbered_job_answer : Net → View → ℕ → Option ℕ → Option (List ℕ) → ℕ → List ℕ
+numbered_job_answer net V w next pattern j = option_map_or (asked_job_answer net V w next pattern j) (job V j) []
 
 -- Streams.
 
@@ -84,17 +94,23 @@ answer_in_state net V w s d model.StreamState.Cancel = []
 unfoldable pub stream_answer : Net → View → ℕ → ℕ → StreamDoc → List ℕ
 stream_answer net V w s d = answer_in_state net V w s d (model.stream_state net V d)
 
+-- the same, where its name is asked for
+unfoldable pub asked_stream_answer : Net → View → ℕ → Option (List ℕ) → ℕ → StreamDoc → List ℕ
+asked_stream_answer net V w pattern s d =
+    if is_asked pattern (stream_text net d) then stream_answer net V w s d else []
+
 -- The plan.
 
 -- a stream of this number and its jobs
-unfoldable pub stream_answers : Net → View → ℕ → Option ℕ → ℕ → StreamDoc → List ℕ
-stream_answers net V w next s d =
-    stream_answer net V w s d ++ flat_map (λ (j : JobDoc). numbered_job_answer net V w next j.no) d.jobs
+unfoldable pub stream_answers : Net → View → ℕ → Option ℕ → Option (List ℕ) → ℕ → StreamDoc → List ℕ
+stream_answers net V w next pattern s d =
+    asked_stream_answer net V w pattern s d
+    ++ flat_map (λ (j : JobDoc). numbered_job_answer net V w next pattern j.no) d.jobs
 
 -- those of a member
-unfoldable pub member_answers : Net → View → ℕ → Option ℕ → ℕ → List ℕ
-member_answers net V w next s = option_map_or (stream_answers net V w next s) (stream V s) []
+unfoldable pub member_answers : Net → View → ℕ → Option ℕ → Option (List ℕ) → ℕ → List ℕ
+member_answers net V w next pattern s = option_map_or (stream_answers net V w next pattern s) (stream V s) []
 
 -- all members, asked at w
-unfoldable pub waits_of : Net → View → ℕ → List ℕ
-waits_of net V w = flat_map (member_answers net V w (best net V w)) (members V)
+unfoldable pub waits_of : Net → View → ℕ → Option (List ℕ) → List ℕ
+waits_of net V w pattern = flat_map (member_answers net V w (best net V w) pattern) (members V)

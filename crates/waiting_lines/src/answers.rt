@@ -1,4 +1,5 @@
 //! Why the members of a plan and their jobs wait.
+ghost use Rattle.std.specs.Option.{option_copied};
 ghost use Rattle.std.specs.Prelude.{◌<◌, ◌≡◌, ◌++◌, IfOk, IsOk, OnOk, Some, flat_map};
 ghost use Rattle.model.specs.Catalogue.{job, members, stream};
 ghost use Rattle.model.specs.History.{view_of};
@@ -11,8 +12,9 @@ ghost use Rattle.waiting_lines.specs.Answers as spec;
 
 use crate::lines::write_lacks;
 use crate::names::{write_job, write_job_name, write_stream};
+use crate::picks::{is_job_asked, is_stream_asked};
 use crate::states::is_waiting_state;
-use base_types::{Bytes, Items, JobDoc, JobNo, NoMemory, Obj, StreamDoc, StreamNo, Ws};
+use base_types::{Bytes, Items, JobDoc, JobNo, NoMemory, Obj, StreamDoc, StreamNo, Text, Ws};
 use dependencies::{Readiness, Scan};
 use network_tree::Network;
 use owner_fold::Owners;
@@ -124,7 +126,32 @@ fn write_job_answer(
     or_no_memory(write_job_lines(out, net, o, j, next, lacks.as_slice()))
 }
 
-/// Writes why the job of a number waits.
+/// Writes why a job of the catalogue waits, where its name is asked for.
+#[tactic(auto, unfolding(crate::specs::Answers::asked_job_answer))]
+fn write_asked_job(
+    alloc: Global,
+    out: &mut Vec<u8>,
+    net: &Network,
+    o: &Owners,
+    w: Ws,
+    next: Option<u32>,
+    pattern: Option<&Text>,
+    j: JobNo,
+    parent: &StreamDoc,
+    doc: &JobDoc,
+) -> Result<(), NoMemory>
+    requires { job (view_of o.now) j ≡ Some (stream_job parent.now doc.now) }
+    ensures { OnOk result (out.new.items ≡ out.old.items
+        ++ spec.asked_job_answer net.now (view_of o.now) w next (option_copied pattern.entry) j
+        (stream_job parent.now doc.now)) }
+{
+    if is_job_asked(alloc, net, pattern, parent, doc)? {
+        return write_job_answer(alloc, out, net, o, w, next, j, parent, doc);
+    }
+    Ok(())
+}
+
+/// Writes why the job of a number waits, where its name is asked for.
 #[tactic(auto, unfolding(crate::specs::Answers::numbered_job_answer))]
 fn write_numbered_job(
     alloc: Global,
@@ -133,18 +160,21 @@ fn write_numbered_job(
     o: &Owners,
     w: Ws,
     next: Option<u32>,
+    pattern: Option<&Text>,
     j: JobNo,
 ) -> Result<(), NoMemory>
     ensures { OnOk result (out.new.items ≡ out.old.items
-        ++ spec.numbered_job_answer net.now (view_of o.now) w next j) }
+        ++ spec.numbered_job_answer net.now (view_of o.now) w next (option_copied pattern.entry) j) }
 {
     match o.planned_job(j) {
         None => Ok(()),
-        Some((parent, doc)) => write_job_answer(alloc, out, net, o, w, next, j, parent, doc),
+        Some((parent, doc)) => {
+            write_asked_job(alloc, out, net, o, w, next, pattern, j, parent, doc)
+        }
     }
 }
 
-/// Writes why the jobs of a document wait.
+/// Writes why the jobs of a document wait, of those that are asked for.
 fn write_jobs(
     alloc: Global,
     out: &mut Vec<u8>,
@@ -152,13 +182,15 @@ fn write_jobs(
     o: &Owners,
     w: Ws,
     next: Option<u32>,
+    pattern: Option<&Text>,
     jobs: &[JobDoc],
 ) -> Result<(), NoMemory>
     ensures { OnOk result (out.new.items ≡ out.old.items
-        ++ flat_map (λ (j : JobDocs). spec.numbered_job_answer net.now (view_of o.now) w next j.no) jobs.now) }
+        ++ flat_map (λ (j : JobDocs). spec.numbered_job_answer net.now (view_of o.now) w next
+        (option_copied pattern.entry) j.no) jobs.now) }
 {
     for job in jobs {
-        write_numbered_job(alloc, out, net, o, w, next, job.no)?;
+        write_numbered_job(alloc, out, net, o, w, next, pattern, job.no)?;
     }
     Ok(())
 }
@@ -264,8 +296,31 @@ fn write_in_state(
     }
 }
 
-/// Writes why a stream of the catalogue waits, and why its jobs do.
-#[tactic(auto, unfolding(crate::specs::Answers::stream_answers, crate::specs::Answers::stream_answer))]
+/// Writes why a stream of the catalogue waits, where its name is asked for.
+#[tactic(auto, unfolding(crate::specs::Answers::asked_stream_answer, crate::specs::Answers::stream_answer))]
+fn write_asked_stream(
+    alloc: Global,
+    out: &mut Vec<u8>,
+    net: &Network,
+    o: &Owners,
+    w: Ws,
+    pattern: Option<&Text>,
+    s: StreamNo,
+    doc: &StreamDoc,
+) -> Result<(), NoMemory>
+    requires { stream (view_of o.now) s ≡ Some doc.now }
+    ensures { OnOk result (out.new.items ≡ out.old.items
+        ++ spec.asked_stream_answer net.now (view_of o.now) w (option_copied pattern.entry) s doc.now) }
+{
+    if is_stream_asked(alloc, net, pattern, doc)? {
+        let state = stream_state(net, o, s);
+        return write_in_state(alloc, out, net, o, w, s, doc, state);
+    }
+    Ok(())
+}
+
+/// Writes why a stream of the catalogue waits, and why its jobs do, of what is asked for.
+#[tactic(auto, unfolding(crate::specs::Answers::stream_answers))]
 fn write_stream_answers(
     alloc: Global,
     out: &mut Vec<u8>,
@@ -273,19 +328,19 @@ fn write_stream_answers(
     o: &Owners,
     w: Ws,
     next: Option<u32>,
+    pattern: Option<&Text>,
     s: StreamNo,
     doc: &StreamDoc,
 ) -> Result<(), NoMemory>
     requires { stream (view_of o.now) s ≡ Some doc.now }
     ensures { OnOk result (out.new.items ≡ out.old.items
-        ++ spec.stream_answers net.now (view_of o.now) w next s doc.now) }
+        ++ spec.stream_answers net.now (view_of o.now) w next (option_copied pattern.entry) s doc.now) }
 {
-    let state = stream_state(net, o, s);
-    write_in_state(alloc, out, net, o, w, s, doc, state)?;
-    write_jobs(alloc, out, net, o, w, next, doc.jobs.as_slice())
+    write_asked_stream(alloc, out, net, o, w, pattern, s, doc)?;
+    write_jobs(alloc, out, net, o, w, next, pattern, doc.jobs.as_slice())
 }
 
-/// Writes why a member waits, and why its jobs do.
+/// Writes why a member waits, and why its jobs do, of what is asked for.
 #[tactic(auto, unfolding(crate::specs::Answers::member_answers))]
 fn write_member(
     alloc: Global,
@@ -294,14 +349,15 @@ fn write_member(
     o: &Owners,
     w: Ws,
     next: Option<u32>,
+    pattern: Option<&Text>,
     s: StreamNo,
 ) -> Result<(), NoMemory>
     ensures { OnOk result (out.new.items ≡ out.old.items
-        ++ spec.member_answers net.now (view_of o.now) w next s) }
+        ++ spec.member_answers net.now (view_of o.now) w next (option_copied pattern.entry) s) }
 {
     match o.stream(s) {
         None => Ok(()),
-        Some(doc) => write_stream_answers(alloc, out, net, o, w, next, s, doc),
+        Some(doc) => write_stream_answers(alloc, out, net, o, w, next, pattern, s, doc),
     }
 }
 
@@ -312,12 +368,14 @@ fn write_members(
     o: &Owners,
     w: Ws,
     next: Option<u32>,
+    pattern: Option<&Text>,
 ) -> Result<(), NoMemory>
     ensures { OnOk result (out.new.items ≡ out.old.items
-        ++ flat_map (spec.member_answers net.now (view_of o.now) w next) (members (view_of o.now))) }
+        ++ flat_map (spec.member_answers net.now (view_of o.now) w next (option_copied pattern.entry))
+        (members (view_of o.now))) }
 {
     for s in o.members().as_slice() {
-        write_member(alloc, out, net, o, w, next, *s)?;
+        write_member(alloc, out, net, o, w, next, pattern, *s)?;
     }
     Ok(())
 }
@@ -337,15 +395,22 @@ fn next_job(net: &Network, o: &Owners, w: Ws) -> Option<u32>
 /// not released, or not ended, and each job in HOLD, FENCE or READY, a line with its name and its state, and a line
 /// for each thing that it lacks. What is cancelled is not told. Of what another workstation decides, that is told
 /// first, and then what it lacks by what is held here. A job of w that lacks nothing tells which job w launches
-/// before it.
+/// before it. With a pattern that is told only of the streams whose name `W#STREAM` is of the pattern, and of the jobs
+/// whose name `W#STREAM.JOB` is: an `@` of it stands for any characters, or none, and any other byte for itself.
 ///
 /// `NoMemory` where memory runs out.
 #[tactic(auto, unfolding(crate::specs::Answers::waits_of))]
-pub fn print_waits(alloc: Global, net: &Network, o: &Owners, w: Ws) -> Result<Bytes, NoMemory>
+pub fn print_waits(
+    alloc: Global,
+    net: &Network,
+    o: &Owners,
+    w: Ws,
+    pattern: Option<&Text>,
+) -> Result<Bytes, NoMemory>
     requires { w < node_count net.now }
-    ensures { IfOk result (λ bytes. bytes ≡ spec.waits_of net.now (view_of o.now) w) }
+    ensures { IfOk result (λ bytes. bytes ≡ spec.waits_of net.now (view_of o.now) w (option_copied pattern.entry)) }
 {
     let mut out = Vec::new(alloc);
-    write_members(alloc, &mut out, net, o, w, next_job(net, o, w))?;
+    write_members(alloc, &mut out, net, o, w, next_job(net, o, w), pattern)?;
     Ok(Items::of_vec(out))
 }

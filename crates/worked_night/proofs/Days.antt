@@ -1,7 +1,8 @@
 -- The drafts of the first day.
-use Rattle.std.proofs.Common.{[], ◌+◌, ◌<◌, ◌≡◌, ◌∙◌, ◌∷◌, ◌||◌, Bool, List, None, ap, arith, cond, false, inl, inr, refl, subst, suc, sym, true, zero, ℕ}
+use Rattle.std.proofs.Common.{[], ◌+◌, ◌<◌, ◌≡◌, ◌∙◌, ◌∷◌, ◌||◌, Bool, List, None, ap, arith, cond, inl, inr, refl, subst, suc, sym, true, zero, ℕ}
 use Rattle.std.proofs.lemmas.Bool.Decides.{eqb_tells}
 use Rattle.std.specs.List.{list_any}
+use Rattle.lemmas.proofs.Booleans.{or_true}
 use Rattle.calendars.specs.Dates.{last_day}
 use Rattle.calendars.specs.Nth.{below}
 use Rattle.run_cycles.specs.Runs.{runs}
@@ -19,10 +20,6 @@ pub net_is : net_of defs ≡ net
 unfolding net_of stations
 net_is = refl
 
-or_second : (b : Bool) → (b || true) ≡ true
-or_second true = refl
-or_second false = refl
-
 -- one of the numbers below that passes
 passes_below : (test : ℕ → Bool) (n k : ℕ) → k < n → test k ≡ true → list_any test (below n) ≡ true
 unfolding below
@@ -30,7 +27,7 @@ passes_below test zero k low pass = absurd (omega (arith, low))
 passes_below test (suc n) k low pass =
     elim (eqb_tells k n) [
       | inl same ↦ ap (λ (t : Bool). t || list_any test (below n)) (ap test (sym same.1) ∙ pass)
-      | inr other ↦ ap (λ (t : Bool). test n || t) (passes_below test n k (omega (arith, low, other.1)) pass) ∙ or_second (test n)
+      | inr other ↦ ap (λ (t : Bool). test n || t) (passes_below test n k (omega (arith, low, other.1)) pass) ∙ or_true (test n)
     ]
 
 gives_first : gives defs (free_of_stream defs schedule) 0 every_day ≡ true

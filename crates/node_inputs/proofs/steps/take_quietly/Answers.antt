@@ -1,4 +1,5 @@
 use Rattle.std.proofs.Common.{rules, ap, subst, ◌≡◌, Err, Ok, Result, Some}
+use Rattle.lemmas.proofs.Results.{on_ok}
 use Rattle.agent_core.specs.Steps.{IsTaken}
 use Rattle.agent_core.specs.declared.faults.Step.{Step}
 use Rattle.agent_core.specs.declared.faults.StepFault.{StepFault}
@@ -7,7 +8,7 @@ use Rattle.node_inputs.specs.Doings.{end_of}
 use Rattle.node_inputs.specs.Stepping.{IsPassed, IsStepped}
 use Rattle.node_inputs.proofs.Doing.{did_outside}
 use Rattle.node_inputs.proofs.Keepable.{kept_keepable, taken_keepable}
-use Rattle.node_inputs.proofs.Taking.{did_answer, did_quietly, on_ok, passed_quietly, stepped_end}
+use Rattle.node_inputs.proofs.Taking.{did_answer, did_quietly, passed_quietly, stepped_end}
 use Rattle.node_inputs.proofs.steps.take_quietly.Goals as goal
 
 pub returns-in_err-step-clause-does : goal.returns-in_err-step-clause-does

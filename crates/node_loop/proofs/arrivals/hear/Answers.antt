@@ -3,12 +3,13 @@ use Rattle.std.specs.List.{All}
 use Rattle.mail_frames.specs.Spelling.{IsFrame}
 use Rattle.mail_frames.specs.declared.frames.Frame.{Frame}
 use Rattle.std.specs.Prelude.{is_some}
+use Rattle.lemmas.proofs.Results.{on_ok}
 use Rattle.model.specs.Words.{with_at}
 use Rattle.node_inputs.specs.declared.ends.NodeEnd.TheVariants.{NoMemory}
 use Rattle.node_inputs.specs.Doings.{end_of}
 use Rattle.node_inputs.specs.Tellings.{told_by}
 use Rattle.node_inputs.proofs.Doing.{did_outside, out_as, out_stop}
-use Rattle.node_inputs.proofs.Taking.{did_answer, on_ok}
+use Rattle.node_inputs.proofs.Taking.{did_answer}
 use Rattle.node_loop.specs.Heard.{heard_more}
 use Rattle.node_loop.specs.Runs.{running_with}
 use Rattle.node_loop.proofs.Parts.{did_hear, not_ok}

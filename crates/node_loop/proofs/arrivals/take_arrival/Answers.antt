@@ -1,9 +1,9 @@
 use Rattle.std.proofs.Common.{◌≡◌, rules}
+use Rattle.lemmas.proofs.Results.{on_ok}
 use Rattle.outside.specs.declared.links.Arrival.TheVariants as arrival
 use Rattle.node_inputs.specs.declared.ends.NodeEnd.TheVariants.{NoMemory}
 use Rattle.node_inputs.specs.Tellings.{told_by}
 use Rattle.node_inputs.proofs.Doing.{did_outside, out_nothing, out_stop}
-use Rattle.node_inputs.proofs.Taking.{on_ok}
 use Rattle.node_loop.specs.Runs.{running_with}
 use Rattle.node_loop.proofs.Parts.{did_arrive}
 use Rattle.node_loop.proofs.Turning.{did_on}

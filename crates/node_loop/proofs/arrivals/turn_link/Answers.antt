@@ -1,8 +1,8 @@
+use Rattle.lemmas.proofs.Results.{on_ok}
 use Rattle.model.specs.Words.{with_at}
 use Rattle.node_loop.specs.Heard.{nothing_heard}
 use Rattle.node_inputs.specs.Tellings.{told_by}
 use Rattle.node_inputs.proofs.Doing.{did_outside, did_then}
-use Rattle.node_inputs.proofs.Taking.{on_ok}
 use Rattle.node_loop.proofs.Turning.{did_on, heard_now}
 use Rattle.node_loop.proofs.arrivals.turn_link.Goals as goal
 

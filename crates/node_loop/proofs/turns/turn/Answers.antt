@@ -1,9 +1,10 @@
 use Rattle.std.proofs.Common.{◌≡◌, Err, Some, ap, rules}
+use Rattle.lemmas.proofs.Results.{on_ok}
 use Rattle.model.specs.Types.{Input, Turn}
 use Rattle.node_inputs.specs.Doings.{end_of}
 use Rattle.node_inputs.specs.Inputs.{Take}
 use Rattle.node_inputs.proofs.Doing.{did_end, did_then}
-use Rattle.node_inputs.proofs.Taking.{did_answer, on_ok}
+use Rattle.node_inputs.proofs.Taking.{did_answer}
 use Rattle.node_loop.specs.Runs.{On}
 use Rattle.node_loop.proofs.Parts.{AfterCome, AfterProbe, AfterReport, did_turn, not_ok}
 use Rattle.node_loop.proofs.Turning.{did_on}

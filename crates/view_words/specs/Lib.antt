@@ -1,0 +1,5 @@
+-- What a view of the files of nodes writes.
+pub mod Forms
+pub mod Readings
+pub mod Dues
+pub mod Unread

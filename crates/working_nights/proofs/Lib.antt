@@ -1,0 +1,10 @@
+mod Breaks
+mod Playing
+mod Working
+mod Likes
+mod Calm
+mod Quiet
+mod Calming
+mod Going
+mod Meeting
+mod Inside

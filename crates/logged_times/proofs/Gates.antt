@@ -1,5 +1,7 @@
 -- The gates of entries, one entry further.
-use Rattle.std.proofs.Common.{[], ℕ, ◌+◌, ◌++◌, ◌∙◌, ◌∷◌, ◌≡◌, List, Option, Some, ap, arith, map, refl, sym, take}
+use Rattle.std.proofs.Common.{[], ℕ, ◌+◌, ◌++◌, ◌∙◌, ◌∷◌, ◌≡◌, List, Option, Some, add_assoc, ap, map, refl, sym}
+use Rattle.std.proofs.Common.{take, zero-add}
+use Rattle.std.proofs.lemmas.List.Sums.{sum_by-append}
 use Rattle.std.specs.Prelude.{length, option_and_then, slice_get, sum_by}
 use Rattle.lemmas.proofs.Lists.{take_further}
 use Rattle.model.specs.Sizes.{entry_size}
@@ -10,8 +12,11 @@ use Rattle.logged_times.specs.Times.{gate_behind, kept_at, time_at, times_in}
 use Rattle.logged_times.specs.declared.lines.KeptLine.{KeptLine}
 
 sum_more : {X : Type 0} (f : X → ℕ) (xs : List X) (x : X) → sum_by f (xs ++ x ∷ []) ≡ sum_by f xs + f x
-sum_more f [] x = omega arith
-sum_more f (y ∷ xs) x = omega (arith, sum_more f xs x)
+sum_more f xs x = sum_by-append f xs (x ∷ []) ∙ ap (λ n. sum_by f xs + n) (zero-add (f x))
+
+-- how many bytes the record of an entry has
+abbrev record_size : Entry → ℕ
+record_size e = 5 + entry_size e
 
 -- the first gate
 pub first_gate : gate_behind [] ≡ 8
@@ -23,8 +28,9 @@ pub gate_further : (entries : List Entry) (i : ℕ) (e : Entry) → slice_get en
     → gate_behind (take (i + 1) entries) ≡ gate_behind (take i entries) + (5 + entry_size e)
 unfolding gate_behind
 gate_further entries i e there =
-    rw (take_further entries i e there)
-    (omega (arith, sum_more (λ (e : Entry). 5 + entry_size e) (take i entries) e))
+    ap gate_behind (take_further entries i e there)
+    ∙ ap (λ n. 8 + n) (sum_more record_size (take i entries) e)
+    ∙ sym (add_assoc 8 (sum_by record_size (take i entries)) (5 + entry_size e))
 
 -- the time of the entry that stands there
 pub time_there : (lines : List KeptLine) (entries : List Entry) (i : ℕ) (e : Entry) → slice_get entries i ≡ Some e

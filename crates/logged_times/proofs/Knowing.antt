@@ -1,14 +1,18 @@
 -- What is told of entries, one entry further.
 use Rattle.std.proofs.Common.{[], ℕ, suc, ◌+◌, ◌++◌, ◌∙◌, ◌∷◌, ◌≡◌, ◌≤◌, Bool, List, None, Option, Some, add-one, ap}
-use Rattle.std.proofs.Common.{cond, drop, false, length, refl, subst, sym, true}
+use Rattle.std.proofs.Common.{cond, drop, false, get_or, length, refl, subst, sym, true, ◌<◌}
+use Rattle.std.proofs.Math.Bool.{and_assoc}
 use Rattle.std.proofs.lemmas.List.{append-nil, append_assoc}
+use Rattle.std.proofs.lemmas.Option.{slice_get-get_or}
 use Rattle.std.specs.List.{zip}
-use Rattle.std.specs.Prelude.{◌==◌, filter, filter_map, slice_get, unwrap_or}
+use Rattle.std.specs.Prelude.{◌&&◌, ◌==◌, filter, filter_map, slice_get, unwrap_or}
+use Rattle.indexmap.specs.IndexMap.{get}
 use Rattle.lemmas.proofs.Lists.{drop_at_end, drop_some}
+use Rattle.model.specs.Equalities.{feed_eq}
 use Rattle.model.specs.History.{maker}
 use Rattle.model.specs.Types.{Entry, Events, Feed, Orders}
 use Rattle.model.specs.Words.{last_or}
-use Rattle.logged_times.specs.Known.{Tells, Timed, is_at, known_time, made_by, row_of, time_of}
+use Rattle.logged_times.specs.Known.{Tells, Timed, is_at, known_time, made_by, row_of, same_event, same_order, time_of}
 use Rattle.logged_times.specs.Times.{times_in}
 use Rattle.logged_times.specs.declared.lines.KeptLine.{KeptLine}
 use Rattle.logged_times.specs.declared.known.EntryTimes.{EntryTimes}
@@ -53,6 +57,49 @@ unfolding known_time
 none_known known first second (Events w) k = rw first refl
 none_known known first second (Orders a w) k = rw second refl
 
+-- what is put of an event, and of an order, is that of its entry
+pub event_put : (w : ℕ) (e : Entry) (t : Option ℕ) (old new : EntryTimes)
+    → ((q : ℕ × ℕ) → unwrap_or (get same_event new.events q) None
+    ≡ cond (same_event (w, e.place) q) t (unwrap_or (get same_event old.events q) None))
+    → new.orders ≡ old.orders → e.feed ≡ Events w
+    → (f : Feed) (k : ℕ) → unwrap_or (row_of new f k) None ≡ cond (is_at f k e) t (unwrap_or (row_of old f k) None)
+event_put w e t old new put others is f k =
+    go f ∙ ap (λ (g : Feed). cond (feed_eq g f && (e.place == k)) t (unwrap_or (row_of old f k) None)) (sym is)
+  where
+    go : (f : Feed) → unwrap_or (row_of new f k) None
+        ≡ cond (feed_eq (Events w) f && (e.place == k)) t (unwrap_or (row_of old f k) None)
+    go (Events v) = put (v, k)
+    go (Orders a v) = rw others refl
+
+pub order_put : (a w : ℕ) (e : Entry) (t : Option ℕ) (old new : EntryTimes)
+    → ((q : ℕ × (ℕ × ℕ)) → unwrap_or (get same_order new.orders q) None
+    ≡ cond (same_order (a, (w, e.place)) q) t (unwrap_or (get same_order old.orders q) None))
+    → new.events ≡ old.events → e.feed ≡ Orders a w
+    → (f : Feed) (k : ℕ) → unwrap_or (row_of new f k) None ≡ cond (is_at f k e) t (unwrap_or (row_of old f k) None)
+order_put a w e t old new put others is f k =
+    go f ∙ ap (λ (g : Feed). cond (feed_eq g f && (e.place == k)) t (unwrap_or (row_of old f k) None)) (sym is)
+  where
+    go : (f : Feed) → unwrap_or (row_of new f k) None
+        ≡ cond (feed_eq (Orders a w) f && (e.place == k)) t (unwrap_or (row_of old f k) None)
+    go (Events v) = rw others refl
+    go (Orders b v) =
+        put (b, (v, k))
+        ∙ ap (λ (c : Bool). cond c t (unwrap_or (get same_order old.orders (b, (v, k))) None))
+        (sym (and_assoc (a == b) (w == v) (e.place == k)))
+
+-- what a table has of an event, and of an order, is what is known of its entry
+pub event_known : (w : ℕ) (e : Entry) (t : Option ℕ) (told : List Timed) (known : EntryTimes)
+    → t ≡ unwrap_or (get same_event known.events (w, e.place)) None → Tells told known → e.feed ≡ Events w
+    → t ≡ known_time told e.feed e.place
+event_known w e t told known has tells is =
+    has ∙ tells (Events w) e.place ∙ ap (λ (f : Feed). known_time told f e.place) (sym is)
+
+pub order_known : (a w : ℕ) (e : Entry) (t : Option ℕ) (told : List Timed) (known : EntryTimes)
+    → t ≡ unwrap_or (get same_order known.orders (a, (w, e.place))) None → Tells told known → e.feed ≡ Orders a w
+    → t ≡ known_time told e.feed e.place
+order_known a w e t told known has tells is =
+    has ∙ tells (Orders a w) e.place ∙ ap (λ (f : Feed). known_time told f e.place) (sym is)
+
 -- what w made of one entry, told or passed over
 pub one_told : (w : ℕ) (e : Entry) (t : Option ℕ) (old new : EntryTimes) → (maker e.feed == w) ≡ true
     → ((f : Feed) (k : ℕ) → unwrap_or (row_of new f k) None ≡ cond (is_at f k e) t (unwrap_or (row_of old f k) None))
@@ -95,6 +142,18 @@ pub made_further : (w : ℕ) (entries : List Entry) (times : List (Option ℕ)) 
 made_further w entries times i e t whole so_far first second before =
     before ∙ ap (λ l. so_far ++ l) (made_first w entries times i e t first second)
     ∙ sym (append_assoc so_far (made_by w (e ∷ []) (t ∷ [])) (made_by w (drop (i + 1) entries) (drop (i + 1) times)))
+
+-- so a table tells one more
+pub made_step : (w : ℕ) (entries : List Entry) (times : List (Option ℕ)) (i : ℕ) (e : Entry) (d : Option ℕ)
+    (whole : List Timed) (now new : EntryTimes) → slice_get entries i ≡ Some e → i < length times
+    → ((before : List Timed) → Tells before now → Tells (before ++ made_by w (e ∷ []) (get_or times i d ∷ [])) new)
+    → (so_far : List Timed) × Tells so_far now × (whole ≡ so_far ++ made_by w (drop i entries) (drop i times))
+    → (so_far : List Timed) × Tells so_far new × (whole ≡ so_far ++ made_by w (drop (i + 1) entries) (drop (i + 1) times))
+made_step w entries times i e d whole now new first low told inv = (
+  inv.0 ++ made_by w (e ∷ []) (get_or times i d ∷ []),
+  told inv.0 inv.1,
+  made_further w entries times i e (get_or times i d) whole inv.0 first (slice_get-get_or times i d low) inv.2,
+)
 
 -- and at the end a table tells all of it
 pub made_whole : (w : ℕ) (entries : List Entry) (times : List (Option ℕ)) (i : ℕ) (whole so_far : List Timed)

@@ -1,6 +1,5 @@
 //! When entries were kept that several files tell of.
 ghost use Rattle.std.specs.Prelude.{◌≡◌, ◌==◌, ◌++◌, ◌∷◌, [], IfOk, List, None, OnOk, cond, length, map, unwrap_or, ℕ};
-ghost use Rattle.std.specs.Option.{option_copied};
 ghost use Rattle.indexmap.specs.IndexMap.{get};
 ghost use Rattle.model.specs.History.{maker};
 ghost use Rattle.model.specs.Types.{Entry as Kept, Feed as Feeds};
@@ -40,16 +39,6 @@ fn is_made_by(w: &Ws, feed: &Feed) -> bool
     match feed {
         Feed::Events(own) => own.0 == w.0,
         Feed::Orders(own, _) => own.0 == w.0,
-    }
-}
-
-/// What stands in a row.
-fn at(row: Option<&Option<u64>>) -> Option<u64>
-    ensures { result ≡ unwrap_or (option_copied row.entry) None }
-{
-    match row {
-        None => None,
-        Some(time) => *time,
     }
 }
 
@@ -105,10 +94,10 @@ impl EntryTimes {
         ensures { OnOk result ((before : List Timed) → Tells before self.old
             → Tells (before ++ made_by w (entry.now ∷ []) (time ∷ [])) self.new) }
     {
-        if !is_made_by(&w, &entry.feed) {
-            return Ok(());
+        if is_made_by(&w, &entry.feed) {
+            return self.put(entry, time);
         }
-        self.put(entry, time)
+        Ok(())
     }
 
     /// Takes when the entries that w made were kept, of those that its file keeps, whose times these are.
@@ -142,13 +131,33 @@ impl EntryTimes {
         self.tell(w, entries, times.as_slice())
     }
 
+    /// When an event was kept.
+    fn event_time(&self, w: u16, place: u32) -> Option<u64>
+        ensures { result ≡ unwrap_or (get same_event self.now.events (w, place)) None }
+    {
+        match self.events.get(&(w, place)) {
+            None => None,
+            Some(time) => *time,
+        }
+    }
+
+    /// When an order was kept.
+    fn order_time(&self, a: u16, w: u16, place: u32) -> Option<u64>
+        ensures { result ≡ unwrap_or (get same_order self.now.orders (a, (w, place))) None }
+    {
+        match self.orders.get(&(a, (w, place))) {
+            None => None,
+            Some(time) => *time,
+        }
+    }
+
     /// When an entry was kept. None where that is not known.
     pub fn time(&self, entry: &Entry) -> Option<u64>
         ensures { (told : List Timed) → Tells told self.now → result ≡ known_time told entry.now.feed entry.now.place }
     {
         match &entry.feed {
-            Feed::Events(w) => at(self.events.get(&(w.0, entry.place))),
-            Feed::Orders(a, w) => at(self.orders.get(&(a.0, (w.0, entry.place)))),
+            Feed::Events(w) => self.event_time(w.0, entry.place),
+            Feed::Orders(a, w) => self.order_time(a.0, w.0, entry.place),
         }
     }
 

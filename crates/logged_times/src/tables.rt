@@ -1,10 +1,11 @@
 //! What the lines of logs tell, by the place of the gate.
 ghost use Rattle.std.specs.Prelude.{◌≡◌, ◌==◌, ◌++◌, ◌∷◌, [], IfOk, List, OnOk, Some, ℕ, cond, filter_map, map, nat_eq};
+ghost use Rattle.std.specs.Prelude.{option_and_then};
 ghost use Rattle.indexmap.specs.IndexMap.{get};
 ghost use Rattle.syntax.specs.Splits.{lines_of};
 ghost use Rattle.logged_times.specs.KeptLines.{kept_line as line_tells, kept_lines};
 ghost use Rattle.logged_times.specs.Tables.{Knows};
-ghost use Rattle.logged_times.specs.Times.{kept_at};
+ghost use Rattle.logged_times.specs.Times.{kept_at, moment_in};
 ghost use Rattle.logged_times.specs.declared.lines.KeptLine.{KeptLine as Line};
 
 use crate::lines::{KeptLine, kept_line};
@@ -74,7 +75,6 @@ impl KeptTimes {
 
     /// Takes what the lines of a log tell, behind those of earlier logs. `NoMemory` where memory runs out; then some of
     /// its lines may have been taken.
-    #[tactic(auto, unfolding(crate::specs::KeptLines::kept_lines))]
     pub(crate) fn read(&mut self, log: &[u8]) -> Result<(), NoMemory>
         ensures { OnOk result ((before : List Line) → Knows before self.old
             → Knows (before ++ kept_lines log.now) self.new) }
@@ -84,9 +84,9 @@ impl KeptTimes {
         self.tell_all(lines.as_slice())
     }
 
-    /// When the record of this gate was kept, whose body has so many bytes. None where no line tells it.
-    pub(crate) fn time(&self, gate: u64, bytes: u64) -> Option<u64>
-        ensures { (lines : List Line) → Knows lines self.now → result ≡ kept_at lines gate bytes }
+    /// What the row of a gate tells of a record whose body has so many bytes.
+    fn row_time(&self, gate: u64, bytes: u64) -> Option<u64>
+        ensures { result ≡ option_and_then (moment_in bytes) (get nat_eq self.now.rows gate) }
     {
         match self.rows.get(&gate) {
             None => None,
@@ -98,5 +98,12 @@ impl KeptTimes {
                 }
             }
         }
+    }
+
+    /// When the record of this gate was kept, whose body has so many bytes. None where no line tells it.
+    pub(crate) fn time(&self, gate: u64, bytes: u64) -> Option<u64>
+        ensures { (lines : List Line) → Knows lines self.now → result ≡ kept_at lines gate bytes }
+    {
+        self.row_time(gate, bytes)
     }
 }

@@ -13,7 +13,6 @@ use std::alloc::Global;
 /// file's logs tells it.
 ///
 /// `NoMemory` where memory runs out, or where the entries have more bytes than any file.
-#[tactic(auto, unfolding(crate::specs::Times::times_in))]
 pub(crate) fn times_in(
     alloc: Global,
     entries: &[Entry],

@@ -1,5 +1,5 @@
 //! Moments as people read them.
-ghost use Rattle.std.specs.Prelude.{◌≡◌, ◌++◌, ◌<◌, OnOk};
+ghost use Rattle.std.specs.Prelude.{◌≡◌, ◌++◌, ◌<◌, OnOk, Some};
 ghost use Rattle.composer_print.specs.Days.{two_digits};
 ghost use Rattle.moment_texts.specs.Moments as spec;
 
@@ -40,6 +40,16 @@ fn write_clock(out: &mut Vec<u8>, seconds: u64) -> io::Result<()>
     write_two(out, (seconds % 60) as u8)
 }
 
+/// Writes a date, and the time of its day.
+fn write_dated(out: &mut Vec<u8>, date: (u16, u8, u8), t: u64) -> io::Result<()>
+    requires { date.0 < 10000 }
+    ensures { OnOk result (out.new.items ≡ out.old.items ++ spec.dated t (Some date)) }
+{
+    write_day(out, date)?;
+    write!(out, " ")?;
+    write_clock(out, t % 86_400)
+}
+
 /// Writes `YYYY-MM-DD HH:MM:SS` of a moment, in seconds since 1970, UTC; behind 12/31/9999 that number alone.
 #[tactic(auto, unfolding(crate::specs::Moments::moment_text))]
 pub fn write_moment(out: &mut Vec<u8>, t: u64) -> io::Result<()>
@@ -47,10 +57,6 @@ pub fn write_moment(out: &mut Vec<u8>, t: u64) -> io::Result<()>
 {
     match date_of(t / 86_400) {
         None => write!(out, "{t}"),
-        Some(date) => {
-            write_day(out, date)?;
-            write!(out, " ")?;
-            write_clock(out, t % 86_400)
-        }
+        Some(date) => write_dated(out, date, t),
     }
 }

@@ -1,21 +1,22 @@
 -- Walks over entries beside their times, and over marks.
 use Rattle.std.proofs.Common.{[], ℕ, ◌+◌, ◌++◌, ◌∙◌, ◌∷◌, ◌≡◌, ◌≤◌, Bool, List, None, Option, Some, ap, add-one, cond}
 use Rattle.std.proofs.Common.{drop, false, filter_map, flat_map, length, refl, sym, true}
-use Rattle.std.proofs.Common.{slice_get}
+use Rattle.std.proofs.Common.{get_or, slice_get, ◌<◌}
 use Rattle.std.proofs.lemmas.List.{append-nil}
+use Rattle.std.proofs.lemmas.Option.{slice_get-get_or}
 use Rattle.std.specs.List.{zip}
 use Rattle.std.specs.Option.{option_to_list}
 use Rattle.std.specs.Prelude.{if◌then◌else◌, option_and_then, unwrap_or}
 use Rattle.indexmap.specs.IndexMap.{get}
 use Rattle.lemmas.proofs.Lists.{drop_at_end, drop_some, one_filtered, regroup}
 use Rattle.lemmas.proofs.Options.{cons_is}
-use Rattle.model.specs.Catalogue.{StreamJob}
+use Rattle.model.specs.History.{view_of}
 use Rattle.model.specs.Types.{Entry, Net}
 use Rattle.owner_rows.proofs.Keys.{key_tells}
 use Rattle.owner_rows.specs.Tables.{same_key}
 use Rattle.night_texts.specs.Times.{Timed}
 use Rattle.night_texts.specs.Marks.{Key, marks_of, told, under}
-use Rattle.night_texts.specs.Runs.{marked_run, run_lines}
+use Rattle.night_texts.specs.Runs.{Marks, plan_runs, run_heads, runs_of}
 use Rattle.night_texts.specs.Tables.{marks_at}
 use Rattle.night_texts.specs.declared.marks.Mark.{Mark}
 use Rattle.night_texts.specs.declared.tables.MarkTable.{MarkTable}
@@ -38,6 +39,14 @@ pub pairs_further : {X Y : Type 0} (f : X × Y → List ℕ) (xs : List X) (ys :
 pairs_further f xs ys i x y whole now new first second before put =
     regroup whole now new (f (x, y)) (flat_map f (zip (drop (i + 1) xs) (drop (i + 1) ys))) put
     (before ∙ ap (λ l. now ++ flat_map f l) (pair_left xs ys i x y first second))
+
+-- the same of the item at the place in the second list
+pub pairs_step : {X Y : Type 0} (f : X × Y → List ℕ) (xs : List X) (ys : List Y) (i : ℕ) (x : X) (d : Y)
+    (whole now new : List ℕ) → slice_get xs i ≡ Some x → i < length ys
+    → whole ≡ now ++ flat_map f (zip (drop i xs) (drop i ys)) → new ≡ now ++ f (x, get_or ys i d)
+    → whole ≡ new ++ flat_map f (zip (drop (i + 1) xs) (drop (i + 1) ys))
+pairs_step f xs ys i x d whole now new first low before put =
+    pairs_further f xs ys i x (get_or ys i d) whole now new first (slice_get-get_or ys i d low) before put
 
 -- and at the end it is whole
 pub pairs_whole : {X Y : Type 0} (f : X × Y → List ℕ) (xs : List X) (ys : List Y) (i : ℕ) (whole now : List ℕ)
@@ -107,6 +116,14 @@ marks_further q entries times i e t whole now new first second before put =
     ∙ ap (λ l. now ++ l)
     (ap (marks_of q) (pair_left entries times i e t first second) ∙ marks_first q (e, t) rest))
 
+pub marks_step : (q : Key) (entries : List Entry) (times : List (Option ℕ)) (i : ℕ) (e : Entry) (d : Option ℕ)
+    (whole now new : List Mark) → slice_get entries i ≡ Some e → i < length times
+    → whole ≡ now ++ marks_of q (zip (drop i entries) (drop i times))
+    → new ≡ now ++ marks_of q ((e, get_or times i d) ∷ [])
+    → whole ≡ new ++ marks_of q (zip (drop (i + 1) entries) (drop (i + 1) times))
+marks_step q entries times i e d whole now new first low before put =
+    marks_further q entries times i e (get_or times i d) whole now new first (slice_get-get_or times i d low) before put
+
 -- and at the end
 pub marks_whole : (q : Key) (entries : List Entry) (times : List (Option ℕ)) (i : ℕ) (whole now : List Mark)
     → length entries ≤ i → whole ≡ now ++ marks_of q (zip (drop i entries) (drop i times)) → now ≡ whole
@@ -114,19 +131,13 @@ unfolding marks_of
 marks_whole q entries times i whole now h before =
     sym (before ∙ ap (λ l. now ++ marks_of q l) (no_pair entries times i h) ∙ append-nil now)
 
--- the lines of the marks have one more
-pub runs_further : (net : Net) (p : StreamJob) (marks : List Mark) (i : ℕ) (m : Mark) (whole now new : List ℕ)
-    → slice_get marks i ≡ Some m → whole ≡ now ++ run_lines net p (drop i marks)
-    → new ≡ now ++ marked_run net p m (drop (i + 1) marks) → whole ≡ new ++ run_lines net p (drop (i + 1) marks)
-unfolding run_lines
-runs_further net p marks i m whole now new there before put =
-    regroup whole now new (marked_run net p m (drop (i + 1) marks)) (run_lines net p (drop (i + 1) marks)) put
-    (before
-    ∙ ap (λ l. now ++ run_lines net p l) (drop_some marks i m there ∙ ap (λ n. m ∷ drop n marks) (sym (add-one i))))
-
--- and at the end they are whole
-pub runs_whole : (net : Net) (p : StreamJob) (marks : List Mark) (i : ℕ) (whole now : List ℕ) → length marks ≤ i
-    → whole ≡ now ++ run_lines net p (drop i marks) → now ≡ whole
-unfolding run_lines
-runs_whole net p marks i whole now h before =
-    sym (before ∙ ap (λ l. now ++ run_lines net p l) (drop_at_end marks i h) ∙ append-nil now)
+-- the text of all launches, by a table that tells of all entries
+pub runs_told : (net : Net) (kept entries : List Entry) (times : List (Option ℕ)) (table : MarkTable)
+    (before text bytes : List ℕ) → entries ≡ kept → marks_at table ≡ (λ q. marks_of q (zip entries times))
+    → before ≡ [] → text ≡ before ++ (run_heads ++ plan_runs net (view_of kept) (marks_at table)) → bytes ≡ text
+    → bytes ≡ runs_of net kept times
+unfolding runs_of
+runs_told net kept entries times table before text bytes same marks none is whole =
+    whole ∙ is ∙ ap (λ l. l ++ (run_heads ++ plan_runs net (view_of kept) (marks_at table))) none
+    ∙ ap (λ (m : Marks). run_heads ++ plan_runs net (view_of kept) m)
+    (marks ∙ ap (λ (l : List Entry). λ (q : Key). marks_of q (zip l times)) same)

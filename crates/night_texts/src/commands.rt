@@ -7,7 +7,7 @@ ghost use Rattle.night_texts.specs.Commands as spec;
 ghost use Rattle.night_texts.specs.Dependencies.{dep_text, object_dep};
 ghost use Rattle.night_texts.specs.Names as names;
 
-use crate::dependencies::{write_dep, write_object_dep};
+use crate::dependencies::{write_behind_comma, write_object_dep};
 use crate::names::{
     write_job_called, write_object_called, write_prompt_called, write_resource_called,
     write_stream_called,
@@ -54,8 +54,7 @@ fn write_add_dep(
         ++ dep_text net.now (view_of o.now) dep.now)) }
 {
     write_of(out, net, o, "adddep ", obj)?;
-    write!(out, ", ")?;
-    write_dep(out, net, o, dep)
+    write_behind_comma(out, net, o, dep)
 }
 
 fn write_del_dep(out: &mut Vec<u8>, net: &Network, o: &Owners, obj: &Obj, i: u16) -> io::Result<()>
@@ -144,7 +143,7 @@ fn write_reply(
 
 /// Writes a command with what it was given.
 #[tactic(auto, unfolding(crate::specs::Commands::cmd_text))]
-pub(crate) fn write_cmd(out: &mut Vec<u8>, net: &Network, o: &Owners, cmd: &Cmd) -> io::Result<()>
+fn write_cmd(out: &mut Vec<u8>, net: &Network, o: &Owners, cmd: &Cmd) -> io::Result<()>
     ensures { OnOk result (out.new.items ≡ out.old.items ++ spec.cmd_text net.now (view_of o.now) cmd.now) }
 {
     match cmd {
@@ -183,6 +182,20 @@ pub(crate) fn write_order_from(
     write!(out, "{word}order {place} from {}", name(net.net(), from))
 }
 
+/// Writes a command, behind a colon.
+pub(crate) fn write_behind_colon(
+    out: &mut Vec<u8>,
+    net: &Network,
+    o: &Owners,
+    cmd: &Cmd,
+) -> io::Result<()>
+    ensures { OnOk result (out.new.items ≡ out.old.items
+        ++ (codes ": " ++ spec.cmd_text net.now (view_of o.now) cmd.now)) }
+{
+    write!(out, ": ")?;
+    write_cmd(out, net, o, cmd)
+}
+
 /// Writes the command of an order, behind a colon. Nothing where it is not held.
 #[tactic(auto, unfolding(crate::specs::Commands::ordered_behind))]
 pub(crate) fn write_ordered(
@@ -198,9 +211,6 @@ pub(crate) fn write_ordered(
 {
     match o.order(*from, *to, place) {
         None => Ok(()),
-        Some(cmd) => {
-            write!(out, ": ")?;
-            write_cmd(out, net, o, cmd)
-        }
+        Some(cmd) => write_behind_colon(out, net, o, cmd),
     }
 }

@@ -85,7 +85,7 @@ fn write_until(out: &mut Vec<u8>, t: &Moment, then: OnUntil) -> io::Result<()>
 
 /// Writes what is waited for.
 #[tactic(auto, unfolding(crate::specs::Dependencies::dep_text))]
-pub(crate) fn write_dep(out: &mut Vec<u8>, net: &Network, o: &Owners, dep: &Dep) -> io::Result<()>
+fn write_dep(out: &mut Vec<u8>, net: &Network, o: &Owners, dep: &Dep) -> io::Result<()>
     ensures { OnOk result (out.new.items ≡ out.old.items ++ spec.dep_text net.now (view_of o.now) dep.now) }
 {
     match dep {
@@ -99,6 +99,20 @@ pub(crate) fn write_dep(out: &mut Vec<u8>, net: &Network, o: &Owners, dep: &Dep)
         Dep::Outside(path) => write_text(out, "file ", path),
         Dep::Deadline(t) => write_when(out, "deadline ", t),
     }
+}
+
+/// Writes what is waited for, behind a comma.
+pub(crate) fn write_behind_comma(
+    out: &mut Vec<u8>,
+    net: &Network,
+    o: &Owners,
+    dep: &Dep,
+) -> io::Result<()>
+    ensures { OnOk result (out.new.items ≡ out.old.items
+        ++ (codes ", " ++ spec.dep_text net.now (view_of o.now) dep.now)) }
+{
+    write!(out, ", ")?;
+    write_dep(out, net, o, dep)
 }
 
 /// Writes what the dependency of a number waits for, behind a comma. Nothing where there is none.
@@ -115,10 +129,7 @@ fn write_dep_behind(
 {
     match o.dep(*obj, i) {
         None => Ok(()),
-        Some(dep) => {
-            write!(out, ", ")?;
-            write_dep(out, net, o, dep)
-        }
+        Some(dep) => write_behind_comma(out, net, o, dep),
     }
 }
 

@@ -75,6 +75,7 @@ fn write_mark(
 }
 
 /// Writes a line for each launch that the marks of a job tell.
+#[tactic(auto, unfolding(crate::specs::Runs::run_lines))]
 pub(crate) fn write_runs(
     out: &mut Vec<u8>,
     net: &Network,
@@ -85,8 +86,10 @@ pub(crate) fn write_runs(
     ensures { OnOk result (out.new.items ≡ out.old.items
         ++ spec.run_lines net.now (stream_job parent.now doc.now) marks.now) }
 {
-    for i in 0..marks.len() {
-        write_mark(out, net, parent, doc, marks[i], &marks[i + 1..])?;
+    let mut left = marks;
+    while let [mark, later @ ..] = left {
+        write_mark(out, net, parent, doc, *mark, later)?;
+        left = later;
     }
     Ok(())
 }

@@ -11,7 +11,7 @@ ghost use Rattle.night_texts.specs.Names.{stream_called, stream_text};
 ghost use Rattle.night_texts.specs.Sayings as spec;
 
 use crate::codes::end_word;
-use crate::commands::{write_cmd, write_order_from, write_ordered};
+use crate::commands::{write_behind_colon, write_order_from, write_ordered};
 use crate::dependencies::write_object_dep;
 use crate::names::{write_job_called, write_stream, write_stream_called};
 use base_types::{
@@ -160,8 +160,7 @@ fn write_obeyed(
         ++ cmd_text net.now (view_of o.now) cmd.now)) }
 {
     write_order_from(out, net, "obeyed ", from, place)?;
-    write!(out, ": ")?;
-    write_cmd(out, net, o, cmd)
+    write_behind_colon(out, net, o, cmd)
 }
 
 /// Why an order was declined.
@@ -212,8 +211,8 @@ fn write_given(
         ++ (codes "gave order " ++ decimal place ++ codes " to " ++ name_of net.now to.now ++ codes ": "
         ++ cmd_text net.now (view_of o.now) cmd.now)) }
 {
-    write!(out, "gave order {place} to {}: ", name(net.net(), to))?;
-    write_cmd(out, net, o, cmd)
+    write!(out, "gave order {place} to {}", name(net.net(), to))?;
+    write_behind_colon(out, net, o, cmd)
 }
 
 /// Writes what an entry says.

@@ -1,6 +1,6 @@
 -- The front of a file that was read.
-use Rattle.std.proofs.Common.{[], ℕ, ◌∙◌, ◌≡◌, ◌≤◌, ◌<◌, IfSome, List, None, Option, Some, ap, arith, inl, inr, length}
-use Rattle.std.proofs.Common.{refl, sym, take}
+use Rattle.std.proofs.Common.{[], ℕ, ◌∙◌, ◌≡◌, ◌≤◌, ◌<◌, ◌⊎◌, IfSome, List, None, Option, Some, ap, arith}
+use Rattle.std.proofs.Common.{inl, inr, length, sym, take}
 use Rattle.std.proofs.lemmas.List.{length-take}
 use Rattle.lemmas.proofs.Lists.{take_whole}
 use Rattle.outside.specs.Causes.{Rose}
@@ -17,15 +17,27 @@ pub told_front : (m n : ℕ) (told : Option (List ℕ)) (log : List ℕ) → IfS
 told_front m n None log is short more = tt
 told_front m n (Some file) log is short more = whole_front m n file log is short more
 
-module _ {F : Type 0} (T : Telling F) (name : List ℕ) (old mid new : F) (earlier : Calls T old mid)
-    (call : OneCall T mid new) where
-  -- a log that the last call read, and one that it did not
-  pub log_read : (log : List ℕ) → IfSome (T.seen new name) (λ file. log ≡ take 33554432 file) → IsLog T old new name log
-  log_read log is = record { mid = mid; earlier = earlier; call = call; read = inl is }
+module _ {F : Type 0} (T : Telling F) (name : List ℕ) where
+  -- what one call found of a file
+  abbrev Found : ℕ → F → F → List ℕ → Type 0
+  Found size old new log =
+      IfSome (T.seen new name) (λ file. log ≡ take size file) ⊎ (Rose (T.faults old) (T.faults new) × (log ≡ []))
 
-  pub log_missed : Rose (T.faults mid) (T.faults new) → IsLog T old new name []
-  log_missed rose = record { mid = mid; earlier = earlier; call = call; read = inr (rose, refl) }
+  -- a log that the first call found whole
+  pub log_short : (m : ℕ) (old new : F) (log : List ℕ) → OneCall T old new → Found m old new log → length log < m
+      → m ≤ 33554432 → IsLog T old new name log
+  log_short m old new log call (inl is) short more =
+      record {
+        mid = old;
+        earlier = Calls.none old;
+        call = call;
+        read = inl (told_front m 33554432 (T.seen new name) log is short more);
+      }
+  log_short m old new log call (inr failed) short more =
+      record { mid = old; earlier = Calls.none old; call = call; read = inr failed }
 
--- one call behind none
-pub one_earlier : {F : Type 0} (T : Telling F) (old mid : F) → OneCall T old mid → Calls T old mid
-one_earlier T old mid call = Calls.more old old mid (Calls.none old) call
+  -- one that the second call found
+  pub log_long : (old mid new : F) (log : List ℕ) → OneCall T old mid → OneCall T mid new → Found 33554432 mid new log
+      → IsLog T old new name log
+  log_long old mid new log first call read =
+      record { mid = mid; earlier = Calls.more old old mid (Calls.none old) first; call = call; read = read }

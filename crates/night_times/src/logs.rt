@@ -1,5 +1,5 @@
 //! The bytes of a log.
-ghost use Rattle.std.specs.Prelude.{◌≡◌, IfOk, IfSome, None, take};
+ghost use Rattle.std.specs.Prelude.{[], ◌≡◌, ◌⊎◌, IfOk, IfSome, take};
 ghost use Rattle.outside.specs.Causes.{Rose};
 ghost use Rattle.night_times.specs.Logs.{IsLog, OneCall, telling};
 
@@ -12,25 +12,24 @@ const FIRST: usize = 65_536;
 
 const MOST: usize = 33_554_432;
 
-/// The bytes at the front of a file, so many at most. None where the call fails.
+/// The bytes at the front of a file, so many at most. Where the call fails, they are none.
 fn front_of<F: Folder>(
     alloc: Global,
     folder: &mut F,
     name: &str,
     size: usize,
-) -> Result<Option<Vec<u8>>, NoMemory>
-    ensures bytes { IfOk result (λ front. IfSome front (λ log. IfSome (F.seen folder.new name.now)
-        (λ file. log.items ≡ take size file))) }
-    ensures failed { IfOk result (λ front. front ≡ None → Rose (F.faults folder.old) (F.faults folder.new)) }
-    ensures call { IfOk result (λ front. OneCall (telling F.seen F.becomes F.faults) folder.old folder.new) }
+) -> Result<Vec<u8>, NoMemory>
+    ensures read { IfOk result (λ log. IfSome (F.seen folder.new name.now) (λ file. log.items ≡ take size file)
+        ⊎ (Rose (F.faults folder.old) (F.faults folder.new) × (log.items ≡ []))) }
+    ensures call { IfOk result (λ log. OneCall (telling F.seen F.becomes F.faults) folder.old folder.new) }
 {
     let mut log = vec![in alloc; 0u8; size]?;
     match folder.read_at(name, 0, &mut log) {
         Ok(count) => {
             log.truncate(count);
-            Ok(Some(log))
+            Ok(log)
         }
-        Err(_) => Ok(None),
+        Err(_) => Ok(Vec::new(alloc)),
     }
 }
 
@@ -44,14 +43,10 @@ pub(crate) fn read_log<F: Folder>(
     ensures { IfOk result (λ log. IsLog (telling F.seen F.becomes F.faults) folder.old folder.new name.now
         log.items) }
 {
-    let Some(log) = front_of(alloc, folder, name, FIRST)? else {
-        return Ok(Vec::new(alloc));
-    };
+    let log = front_of(alloc, folder, name, FIRST)?;
     if log.len() < FIRST {
         return Ok(log);
     }
-    match front_of(alloc, folder, name, MOST)? {
-        Some(whole) => Ok(whole),
-        None => Ok(Vec::new(alloc)),
-    }
+    let whole = front_of(alloc, folder, name, MOST)?;
+    Ok(whole)
 }

@@ -1,5 +1,5 @@
 //! When the entries of a night were kept.
-ghost use Rattle.std.specs.Prelude.{◌≡◌, ◌++◌, ◌<◌, IfOk, OnOk, length};
+ghost use Rattle.std.specs.Prelude.{◌≡◌, ◌&&◌, ◌++◌, ◌<◌, ◌==◌, IfOk, OnOk, length};
 ghost use Rattle.std.specs.String.{string_bytes};
 ghost use Rattle.model.specs.Network.{node_count};
 ghost use Rattle.night_times.specs.Logs.{IsLog, telling};
@@ -62,6 +62,20 @@ fn tell_other<F: Folder>(
     }
 }
 
+/// Whether neither log has a byte.
+fn is_silent(former: &[u8], last: &[u8]) -> bool
+    ensures { result ≡ ((length former.now == 0) && (length last.now == 0)) }
+{
+    former.is_empty() && last.is_empty()
+}
+
+/// Whether both are one workstation.
+fn is_same(w: Ws, me: Ws) -> bool
+    ensures { result ≡ (w == me) }
+{
+    w.0 == me.0
+}
+
 /// Takes when the entries of a workstation were kept, where its log is in the folder.
 fn tell_station<F: Folder>(
     alloc: Global,
@@ -77,15 +91,17 @@ fn tell_station<F: Folder>(
         folder.old folder.new known.old known.new) }
 {
     let name = name(net.net(), &w);
-    let former = log_of(alloc, folder, name, ".log.1")?;
-    let last = log_of(alloc, folder, name, ".log")?;
-    if former.is_empty() && last.is_empty() {
+    let former_log = log_of(alloc, folder, name, ".log.1")?;
+    let last_log = log_of(alloc, folder, name, ".log")?;
+    let former = former_log.as_slice();
+    let last = last_log.as_slice();
+    if is_silent(former, last) {
         return Ok(());
     }
-    if w.0 == me.0 {
-        return known.tell_by_logs(w, entries.kept().entries(), &former, &last);
+    if is_same(w, me) {
+        return known.tell_by_logs(w, entries.kept().entries(), former, last);
     }
-    tell_other(alloc, folder, net, w, &former, &last, known)
+    tell_other(alloc, folder, net, w, former, last, known)
 }
 
 /// When each of the entries that workstation `me` keeps was kept by its own maker, in order, in seconds since 1970,

@@ -1,7 +1,7 @@
 use Rattle.std.proofs.Common.{[], ℕ, ◌+◌, ◌∙◌, ◌∷◌, ap, arith, length, length-append, sym, take}
 use Rattle.lemmas.proofs.Lists.{get_there}
 use Rattle.logged_times.specs.Times.{gate_behind, kept_at}
-use Rattle.logged_times.proofs.Gates.{first_gate, gate_further, times_further}
+use Rattle.logged_times.proofs.Gates.{first_gate, gate_further, times_further, times_whole}
 use Rattle.logged_times.proofs.times.times_in.Goals as goal
 
 pub loop-entry-init : goal.loop-entry-init
@@ -24,3 +24,9 @@ loop-entry-preserved c =
           ∙ ap (λ (n : ℕ). kept_at lines (gate_behind (take i entries)) n) size)
           (inv.2 lines knows) put,
     )
+
+pub returns-clause-value : goal.returns-clause-value
+returns-clause-value c =
+    λ lines knows.
+    times_whole lines c.args.entries.now c.loop-entry.entry-index c.loop-entry.times
+    (omega (arith, c.loop-entry-test.false)) (c.loop-entry.invariant.2 lines knows)

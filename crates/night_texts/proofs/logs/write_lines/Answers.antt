@@ -2,19 +2,17 @@ use Rattle.std.proofs.Common.{arith}
 use Rattle.lemmas.proofs.Lists.{get_there}
 use Rattle.model.specs.History.{view_of}
 use Rattle.night_texts.specs.Lines.{timed_line}
-use Rattle.night_texts.proofs.Walks.{pairs_further, pairs_whole}
+use Rattle.night_texts.proofs.Walks.{pairs_step, pairs_whole}
 use Rattle.night_texts.proofs.logs.write_lines.Goals as goal
 
 pub loop-i-preserved : goal.loop-i-preserved
 loop-i-preserved c =
     let entries = c.args.entries.now in
-    let times = c.args.times.now in
     let low = c.loop-i-test.true in
-    pairs_further (timed_line c.args.net.now (view_of c.args.o.now)) entries times c.loop-i.i c.index-entries-i.result
-    c.index-times-i.result _ _ _
+    pairs_step (timed_line c.args.net.now (view_of c.args.o.now)) entries c.args.times.now c.loop-i.i
+    c.index-entries-i.result _ _ _ _
     (get_there entries c.loop-i.i c.index-entries-i.result (omega (arith, low)) c.index-entries-i.is)
-    (get_there times c.loop-i.i c.index-times-i.result (omega (arith, low, c.requires)) c.index-times-i.is)
-    c.loop-i.invariant c.in_ok-write_line.ensures
+    (omega (arith, low, c.requires)) c.loop-i.invariant c.in_ok-write_line.ensures
 
 pub returns : goal.returns
 returns c =

@@ -1,26 +1,19 @@
-use Rattle.std.proofs.Common.{◌++◌, ◌∷◌, [], arith}
+use Rattle.std.proofs.Common.{◌++◌, arith}
 use Rattle.lemmas.proofs.Lists.{get_there}
 use Rattle.logged_times.specs.Known.{made_by}
-use Rattle.logged_times.proofs.Knowing.{made_further, made_whole}
+use Rattle.logged_times.proofs.Knowing.{made_step, made_whole}
 use Rattle.logged_times.proofs.known.EntryTimes.tell.Goals as goal
 
 pub loop-i-preserved : goal.loop-i-preserved
 loop-i-preserved c =
     λ before tells.
-    let w = c.args.w in
     let entries = c.args.entries.now in
-    let times = c.args.times.now in
     let e = c.index-entries-i.result in
-    let t = c.index-times-i.result in
     let i = c.loop-i.i in
     let low = c.loop-i-test.true in
-    let inv = c.loop-i.invariant before tells in (
-      inv.0 ++ made_by w (e ∷ []) (t ∷ []),
-      c.in_ok-tell_one.ensures inv.0 inv.1,
-      made_further w entries times i e t (before ++ made_by w entries times) inv.0
-          (get_there entries i e (omega (arith, low)) c.index-entries-i.is)
-          (get_there times i t (omega (arith, low, c.requires)) c.index-times-i.is) inv.2,
-    )
+    made_step c.args.w entries c.args.times.now i e _ _ c.loop-i.self c.tell_one.new.self
+    (get_there entries i e (omega (arith, low)) c.index-entries-i.is) (omega (arith, low, c.requires))
+    c.in_ok-tell_one.ensures (c.loop-i.invariant before tells)
 
 pub returns : goal.returns
 returns c =

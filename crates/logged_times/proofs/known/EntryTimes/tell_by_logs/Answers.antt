@@ -1,4 +1,4 @@
-use Rattle.std.proofs.Common.{◌++◌, [], ap, subst, sym}
+use Rattle.std.proofs.Common.{◌++◌, ◌∙◌, []}
 use Rattle.lemmas.proofs.Results.{after_ok}
 use Rattle.logged_times.specs.KeptLines.{kept_lines}
 use Rattle.logged_times.proofs.Knowing.{told_by}

@@ -5,10 +5,10 @@ use Rattle.logged_times.proofs.known.EntryTimes.tell_one.Goals as goal
 
 pub returns-then-is_made_by : goal.returns-then-is_made_by
 returns-then-is_made_by c =
-    one_passed c.args.w c.args.entry.now c.args.time c.args.self.now (sym c.is_made_by.ensures ∙ c.if-is_made_by.false)
-
-pub returns : goal.returns
-returns c =
     after_ok c.put.result c.put.ensures
     (one_told c.args.w c.args.entry.now c.args.time c.args.self.now c.put.new.self
     (sym c.is_made_by.ensures ∙ c.if-is_made_by.true))
+
+pub returns : goal.returns
+returns c =
+    one_passed c.args.w c.args.entry.now c.args.time c.args.self.now (sym c.is_made_by.ensures ∙ c.if-is_made_by.false)

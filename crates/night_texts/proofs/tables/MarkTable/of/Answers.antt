@@ -3,19 +3,17 @@ use Rattle.std.specs.List.{zip}
 use Rattle.night_texts.specs.Marks.{marks_of}
 use Rattle.night_texts.specs.Tables.{marks_at}
 use Rattle.lemmas.proofs.Lists.{get_there}
-use Rattle.night_texts.proofs.Walks.{marks_further, marks_whole}
+use Rattle.night_texts.proofs.Walks.{marks_step, marks_whole}
 use Rattle.night_texts.proofs.tables.MarkTable.of.Goals as goal
 
 pub loop-i-preserved : goal.loop-i-preserved
 loop-i-preserved c =
     λ q.
     let entries = c.args.entries.now in
-    let times = c.args.times.now in
     let low = c.loop-i-test.true in
-    marks_further q entries times c.loop-i.i c.index-entries-i.result c.index-times-i.result _ _ _
+    marks_step q entries c.args.times.now c.loop-i.i c.index-entries-i.result _ _ _ _
     (get_there entries c.loop-i.i c.index-entries-i.result (omega (arith, low)) c.index-entries-i.is)
-    (get_there times c.loop-i.i c.index-times-i.result (omega (arith, low, c.requires)) c.index-times-i.is)
-    (c.loop-i.invariant q) (c.in_ok-tell.ensures q)
+    (omega (arith, low, c.requires)) (c.loop-i.invariant q) (c.in_ok-tell.ensures q)
 
 pub returns : goal.returns
 returns c =

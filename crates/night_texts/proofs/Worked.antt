@@ -1,4 +1,5 @@
 -- What is told of a small night, worked out: texts from the meaning of the entries, not from the program.
+use Rattle.std.specs.Fmt.{decimal}
 use Rattle.std.specs.Prelude.{◌++◌, ◌≡◌, ℕ, ◌∷◌, [], List, None, Option, Some, codes, false, pos, refl, true}
 use Rattle.model.specs.Types.{AddDep, Body, Carry, Command, Declined, Dep, Ended, Entry, Events, Feed, FollowsJob}
 use Rattle.model.specs.Types.{Fulfilled}
@@ -69,69 +70,91 @@ plan = entry (Events 0) 1 (NewPlan 12 [] (7 ∷ 8 ∷ 9 ∷ []) (night ∷ []))
 own : ℕ → Body → Entry
 own k b = entry (Events 1) k b
 
-plan_made : timed_line two (view_of (plan ∷ [])) (plan, Some 180483)
-    ≡ moment_text 180483 ++ codes " MDM made plan 12: 1 new streams, 3 carried\n"
-unfolding everything two a_job night entry plan timed_line says name_of
+-- the plan in words
+made : List ℕ
+made =
+    codes "made plan " ++ decimal 12 ++ codes ": " ++ decimal 1 ++ codes " new streams, " ++ decimal 3
+    ++ codes " carried"
+
+plan_made : timed_line two (view_of (plan ∷ [])) (plan, None) ≡ codes "- MDM " ++ made ++ codes "\n"
+unfolding everything two a_job night entry plan made timed_line says name_of
 plan_made = refl
 
-launched : log_of two (plan ∷ own 1 (Launched 1 1 []) ∷ []) (None ∷ None ∷ [])
-    ≡ codes "- MDM made plan 12: 1 new streams, 3 carried\n- FTA1 launched FTA1#NIGHT.LOAD, launch 1\n"
-unfolding everything two a_job night entry plan own log_of timed_line says name_of launch_text job_called job_text
-launched = refl
+-- the plan, and the agent's line
+both_told : log_of two (plan ∷ own 1 (Released 1 []) ∷ []) (None ∷ None ∷ [])
+    ≡ (codes "- MDM " ++ made ++ codes "\n") ++ codes "- FTA1 released FTA1#NIGHT\n"
+unfolding everything two a_job night entry plan made own log_of timed_line says name_of stream_called stream_text
+both_told = refl
 
--- the agent's line alone
+-- what the agent says
 says_so : Body → List ℕ
 says_so b = says two (view_of (plan ∷ entry (Orders 0 1) 1 (Order (Kill 1)) ∷ [])) (Events 1) 5 b
 
-ended_badly : says_so (Ended 1 1 (pos 8) false) ≡ codes "ended FTA1#NIGHT.LOAD, launch 1, rc 8, bad"
+launched : says_so (Launched 1 1 []) ≡ codes "launched FTA1#NIGHT.LOAD, launch " ++ decimal 1
+unfolding everything two a_job night entry plan own says says_so name_of launch_text job_called job_text
+launched = refl
+
+ended_badly : says_so (Ended 1 1 (pos 8) false)
+    ≡ codes "ended FTA1#NIGHT.LOAD, launch " ++ decimal 1 ++ codes ", rc " ++ decimal 8 ++ codes ", " ++ codes "bad"
 unfolding everything two a_job night entry plan own says says_so name_of launch_text job_called job_text
 ended_badly = refl
 
-unknown_job : says_so (Lost 5 2) ≡ codes "lost job 5, launch 2"
+unknown_job : says_so (Lost 5 2) ≡ codes "lost job " ++ decimal 5 ++ codes ", launch " ++ decimal 2
 unfolding everything two a_job night entry plan own says says_so name_of launch_text job_called job_text numbered
 unknown_job = refl
 
-released : says_so (Released 1 []) ≡ codes "released FTA1#NIGHT"
-unfolding everything two a_job night entry plan own says says_so name_of stream_called stream_text
-released = refl
-
-file_seen : says_so (Fulfilled (Job 2) 1) ≡ codes "saw the file of FTA1#NIGHT.SUM, dependency 1, file \"/in/rates.csv\""
+file_seen : says_so (Fulfilled (Job 2) 1)
+    ≡ codes "saw the file of FTA1#NIGHT.SUM, dependency " ++ decimal 1 ++ codes ", file \"/in/rates.csv\""
 unfolding everything two a_job night entry plan own says says_so name_of job_called job_text object_dep dep_behind
     dep_text quoted_text
 file_seen = refl
 
 declined : says_so (Declined 0 1 NotRunning)
-    ≡ codes "declined order 1 from MDM, it is not running: kill FTA1#NIGHT.LOAD"
+    ≡ codes "declined order " ++ decimal 1 ++ codes " from " ++ codes "MDM" ++ codes ", " ++ codes "it is not running"
+    ++ codes ": kill FTA1#NIGHT.LOAD"
 unfolding everything two a_job night entry plan own says says_so name_of job_called job_text order_from ordered_behind
     cmd_text
 declined = refl
 
 obeyed : says_so (Obeyed 0 1 (AddDep (Job 2) (FollowsJob 1)))
-    ≡ codes "obeyed order 1 from MDM: adddep FTA1#NIGHT.SUM, follows FTA1#NIGHT.LOAD"
+    ≡ codes "obeyed order " ++ decimal 1 ++ codes " from " ++ codes "MDM" ++ codes ": "
+    ++ codes "adddep FTA1#NIGHT.SUM, follows FTA1#NIGHT.LOAD"
 unfolding everything two a_job night entry plan own says says_so name_of job_called job_text order_from cmd_text
     dep_text
 obeyed = refl
 
 given : timed_line two (view_of (plan ∷ [])) (entry (Orders 0 1) 4 (Order (Kill 1)), None)
-    ≡ codes "- MDM gave order 4 to FTA1: kill FTA1#NIGHT.LOAD\n"
+    ≡ codes "- MDM "
+    ++ (codes "gave order " ++ decimal 4 ++ codes " to " ++ codes "FTA1" ++ codes ": " ++ codes "kill FTA1#NIGHT.LOAD")
+    ++ codes "\n"
 unfolding everything two a_job night entry plan timed_line says name_of job_called job_text cmd_text
 given = refl
 
 -- two launches of one job: the first ended badly, the second is open
+first_run : List ℕ
+first_run =
+    codes "FTA1#NIGHT.LOAD\t" ++ decimal 1 ++ codes "\t" ++ codes "-\t-\t-" ++ codes "\t"
+    ++ (decimal 8 ++ codes "\t" ++ codes "bad") ++ codes "\n"
+
+second_run : List ℕ
+second_run =
+    codes "FTA1#NIGHT.LOAD\t" ++ decimal 2 ++ codes "\t" ++ codes "-\t-\t-" ++ codes "\t" ++ codes "-\topen"
+    ++ codes "\n"
+
 ran : runs_of two
     (plan ∷ own 1 (Launched 1 1 []) ∷ own 2 (Ended 1 1 (pos 8) false) ∷ own 3 (Launched 1 2 []) ∷ [])
     (None ∷ None ∷ None ∷ None ∷ [])
-    ≡ run_heads ++ codes "FTA1#NIGHT.LOAD\t1\t-\t-\t-\t8\tbad\n" ++ codes "FTA1#NIGHT.LOAD\t2\t-\t-\t-\t-\topen\n"
+    ≡ run_heads ++ (((first_run ++ (second_run ++ [])) ++ []) ++ [])
 unfolding everything two a_job night entry plan own name_of job_text marks_of job_runs marked_run member_runs
-    numbered_job_runs plan_runs run_line run_lines runs_of span_text end_text
+    numbered_job_runs plan_runs run_line run_lines runs_of span_text end_text first_run second_run
 ran = refl
 
 lasted : span_text (Some 180483) (Some 180584)
-    ≡ moment_text 180483 ++ codes "\t" ++ moment_text 180584 ++ codes "\t101"
+    ≡ moment_text 180483 ++ codes "\t" ++ moment_text 180584 ++ codes "\t" ++ decimal 101
 unfolding span_text
 lasted = refl
 
 clock_back : span_text (Some 180584) (Some 180483)
-    ≡ moment_text 180584 ++ codes "\t" ++ moment_text 180483 ++ codes "\t-"
+    ≡ moment_text 180584 ++ codes "\t" ++ moment_text 180483 ++ codes "\t" ++ codes "-"
 unfolding span_text
 clock_back = refl

@@ -79,18 +79,15 @@ module _ {F : Type 0} (T : Telling F) (net : Net) (w : ℕ) where
       }
 
   -- logs that were read, one behind the other
-  pub both_logs : (old mid new : F) (name former last first_read last_read : List ℕ)
-      → IsLog T old mid (name ++ codes ".log.1") first_read → IsLog T mid new (name ++ codes ".log") last_read
-      → former ≡ first_read → last ≡ last_read → name ≡ name_of net w → AreLogs T net w old new former last
-  both_logs old mid new name former last first_read last_read first second one two is =
+  pub both_logs : (old mid new : F) (former last first_read last_read : List ℕ)
+      → IsLog T old mid (name_of net w ++ codes ".log.1") first_read
+      → IsLog T mid new (name_of net w ++ codes ".log") last_read → former ≡ first_read → last ≡ last_read
+      → AreLogs T net w old new former last
+  both_logs old mid new former last first_read last_read first second one two =
       record {
         between = mid;
-        first =
-            subst (λ (n : List ℕ). IsLog T old mid (n ++ codes ".log.1") former) is
-            (subst (λ (l : List ℕ). IsLog T old mid (name ++ codes ".log.1") l) (sym one) first);
-        second =
-            subst (λ (n : List ℕ). IsLog T mid new (n ++ codes ".log") last) is
-            (subst (λ (l : List ℕ). IsLog T mid new (name ++ codes ".log") l) (sym two) second);
+        first = subst (λ (l : List ℕ). IsLog T old mid (name_of net w ++ codes ".log.1") l) (sym one) first;
+        second = subst (λ (l : List ℕ). IsLog T mid new (name_of net w ++ codes ".log") l) (sym two) second;
       }
 
   -- logs without a byte

@@ -2,6 +2,7 @@
 ghost use Rattle.std.specs.Prelude.{◌≡◌, ◌&&◌, ◌++◌, ◌<◌, ◌==◌, IfOk, OnOk, length};
 ghost use Rattle.std.specs.String.{string_bytes};
 ghost use Rattle.model.specs.Network.{node_count};
+ghost use Rattle.report_text.specs.Names.{name_of};
 ghost use Rattle.night_times.specs.Logs.{IsLog, telling};
 ghost use Rattle.night_times.specs.Nights.{AreTimes};
 ghost use Rattle.night_times.specs.Steps.{Learns, LearnsOf};
@@ -17,25 +18,26 @@ use report_text::name;
 use std::alloc::Global;
 
 /// The name of a file of a workstation.
-fn file_name(alloc: Global, name: &str, ending: &str) -> Result<String, NoMemory>
-    ensures { IfOk result (λ file. string_bytes file ≡ name.now ++ ending.now) }
+fn file_name(alloc: Global, net: &Network, w: &Ws, ending: &str) -> Result<String, NoMemory>
+    ensures { IfOk result (λ file. string_bytes file ≡ name_of net.now w.now ++ ending.now) }
 {
-    let mut file = String::from_str(alloc, name)?;
+    let mut file = String::from_str(alloc, name(net.net(), w))?;
     file.push_str(ending)?;
     Ok(file)
 }
 
-/// The log of a workstation whose name ends so.
+/// The bytes of the log of a workstation whose name ends so.
 fn log_of<F: Folder>(
     alloc: Global,
     folder: &mut F,
-    name: &str,
+    net: &Network,
+    w: &Ws,
     ending: &str,
 ) -> Result<Vec<u8>, NoMemory>
     ensures { IfOk result (λ log. IsLog (telling F.seen F.becomes F.faults) folder.old folder.new
-        (name.now ++ ending.now) log.items) }
+        (name_of net.now w.now ++ ending.now) log.items) }
 {
-    let file = file_name(alloc, name, ending)?;
+    let file = file_name(alloc, net, w, ending)?;
     read_log(alloc, folder, file.as_str())
 }
 
@@ -53,7 +55,7 @@ fn tell_other<F: Folder>(
     ensures { OnOk result (LearnsOf (telling F.seen F.becomes F.faults) net.now w former.now last.now
         folder.old folder.new known.old known.new) }
 {
-    let file = file_name(alloc, name(net.net(), &w), ".msg")?;
+    let file = file_name(alloc, net, &w, ".msg")?;
     match read_entries(alloc, folder, file.as_str(), net, w) {
         Ok(entries) => known.tell_by_logs(w, entries.kept().entries(), former, last),
         Err(FileFault::NoMemory) => Err(NoMemory),
@@ -90,9 +92,8 @@ fn tell_station<F: Folder>(
     ensures { OnOk result (Learns (telling F.seen F.becomes F.faults) net.now me entries.now w
         folder.old folder.new known.old known.new) }
 {
-    let name = name(net.net(), &w);
-    let former_log = log_of(alloc, folder, name, ".log.1")?;
-    let last_log = log_of(alloc, folder, name, ".log")?;
+    let former_log = log_of(alloc, folder, net, &w, ".log.1")?;
+    let last_log = log_of(alloc, folder, net, &w, ".log")?;
     let former = former_log.as_slice();
     let last = last_log.as_slice();
     if is_silent(former, last) {

@@ -1,4 +1,4 @@
-use Rattle.std.proofs.Common.{IfOk, List, arith, length, subst, ◌≡◌}
+use Rattle.std.proofs.Common.{IfOk, List, arith, length, subst, ◌∙◌, ◌≡◌}
 use Rattle.model.specs.Network.{node_count}
 use Rattle.model.specs.Types.{Entry}
 use Rattle.night_times.specs.Logs.{telling}
@@ -21,9 +21,9 @@ returns-clause-told g c =
     let inv = c.loop-w.invariant in
     let last : c.loop-w.w ≡ node_count c.args.net.now = omega arith in
     times_told (telling g.F.Folder.seen g.F.Folder.becomes g.F.Folder.faults) c.args.net.now c.loop-w.w c.args.me c.args.entries.now c.entries.result.now
-    c.args.folder.now c.loop-w.folder inv.0 c.times.result last inv.1 (cc) (c.times.ensures.value inv.0 inv.2)
+    c.args.folder.now c.loop-w.folder inv.0 c.times.result last inv.1 (c.entries.ensures.list ∙ c.kept.ensures) (c.times.ensures.value inv.0 inv.2)
 
 pub returns-clause-each : goal.returns-clause-each
 returns-clause-each g c =
-    let same : c.entries.result.now ≡ c.args.entries.now = cc in
+    let same : c.entries.result.now ≡ c.args.entries.now = c.entries.ensures.list ∙ c.kept.ensures in
     subst (λ (l : List Entry). IfOk c.times.result (λ times. length times ≡ length l)) same c.times.ensures.each

@@ -6,7 +6,7 @@ pub returns-in-Ok-clause-read : goal.returns-in-Ok-clause-read
 returns-in-Ok-clause-read g c = inl (first_of (search rules, grind (arith, common_steps)))
 
 pub returns-in-Err-clause-read : goal.returns-in-Err-clause-read
-returns-in-Err-clause-read g c = inr (c.read_at.ensures.cause.failed, (cc))
+returns-in-Err-clause-read g c = inr (c.in-Err.ensures.cause.failed, c.new.ensures.items)
 
 pub returns-in-Ok-clause-call : goal.returns-in-Ok-clause-call
 returns-in-Ok-clause-call g c =

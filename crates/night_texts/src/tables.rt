@@ -14,7 +14,6 @@ use std::alloc::Global;
 pub(crate) struct MarkTable {
     alloc: Global,
     rows: IndexMap<(u16, u32), Items<Mark>>,
-    none: Items<Mark>,
 }
 
 /// Written out, so that dropping one is a call for whoever owns it.
@@ -23,7 +22,6 @@ impl Drop for MarkTable {
         let MarkTable {
             alloc: _alloc,
             rows: _rows,
-            none: _none,
         } = self;
     }
 }
@@ -36,7 +34,6 @@ impl MarkTable {
         MarkTable {
             alloc,
             rows: IndexMap::new(alloc),
-            none: Items::new(alloc),
         }
     }
 
@@ -95,7 +92,7 @@ impl MarkTable {
     {
         match self.rows.get(&(w, j)) {
             Some(marks) => marks.as_slice(),
-            None => self.none.as_slice(),
+            None => &[],
         }
     }
 }

@@ -3,7 +3,8 @@
 
 It checks the crate from nothing over the libraries that are kept, as over.py does, with one job. A function's seconds are
 those between the end of the proof before it and its own, so what antt reads in between counts with it. `first` is all
-before the first function: libraries, the front end, lemmas. `last` is all behind the last one.
+before the first function: libraries, the front end, lemmas. `last` is all behind the last one. As the check goes on, each
+function is told on the stream of errors.
 
 Usage: trials/dear.py NAME [FLAG..]    the flags are those of `rt check`, as --test
 """
@@ -38,6 +39,7 @@ def costs_of(rt, crate, flags):
                 now = spent_by(check.pid)
                 costs.append((ended.group(1) if costs else f"first, and {ended.group(1)}", now - before))
                 before = now
+                print(f"{costs[-1][1]:8.1f} {costs[-1][0]}", file=sys.stderr, flush=True)
         _, _, used = os.wait4(check.pid, 0)
         check.returncode = 0
     return [*costs, ("last", used.ru_utime + used.ru_stime - before)], last

@@ -1,4 +1,4 @@
-//! Builders that the tests and the programs of `bench` share: short lists, networks, and plans with their drafts and
+//! Builders that the test crates and the programs of `bench` share: short lists, networks, and plans with their drafts and
 //! documents. Each but the lists is made from a row of numbers and names, so that a test is a table of rows.
 //!
 //! Workstations, streams and jobs are plain numbers in rows, so that a table of rows can be a static. A constant is built

@@ -78,7 +78,7 @@ objects_owned V w =
     (jobs_owned V w)))
 
 -- a ready job has a run that is due
-ready_due : (net : Net) (V : View) (w j : ℕ) → is_ready net V w j ≡ true
+pub ready_due : (net : Net) (V : View) (w j : ℕ) → is_ready net V w j ≡ true
     → launches j (V (Events w)) ≤ reruns j (V (Events w))
 unfolding is_ready is_due
 ready_due net V w j = go (job V j) refl

@@ -1,177 +1,180 @@
 -- What a pass may do in the world, also where the own end of a link goes down: nobody has less, and no more is left.
-use Rattle.std.proofs.Common.{◌≡◌, ℕ, ◌+◌, ◌*◌, ◌≤◌, Bool, true, false, ◌||◌, inl, inr, List, [], ◌∷◌, ◌++◌, refl, ap, sym, subst, arith}
-use Rattle.std.specs.List.{AllByRecursion}
+use Rattle.std.proofs.Common.{◌≡◌, ℕ, ◌≤◌, Bool, true, false, ◌⊎◌, inl, inr, List, [], ◌∷◌, ◌++◌, refl, sym, subst}
+use Rattle.std.specs.List.{AllByRecursion, list_all}
 use Rattle.std.specs.Prelude.{Ok}
-use Rattle.lemmas.proofs.Booleans.{or_cases}
-use Rattle.lemmas.proofs.Lists.{all_append}
-use Rattle.model.specs.Types.{Deliver, Input, Linked, Net, Take, Turn, Unlinked, WorldStep}
-use Rattle.model.specs.FreeSteps.{free_step, recounted}
+use Rattle.lemmas.proofs.Booleans.{and_left, and_made, and_right, or_cases}
+use Rattle.model.specs.Types.{Cmd, Confirm, Entry, Events, Net, Order, Orders, Rerun, Take, Typed, Unlinked, WorldStep}
+use Rattle.model.specs.FreeSteps.{free_step}
+use Rattle.model.specs.Facts.{reruns}
+use Rattle.model.specs.History.{View}
 use Rattle.model.specs.Invariant.{Invariant}
 use Rattle.model.specs.Network.{node_count}
-use Rattle.model.specs.NewEntry.{event_of, makes, own_entry}
-use Rattle.model.specs.Sessions.{next_session}
-use Rattle.model.specs.Step.{effect}
-use Rattle.model.specs.World.{Origin, World, apply_effect}
-use Rattle.model_laws.proofs.FreeRuns.{free_kept}
-use Rattle.model_laws.proofs.Steps.{step_of}
+use Rattle.model.specs.NewEntry.{next_entry}
+use Rattle.model.specs.World.{World, view_at}
 use Rattle.rest_laws.specs.Gains.{gained}
-use Rattle.rest_laws.specs.Left.{Caps, Covers, caps_of, entries, keeps_to, left}
 use Rattle.rest_laws.specs.Rounds.{AreTaken}
-use Rattle.rest_laws.specs.Short.{are_answers_short}
-use Rattle.rest_laws.proofs.Bounds.{covered, most_is, times_low}
-use Rattle.rest_laws.proofs.Gains.{at_most, kept_run}
-use Rattle.rest_laws.proofs.Leads.{took}
-use Rattle.rest_laws.proofs.Lefts.{covers_same, left_same}
-use Rattle.rest_laws.proofs.Busy.{links_rise}
-use Rattle.rest_laws.proofs.Rises.{Rises, rises_after, rises_counted, rises_on, rises_self, step_moves}
-use Rattle.rest_laws.proofs.Rounds.{taken_append}
-use Rattle.launches_at_rest.specs.Tells.{tells_left, work_bound}
-use Rattle.launches_at_rest.specs.Told.{is_told, works_at}
-use Rattle.launches_at_rest.proofs.Telling.{told_by}
-use Rattle.launches_at_rest.proofs.Keeping.{WorkKeeps, step_works, tells_same}
+use Rattle.rest_laws.specs.Short.{answer_size, are_answers_short, can_count, has_short_answer}
+use Rattle.rest_laws.proofs.Phases.{all_pushed}
+use Rattle.rest_laws.proofs.Rises.{Rises, rises_on, rises_self}
+use Rattle.launches_at_rest.specs.Tells.{work_bound}
+use Rattle.launches_at_rest.specs.Told.{works_at}
+use Rattle.launches_at_rest.proofs.Gaining.{kept_rises}
 use Rattle.launches_at_rest.proofs.Short.{work_short}
+use Rattle.advice_at_rest.specs.Advised.{AllGoOn, IsAdvised, advised_bound, goes_on, is_unlinking}
+use Rattle.advice_at_rest.proofs.Advice.{Advises, advises}
+use Rattle.advice_at_rest.proofs.Bounds.{few_gained, plain_few}
+use Rattle.advice_at_rest.proofs.Typed.{GivesOrder, typed_keeps}
+use Rattle.advice_at_rest.proofs.Worlds.{unlinked_rises, unlinked_same}
 
-abbrev pub is_breaking : WorldStep → Bool
-is_breaking (Take w (Unlinked v)) = true
-is_breaking _ = false
+-- what goes on in a network, and where it may be, an order that is advised
+abbrev pub MayPass : Bool → (ℕ → ℕ) → World → WorldStep → Type 0
+MayPass adv reads x s = (goes_on (λ w. reads w ∷ []) s ≡ true) ⊎ ((adv ≡ true) × IsAdvised x s)
 
-abbrev pub may_pass : (ℕ → ℕ) → WorldStep → Bool
-may_pass reads s = works_at (λ w. reads w ∷ []) s || is_breaking s
+abbrev pub AllPass : Bool → (net : Net) (reads : ℕ → ℕ) (steps : List WorldStep) (x y : World) → AreTaken net x steps y → Type 0
+AllPass adv net reads [] x y taken = Unit {0}
+AllPass adv net reads (s ∷ steps) x y taken = MayPass adv reads x s × AllPass adv net reads steps taken.0 y taken.2
 
-module _ (net : Net) where
-  -- what goes on in a network loses nothing
-  old_rises : (readings : ℕ → List ℕ) (x z : World) (s : WorldStep) → keeps_to readings s ≡ true → free_step net x s ≡ Ok z
-      → Rises x z
-  old_rises readings x z (Take w (Turn t)) h e = (step_moves net x z (Take w (Turn t)) refl e).rises
-  old_rises readings x z (Take w (Linked v)) h e = links_rise net (Take w (Linked v) ∷ []) x z (refl, tt) (z, e, refl)
-  old_rises readings x z (Deliver a b k) h e = (step_moves net x z (Deliver a b k) refl e).rises
-  old_rises readings x z _ h e = cc
+-- at most so much is gained
+abbrev pub pass_bound : Bool → Net → (ℕ → ℕ) → World → ℕ
+pass_bound false net reads x = work_bound net (λ w. reads w ∷ []) x
+pass_bound true net reads x = advised_bound net (λ w. reads w ∷ []) x
 
-  kept_rises : (readings : ℕ → List ℕ) (x z : World) (s : WorldStep) → works_at readings s ≡ true → free_step net x s ≡ Ok z
-      → Rises x z
-  kept_rises readings x z s h e =
-      elim (or_cases (keeps_to readings s) (is_told s) h) [
-        | inl k ↦ old_rises readings x z s k e
-        | inr k ↦ (told_by net x z s k e).told.makes_.rises
-      ]
+module _ (adv : Bool) (net : Net) (reads : ℕ → ℕ) where
+  -- an advised order has a short answer
+  order_short : (V : View) (w : ℕ) (c : Cmd) → Advises V w c → has_short_answer (Order c) ≡ true
+  unfolding answer_size
+  order_short V w c a = go a.form
+    where
+      go : (c ≡ Confirm a.job_) ⊎ ((c ≡ Rerun a.job_) × (reruns a.job_ (V (Events w)) ≡ 0)) → has_short_answer (Order c) ≡ true
+      go (inl is) = subst (λ (d : Cmd). has_short_answer (Order d) ≡ true) (sym is) refl
+      go (inr is) = subst (λ (d : Cmd). has_short_answer (Order d) ≡ true) (sym is.0) refl
 
-  broken_same : (x z : World) (w v : ℕ) → free_step net x (Take w (Unlinked v)) ≡ Ok z → z.history ≡ x.history
-  unfolding free_step apply_effect effect makes own_entry event_of
-  broken_same x z w v e = sym (ap (λ (y : World). y.history) (took net (recounted x) z w (Unlinked v) e).1)
-
-  broken_rises : (x z : World) (w v : ℕ) → free_step net x (Take w (Unlinked v)) ≡ Ok z → Rises x z
-  unfolding effect next_session free_step
-  broken_rises x z w v e =
-      rises_counted x z
-      (subst (Rises (recounted x)) (took net (recounted x) z w (Unlinked v) e).1
-      (rises_after (recounted x) w Origin.Own (step_of net (recounted x) w (Input.Local (Unlinked v)))
-      (λ u f. omega arith)))
-
-  same_entries : (x z : World) → z.history ≡ x.history → entries net z ≡ entries net x
-  unfolding entries
-  same_entries x z e = rw e refl
+  -- of one step
+  record Passed (x z : World) : Type 0 where
+    rises : Rises x z
+    short : are_answers_short net x ≡ true → are_answers_short net z ≡ true
 
   same_short : (x z : World) → z.history ≡ x.history → are_answers_short net x ≡ true → are_answers_short net z ≡ true
   unfolding are_answers_short
   same_short x z e h = rw e h
 
-  -- of one step
-  record Passed (caps : ℕ → Caps) (reads : ℕ → ℕ) (x z : World) : Type 0 where
-    keeps : WorkKeeps net caps (λ w. reads w ∷ []) x z
-    rises : Rises x z
-    short : are_answers_short net x ≡ true → are_answers_short net z ≡ true
+  typed_short : (x z : World) (w : ℕ) (c : Cmd) → has_short_answer (Order c) ≡ true → GivesOrder net x z w c
+      → are_answers_short net x ≡ true → are_answers_short net z ≡ true
+  unfolding are_answers_short
+  typed_short x z w c short k h =
+      rw k.history
+      (and_made (can_count (node_count net))
+      (list_all (λ (e : Entry). has_short_answer e.body) (x.history ++ next_entry (view_at x w) (Orders w w) (Order c) ∷ []))
+      (and_left (can_count (node_count net)) (list_all (λ (e : Entry). has_short_answer e.body) x.history) h)
+      (all_pushed (λ (e : Entry). has_short_answer e.body) x.history (next_entry (view_at x w) (Orders w w) (Order c))
+      (and_right (can_count (node_count net)) (list_all (λ (e : Entry). has_short_answer e.body) x.history) h) short))
 
-  break_passed : (caps : ℕ → Caps) (reads : ℕ → ℕ) (x z : World) (s : WorldStep) → Covers net caps x → is_breaking s ≡ true
-      → free_step net x s ≡ Ok z → Passed caps reads x z
-  break_passed caps reads x z (Take w (Unlinked v)) covers h e =
-      let same : z.history ≡ x.history = broken_same x z w v e in
+  unlinked_passed : (x z : World) (s : WorldStep) → is_unlinking s ≡ true → free_step net x s ≡ Ok z → Passed x z
+  unlinked_passed x z (Take w (Unlinked v)) h e = record {
+    rises = unlinked_rises net x z w v e;
+    short = same_short x z (unlinked_same net x z w v e);
+  }
+  unlinked_passed x z _ h e = cc
+
+  advised_passed : (x z : World) (s : WorldStep) → IsAdvised x s → free_step net x s ≡ Ok z → Passed x z
+  advised_passed x z (Take w (Typed to c)) h e =
+      let k : GivesOrder net x z w c =
+      typed_keeps net x z w c (subst (λ (v : ℕ). free_step net x (Take w (Typed v c)) ≡ Ok z) h.0 e) in
       record {
-        keeps = record {
-          bound =
-              omega (
-                arith,
-                same_entries x z same,
-                left_same net caps (λ w. reads w ∷ []) x z same,
-                tells_same net caps (λ w. reads w ∷ []) x z same,
-              );
-          covers = covers_same net caps x z same covers;
-        };
-        rises = broken_rises x z w v e;
-        short = same_short x z same;
+        rises = k.rises;
+        short = typed_short x z w c (order_short (view_at x w) w c (advises (view_at x w) w c h.1)) k;
       }
-  break_passed caps reads x z _ covers h e = cc
+  advised_passed x z _ h e = absurd h
 
-  one_passed : (caps : ℕ → Caps) (reads : ℕ → ℕ) (x z : World) (s : WorldStep) → Invariant net x → Covers net caps x
-      → may_pass reads s ≡ true → free_step net x s ≡ Ok z → Passed caps reads x z
-  one_passed caps reads x z s inv covers h e =
-      elim (or_cases (works_at (λ w. reads w ∷ []) s) (is_breaking s) h) [
+  one_passed : (x z : World) (s : WorldStep) → MayPass adv reads x s → free_step net x s ≡ Ok z → Passed x z
+  one_passed x z s (inl h) e =
+      elim (or_cases (works_at (λ w. reads w ∷ []) s) (is_unlinking s) h) [
         | inl k ↦ record {
-          keeps = step_works net caps (λ w. reads w ∷ []) x z inv covers s k e;
-          rises = kept_rises (λ w. reads w ∷ []) x z s k e;
+          rises = kept_rises net (λ w. reads w ∷ []) x z s k e;
           short = λ short. work_short net x z short (λ w. reads w ∷ []) s k e;
         }
-        | inr k ↦ break_passed caps reads x z s covers k e
+        | inr k ↦ unlinked_passed x z s k e
       ]
+  one_passed x z s (inr h) e = advised_passed x z s h.1 e
 
-  all_passed : (caps : ℕ → Caps) (reads : ℕ → ℕ) (steps : List WorldStep) (x z : World) → Invariant net x → Covers net caps x
-      → AllByRecursion (λ s. may_pass reads s ≡ true) steps → AreTaken net x steps z → Passed caps reads x z
-  all_passed caps reads [] x z inv covers each taken =
-      subst (Passed caps reads x) taken (record {
-        keeps = record { bound = omega arith; covers = covers };
-        rises = rises_self x x refl;
-        short = λ short. short;
-      })
-  all_passed caps reads (s ∷ steps) x z inv covers each taken =
-      let one : Passed caps reads x taken.0 = one_passed caps reads x taken.0 s inv covers each.0 taken.1 in
-      let rest : Passed caps reads taken.0 z =
-      all_passed caps reads steps taken.0 z (free_kept net x taken.0 s inv taken.1) one.keeps.covers each.1 taken.2 in
-      record {
-        keeps = record { bound = omega (arith, one.keeps.bound, rest.keeps.bound); covers = rest.keeps.covers };
-        rises = rises_on x taken.0 z one.rises rest.rises;
-        short = λ short. rest.short (one.short short);
-      }
+  all_passed : (steps : List WorldStep) (x z : World) → (taken : AreTaken net x steps z) → AllPass adv net reads steps x z taken
+      → Passed x z
+  all_passed [] x z taken each =
+      subst (Passed x) taken (record { rises = rises_self x x refl; short = λ short. short })
+  all_passed (s ∷ steps) x z taken each =
+      let one : Passed x taken.0 = one_passed x taken.0 s each.0 taken.1 in
+      let rest : Passed taken.0 z = all_passed steps taken.0 z taken.2 each.1 in
+      record { rises = rises_on x taken.0 z one.rises rest.rises; short = λ short. rest.short (one.short short) }
 
--- steps of passes lead from x to y
-pub record PassesTo (net : Net) (reads : ℕ → ℕ) (x y : World) : Type 0 where
-  pub steps : List WorldStep
-  pub taken : AreTaken net x steps y
-  pub keep : AllByRecursion (λ s. may_pass reads s ≡ true) steps
+  -- steps of passes lead from x to y
+  pub record PassesTo (x y : World) : Type 0 where
+    pub steps : List WorldStep
+    pub taken : AreTaken net x steps y
+    pub keep : AllPass adv net reads steps x y taken
 
-pub passes_none : (net : Net) (reads : ℕ → ℕ) (x : World) → PassesTo net reads x x
-passes_none net reads x = record { steps = []; taken = refl; keep = tt }
+  pub passes_none : (x : World) → PassesTo x x
+  passes_none x = record { steps = []; taken = refl; keep = tt }
 
-pub passes_on : (net : Net) (reads : ℕ → ℕ) (x y z : World) → PassesTo net reads x y → PassesTo net reads y z
-    → PassesTo net reads x z
-passes_on net reads x y z h k =
-    record {
-      steps = h.steps ++ k.steps;
-      taken = taken_append net h.steps k.steps x y z h.taken k.taken;
-      keep = all_append (λ s. may_pass reads s ≡ true) h.steps k.steps h.keep k.keep;
-    }
+  all_on : (front back : List WorldStep) (x y z : World) (a : AreTaken net x front y) (b : AreTaken net y back z)
+      → AllPass adv net reads front x y a → AllPass adv net reads back y z b
+      → (c : AreTaken net x (front ++ back) z) × AllPass adv net reads (front ++ back) x z c
+  all_on [] back x y z a b h k =
+      subst (λ (u : World). (c : AreTaken net u back z) × AllPass adv net reads back u z c) (sym a) (b, k)
+  all_on (s ∷ front) back x y z a b h k =
+      let rest = all_on front back a.0 y z a.2 b h.1 k in ((a.0, a.1, rest.0), (h.0, rest.1))
 
-pub passes_one : (net : Net) (reads : ℕ → ℕ) (x y : World) (s : WorldStep) → may_pass reads s ≡ true → free_step net x s ≡ Ok y
-    → PassesTo net reads x y
-passes_one net reads x y s h e = record { steps = s ∷ []; taken = (y, e, refl); keep = (h, tt) }
+  pub passes_on : (x y z : World) → PassesTo x y → PassesTo y z → PassesTo x z
+  passes_on x y z h k =
+      let it = all_on h.steps k.steps x y z h.taken k.taken h.keep k.keep in
+      record { steps = h.steps ++ k.steps; taken = it.0; keep = it.1 }
 
-module _ (net : Net) (reads : ℕ → ℕ) (x y : World) (inv : Invariant net x) (p : PassesTo net reads x y) where
-  abbrev passed : Passed net (caps_of net x) reads x y
-  passed = all_passed net (caps_of net x) reads p.steps x y inv (covered net x) p.keep p.taken
+  pub passes_one : (x y : World) (s : WorldStep) → MayPass adv reads x s → free_step net x s ≡ Ok y → PassesTo x y
+  passes_one x y s h e = record { steps = s ∷ []; taken = (y, e, refl); keep = (h, tt) }
 
-  pub passes_rise : Rises x y
-  passes_rise = passed.rises
+  -- steps that go on, whatever is advised
+  pub passes_plain : (steps : List WorldStep) (x y : World) → (taken : AreTaken net x steps y)
+      → AllByRecursion (λ s. goes_on (λ w. reads w ∷ []) s ≡ true) steps → PassesTo x y
+  passes_plain steps x y taken each = record { steps = steps; taken = taken; keep = go steps x y taken each }
+    where
+      go : (steps : List WorldStep) (x y : World) (taken : AreTaken net x steps y)
+          → AllByRecursion (λ s. goes_on (λ w. reads w ∷ []) s ≡ true) steps → AllPass adv net reads steps x y taken
+      go [] x y taken each = tt
+      go (s ∷ steps) x y taken each = (inl each.0, go steps taken.0 y taken.2 each.1)
 
-  pub passes_short : are_answers_short net x ≡ true → are_answers_short net y ≡ true
-  passes_short short = passed.short short
+  module _ (x y : World) (inv : Invariant net x) (p : PassesTo x y) where
+    abbrev passed : Passed x y
+    passed = all_passed p.steps x y p.taken p.keep
 
-  pub passes_few : gained net y ≤ work_bound net (λ w. reads w ∷ []) x
-  unfolding work_bound
-  passes_few =
-      omega (
-        arith,
-        at_most net y (kept_run net p.steps x y inv p.taken),
-        most_is net y,
-        times_low (node_count net + node_count net * node_count net) (entries net y)
-            (entries net x
-            + (left net (caps_of net x) (λ w. reads w ∷ []) x + tells_left net (caps_of net x) x))
-            (omega (arith, passed.keeps.bound)),
-      )
+    pub passes_rise : Rises x y
+    passes_rise = passed.rises
+
+    pub passes_short : are_answers_short net x ≡ true → are_answers_short net y ≡ true
+    passes_short short = passed.short short
+
+all_plain : (net : Net) (reads : ℕ → ℕ) (steps : List WorldStep) (x y : World) (taken : AreTaken net x steps y)
+    → AllPass false net reads steps x y taken → AllByRecursion (λ s. goes_on (λ w. reads w ∷ []) s ≡ true) steps
+all_plain net reads [] x y taken each = tt
+all_plain net reads (s ∷ steps) x y taken each = (one each.0, all_plain net reads steps taken.0 y taken.2 each.1)
+  where
+    one : MayPass false reads x s → goes_on (λ w. reads w ∷ []) s ≡ true
+    one (inl h) = h
+    one (inr h) = absurd (clash h.0)
+      where
+        clash : false ≡ true → ⊥
+        clash k = cc
+
+all_advised : (net : Net) (reads : ℕ → ℕ) (steps : List WorldStep) (x y : World) (taken : AreTaken net x steps y)
+    → AllPass true net reads steps x y taken → AllGoOn net (λ w. reads w ∷ []) steps x y taken
+all_advised net reads [] x y taken each = tt
+all_advised net reads (s ∷ steps) x y taken each = (one each.0, all_advised net reads steps taken.0 y taken.2 each.1)
+  where
+    one : MayPass true reads x s → (goes_on (λ w. reads w ∷ []) s ≡ true) ⊎ IsAdvised x s
+    one (inl h) = inl h
+    one (inr h) = inr h.1
+
+pub passes_few : (adv : Bool) (net : Net) (reads : ℕ → ℕ) (x y : World) → Invariant net x → PassesTo adv net reads x y
+    → gained net y ≤ pass_bound adv net reads x
+passes_few false net reads x y inv p =
+    plain_few net (λ w. reads w ∷ []) p.steps x y inv (all_plain net reads p.steps x y p.taken p.keep) p.taken
+passes_few true net reads x y inv p =
+    few_gained net (λ w. reads w ∷ []) p.steps x y inv p.taken (all_advised net reads p.steps x y p.taken p.keep)

@@ -1,6 +1,5 @@
--- Passes in which nobody gives an order and no node keeps an event of its own could have been passes in which nothing was
--- told.
-use Rattle.std.proofs.Common.{[], ◌++◌, ◌<◌, ◌≡◌, ◌∙◌, ◌∷◌, ℕ, List, ap, inl, inr, refl, subst, sym}
+-- Passes in which no node keeps an entry of its own could have been passes in which nothing was told.
+use Rattle.std.proofs.Common.{[], ◌++◌, ◌<◌, ◌≡◌, ◌∙◌, ◌∷◌, ℕ, Bool, List, ap, inl, inr, refl, subst, sym}
 use Rattle.std.proofs.lemmas.Bool.Decides.{eqb_tells}
 use Rattle.std.proofs.lemmas.List.Elements.{filter_map-append}
 use Rattle.std.specs.List.{AllByRecursion}
@@ -94,7 +93,7 @@ sends_on night other front back h k a call i =
       | inr r ↦ in_right (Does a (Event.Sends call)) other back (k a call r)
     ]
 
-module _ (defs : Defs) (reads : ℕ → ℕ) where
+module _ (adv : Bool) (defs : Defs) (reads : ℕ → ℕ) where
   abbrev pub AreNamed : Nodes → Type 0
   AreNamed nodes = (w : ℕ) → w < node_count (net_of defs) → (nodes w).node.me ≡ w
 
@@ -110,9 +109,9 @@ module _ (defs : Defs) (reads : ℕ → ℕ) where
 
   -- one of them, and those behind it
   module _ (p : Pass) (night other : Night) (old middle : Nodes) (sends : SendsAll night other) (names : AreNamed old)
-      (works : IsWorkingPass reads p) (none : IsUntold p) (h : Passes defs night p old middle) where
+      (works : IsWorkingPass adv reads p) (none : IsUntold p) (h : Passes defs night p old middle) where
     first : CalmPass defs p.ws (old p.ws) p.trace h.after
-    first = calm_pass defs p.ws (old p.ws) p.trace h.after (names p.ws h.ws_in) works.each none h.turn
+    first = calm_pass adv defs p.ws (old p.ws) p.trace h.after (names p.ws h.ws_in) works.each none h.turn
 
     abbrev calm_one : Pass
     calm_one = record { ws = p.ws; trace = first.calm }
@@ -160,7 +159,7 @@ module _ (defs : Defs) (reads : ℕ → ℕ) where
     }
 
   pub calm_passes : (ps : List Pass) (night other : Night) (old new : Nodes) → SendsAll night other → AreNamed old
-      → AllByRecursion (IsWorkingPass reads) ps → AllByRecursion IsUntold ps → ArePasses defs night ps old new
+      → AllByRecursion (IsWorkingPass adv reads) ps → AllByRecursion IsUntold ps → ArePasses defs night ps old new
       → CalmPasses other ps old new
   calm_passes [] night other old new sends names works none h = record {
     calm = [];

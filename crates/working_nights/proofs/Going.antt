@@ -1,12 +1,12 @@
--- Passes in which nobody gives an order, one behind the other, lead on in the world of their night.
-use Rattle.std.proofs.Common.{[], ◌++◌, ◌+◌, ◌<◌, ◌≤◌, ◌≡◌, ◌≢◌, ◌∙◌, ◌∷◌, ◌⊎◌, ℕ, List, ap, append_assoc, arith, false, inl, inr, length, refl, subst, sym, true}
+-- Passes in which nobody types, one behind the other, lead on in the world of their night.
+use Rattle.std.proofs.Common.{[], ◌++◌, ◌+◌, ◌<◌, ◌≤◌, ◌≡◌, ◌≢◌, ◌∙◌, ◌∷◌, ◌⊎◌, ℕ, Bool, List, ap, append_assoc, arith, false, inl, inr, length, refl, subst, sym, true}
 use Rattle.std.proofs.Common.{length-append}
 use Rattle.std.proofs.lemmas.Bool.Decides.{eqb_tells}
 use Rattle.std.proofs.lemmas.List.{append-nil}
 use Rattle.std.specs.List.{AllByRecursion}
 use Rattle.std.specs.Prelude.{◌==◌}
 use Rattle.composer_parser.specs.declared.Defs.{Defs}
-use Rattle.model.specs.Types.{Entry, Events, Feed}
+use Rattle.model.specs.Types.{Entry, Feed}
 use Rattle.model.specs.Equalities.{feed_eq}
 use Rattle.model.specs.History.{list_of, maker}
 use Rattle.model.specs.Invariant.{Invariant}
@@ -26,7 +26,10 @@ use Rattle.nights_at_rest.specs.Passes.{ArePasses, Pass, Passes, happened, happe
 use Rattle.nights_at_rest.specs.Still.{Nodes}
 use Rattle.nights_at_rest.proofs.Going.{StandsAt, heard_sent, stands_next}
 use Rattle.nights_at_rest.proofs.Ways.{own_of}
-use Rattle.launches_at_rest.proofs.Gaining.{own_gains}
+use Rattle.rest_laws.specs.Rest.{count_of}
+use Rattle.rest_laws.proofs.Gains.{feed_or_none}
+use Rattle.rest_laws.proofs.Quiets.{IsFeed}
+use Rattle.advice_at_rest.proofs.Gaining.{feed_gains}
 use Rattle.working_nights.specs.Passes.{IsWorkingPass}
 use Rattle.working_nights.proofs.Breaks.{PassesTo, passes_none, passes_on, passes_rise}
 use Rattle.working_nights.proofs.Calm.{NoOwn}
@@ -61,37 +64,37 @@ own_has w e (d ∷ es) mine h = go (eqb_tells (maker d.feed) w) h (own_has w e e
     go (inr t) (inl q) later = absurd (t.1 (ap (λ (c : Entry). maker c.feed) q ∙ mine))
     go (inr t) (inr k) later = rw t.0 (later k)
 
--- one of these is an event of w's, or none
-keeps_own : (w : ℕ) (es : List Entry) → ((e : Entry) × IsIn e es × (e.feed ≡ Events w)) ⊎ NoOwn w es
+-- one of these is of w's making, or none
+keeps_own : (w : ℕ) (es : List Entry) → ((e : Entry) × IsIn e es × (maker e.feed ≡ w)) ⊎ NoOwn w es
 keeps_own w [] = inr (λ e k is. k)
-keeps_own w (d ∷ es) = go (feed_cases d.feed (Events w)) (keeps_own w es)
+keeps_own w (d ∷ es) = go (eqb_tells (maker d.feed) w) (keeps_own w es)
   where
-    none : (d.feed ≢ Events w) → NoOwn w es → NoOwn w (d ∷ es)
-    none other more e (inl q) is = other (ap (λ (c : Entry). c.feed) q ∙ is)
+    none : (maker d.feed ≢ w) → NoOwn w es → NoOwn w (d ∷ es)
+    none other more e (inl q) is = other (ap (λ (c : Entry). maker c.feed) q ∙ is)
     none other more e (inr k) is = more e k is
 
-    go : (((feed_eq d.feed (Events w) ≡ true) × (d.feed ≡ Events w)) ⊎ ((feed_eq d.feed (Events w) ≡ false) × (d.feed ≢ Events w)))
-        → ((e : Entry) × IsIn e es × (e.feed ≡ Events w)) ⊎ NoOwn w es
-        → ((e : Entry) × IsIn e (d ∷ es) × (e.feed ≡ Events w)) ⊎ NoOwn w (d ∷ es)
+    go : (((maker d.feed == w) ≡ true) × (maker d.feed ≡ w)) ⊎ (((maker d.feed == w) ≡ false) × (maker d.feed ≢ w))
+        → ((e : Entry) × IsIn e es × (maker e.feed ≡ w)) ⊎ NoOwn w es
+        → ((e : Entry) × IsIn e (d ∷ es) × (maker e.feed ≡ w)) ⊎ NoOwn w (d ∷ es)
     go (inl k) later = inl (d, inl refl, k.1)
     go (inr k) (inl it) = inl (it.0, inr it.1, it.2)
     go (inr k) (inr more) = inr (none k.1 more)
 
-module _ (defs : Defs) (tree : IsTree (net_of defs)) (few : node_count (net_of defs) ≤ 65536) (law : ReadLaw (net_of defs))
+module _ (adv : Bool) (defs : Defs) (tree : IsTree (net_of defs)) (few : node_count (net_of defs) ≤ 65536) (law : ReadLaw (net_of defs))
     (reads : ℕ → ℕ) where
   -- passes have led from x here; no node kept an event of its own in them, or more is gained
   pub record WorkWent (night part : Night) (ps : List Pass) (new : Nodes) (x : World) : Type 0 where
     pub world : World
     pub at : StandsAt defs (night ++ part) new world
-    pub to_ : PassesTo (net_of defs) reads x world
-    pub told : AllByRecursion (IsUntold defs reads) ps ⊎ (gained (net_of defs) x < gained (net_of defs) world)
+    pub to_ : PassesTo adv (net_of defs) reads x world
+    pub told : AllByRecursion (IsUntold adv defs reads) ps ⊎ (gained (net_of defs) x < gained (net_of defs) world)
 
   -- one pass
   module _ (night : Night) (p : Pass) (old new : Nodes) (x : World) (at : StandsAt defs night old x)
-      (works : IsWorkingPass reads p) (h : Passes defs night p old new) where
-    it : (y : World) × Worked (net_of defs) reads p.ws x y (old p.ws).node h.after.node p.trace
+      (works : IsWorkingPass adv reads p) (h : Passes defs night p old new) where
+    it : (y : World) × Worked adv (net_of defs) reads p.ws x y (old p.ws).node h.after.node p.trace
     it =
-        pass_works defs (net_of defs) tree few law reads p.ws x at.reached at.written (old p.ws) (at.nodes_ p.ws h.ws_in) p.trace
+        pass_works adv defs (net_of defs) tree few law reads p.ws x at.reached at.written (old p.ws) (at.nodes_ p.ws h.ws_in) p.trace
         h.after works.each works.stands (λ a f hears for. heard_sent defs tree few law reads night p old new x at h a f hears for)
         h.turn
 
@@ -99,25 +102,36 @@ module _ (defs : Defs) (tree : IsTree (net_of defs)) (few : node_count (net_of d
     inv_x = invariant (net_of defs) x at.reached
 
     rises : Rises x it.0
-    rises = passes_rise (net_of defs) reads x it.0 inv_x it.1.to_
+    rises = passes_rise adv (net_of defs) reads x it.0 inv_x it.1.to_
 
     behind : StandsAt defs (night ++ happened_in p) new it.0
     behind =
         stands_next defs tree few law reads night p old new x it.0 h.after at h.ws_in it.1.stays h.then_ h.written
 
-    held_more : (e : Entry) → IsIn e (kept p.trace) → e.feed ≡ Events p.ws
-        → x.holdings p.ws (Events p.ws) < it.0.holdings p.ws (Events p.ws)
+    inv_behind : Invariant (net_of defs) it.0
+    inv_behind = invariant (net_of defs) it.0 behind.reached
+
+    held_more : (e : Entry) → IsIn e (kept p.trace) → maker e.feed ≡ p.ws → x.holdings p.ws e.feed < it.0.holdings p.ws e.feed
     held_more e k is =
         omega (
           arith,
-          inv_x.own p.ws (Events p.ws) refl,
-          (invariant (net_of defs) it.0 behind.reached).own p.ws (Events p.ws) refl,
-          ap (λ (G : List Entry). length (list_of G (Events p.ws))) it.1.stays.history_,
-          ap length (list_of-append x.history (own_of p.ws (kept p.trace)) (Events p.ws)),
-          length-append (list_of x.history (Events p.ws)) (list_of (own_of p.ws (kept p.trace)) (Events p.ws)),
-          some_of e (own_of p.ws (kept p.trace)) (Events p.ws)
-              (own_has p.ws e (kept p.trace) (ap maker is) k) is,
+          inv_x.own p.ws e.feed is,
+          inv_behind.own p.ws e.feed is,
+          ap (λ (G : List Entry). length (list_of G e.feed)) it.1.stays.history_,
+          ap length (list_of-append x.history (own_of p.ws (kept p.trace)) e.feed),
+          length-append (list_of x.history e.feed) (list_of (own_of p.ws (kept p.trace)) e.feed),
+          some_of e (own_of p.ws (kept p.trace)) e.feed (own_has p.ws e (kept p.trace) is k) refl,
         )
+
+    gains_by : (e : Entry) → IsIn e (kept p.trace) → maker e.feed ≡ p.ws → gained (net_of defs) x < gained (net_of defs) it.0
+    gains_by e k is = go (feed_or_none (net_of defs) it.0 inv_behind e.feed)
+      where
+        more : x.holdings p.ws e.feed < it.0.holdings p.ws e.feed
+        more = held_more e k is
+
+        go : IsFeed (net_of defs) e.feed ⊎ (count_of it.0 e.feed ≡ 0) → gained (net_of defs) x < gained (net_of defs) it.0
+        go (inl f_in) = feed_gains (net_of defs) x it.0 rises p.ws e.feed h.ws_in f_in more
+        go (inr none) = absurd (omega (arith, none, more, inv_behind.within p.ws e.feed))
 
     pub pass_work : WorkWent night (happened_in p) (p ∷ []) new x
     pass_work = record {
@@ -126,23 +140,23 @@ module _ (defs : Defs) (tree : IsTree (net_of defs)) (few : node_count (net_of d
       to_ = it.1.to_;
       told =
           elim (keeps_own p.ws (kept p.trace)) [
-            | inl own ↦ inr (own_gains (net_of defs) x it.0 p.ws h.ws_in rises (held_more own.0 own.1 own.2))
+            | inl own ↦ inr (gains_by own.0 own.1 own.2)
             | inr none ↦ inl (none, tt)
           ];
     }
 
-  pub work_more : (x y : World) → Invariant (net_of defs) x → PassesTo (net_of defs) reads x y
+  pub work_more : (x y : World) → Invariant (net_of defs) x → PassesTo adv (net_of defs) reads x y
       → gained (net_of defs) x ≤ gained (net_of defs) y
-  work_more x y inv to_ = gained_more (net_of defs) x y (passes_rise (net_of defs) reads x y inv to_)
+  work_more x y inv to_ = gained_more (net_of defs) x y (passes_rise adv (net_of defs) reads x y inv to_)
 
   pub passes_work : (ps : List Pass) (night : Night) (old new : Nodes) (x : World) → StandsAt defs night old x
-      → AllByRecursion (IsWorkingPass reads) ps → ArePasses defs night ps old new → WorkWent night (happened ps) ps new x
+      → AllByRecursion (IsWorkingPass adv reads) ps → ArePasses defs night ps old new → WorkWent night (happened ps) ps new x
   passes_work [] night old new x at works h = record {
     world = x;
     at =
         subst (λ (n : Nodes). StandsAt defs (night ++ []) n x) (sym h)
         (subst (λ (l : Night). StandsAt defs l old x) (sym (append-nil night)) at);
-    to_ = passes_none (net_of defs) reads x;
+    to_ = passes_none adv (net_of defs) reads x;
     told = inl tt;
   }
   passes_work (p ∷ ps) night old new x at works h =
@@ -152,13 +166,13 @@ module _ (defs : Defs) (tree : IsTree (net_of defs)) (few : node_count (net_of d
       record {
         world = rest.world;
         at = subst (λ (l : Night). StandsAt defs l new rest.world) (append_assoc night (happened_in p) (happened ps)) rest.at;
-        to_ = passes_on (net_of defs) reads x first.world rest.world first.to_ rest.to_;
+        to_ = passes_on adv (net_of defs) reads x first.world rest.world first.to_ rest.to_;
         told = both first rest;
       }
     where
       both : (first : WorkWent night (happened_in p) (p ∷ []) h.0 x)
           → (rest : WorkWent (night ++ happened_in p) (happened ps) ps new first.world)
-          → AllByRecursion (IsUntold defs reads) (p ∷ ps) ⊎ (gained (net_of defs) x < gained (net_of defs) rest.world)
+          → AllByRecursion (IsUntold adv defs reads) (p ∷ ps) ⊎ (gained (net_of defs) x < gained (net_of defs) rest.world)
       both first rest =
           elim first.told [
             | inl one ↦ elim rest.told [

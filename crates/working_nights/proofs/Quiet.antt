@@ -4,6 +4,7 @@ use Rattle.std.specs.Prelude.{Err, Ok, Result, is_none, option_map}
 use Rattle.lemmas.proofs.Lists.{all_append}
 use Rattle.composer_parser.specs.declared.Defs.{Defs}
 use Rattle.model.specs.Types.{Ended, Entry, Events, Fulfil, Fulfilled, Input, LiveJob, Local, Obj, Turn}
+use Rattle.model.specs.History.{maker}
 use Rattle.model.specs.NewEntry.{ends_well, event_of, makes, next_entry, own_entry}
 use Rattle.model.specs.PresentNet.{present_net}
 use Rattle.model.specs.Sessions.{live_launch}
@@ -30,7 +31,7 @@ use Rattle.working_nights.proofs.Likes.{Like, like_on, like_self}
 use Rattle.working_nights.proofs.Working.{AreWorking, back_works, front_works}
 
 -- an end or a file that is told, of which nothing is kept, changes nothing
-module _ (w : ℕ) (l : Local)
+module _ (adv : Bool) (w : ℕ) (l : Local)
     (keeps : (old new : NodeState) (step_ : Step) → IsTaken old (Input.Local l) step_ new
     → (e : Entry) × (step_.kept ≡ Some e) × (e.feed ≡ Events old.me)) where
   told_quiet : (old : NodeState) (trace : Trace) (new : NodeState) → old.me ≡ w → NoOwn w (kept trace)
@@ -41,8 +42,8 @@ module _ (w : ℕ) (l : Local)
   told_quiet old trace new me own (inl (inl t)) =
       let b = both_of (Keep t.step.kept) (Follow old t.step) t.after trace new t.acts in
       let it = keeps old t.after t.step t.taken in
-      absurd (front_none w trace b.front b.back b.split own it.0 (kept_there w t.step.kept b.front b.begins.0 it.0 it.1)
-      (it.2 ∙ ap Events me))
+      absurd (front_none w trace b.front b.back b.split own it.0 (kept_there adv w t.step.kept b.front b.begins.0 it.0 it.1)
+      (ap maker it.2 ∙ me))
 
 end_kept : (j : ℕ) (rc : ℤ) (old new : NodeState) (step_ : Step) → IsTaken old (Input.Local (Local.Ended j rc)) step_ new
     → (e : Entry) × (step_.kept ≡ Some e) × (e.feed ≡ Events old.me)
@@ -81,10 +82,10 @@ record QuietPart (old new : Running) (trace : Trace) (part : Action Running) (w 
   pub like : Like calm trace
   pub me_ : new.node.me ≡ w
 
-reports_calm : (w : ℕ) (old : Running) (trace : Trace) (new : Running) → old.node.me ≡ w → NoOwn w (kept trace)
+reports_calm : (adv : Bool) (w : ℕ) (old : Running) (trace : Trace) (new : Running) → old.node.me ≡ w → NoOwn w (kept trace)
     → On (λ o t e n. Reports o t e n) old trace None new
     → QuietPart old new trace (On (λ o t e n. Reports o t e n)) w
-reports_calm w old trace new me own h = go h.acts.answer h.acts.split h.acts.acts
+reports_calm adv w old trace new me own h = go h.acts.answer h.acts.split h.acts.acts
   where
     quiet : (answer : Result (Option End) Failed) → trace ≡ Event.Reports answer ∷ h.acts.rest
         → (h.acts.rest ≡ []) × (new.node ≡ old.node) → QuietPart old new trace (On (λ o t e n. Reports o t e n)) w
@@ -110,7 +111,7 @@ reports_calm w old trace new me own h = go h.acts.answer h.acts.split h.acts.act
         → If b (TakeIt (Input.Local (Local.Ended e.job e.rc))) Nothing old.node h.acts.rest None new.node
         → NoOwn w (kept h.acts.rest) → (h.acts.rest ≡ []) × (new.node ≡ old.node)
     ended e true k none =
-        told_quiet w (Local.Ended e.job e.rc) (end_kept e.job e.rc) old.node h.acts.rest new.node me none k
+        told_quiet adv w (Local.Ended e.job e.rc) (end_kept e.job e.rc) old.node h.acts.rest new.node me none k
     ended e false k none = (k.0, k.2)
 
     go : (answer : Result (Option End) Failed) → trace ≡ Event.Reports answer ∷ h.acts.rest
@@ -120,10 +121,10 @@ reports_calm w old trace new me own h = go h.acts.answer h.acts.split h.acts.act
         quiet (Ok (Some e)) split (ended e (is_live old.node e) k (rest_none (Ok (Some e)) split))
     go (Err failed) split k = quiet (Err failed) split (k.0, k.2)
 
-looks_calm : (w : ℕ) (place : DepPlace) (old : Running) (trace : Trace) (new : Running) → old.node.me ≡ w
+looks_calm : (adv : Bool) (w : ℕ) (place : DepPlace) (old : Running) (trace : Trace) (new : Running) → old.node.me ≡ w
     → NoOwn w (kept trace) → Looks place old trace None new
     → QuietPart old new trace (λ o t e n. Looks place o t e n) w
-looks_calm w place old trace new me own h = go h.answer h.split h.acts
+looks_calm adv w place old trace new me own h = go h.answer h.split h.acts
   where
     quiet : (answer : Result Bool Failed) → trace ≡ Event.Looks h.path answer ∷ h.rest
         → (new.heard ≡ old.heard) × (new.asked ≡ Some place) → (h.rest ≡ []) × (new.node ≡ old.node)
@@ -150,14 +151,14 @@ looks_calm w place old trace new me own h = go h.answer h.split h.acts
         → QuietPart old new trace (λ o t e n. Looks place o t e n) w
     go (Ok true) split k =
         quiet (Ok true) split (k.heard_, k.asked_)
-        (told_quiet w (Fulfil place.0 place.1) (file_kept place.0 place.1) old.node h.rest new.node me
+        (told_quiet adv w (Fulfil place.0 place.1) (file_kept place.0 place.1) old.node h.rest new.node me
         (back_none w trace (Event.Looks h.path (Ok true) ∷ []) h.rest split own) k.acts)
     go (Ok false) split k = quiet (Ok false) split (k.heard_, k.asked_) (k.acts.0, k.acts.2)
     go (Err failed) split k = quiet (Err failed) split (k.heard_, k.asked_) (k.acts.0, k.acts.2)
 
-probing_calm : (w : ℕ) (old : Running) (trace : Trace) (new : Running) → old.node.me ≡ w
+probing_calm : (adv : Bool) (w : ℕ) (old : Running) (trace : Trace) (new : Running) → old.node.me ≡ w
     → NoOwn w (kept trace) → Probing old trace None new → QuietPart old new trace Probing w
-probing_calm w old trace new me own h =
+probing_calm adv w old trace new me own h =
     let q = go (next_probe (view_in old.node) old.node.me old.asked) h in
     record { calm = q.calm; acts = q.acts; inside = q.inside; like = q.like; me_ = q.me_ }
   where
@@ -170,7 +171,7 @@ probing_calm w old trace new me own h =
       like = like_self trace;
       me_ = ap (λ (s : Running). s.node.me) k.2 ∙ me;
     }
-    go (Some place) k = looks_calm w place old trace new me own k
+    go (Some place) k = looks_calm adv w place old trace new me own k
 
 -- the whole pass
 pub record CalmPass (defs : Defs) (w : ℕ) (old : Running) (trace : Trace) (new : Running) : Type 0 where
@@ -180,9 +181,9 @@ pub record CalmPass (defs : Defs) (w : ℕ) (old : Running) (trace : Trace) (new
   pub like : Like calm trace
   pub me_ : new.node.me ≡ w
 
-pub calm_pass : (defs : Defs) (w : ℕ) (old : Running) (trace : Trace) (new : Running) → old.node.me ≡ w → AreWorking w trace
+pub calm_pass : (adv : Bool) (defs : Defs) (w : ℕ) (old : Running) (trace : Trace) (new : Running) → old.node.me ≡ w → AreWorking adv w trace
     → NoOwn w (kept trace) → TurnOf defs old trace None new → CalmPass defs w old trace new
-calm_pass defs w old trace new me each own h = record {
+calm_pass adv defs w old trace new me each own h = record {
   calm = event ∷ (b.front ++ (told.calm ++ (found.calm ++ (e.front ++ e.back))));
   turn = record {
     reading = h.reading;
@@ -238,8 +239,8 @@ calm_pass defs w old trace new me each own h = record {
     event : Event
     event = Event.Reads h.reading
 
-    inside : AreWorking w h.rest
-    inside = (subst (AreWorking w) h.split each).1
+    inside : AreWorking adv w h.rest
+    inside = (subst (AreWorking adv w) h.split each).1
 
     rest_own : NoOwn w (kept h.rest)
     rest_own = back_none w trace (event ∷ []) h.rest h.split own
@@ -267,14 +268,14 @@ calm_pass defs w old trace new me each own h = record {
         (b.split ∙ ap (λ (t : Trace). b.front ++ t) (c.split ∙ ap (λ (t : Trace). c.front ++ t)
         (d.split ∙ ap (λ (t : Trace). d.front ++ t) e.split)))
 
-    works_b : AreWorking w b.back
-    works_b = back_works w h.rest b.front b.back b.split inside
+    works_b : AreWorking adv w b.back
+    works_b = back_works adv w h.rest b.front b.back b.split inside
 
-    works_c : AreWorking w c.back
-    works_c = back_works w b.back c.front c.back c.split works_b
+    works_c : AreWorking adv w c.back
+    works_c = back_works adv w b.back c.front c.back c.split works_b
 
-    works_d : AreWorking w d.back
-    works_d = back_works w c.back d.front d.back d.split works_c
+    works_d : AreWorking adv w d.back
+    works_d = back_works adv w c.back d.front d.back d.split works_c
 
     own_b : NoOwn w (kept b.back)
     own_b = back_none w h.rest b.front b.back b.split rest_own
@@ -287,25 +288,25 @@ calm_pass defs w old trace new me each own h = record {
 
     come : AreInside w b.front × (b.middle.node.me ≡ w)
     come =
-        come_gives (Whatever w) (CalmOn w) (calm_rule w) (λ input is. tt) (λ x f input is. tt)
-        (λ s a. calm_event w (Event.Comes a) (come_inside w a) s) defs old b.front None b.middle b.begins refl me
-        (front_works w h.rest b.front b.back b.split inside) (front_none w h.rest b.front b.back b.split rest_own)
+        come_gives (Whatever adv w) (CalmOn adv w) (calm_rule adv w) (λ input is. tt) (λ x f input is. tt)
+        (λ s a. calm_event adv w (Event.Comes a) (come_inside adv w a) s) defs old b.front None b.middle b.begins refl me
+        (front_works adv w h.rest b.front b.back b.split inside) (front_none w h.rest b.front b.back b.split rest_own)
 
     told : QuietPart b.middle c.middle c.front (On (λ o t e n. Reports o t e n)) w
     told =
-        reports_calm w b.middle c.front c.middle come.1 (front_none w b.back c.front c.back c.split own_b) c.begins
+        reports_calm adv w b.middle c.front c.middle come.1 (front_none w b.back c.front c.back c.split own_b) c.begins
 
     found : QuietPart c.middle d.middle d.front Probing w
     found =
-        probing_calm w c.middle d.front d.middle told.me_ (front_none w c.back d.front d.back d.split own_c) d.begins
+        probing_calm adv w c.middle d.front d.middle told.me_ (front_none w c.back d.front d.back d.split own_c) d.begins
 
     advised : AreInside w e.front × (e.middle.node.me ≡ w)
     advised =
-        advise_gives (Whatever w) (CalmOn w) (calm_rule w) (λ to c. tt) d.middle.node e.front None e.middle.node e.begins.acts refl
-        found.me_ (front_works w d.back e.front e.back e.split works_d) (front_none w d.back e.front e.back e.split own_d)
+        advise_gives (Whatever adv w) (CalmOn adv w) (calm_rule adv w) (λ to c. tt) d.middle.node e.front None e.middle.node e.begins.acts refl
+        found.me_ (front_works adv w d.back e.front e.back e.split works_d) (front_none w d.back e.front e.back e.split own_d)
 
     turned : AreInside w e.back × (new.node.me ≡ w)
     turned =
-        take_gives (Whatever w) (CalmOn w) (calm_rule w) (Input.Local (Turn h.reading)) tt e.middle.node e.back None new.node
-        e.goes_on.acts refl advised.1 (back_works w d.back e.front e.back e.split works_d)
+        take_gives (Whatever adv w) (CalmOn adv w) (calm_rule adv w) (Input.Local (Turn h.reading)) tt e.middle.node e.back None new.node
+        e.goes_on.acts refl advised.1 (back_works adv w d.back e.front e.back e.split works_d)
         (back_none w d.back e.front e.back e.split own_d)

@@ -1,10 +1,11 @@
--- A pass in which nobody gives an order leads on in the world by turns, deliveries and what is told.
+-- A pass in which nobody types leads on in the world by turns, deliveries, what is told, and what is advised.
 use Rattle.std.proofs.Common.{[], ◌++◌, ◌≤◌, ◌≡◌, ◌∙◌, ◌∷◌, ◌⊎◌, ℕ, Bool, List, None, Option, Some, ap, false, inl, inr, refl, subst, sym, true}
 use Rattle.std.proofs.lemmas.Bool.{eq-eqb}
 use Rattle.std.proofs.lemmas.List.{append-nil}
 use Rattle.std.specs.List.{AllByRecursion}
 use Rattle.std.specs.Option.{option_to_list}
-use Rattle.std.specs.Prelude.{◌==◌, Ok, is_some, option_map}
+use Rattle.std.specs.Prelude.{◌==◌, ◌||◌, Ok, is_some, not, option_map}
+use Rattle.recovery_watch.specs.Advice.{advice}
 use Rattle.lemmas.proofs.Booleans.{not_holds}
 use Rattle.lemmas.proofs.Lists.{all_left, all_right}
 use Rattle.lemmas.proofs.Options.{some_is}
@@ -28,7 +29,7 @@ use Rattle.agent_core.specs.declared.faults.Step.{Step}
 use Rattle.file_watch.specs.Circle.{DepPlace}
 use Rattle.file_watch.specs.Probes.{next_probe}
 use Rattle.node_inputs.specs.Actions.{Action, Both, IfThere, Nothing, Then}
-use Rattle.node_inputs.specs.Inputs.{IsKeeping, Keep, Lose, Take as TakeIt}
+use Rattle.node_inputs.specs.Inputs.{IsKeeping, Keep, Lose, PassOver, Take as TakeIt}
 use Rattle.node_inputs.specs.Traces.{Event, Trace, kept, readings}
 use Rattle.node_inputs.specs.declared.ends.NodeEnd.{NodeEnd}
 use Rattle.node_inputs.proofs.Fronts.{kept-append}
@@ -38,8 +39,9 @@ use Rattle.node_loop.specs.Heard.{Heard, heard_more}
 use Rattle.node_loop.specs.Runs.{Advise, Arrive, Come, Comes, Hear, Hears, Looks, On, Probing, Reports, Running, TurnOf}
 use Rattle.lemmas.proofs.Lists.{same_head}
 use Rattle.run_laws.proofs.Rules.{Gives, IsJoined, if_gives, nothing_gives, then_gives, wants_gives}
-use Rattle.run_laws.proofs.Taking.{GivesOut, IsRule, IsTold, Steps, lose_gives, take_gives}
-use Rattle.run_laws.proofs.Turning.{advise_gives, found_gives, reports_gives}
+use Rattle.run_laws.proofs.Taking.{GivesOut, IsRule, IsTold, Steps, StepsOrParts, lose_gives, pass_over_gives, refused_gives, take_gives}
+use Rattle.run_laws.proofs.Taking.{takes_parts, telling_gives}
+use Rattle.run_laws.proofs.Turning.{found_gives, reports_gives}
 use Rattle.network_world.specs.Standing.{NodeStandsFor}
 use Rattle.network_runs.specs.Nights.{IsForNodes}
 use Rattle.network_runs.proofs.Carrying.{AreWritten, IsCarried, ReadLaw, outs_in}
@@ -59,7 +61,7 @@ use Rattle.nights_at_rest.proofs.StillParts.{both_of, no_end, not_still, wanted}
 use Rattle.nights_at_rest.proofs.Taken.{Stepped, delivered, its_effect, its_fault, moved}
 use Rattle.nights_at_rest.proofs.Ways.{parts_same}
 use Rattle.working_nights.specs.Passes.{is_working}
-use Rattle.working_nights.proofs.Breaks.{PassesTo, may_pass, passes_none, passes_on, passes_one}
+use Rattle.working_nights.proofs.Breaks.{MayPass, PassesTo, passes_none, passes_on, passes_one}
 
 -- what happens at a node is a step of the world for which it stands
 took_local : (net : Net) (x : World) (w : ℕ) (l : Local) (d : Effect)
@@ -81,84 +83,87 @@ took_local net x w l d e =
       },
     )
 
-abbrev pub AreWorking : ℕ → Trace → Type 0
-AreWorking w trace = AllByRecursion (λ event. is_working w event ≡ true) trace
+abbrev pub AreWorking : Bool → ℕ → Trace → Type 0
+AreWorking adv w trace = AllByRecursion (λ event. is_working adv w event ≡ true) trace
 
-pub front_works : (w : ℕ) (trace front back : Trace) → trace ≡ front ++ back → AreWorking w trace → AreWorking w front
-front_works w trace front back split each =
-    all_left (λ event. is_working w event ≡ true) front back (subst (AreWorking w) split each)
+pub front_works : (adv : Bool) (w : ℕ) (trace front back : Trace) → trace ≡ front ++ back → AreWorking adv w trace → AreWorking adv w front
+front_works adv w trace front back split each =
+    all_left (λ event. is_working adv w event ≡ true) front back (subst (AreWorking adv w) split each)
 
-pub back_works : (w : ℕ) (trace front back : Trace) → trace ≡ front ++ back → AreWorking w trace → AreWorking w back
-back_works w trace front back split each =
-    all_right (λ event. is_working w event ≡ true) front back (subst (AreWorking w) split each)
+pub back_works : (adv : Bool) (w : ℕ) (trace front back : Trace) → trace ≡ front ++ back → AreWorking adv w trace → AreWorking adv w back
+back_works adv w trace front back split each =
+    all_right (λ event. is_working adv w event ≡ true) front back (subst (AreWorking adv w) split each)
 
 -- the trace of w leads from x to y by such steps
-pub record Worked (net : Net) (reads : ℕ → ℕ) (w : ℕ) (x y : World) (old new : NodeState) (trace : Trace) : Type 0 where
+pub record Worked (adv : Bool) (net : Net) (reads : ℕ → ℕ) (w : ℕ) (x y : World) (old new : NodeState) (trace : Trace) : Type 0 where
   pub stays : Stays net w x y old new trace
-  pub to_ : PassesTo net reads x y
+  pub to_ : PassesTo adv net reads x y
 
-module _ (net : Net) (tree : IsTree net) (few : node_count net ≤ 65536) (reads : ℕ → ℕ) (w : ℕ) (first : World) where
-  -- a turn is at the standing clock, a packet is there, and no plan is made
+module _ (adv : Bool) (net : Net) (tree : IsTree net) (few : node_count net ≤ 65536) (reads : ℕ → ℕ) (w : ℕ) (first : World) where
+  -- a turn is at the standing clock, a packet is there, no plan is made, and nobody types
   abbrev CameWork : Input → Type 0
   CameWork (Input.Local (Turn t)) = t ≡ reads w
   CameWork (Input.Local (Local.Next drafts)) = ⊥
+  CameWork (Input.Local (Typed to c)) = ⊥
   CameWork (Input.Local l) = Unit {0}
   CameWork (Input.Mail a e) = CameAt net tree few w first (Input.Mail a e)
   CameWork (Input.Ack a f n) = CameAt net tree few w first (Input.Ack a f n)
 
   abbrev WorksOn : Action NodeState
   WorksOn old trace end new =
-      end ≡ None → AreWorking w trace → (x : World) → Grows net first x w → IsReached net x → NodeStandsFor net x w old
-      → (y : World) × Worked net reads w x y old new trace
+      end ≡ None → AreWorking adv w trace → (x : World) → Grows net first x w → IsReached net x → NodeStandsFor net x w old
+      → (y : World) × Worked adv net reads w x y old new trace
 
   works_joined : IsJoined WorksOn
   works_joined = record {
     rests = λ s end free none each x g r at.
-        (x, record { stays = stays_plain net w x s [] at (outputs_none s [] refl); to_ = passes_none net reads x });
+        (x, record { stays = stays_plain net w x s [] at (outputs_none s [] refl); to_ = passes_none adv net reads x });
     joins = λ a b c front back end h k none each x g r at.
-        let one = h refl (front_works w (front ++ back) front back refl each) x g r at in
-        let two = k none (back_works w (front ++ back) front back refl each) one.0
+        let one = h refl (front_works adv w (front ++ back) front back refl each) x g r at in
+        let two = k none (back_works adv w (front ++ back) front back refl each) one.0
         (grows_on net first x one.0 w g one.1.stays.grows) (one.1.stays.grows.reached r) one.1.stays.here in (
           two.0,
           record {
             stays = stays_on net w x one.0 two.0 a b c front back one.1.stays two.1.stays;
-            to_ = passes_on net reads x one.0 two.0 one.1.to_ two.1.to_;
+            to_ = passes_on adv net reads x one.0 two.0 one.1.to_ two.1.to_;
           },
         );
   }
 
   works_event : (event : Event) (s : NodeState) → Outputs s [] (event ∷ []) → WorksOn s (event ∷ []) None s
   works_event event s out none each x g r at =
-      (x, record { stays = stays_plain net w x s (event ∷ []) at out; to_ = passes_none net reads x })
+      (x, record { stays = stays_plain net w x s (event ∷ []) at out; to_ = passes_none adv net reads x })
 
   -- what is kept of such a trace may be
-  kept_works : (m : Option Entry) (front : Trace) → AreWorking w front → IsKeeping m front None → (e : Entry) → m ≡ Some e
-      → is_working w (Event.Keeps e) ≡ true
+  kept_works : (m : Option Entry) (front : Trace) → AreWorking adv w front → IsKeeping m front None → (e : Entry) → m ≡ Some e
+      → is_working adv w (Event.Keeps e) ≡ true
   kept_works None front each h e is = cc
   kept_works (Some d) front each (inl h) e is =
-      subst (λ (c : Entry). is_working w (Event.Keeps c) ≡ true) (some_is is) (subst (AreWorking w) h.0 each).0
+      subst (λ (c : Entry). is_working adv w (Event.Keeps c) ≡ true) (some_is is) (subst (AreWorking adv w) h.0 each).0
   kept_works (Some d) front each (inr (inl h)) e is = no_end h.3
   kept_works (Some d) front each (inr (inr h)) e is = no_end h.1
 
-  -- so it is no command of w's
-  module _ (old new : NodeState) (step_ : Step) (me : old.me ≡ w)
-      (works : (e : Entry) → step_.kept ≡ Some e → is_working w (Event.Keeps e) ≡ true) where
-    not_typed : {P : Type 0} (to : ℕ) (c : Cmd) → IsTaken old (Input.Local (Typed to c)) step_ new → P
-    not_typed to c taken =
-        let it = typed_own old.net old.me (view_in old) (session_in old) to c (effect_in step_ new) taken.effect in
-        let given : is_given_by w it.0.feed ≡ false = not_holds (is_given_by w it.0.feed) (works it.0 it.1) in
-        not_still (sym (subst (λ (f : Feed). is_given_by w f ≡ false) it.2 given) ∙ eq-eqb old.me w me)
+  -- so an order of w's is kept where it may be
+  not_typed : {P : Type 0} (old new : NodeState) (step_ : Step) → old.me ≡ w
+      → ((e : Entry) → step_.kept ≡ Some e → is_working adv w (Event.Keeps e) ≡ true) → adv ≡ false → (to : ℕ) (c : Cmd)
+      → IsTaken old (Input.Local (Typed to c)) step_ new → P
+  not_typed old new step_ me works never to c taken =
+      let it = typed_own old.net old.me (view_in old) (session_in old) to c (effect_in step_ new) taken.effect in
+      let may : (adv || not (is_given_by w it.0.feed)) ≡ true = works it.0 it.1 in
+      let given : is_given_by w it.0.feed ≡ false =
+      not_holds (is_given_by w it.0.feed) (subst (λ (b : Bool). (b || not (is_given_by w it.0.feed)) ≡ true) never may) in
+      not_still (sym (subst (λ (f : Feed). is_given_by w f ≡ false) it.2 given) ∙ eq-eqb old.me w me)
 
-    kind_of : (l : Local) → CameWork (Input.Local l) → IsTaken old (Input.Local l) step_ new → may_pass reads (Take w l) ≡ true
-    kind_of (Turn t) came taken = rw (eq-eqb (reads w) t (sym came)) refl
-    kind_of (Local.Linked v) came taken = refl
-    kind_of (Local.Unlinked v) came taken = refl
-    kind_of (Local.Typed to c) came taken = not_typed to c taken
-    kind_of (Local.Started j) came taken = refl
-    kind_of (Local.StartFailed j) came taken = refl
-    kind_of (Local.Ended j rc) came taken = refl
-    kind_of (Local.Fulfil o i) came taken = refl
-    kind_of (Local.Next drafts) came taken = absurd came
+  kind_of : (x : World) (l : Local) → CameWork (Input.Local l) → MayPass adv reads x (Take w l)
+  kind_of x (Turn t) came = inl (rw (eq-eqb (reads w) t (sym came)) refl)
+  kind_of x (Local.Linked v) came = inl refl
+  kind_of x (Local.Unlinked v) came = inl refl
+  kind_of x (Local.Typed to c) came = absurd came
+  kind_of x (Local.Started j) came = inl refl
+  kind_of x (Local.StartFailed j) came = inl refl
+  kind_of x (Local.Ended j rc) came = inl refl
+  kind_of x (Local.Fulfil o i) came = inl refl
+  kind_of x (Local.Next drafts) came = absurd came
 
   -- the step of an input
   record StepOf (x : World) (d : Effect) : Type 0 where
@@ -166,13 +171,11 @@ module _ (net : Net) (tree : IsTree net) (few : node_count net ≤ 65536) (reads
     step_ : WorldStep
     origin : Origin
     stepped : Stepped net x world w step_ origin d
-    kind : may_pass reads step_ ≡ true
+    kind : MayPass adv reads x step_
 
   step_of_input : (x : World) (old new : NodeState) (step_ : Step) → Grows net first x w → NodeStandsFor net x w old
-      → IsReached net x
-      → ((e : Entry) → step_.kept ≡ Some e → is_working w (Event.Keeps e) ≡ true) → (input : Input) → CameWork input
-      → IsTaken old input step_ new → StepOf x (effect_in step_ new)
-  step_of_input x old new step_ g at r works (Input.Local l) came taken =
+      → IsReached net x → (input : Input) → CameWork input → IsTaken old input step_ new → StepOf x (effect_in step_ new)
+  step_of_input x old new step_ g at r (Input.Local l) came taken =
       let it = took_local net x w l (effect_in step_ new)
       (node_effect_is net tree few reads w x r old at (Input.Local l) step_ new taken) in
       record {
@@ -180,21 +183,51 @@ module _ (net : Net) (tree : IsTree net) (few : node_count net ≤ 65536) (reads
         step_ = Take w l;
         origin = Origin.Own;
         stepped = it.1;
-        kind = kind_of old new step_ at.me_ works l came taken;
+        kind = kind_of x l came;
       }
-  step_of_input x old new step_ g at r works (Input.Mail a e) came taken =
+  step_of_input x old new step_ g at r (Input.Mail a e) came taken =
       let place = there_at net tree few w first x g (Input.Mail a e) came in
       let it = delivered net x a w place.0 (Input.Mail a e) (effect_in step_ new) place.1
       (node_effect_is net tree few reads w x r old at (Input.Mail a e) step_ new taken) in
-      record { world = it.0; step_ = Deliver a w place.0; origin = Origin.Mailed; stepped = it.1; kind = refl }
-  step_of_input x old new step_ g at r works (Input.Ack a f n) came taken =
+      record { world = it.0; step_ = Deliver a w place.0; origin = Origin.Mailed; stepped = it.1; kind = inl refl }
+  step_of_input x old new step_ g at r (Input.Ack a f n) came taken =
       let place = there_at net tree few w first x g (Input.Ack a f n) came in
       let it = delivered net x a w place.0 (Input.Ack a f n) (effect_in step_ new) place.1
       (node_effect_is net tree few reads w x r old at (Input.Ack a f n) step_ new taken) in
-      record { world = it.0; step_ = Deliver a w place.0; origin = Origin.Mailed; stepped = it.1; kind = refl }
+      record { world = it.0; step_ = Deliver a w place.0; origin = Origin.Mailed; stepped = it.1; kind = inl refl }
 
-  works_step : (input : Input) → CameWork input → Gives (λ o t e n. Steps input o t e n) WorksOn
-  works_step input came old trace end new h none each x g r at = (
+  -- an advised order
+  step_of_advice : (x : World) (old new : NodeState) (step_ : Step) → NodeStandsFor net x w old → IsReached net x
+      → ((e : Entry) → step_.kept ≡ Some e → is_working adv w (Event.Keeps e) ≡ true) → (c : Cmd)
+      → advice (view_in old) old.me ≡ Some c → IsTaken old (Input.Local (Typed old.me c)) step_ new → StepOf x (effect_in step_ new)
+  step_of_advice x old new step_ at r works c advised taken =
+      let it = took_local net x w (Typed old.me c) (effect_in step_ new)
+      (node_effect_is net tree few reads w x r old at (Input.Local (Typed old.me c)) step_ new taken) in
+      record {
+        world = it.0;
+        step_ = Take w (Typed old.me c);
+        origin = Origin.Own;
+        stepped = it.1;
+        kind = inr (may adv refl, (at.me_, seen));
+      }
+    where
+      same : view_in old ≡ view_at x w
+      same = λ i f. at.kept_.holds_them f i
+
+      seen : advice (view_at x w) w ≡ Some c
+      seen = sym (λ i. advice (same i) (at.me_ i)) ∙ advised
+
+      may : (b : Bool) → adv ≡ b → adv ≡ true
+      may true is = is
+      may false is = not_typed old new step_ at.me_ works is old.me c taken
+
+  -- a step of the node leads on by a step of the world
+  works_by : (input : Input) (old : NodeState) (trace : Trace) (end : Option NodeEnd) (new : NodeState)
+      → (h : Steps input old trace end new) → end ≡ None → AreWorking adv w trace → (x : World) → Grows net first x w
+      → IsReached net x → NodeStandsFor net x w old
+      → (((e : Entry) → h.step.kept ≡ Some e → is_working adv w (Event.Keeps e) ≡ true) → StepOf x (effect_in h.step new))
+      → (y : World) × Worked adv net reads w x y old new trace
+  works_by input old trace end new h none each x g r at steps = (
     it.world,
     record {
       stays = record {
@@ -205,7 +238,7 @@ module _ (net : Net) (tree : IsTree net) (few : node_count net ≤ 65536) (reads
         disk = h.taken.kept ∙ ap (λ l. old.kept ++ l) (sym keeps);
         sent_ = λ call k. sent call (in_either (Event.Sends call) b.front b.back (subst (IsIn (Event.Sends call)) b.split k));
       };
-      to_ = passes_one net reads x it.world it.step_ it.kind it.stepped.step_;
+      to_ = passes_one adv net reads x it.world it.step_ it.kind it.stepped.step_;
     },
   )
     where
@@ -216,9 +249,7 @@ module _ (net : Net) (tree : IsTree net) (few : node_count net ≤ 65536) (reads
           h.acts)
 
       it : StepOf x (effect_in h.step new)
-      it =
-          step_of_input x old new h.step g at r
-          (kept_works h.step.kept b.front (front_works w trace b.front b.back b.split each) b.begins.0) input came h.taken
+      it = steps (kept_works h.step.kept b.front (front_works adv w trace b.front b.back b.split each) b.begins.0)
 
       here : NodeStandsFor net it.world w new
       here =
@@ -263,6 +294,10 @@ module _ (net : Net) (tree : IsTree net) (few : node_count net ≤ 65536) (reads
                 (node_in net it.world w new here)).sends call.to out.packet out.frame_ out.given out.is,
             out.bytes_,
           )
+
+  works_step : (input : Input) → CameWork input → Gives (λ o t e n. Steps input o t e n) WorksOn
+  works_step input came old trace end new h none each x g r at =
+      works_by input old trace end new h none each x g r at (λ works. step_of_input x old new h.step g at r input came h.taken)
 
   told_came : (input : Input) → IsTold input → CameWork input
   told_came (Input.Local (Local.Started j)) h = tt
@@ -323,7 +358,7 @@ module _ (net : Net) (tree : IsTree net) (few : node_count net ≤ 65536) (reads
             x,
             record {
               stays = stays_plain net w x old.node [] at (outputs_none old.node [] refl);
-              to_ = passes_none net reads x;
+              to_ = passes_none adv net reads x;
             },
           )))
       go (Some place) k =
@@ -335,8 +370,36 @@ module _ (net : Net) (tree : IsTree net) (few : node_count net ≤ 65536) (reads
 
   advise_works : (old : Running) (trace : Trace) (new : Running) → On Advise old trace None new
       → WorksOn old.node trace None new.node
-  advise_works old trace new h =
-      advise_gives CameWork WorksOn works_rule (λ to c. tt) old.node trace None new.node h.acts
+  advise_works old trace new h = go (advice (view_in old.node) old.node.me) refl h.acts
+    where
+      typed : (c : Cmd) → advice (view_in old.node) old.node.me ≡ Some c → (trace : Trace) (node : NodeState)
+          → Steps (Input.Local (Typed old.node.me c)) old.node trace None node → WorksOn old.node trace None node
+      typed c advised trace node s none each x g r at =
+          works_by (Input.Local (Typed old.node.me c)) old.node trace None node s none each x g r at
+          (λ works. step_of_advice x old.node node s.step at r works c advised s.taken)
+
+      parts : (c : Cmd) → advice (view_in old.node) old.node.me ≡ Some c
+          → StepsOrParts (Input.Local (Typed old.node.me c)) old.node trace None new.node → WorksOn old.node trace None new.node
+      parts c advised (inl p) =
+          subst (λ (t : Trace). WorksOn old.node t None new.node) (sym p.split)
+          (works_joined.joins old.node p.middle new.node p.front p.back None (typed c advised p.front p.middle p.begins)
+          (telling_gives CameWork WorksOn works_rule p.became p.middle p.back None new.node p.goes_on))
+      parts c advised (inr s) = typed c advised trace new.node s
+
+      taken : (c : Cmd) → advice (view_in old.node) old.node.me ≡ Some c
+          → TakeIt (Input.Local (Typed old.node.me c)) old.node trace None new.node → WorksOn old.node trace None new.node
+      taken c advised (inr stop) = no_end stop.1
+      taken c advised (inl (inl t)) =
+          parts c advised (takes_parts (Input.Local (Typed old.node.me c)) old.node trace None new.node t)
+      taken c advised (inl (inr r)) =
+          refused_gives CameWork WorksOn works_rule PassOver (Input.Local (Typed old.node.me c))
+          (pass_over_gives CameWork WorksOn works_rule (Input.Local (Typed old.node.me c))) old.node trace None new.node r
+
+      go : (o : Option Cmd) → advice (view_in old.node) old.node.me ≡ o
+          → IfThere o (λ (c : Cmd). TakeIt (Input.Local (Typed old.node.me c))) Nothing old.node trace None new.node
+          → WorksOn old.node trace None new.node
+      go None is k = nothing_gives WorksOn works_joined old.node trace None new.node k
+      go (Some c) is k = taken c is k
 
   turn_works : (t : ℕ) → t ≡ reads w → (old : Running) (trace : Trace) (new : Running)
       → On (TakeIt (Input.Local (Turn t))) old trace None new → WorksOn old.node trace None new.node
@@ -344,7 +407,7 @@ module _ (net : Net) (tree : IsTree net) (few : node_count net ≤ 65536) (reads
       take_gives CameWork WorksOn works_rule (Input.Local (Turn t)) same old.node trace None new.node h.acts
 
 -- a pass
-module _ (defs : Defs) (net : Net) (tree : IsTree net) (few : node_count net ≤ 65536) (law : ReadLaw net) (reads : ℕ → ℕ)
+module _ (adv : Bool) (defs : Defs) (net : Net) (tree : IsTree net) (few : node_count net ≤ 65536) (law : ReadLaw net) (reads : ℕ → ℕ)
     (w : ℕ) (x : World) (r : IsReached net x) (written : AreWritten x.history) (old : Running)
     (at : NodeStandsFor net x w old.node) where
   abbrev HeardThere : Running → Type 0
@@ -364,18 +427,18 @@ module _ (defs : Defs) (net : Net) (tree : IsTree net) (few : node_count net ≤
   no_local a (frame.Reply text) l is = cc
 
   packet_came : (a : ℕ) (f : Frame) (i : Input) → input_of a f ≡ Some i → CameAt net tree few w x i
-      → CameWork net tree few reads w x i
+      → CameWork adv net tree few reads w x i
   packet_came a f (Input.Mail b e) is c = c
   packet_came a f (Input.Ack b g n) is c = c
   packet_came a f (Input.Local l) is c = no_local a f l is
 
   bytes_work : (a : ℕ) (bytes : List ℕ) (trace : Trace) (new : Running) → HeardThere new → Hear a bytes old trace None new
-      → WorksOn net tree few reads w x old.node trace None new.node
+      → WorksOn adv net tree few reads w x old.node trace None new.node
   bytes_work a bytes trace new sent (inr stop) = no_end stop.1
   bytes_work a bytes trace new sent (inl h) =
-      subst (λ (t : Trace). WorksOn net tree few reads w x old.node t None new.node)
+      subst (λ (t : Trace). WorksOn adv net tree few reads w x old.node t None new.node)
       (sym (b.split ∙ ap (λ (t : Trace). t ++ b.back) b.begins.0))
-      (frames_work net tree few reads w x a (is_some h.1) h.0 (all h.0 (λ f k. k)) old.node b.back None new.node acts)
+      (frames_work adv net tree few reads w x a (is_some h.1) h.0 (all h.0 (λ f k. k)) old.node b.back None new.node acts)
     where
       b : Both (Hears a (heard_more (old.heard a) bytes h.0)) (On (Frames a (is_some h.1) h.0)) old trace None new
       b = both_of (Hears a (heard_more (old.heard a) bytes h.0)) (On (Frames a (is_some h.1) h.0)) old trace new h.3
@@ -390,7 +453,7 @@ module _ (defs : Defs) (net : Net) (tree : IsTree net) (few : node_count net ≤
           ap (λ (g : ℕ → Heard). g a) (b.goes_on.heard_ ∙ ap (λ (s : Running). s.heard) b.begins.2)
           ∙ together a (heard_more (old.heard a) bytes h.0) (old.heard a)
 
-      came : (f : Frame) → IsIn f h.0 → (i : Input) → input_of a f ≡ Some i → CameWork net tree few reads w x i
+      came : (f : Frame) → IsIn f h.0 → (i : Input) → input_of a f ≡ Some i → CameWork adv net tree few reads w x i
       came f k i is =
           let c = sent a f (record {
             more = h.0;
@@ -406,45 +469,45 @@ module _ (defs : Defs) (net : Net) (tree : IsTree net) (few : node_count net ≤
           }) is))
 
       all : (frames : List Frame) → ((f : Frame) → IsIn f frames → IsIn f h.0)
-          → AllByRecursion (λ (f : Frame). (i : Input) → input_of a f ≡ Some i → CameWork net tree few reads w x i) frames
+          → AllByRecursion (λ (f : Frame). (i : Input) → input_of a f ≡ Some i → CameWork adv net tree few reads w x i) frames
       all [] within = tt
       all (f ∷ frames) within = (λ i is. came f (within f (inl refl)) i is, all frames (λ g k. within g (inr k)))
 
-  arrival_works : (a : Arrival) (trace : Trace) (new : Running) → is_working w (Event.Comes a) ≡ true → HeardThere new
-      → Arrive defs a old trace None new → WorksOn net tree few reads w x old.node trace None new.node
+  arrival_works : (a : Arrival) (trace : Trace) (new : Running) → is_working adv w (Event.Comes a) ≡ true → HeardThere new
+      → Arrive defs a old trace None new → WorksOn adv net tree few reads w x old.node trace None new.node
   arrival_works (arrival.Bytes a bytes) trace new may sent h = bytes_work a bytes trace new sent h
   arrival_works (arrival.Up a) trace new may sent h = not_still may
   arrival_works (arrival.Down a) trace new may sent h = not_still may
   arrival_works (arrival.Client bytes) trace new may sent h = not_still may
   arrival_works arrival.Nothing trace new may sent h =
-      subst (λ (n : NodeState). WorksOn net tree few reads w x old.node trace None n) (sym (ap (λ (s : Running). s.node) h.2))
-      (subst (λ (t : Trace). WorksOn net tree few reads w x old.node t None old.node) (sym h.0)
+      subst (λ (n : NodeState). WorksOn adv net tree few reads w x old.node trace None n) (sym (ap (λ (s : Running). s.node) h.2))
+      (subst (λ (t : Trace). WorksOn adv net tree few reads w x old.node t None old.node) (sym h.0)
       (λ none each y g s stands. (
         y,
         record {
           stays = stays_plain net w y old.node [] stands (outputs_none old.node [] refl);
-          to_ = passes_none net reads y;
+          to_ = passes_none adv net reads y;
         },
       )))
   arrival_works arrival.NoMemory trace new may sent h = no_end h.1
 
-  come_works : (trace : Trace) (new : Running) → AreWorking w trace → HeardThere new → Come defs old trace None new
-      → WorksOn net tree few reads w x old.node trace None new.node
+  come_works : (trace : Trace) (new : Running) → AreWorking adv w trace → HeardThere new → Come defs old trace None new
+      → WorksOn adv net tree few reads w x old.node trace None new.node
   come_works trace new each sent h =
       let c : Comes defs old trace None new = wanted (λ o t e n. Comes defs o t e n) old trace new h in
-      after_event net tree few reads w x (Event.Comes c.arrived) old.node new.node c.rest trace
+      after_event adv net tree few reads w x (Event.Comes c.arrived) old.node new.node c.rest trace
       (plain old.node (Event.Comes c.arrived) refl (no_arrival c.arrived)) c.split
-      (arrival_works c.arrived c.rest new (subst (AreWorking w) c.split each).0 sent c.arrives)
+      (arrival_works c.arrived c.rest new (subst (AreWorking adv w) c.split each).0 sent c.arrives)
 
-  pub pass_works : (trace : Trace) (new : Running) → AreWorking w trace → readings trace ≡ reads w ∷ [] → HeardThere new
-      → TurnOf defs old trace None new → (y : World) × Worked net reads w x y old.node new.node trace
+  pub pass_works : (trace : Trace) (new : Running) → AreWorking adv w trace → readings trace ≡ reads w ∷ [] → HeardThere new
+      → TurnOf defs old trace None new → (y : World) × Worked adv net reads w x y old.node new.node trace
   pass_works trace new each stands sent h = whole refl each x (grows_not net x w) r at
     where
       reading : h.reading ≡ reads w
       reading = same_head (sym (ap readings h.split) ∙ stands)
 
-      inside : AreWorking w h.rest
-      inside = (subst (AreWorking w) h.split each).1
+      inside : AreWorking adv w h.rest
+      inside = (subst (AreWorking adv w) h.split each).1
 
       b : Both (Come defs) (Then (On (λ o t e n. Reports o t e n))
           (Then Probing (Then (On Advise) (On (TakeIt (Input.Local (Turn h.reading))))))) old h.rest None new
@@ -463,33 +526,33 @@ module _ (defs : Defs) (net : Net) (tree : IsTree net) (few : node_count net ≤
       e = both_of (On Advise) (On (TakeIt (Input.Local (Turn h.reading)))) d.middle d.back new d.goes_on
 
       joins : (f g k : NodeState) (front back trace : Trace) → trace ≡ front ++ back
-          → WorksOn net tree few reads w x f front None g → WorksOn net tree few reads w x g back None k
-          → WorksOn net tree few reads w x f trace None k
+          → WorksOn adv net tree few reads w x f front None g → WorksOn adv net tree few reads w x g back None k
+          → WorksOn adv net tree few reads w x f trace None k
       joins f g k front back trace split i j =
-          subst (λ (t : Trace). WorksOn net tree few reads w x f t None k) (sym split)
-          ((works_joined net tree few reads w x).joins f g k front back None i j)
+          subst (λ (t : Trace). WorksOn adv net tree few reads w x f t None k) (sym split)
+          ((works_joined adv net tree few reads w x).joins f g k front back None i j)
 
       same_heard : new.heard ≡ b.middle.heard
       same_heard = rest_heard h.reading b.middle b.back new b.goes_on
 
-      come : WorksOn net tree few reads w x old.node b.front None b.middle.node
+      come : WorksOn adv net tree few reads w x old.node b.front None b.middle.node
       come =
-          come_works b.front b.middle (front_works w h.rest b.front b.back b.split inside)
+          come_works b.front b.middle (front_works adv w h.rest b.front b.back b.split inside)
           (λ a f k for. sent a f (record {
             more = k.more;
             grows = ap (λ (g : ℕ → Heard). (g a).frames) same_heard ∙ k.grows;
             among = k.among;
           }) for) b.begins
 
-      whole : WorksOn net tree few reads w x old.node trace None new.node
+      whole : WorksOn adv net tree few reads w x old.node trace None new.node
       whole =
-          after_event net tree few reads w x (Event.Reads h.reading) old.node new.node h.rest trace
+          after_event adv net tree few reads w x (Event.Reads h.reading) old.node new.node h.rest trace
           (plain old.node (Event.Reads h.reading) refl (no_reading h.reading)) h.split
           (joins old.node b.middle.node new.node b.front b.back h.rest b.split come
           (joins b.middle.node c.middle.node new.node c.front c.back b.back c.split
-          (report_works net tree few reads w x b.middle c.front c.middle c.begins)
+          (report_works adv net tree few reads w x b.middle c.front c.middle c.begins)
           (joins c.middle.node d.middle.node new.node d.front d.back c.back d.split
-          (probing_works net tree few reads w x c.middle d.front d.middle d.begins)
+          (probing_works adv net tree few reads w x c.middle d.front d.middle d.begins)
           (joins d.middle.node e.middle.node new.node e.front e.back d.back e.split
-          (advise_works net tree few reads w x d.middle e.front e.middle e.begins)
-          (turn_works net tree few reads w x h.reading reading e.middle e.back new e.goes_on)))))
+          (advise_works adv net tree few reads w x d.middle e.front e.middle e.begins)
+          (turn_works adv net tree few reads w x h.reading reading e.middle e.back new e.goes_on)))))

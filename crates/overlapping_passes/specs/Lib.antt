@@ -1,0 +1,2 @@
+-- Passes that overlap.
+pub mod Overlaps

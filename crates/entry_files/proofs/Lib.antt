@@ -1,2 +1,3 @@
 mod Walks
 mod Fronts
+mod Placing

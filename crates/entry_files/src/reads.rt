@@ -1,8 +1,10 @@
 //! The entries that a file keeps.
-ghost use Rattle.std.specs.Prelude.{◌≡◌, ◌<◌, IfErr, IfOk, IfSome, List};
+ghost use Rattle.std.specs.Prelude.{◌≡◌, ◌<◌, IfErr, IfOk, IfSome, List, None};
 ghost use Rattle.std.specs.Result.{IsErrOf};
 ghost use Rattle.model.specs.Fit.{AreFitEntries};
 ghost use Rattle.model.specs.Network.{node_count};
+ghost use Rattle.model.specs.Restore.{restore_fault};
+ghost use Rattle.model.specs.Sound.{Each, HasItsPlace};
 ghost use Rattle.model.specs.Types.{Entry};
 ghost use Rattle.outside.specs.Causes.{Rose};
 ghost use Rattle.kept_files.specs.Growth.{OnlyKeepsMore};
@@ -43,6 +45,9 @@ pub fn read_entries<F: Folder>(
     // A file that is refused is at last none of this workstation, or keeps a wrong body.
     ensures refused { OnlyKeepsMore (F.becomes folder.old) owner name.now
         → IfErr result (λ fault. IfSome (F.seen folder.new name.now) (IsRefused net.now owner fault)) }
+    // A node of the workstation is restored from them, so each has the next place of its feed.
+    ensures restores { IfOk result (λ entries. restore_fault net.now owner entries ≡ None) }
+    ensures places { IfOk result (Each HasItsPlace) }
     ensures fit { IfOk result AreFitEntries }
     ensures looks { OnlyLooks F.seen F.becomes F.faults folder.old folder.new }
     ensures cause { IsErrOf result OfFolder → Rose (F.faults folder.old) (F.faults folder.new) }

@@ -4,6 +4,7 @@ ghost use Rattle.std.specs.Result.{IsErrOf};
 ghost use Rattle.model.specs.Fit.{AreFitEntries};
 ghost use Rattle.model.specs.Network.{node_count};
 ghost use Rattle.model.specs.Restore.{restore_fault};
+ghost use Rattle.model.specs.Sound.{Each, HasItsPlace};
 ghost use Rattle.entry_codec.specs.Entries.{entry_in};
 ghost use Rattle.message_file.specs.Files.{HasRoom};
 ghost use Rattle.entry_files.specs.Entries.{IsWrongAt};
@@ -28,6 +29,7 @@ pub(crate) fn take_entries(
     requires room { HasRoom bodies.now }
     ensures read { IfOk result (λ entries. map entry_in bodies.now ≡ map Ok entries) }
     ensures restores { IfOk result (λ entries. restore_fault net.now owner entries ≡ None) }
+    ensures places { IfOk result (Each HasItsPlace) }
     ensures fit { IfOk result AreFitEntries }
     ensures wrong { (place : ℕ) → IsErrOf result (NotThisFile place) → IsWrongAt net.now owner place bodies.now }
     ensures own { IsErrOf result OfFolder → ⊥ }

@@ -2,6 +2,7 @@ use Rattle.std.proofs.Common.{◌+◌, ap, arith, rules, List, Option, subst, sy
 use Rattle.lemmas.proofs.Lists.{get_there}
 use Rattle.model.specs.Types.{Entry}
 use Rattle.entry_files.specs.Nexts.{IsNextOf}
+use Rattle.entry_files.proofs.Placing.{places_restored}
 use Rattle.entry_files.proofs.Walks.{IsTaken, all_read, all_restored, begins, further, low_sum, stops}
 use Rattle.entry_files.proofs.takes.take_entries.Goals as goal
 
@@ -54,3 +55,6 @@ returns-clause-restores c =
 
 pub returns-clause-fit : goal.returns-clause-fit
 returns-clause-fit c = c.loop-i.invariant.fit
+
+pub returns-clause-places : goal.returns-clause-places
+returns-clause-places c = places_restored c.args.net.now c.args.owner c.loop-i.taken c.loop-i.invariant.restored

@@ -1,0 +1,12 @@
+pub mod Lists
+pub mod Kept
+pub mod Puts
+pub mod Fewer
+pub mod Still
+pub mod Whole
+pub mod Alike
+pub mod Listed
+pub mod Steps
+pub mod Entries
+pub mod Made
+pub mod Found

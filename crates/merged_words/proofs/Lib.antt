@@ -1,0 +1,5 @@
+pub mod Comments
+pub mod Back
+pub mod Inside
+pub mod Reads
+pub mod Calls

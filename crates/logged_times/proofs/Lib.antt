@@ -1,0 +1,4 @@
+mod Lasts
+mod Gates
+mod Knowing
+mod Worked

@@ -11,10 +11,3 @@ pub two_behind_number : (old head number before middle last first second : List 
     → first ≡ old ++ (head ++ (number ++ before)) → second ≡ first ++ middle
     → second ++ last ≡ old ++ (head ++ number ++ before ++ middle ++ last)
 two_behind_number old head number before middle last first second one two = grind (arith, append_assoc)
-
--- a text with two numbers behind a text, and one with a third behind that
-pub one_behind_numbers : (old head number between second_number before third last first : List ℕ)
-    → first ≡ old ++ (head ++ (number ++ (between ++ second_number)))
-    → first ++ (before ++ (third ++ last))
-    ≡ old ++ (head ++ number ++ between ++ second_number ++ before ++ third ++ last)
-one_behind_numbers old head number between second_number before third last first one = grind (arith, append_assoc)

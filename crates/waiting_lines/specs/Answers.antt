@@ -11,7 +11,7 @@ use Rattle.node_replies.specs.Patterns.{matches}
 use Rattle.symphony_view.specs.Words.{job_word, stream_word}
 use Rattle.waiting.specs.Lacks.{end_lacks, job_lacks, release_lacks}
 use Rattle.waiting.specs.declared.lacks.Lack.{Lack}
-use Rattle.waiting_lines.specs.Lines.{lack_line}
+use Rattle.waiting_lines.specs.Lines.{lack_lines}
 use Rattle.waiting_lines.specs.Names.{job_name, job_text, stream_text}
 
 -- A name is asked for where it is of the pattern; without a pattern each name is.
@@ -44,7 +44,7 @@ ahead_line net V j (Some next) =
 -- what it lacks
 unfoldable pub job_lines : Net → View → ℕ → Option ℕ → List Lack → List ℕ
 job_lines net V j next [] = ahead_line net V j next
-job_lines net V j next (lack ∷ lacks) = flat_map (lack_line net V (Job j)) (lack ∷ lacks)
+job_lines net V j next (lack ∷ lacks) = lack_lines net V (Job j) (lack ∷ lacks)
 
 -- a job of this number that is still to be launched, asked at w
 unfoldable pub job_answer : Net → View → ℕ → Option ℕ → ℕ → StreamJob → List ℕ
@@ -71,7 +71,7 @@ stream_head net d state what =
 -- what it lacks
 unfoldable pub stream_lines : Net → View → ℕ → List Lack → List ℕ
 stream_lines net V s [] = codes "  lacks nothing\n"
-stream_lines net V s (lack ∷ lacks) = flat_map (lack_line net V (Stream s)) (lack ∷ lacks)
+stream_lines net V s (lack ∷ lacks) = lack_lines net V (Stream s) (lack ∷ lacks)
 
 -- a stream of this number that is not released, and one that is released and has not ended, asked at w
 unfoldable pub release_answer : Net → View → ℕ → ℕ → StreamDoc → model.StreamState → List ℕ

@@ -1,9 +1,10 @@
 -- The line of each thing that is lacking.
 use Rattle.std.specs.Fmt.{decimal}
-use Rattle.std.specs.Prelude.{[], ℕ, ◌++◌, Bool, List, Option, codes}
+use Rattle.std.specs.Prelude.{[], if◌then◌else◌, ℕ, ◌++◌, ◌==◌, ◌∷◌, Bool, List, Option, codes, false, flat_map, true}
 use Rattle.model.specs.Types.{Net, Obj}
 use Rattle.model.specs.History.{View}
 use Rattle.model.specs.Dependencies.{dep}
+use Rattle.moment_texts.specs.Moments.{moment_text}
 use Rattle.report_text.specs.Names.{name_of}
 use Rattle.waiting.specs.declared.lacks.Lack.{Lack}
 use Rattle.waiting.specs.declared.lacks.Lack.TheVariants as lack
@@ -53,11 +54,17 @@ unfoldable pub own_prompt_line : ℕ → List ℕ → Option Bool → List ℕ
 own_prompt_line i text reply =
     codes "  " ++ decimal i ++ codes " prompt \"" ++ text ++ codes "\": " ++ reply_text reply ++ codes "\n"
 
--- `  I at T: its clock is N`, that of its workstation
+-- `: its clock was last at N`, that of its workstation; nothing where it has told no time
+unfoldable pub reading_text : ℕ → List ℕ
+reading_text now = if now == 0 then codes "\n" else codes ": its clock was last at " ++ moment_text now ++ codes "\n"
+
+-- `  I at T`, and what the clock was last
 unfoldable pub time_line : ℕ → ℕ → ℕ → List ℕ
-time_line i due now =
-    codes "  " ++ decimal i ++ codes " at " ++ decimal due ++ codes ": its clock is " ++ decimal now
-    ++ codes "\n"
+time_line i due now = codes "  " ++ decimal i ++ codes " at " ++ moment_text due ++ reading_text now
+
+-- `  I until T, which has passed`
+unfoldable pub until_line : ℕ → ℕ → List ℕ
+until_line i t = codes "  " ++ decimal i ++ codes " until " ++ moment_text t ++ codes ", which has passed\n"
 
 -- `  I file "PATH": not seen`
 unfoldable pub file_line : ℕ → List ℕ → List ℕ
@@ -87,7 +94,7 @@ lack_line net V o (lack.Prompt i p reply) = prompt_line net i p reply
 lack_line net V o (lack.NoPrompt i p) = two_numbers_line [] i (codes " prompt ") p
 lack_line net V o (lack.OwnPrompt i reply) = own_prompt_line i (text_in (dep V o i)) reply
 lack_line net V o (lack.Time i due now) = time_line i due now
-lack_line net V o (lack.Before i t) = two_numbers_line [] i (codes " until, which has passed: ") t
+lack_line net V o (lack.Before i t) = until_line i t
 lack_line net V o (lack.File i) = file_line i (path_in (dep V o i))
 lack_line net V o (lack.Nothing i) = number_line [] i (codes " deadline")
 lack_line net V o (lack.Fenced fence rank) =
@@ -97,3 +104,17 @@ lack_line net V o (lack.StreamLimited n) = number_line (codes "limit of its stre
 lack_line net V o lack.Released = codes "  released already\n"
 lack_line net V o lack.Ended = codes "  ended already\n"
 lack_line net V o (lack.Unfinished j) = unfinished_line net V j
+
+-- another workstation decides
+abbrev pub is_elsewhere : Lack → Bool
+is_elsewhere (lack.Elsewhere w) = true
+is_elsewhere _ = false
+
+-- nothing lacks here, where another workstation decides and that is all
+unfoldable pub here_line : List Lack → List ℕ
+here_line (only ∷ []) = if is_elsewhere only then codes "  lacks nothing here\n" else []
+here_line _ = []
+
+-- all that an object lacks, a line each
+unfoldable pub lack_lines : Net → View → Obj → List Lack → List ℕ
+lack_lines net V o lacks = flat_map (lack_line net V o) lacks ++ here_line lacks

@@ -10,7 +10,7 @@ ghost use Rattle.owner_fold.specs.DocPlaces.{stream_job};
 ghost use Rattle.symphony_view.specs.Words.{told_job, told_stream};
 ghost use Rattle.waiting_lines.specs.Answers as spec;
 
-use crate::lines::write_lacks;
+use crate::lines::write_all_lacks;
 use crate::names::{write_job, write_job_name, write_stream};
 use crate::picks::{is_job_asked, is_stream_asked};
 use crate::states::is_waiting_state;
@@ -96,7 +96,7 @@ fn write_job_lines(
 {
     match lacks {
         [] => write_ahead(out, net, o, j, next),
-        _ => write_lacks(out, net, o, &Obj::Job(j), lacks),
+        _ => write_all_lacks(out, net, o, &Obj::Job(j), lacks),
     }
 }
 
@@ -227,7 +227,7 @@ fn write_stream_lines(
 {
     match lacks {
         [] => write!(out, "  lacks nothing\n"),
-        _ => write_lacks(out, net, o, &Obj::Stream(s), lacks),
+        _ => write_all_lacks(out, net, o, &Obj::Stream(s), lacks),
     }
 }
 

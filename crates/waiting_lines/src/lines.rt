@@ -7,7 +7,7 @@ ghost use Rattle.waiting_lines.specs.Names.{stream_name};
 use crate::names::{path_of, state_word, text_of, write_job_name, write_stream_name};
 use crate::needs::{
     write_file, write_follows_job, write_follows_stream, write_no_units, write_own_prompt,
-    write_prompt_line, write_time, write_units,
+    write_prompt_line, write_time, write_units, write_until,
 };
 use base_types::{JobNo, Obj, StreamNo, Ws};
 use network_tree::Network;
@@ -102,7 +102,7 @@ fn write_lack(
         Lack::NoPrompt(i, p) => write_two(out, "", *i, " prompt ", u64::from(*p)),
         Lack::OwnPrompt(i, reply) => write_own_prompt(out, *i, text_of(o, obj, *i), *reply),
         Lack::Time(i, due, now) => write_time(out, *i, due.0, now.0),
-        Lack::Before(i, t) => write_two(out, "", *i, " until, which has passed: ", t.0),
+        Lack::Before(i, t) => write_until(out, *i, t.0),
         Lack::File(i) => write_file(out, *i, path_of(o, obj, *i)),
         Lack::Nothing(i) => write_number(out, "", u32::from(*i), " deadline"),
         Lack::Fenced(fence, rank) => write_two(
@@ -127,8 +127,8 @@ fn write_lack(
     }
 }
 
-/// All that an object lacks, a line each.
-pub(crate) fn write_lacks(
+/// Writes a line for each thing that an object lacks.
+fn write_lacks(
     out: &mut Vec<u8>,
     net: &Network,
     o: &Owners,
@@ -142,4 +142,46 @@ pub(crate) fn write_lacks(
         write_lack(out, net, o, obj, lack)?;
     }
     Ok(())
+}
+
+/// Whether this is that another workstation decides.
+fn is_elsewhere(lack: &Lack) -> bool
+    ensures { result ≡ spec.is_elsewhere lack.now }
+{
+    match lack {
+        Lack::Elsewhere(_) => true,
+        _ => false,
+    }
+}
+
+/// Writes that nothing lacks here, where another workstation decides and that is all.
+#[tactic(auto, unfolding(crate::specs::Lines::here_line))]
+fn write_here(out: &mut Vec<u8>, lacks: &[Lack]) -> io::Result<()>
+    ensures { OnOk result (out.new.items ≡ out.old.items ++ spec.here_line lacks.now) }
+{
+    match lacks {
+        [lack] => {
+            if is_elsewhere(lack) {
+                return write!(out, "  lacks nothing here\n");
+            }
+            Ok(())
+        }
+        _ => Ok(()),
+    }
+}
+
+/// All that an object lacks, a line each, and that nothing lacks here where another workstation decides and that is all.
+#[tactic(auto, unfolding(crate::specs::Lines::lack_lines))]
+pub(crate) fn write_all_lacks(
+    out: &mut Vec<u8>,
+    net: &Network,
+    o: &Owners,
+    obj: &Obj,
+    lacks: &[Lack],
+) -> io::Result<()>
+    ensures { OnOk result (out.new.items ≡ out.old.items
+        ++ spec.lack_lines net.now (view_of o.now) obj.now lacks.now) }
+{
+    write_lacks(out, net, o, obj, lacks)?;
+    write_here(out, lacks)
 }

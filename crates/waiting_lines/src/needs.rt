@@ -7,6 +7,7 @@ use crate::names::{
     reply_text, state_word, write_job_name, write_prompt, write_resource, write_stream_name,
 };
 use base_types::{JobNo, StreamNo};
+use moment_texts::write_moment;
 use network_tree::Network;
 use owner_fold::Owners;
 use std::io::{self, Write};
@@ -104,13 +105,37 @@ pub(crate) fn write_own_prompt(
     write!(out, "  {i} prompt \"{text}\": {reply}\n")
 }
 
-/// `I at T: its clock is N`, that of its workstation. Both are in seconds since 1970.
+/// What the clock of a workstation was last, where it has told a time.
+#[tactic(auto, unfolding(crate::specs::Lines::reading_text))]
+fn write_reading(out: &mut Vec<u8>, now: u64) -> io::Result<()>
+    ensures { OnOk result (out.new.items ≡ out.old.items ++ spec.reading_text now) }
+{
+    if now == 0 {
+        return write!(out, "\n");
+    }
+    write!(out, ": its clock was last at ")?;
+    write_moment(out, now)?;
+    write!(out, "\n")
+}
+
+/// `I at T`, and what the clock of its workstation was last.
 #[tactic(auto, unfolding(crate::specs::Lines::time_line))]
 pub(crate) fn write_time(out: &mut Vec<u8>, i: u16, due: u64, now: u64) -> io::Result<()>
     ensures { OnOk result (out.new.items ≡ out.old.items ++ spec.time_line i due now) }
 {
-    write!(out, "  {i} at {due}")?;
-    write!(out, ": its clock is {now}\n")
+    write!(out, "  {i} at ")?;
+    write_moment(out, due)?;
+    write_reading(out, now)
+}
+
+/// `I until T, which has passed`.
+#[tactic(auto, unfolding(crate::specs::Lines::until_line))]
+pub(crate) fn write_until(out: &mut Vec<u8>, i: u16, t: u64) -> io::Result<()>
+    ensures { OnOk result (out.new.items ≡ out.old.items ++ spec.until_line i t) }
+{
+    write!(out, "  {i} until ")?;
+    write_moment(out, t)?;
+    write!(out, ", which has passed\n")
 }
 
 /// `I file "PATH": not seen`.

@@ -2,4 +2,5 @@
 pub mod Forms
 pub mod Readings
 pub mod Dues
+pub mod Refusals
 pub mod Unread

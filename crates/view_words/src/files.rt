@@ -1,25 +1,25 @@
 //! What the file of a workstation calls for.
-ghost use Rattle.std.specs.Prelude.{◌++◌, ◌<◌, ◌≡◌, ◌≢◌, IfErr, IfOk, IfSome, List, Some};
+ghost use Rattle.std.specs.Prelude.{◌<◌, ◌≡◌, ◌≢◌, IfErr, IfOk, IfSome, List, Some};
 ghost use Rattle.std.specs.Option.{option_copied};
 ghost use Rattle.std.specs.Result.{IsErrOf};
 ghost use Rattle.std.specs.String.{string_bytes};
 ghost use Rattle.kept_files.specs.Growth.{OnlyKeepsMore};
 ghost use Rattle.kept_files.specs.Looking.{OnlyLooks};
+ghost use Rattle.merged_words.specs.Readings.{file_of, folders};
 ghost use Rattle.model.specs.Network.{node_count};
 ghost use Rattle.replies.specs.declared.statuses.Status.TheVariants.{SinkFailed};
 ghost use Rattle.workload_defs.specs.Nets.{net_of};
 ghost use Rattle.workload_defs.specs.Stations.{number_of};
 ghost use Rattle.view_words.specs.Dues.{FileCallsFor, text_of};
-ghost use Rattle.view_words.specs.Forms.{requested};
-ghost use Rattle.view_words.specs.Readings.{file_of, sight};
 ghost use Rattle.view_words.specs.declared.outcomes.Unsaid.TheVariants.{SourceFailed as Unread_};
 
 use crate::forms::Look;
-use crate::outcomes::{Reply, Unsaid, no_words, other_file};
+use crate::outcomes::{Unsaid, other_file, refused};
 use base_types::{Bytes, Copied, Items, NoMemory, Text, Ws};
 use entry_files::{FileFault, read_entries};
 use entry_lines::print_entries;
 use folders::Folder;
+use merged_words::Reply;
 use network_tree::Network;
 use owner_fold::Owners;
 use replies::Status;
@@ -75,8 +75,8 @@ fn reply_of_file<F: Folder>(
     folder: &mut F,
 ) -> Result<Reply, Unsaid>
     requires there { number_of workload.now name.now ≡ Some me }
-    ensures due { IfOk result (λ r. FileCallsFor (sight F.seen F.becomes F.faults folder.old folder.new)
-        (requested look name.now (option_copied pattern.entry)) workload.now r.status r.text) }
+    ensures due { IfOk result (λ r. FileCallsFor (folders F.seen F.becomes F.faults) look name.now
+        (option_copied pattern.entry) workload.now folder.old folder.new r.status r.text) }
     ensures said { IfOk result (λ r. r.status ≢ SinkFailed) }
     ensures source { IsErrOf result Unread_ → ⊥ }
     ensures looks { OnlyLooks F.seen F.becomes F.faults folder.old folder.new }
@@ -118,17 +118,14 @@ pub(crate) fn reply_of_name<F: Folder>(
     workload: &Workload,
     folder: &mut F,
 ) -> Result<Reply, Unsaid>
-    ensures due { IfOk result (λ r. FileCallsFor (sight F.seen F.becomes F.faults folder.old folder.new)
-        (requested look name.now (option_copied pattern.entry)) workload.now r.status r.text) }
+    ensures due { IfOk result (λ r. FileCallsFor (folders F.seen F.becomes F.faults) look name.now
+        (option_copied pattern.entry) workload.now folder.old folder.new r.status r.text) }
     ensures said { IfOk result (λ r. r.status ≢ SinkFailed) }
     ensures source { IsErrOf result Unread_ → ⊥ }
     ensures looks { OnlyLooks F.seen F.becomes F.faults folder.old folder.new }
 {
     match workload.station(name) {
         Some(me) => reply_of_file(alloc, look, name, pattern, workload, me, folder),
-        None => Ok(Reply {
-            status: Status::WordsRefused,
-            text: no_words(alloc)?,
-        }),
+        None => refused(alloc),
     }
 }

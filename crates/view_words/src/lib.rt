@@ -1,15 +1,17 @@
-//! The words that see into what nodes left on the disk: `kept NAME` writes a line for each entry that a file keeps, and
-//! `why NAME` tells why the jobs and streams of its plan wait, all or those of a pattern.
+//! The words that see into what nodes left on the disk: `kept NAME` writes a line for each entry that a file keeps,
+//! `why NAME` why the jobs and streams of its plan wait, `log NAME` its night in words, and `runs NAME` when each job ran.
+//! `history NAME..` writes several files as one history, and `audit NAME..` whether that is sound.
 //!
-//! Which words ask for what is `specs/Forms`. `view` reads definitions from the input and the file of a workstation
-//! from the folder. Which status and text are due is `specs/Dues`, from the words on; what a reading is, while a node
-//! may write the file, is `specs/Readings`. Nothing but the text is written: the folder has no call that writes.
+//! Which words ask for what is `specs/Forms`. `view` reads definitions from the input and files of workstations from the
+//! folder. Which status and text are due is `specs/Dues`, from the words on: those of a night by `night_views`, and those
+//! of several files by `merged_words`. Nothing but the text is written: the folder has no call that writes.
 #![tactic(auto)]
 
 mod files;
 mod forms;
 mod outcomes;
 mod reading;
+mod requests;
 mod views;
 
 pub use views::view;

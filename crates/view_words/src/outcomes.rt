@@ -1,9 +1,10 @@
 //! What is replied: a status and a text, or nothing.
-ghost use Rattle.std.specs.Prelude.{◌++◌, ◌≡◌, ◌≢◌, ◌⊎◌, IfErr, IfOk, OnOk, Option, codes};
+ghost use Rattle.std.specs.Prelude.{◌++◌, ◌≡◌, ◌≢◌, ◌⊎◌, IfErr, IfOk, OnOk, Option};
 ghost use Rattle.std.specs.Result.{IsErrOf};
 ghost use Rattle.outside.specs.Streams.{Stream};
-ghost use Rattle.view_words.specs.Dues as spec;
+ghost use Rattle.merged_words.specs.Texts.{other_file_line};
 ghost use Rattle.view_words.specs.Readings.{UnreadCallsFor};
+ghost use Rattle.view_words.specs.Refusals.{IsRefusal};
 ghost use Rattle.view_words.specs.Unread.{IsUnread};
 ghost use Rattle.view_words.specs.declared.reading.Unread.TheVariants.{SourceFailed as Failed_};
 ghost use Rattle.view_words.specs.declared.outcomes.Unsaid.TheVariants.{NoMemory as NoRoom, SourceFailed as Unread_};
@@ -11,16 +12,10 @@ ghost use Rattle.replies.specs.declared.statuses.Status.TheVariants.{SinkFailed}
 
 use crate::reading::Unread;
 use base_types::{Bytes, Items, LONGEST_INPUT, LimitName, NoMemory};
+use merged_words::Reply;
 use replies::{Status, limit_text, refusal_text};
 use std::alloc::Global;
 use std::io::{self, Write};
-
-/// A text, and the status with which it is said.
-#[derive(Drop)]
-pub(crate) struct Reply {
-    pub(crate) status: Status,
-    pub(crate) text: Bytes,
-}
 
 /// Why nothing is said.
 #[derive(Clone, Copy)]
@@ -79,14 +74,14 @@ pub(crate) fn reply_unread(alloc: Global, why: Unread) -> Result<Reply, Unsaid>
 }
 
 fn write_other_file(out: &mut Vec<u8>, place: u64) -> io::Result<()>
-    ensures { OnOk result (out.new.items ≡ out.old.items ++ spec.other_file_line place) }
+    ensures { OnOk result (out.new.items ≡ out.old.items ++ other_file_line place) }
 {
     write!(out, "not this message file: offset {place}\n")
 }
 
 /// The line of a file that is refused at a place.
 pub(crate) fn other_file(alloc: Global, place: u64) -> Result<Bytes, NoMemory>
-    ensures { IfOk result (λ text. text ≡ spec.other_file_line place) }
+    ensures { IfOk result (λ text. text ≡ other_file_line place) }
 {
     let mut out = Vec::new(alloc);
     match write_other_file(&mut out, place) {
@@ -95,9 +90,15 @@ pub(crate) fn other_file(alloc: Global, place: u64) -> Result<Bytes, NoMemory>
     }
 }
 
-/// The line of words that have no form, or whose workstation is not defined.
-pub(crate) fn no_words(alloc: Global) -> Result<Bytes, NoMemory>
-    ensures { IfOk result (λ text. text ≡ codes "words refused\n") }
+/// What is replied to words that have no form, or whose workstation is not defined.
+pub(crate) fn refused(alloc: Global) -> Result<Reply, Unsaid>
+    ensures due { IfOk result IsRefusal }
+    ensures said { IfOk result (λ r. r.status ≢ SinkFailed) }
+    ensures source { IsErrOf result Unread_ → ⊥ }
 {
-    Ok(Items::of_vec(b"words refused\n".to_vec(alloc)?))
+    let text = Items::of_vec(b"words refused\n".to_vec(alloc)?);
+    Ok(Reply {
+        status: Status::WordsRefused,
+        text,
+    })
 }

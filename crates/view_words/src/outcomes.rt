@@ -1,5 +1,5 @@
 //! What is replied: a status and a text, or nothing.
-ghost use Rattle.std.specs.Prelude.{◌++◌, ◌≡◌, ◌≢◌, ◌⊎◌, IfErr, IfOk, OnOk, Option};
+ghost use Rattle.std.specs.Prelude.{◌++◌, ◌≡◌, ◌≢◌, ◌⊎◌, IfErr, IfOk, OnOk, Option, codes};
 ghost use Rattle.std.specs.Result.{IsErrOf};
 ghost use Rattle.outside.specs.Streams.{Stream};
 ghost use Rattle.merged_words.specs.Texts.{other_file_line};
@@ -90,13 +90,20 @@ pub(crate) fn other_file(alloc: Global, place: u64) -> Result<Bytes, NoMemory>
     }
 }
 
-/// What is replied to words that have no form, or whose workstation is not defined.
+/// The line of words that have no form, or whose workstation is not defined.
+fn no_words(alloc: Global) -> Result<Bytes, NoMemory>
+    ensures { IfOk result (λ text. text ≡ codes "words refused\n") }
+{
+    Ok(Items::of_vec(b"words refused\n".to_vec(alloc)?))
+}
+
+/// What is replied to such words.
 pub(crate) fn refused(alloc: Global) -> Result<Reply, Unsaid>
     ensures due { IfOk result IsRefusal }
     ensures said { IfOk result (λ r. r.status ≢ SinkFailed) }
     ensures source { IsErrOf result Unread_ → ⊥ }
 {
-    let text = Items::of_vec(b"words refused\n".to_vec(alloc)?);
+    let text = no_words(alloc)?;
     Ok(Reply {
         status: Status::WordsRefused,
         text,

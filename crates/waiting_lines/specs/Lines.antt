@@ -54,9 +54,13 @@ unfoldable pub own_prompt_line : ℕ → List ℕ → Option Bool → List ℕ
 own_prompt_line i text reply =
     codes "  " ++ decimal i ++ codes " prompt \"" ++ text ++ codes "\": " ++ reply_text reply ++ codes "\n"
 
--- `: its clock was last at N`, that of its workstation; nothing where it has told no time
+-- `: its clock was last at N`, that of its workstation
+unfoldable pub last_reading : ℕ → List ℕ
+last_reading now = codes ": its clock was last at " ++ moment_text now ++ codes "\n"
+
+-- nothing where it has told no time
 unfoldable pub reading_text : ℕ → List ℕ
-reading_text now = if now == 0 then codes "\n" else codes ": its clock was last at " ++ moment_text now ++ codes "\n"
+reading_text now = if now == 0 then codes "\n" else last_reading now
 
 -- `  I at T`, and what the clock was last
 unfoldable pub time_line : ℕ → ℕ → ℕ → List ℕ

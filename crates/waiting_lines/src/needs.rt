@@ -105,6 +105,16 @@ pub(crate) fn write_own_prompt(
     write!(out, "  {i} prompt \"{text}\": {reply}\n")
 }
 
+/// `: its clock was last at N`.
+#[tactic(auto, unfolding(crate::specs::Lines::last_reading))]
+fn write_last_reading(out: &mut Vec<u8>, now: u64) -> io::Result<()>
+    ensures { OnOk result (out.new.items ≡ out.old.items ++ spec.last_reading now) }
+{
+    write!(out, ": its clock was last at ")?;
+    write_moment(out, now)?;
+    write!(out, "\n")
+}
+
 /// What the clock of a workstation was last, where it has told a time.
 #[tactic(auto, unfolding(crate::specs::Lines::reading_text))]
 fn write_reading(out: &mut Vec<u8>, now: u64) -> io::Result<()>
@@ -113,9 +123,7 @@ fn write_reading(out: &mut Vec<u8>, now: u64) -> io::Result<()>
     if now == 0 {
         return write!(out, "\n");
     }
-    write!(out, ": its clock was last at ")?;
-    write_moment(out, now)?;
-    write!(out, "\n")
+    write_last_reading(out, now)
 }
 
 /// `I at T`, and what the clock of its workstation was last.

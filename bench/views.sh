@@ -86,3 +86,5 @@ printf '%s entries, %s bytes\n' "$(wc -l < entries)" "$(wc -c < M.msg)"
 measure kept M
 measure why M
 measure why M 'M#S3000@'
+measure history M
+measure audit M

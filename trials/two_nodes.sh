@@ -3,10 +3,10 @@
 # it run 40 jobs on loopback ports, and A1 is killed at random moments and started again from its file. It does what an
 # operator does about a job that was lost: where the job has done its work it is confirmed, and else it is rerun. At the
 # end all streams have ended well, each job ran once, MDM, A1 and A2 show the same, each node ends with a shutdown, and
-# the entries of all four files are a sound history, causes first. It prints what it saw, and ends with 0, or with 1
-# where something of this is not so.
-# Usage: trials/two_nodes.sh [SEED]. TWS may name another program, from the top folder on, and KILLS how often A1 is
-# killed, 6 without it. It is run by hand and takes about a minute; the gate does not run it. It needs the folder /proc.
+# the entries of all four files are a sound history, causes first, as `tws_view history` and `tws_view audit` find too. It
+# prints what it saw, and ends with 0, or with 1 where something of this is not so.
+# Usage: trials/two_nodes.sh [SEED]. TWS and VIEW may name other programs, from the top folder on, and KILLS how often A1
+# is killed, 6 without it. It is run by hand and takes about a minute; the gate does not run it. It needs the folder /proc.
 set -u
 cd "$(dirname "$0")/.." || exit 1
 causes=$PWD/trials/causes.py
@@ -15,9 +15,18 @@ if [ ! -x "$tws" ]; then
   echo "there is no program $tws" >&2
   exit 1
 fi
+view=${VIEW:-crates/tws_view/out/tws_view}
+if [ ! -x "$view" ]; then
+  echo "there is no program $view" >&2
+  exit 1
+fi
 case "$tws" in
   /*) ;;
   *) tws=$PWD/$tws ;;
+esac
+case "$view" in
+  /*) ;;
+  *) view=$PWD/$view ;;
 esac
 seed=${1:-$$}
 RANDOM=$seed
@@ -258,6 +267,22 @@ is_sound() {
   esac
 }
 
+# so it is as tws_view makes it of the files, and as it judges them itself
+is_sound_in_view() {
+  local judged
+  mkdir all && cp MDM/MDM.msg A1/A1.msg A2/A2.msg A3/A3.msg all || fail "the files are not copied"
+  (cd all && "$view" history MDM A1 A2 A3 < ../defs.txt > ../all.history) || fail "tws_view makes no history of the files"
+  judged=$("$tws" audit < all.history)
+  echo "the history of tws_view: $judged"
+  case "$judged" in
+    "sound "*) ;;
+    *) fail "the history of tws_view is not sound" ;;
+  esac
+  if [ "$judged" != "$(cd all && "$view" audit MDM A1 A2 A3 < ../defs.txt)" ]; then
+    fail "tws_view audits the files otherwise"
+  fi
+}
+
 if ! master=$(free_port) || ! first=$(free_port "$master") || ! second=$(free_port "$master" "$first") \
   || ! third=$(free_port "$master" "$first" "$second"); then
   fail "no free ports were found"
@@ -335,4 +360,5 @@ for name in MDM A1 A2 A3; do
   echo "$name.msg has $(wc -c < "$name/$name.msg") bytes"
 done
 is_sound
+is_sound_in_view
 echo "each of the 40 jobs ran once"

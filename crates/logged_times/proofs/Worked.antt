@@ -1,5 +1,5 @@
 -- Lines of a log, worked out.
-use Rattle.std.specs.Prelude.{[], ◌++◌, ◌∷◌, ◌≡◌, List, None, Some, codes, refl}
+use Rattle.std.specs.Prelude.{[], ◌∷◌, ◌≡◌, None, Some, codes, refl}
 use Rattle.calendars.specs.Dates.{day_of, days_before, days_of_months, days_of_years}
 use Rattle.syntax.specs.Numbers.{number_of}
 use Rattle.logged_times.specs.KeptLines.{field_of, kept_line}

@@ -1,9 +1,8 @@
 -- When the entries of a file were kept.
-use Rattle.std.specs.Prelude.{ℕ, ◌+◌, ◌==◌, List, None, Option, Some, filter, find, if◌then◌else◌, length, map}
-use Rattle.std.specs.Prelude.{option_and_then, position, slice_get, sum_by, take}
-use Rattle.model.specs.Equalities.{feed_eq}
+use Rattle.std.specs.Prelude.{ℕ, ◌+◌, ◌==◌, List, None, Option, Some, filter, if◌then◌else◌, length, map}
+use Rattle.std.specs.Prelude.{option_and_then, slice_get, sum_by, take}
 use Rattle.model.specs.Sizes.{entry_size}
-use Rattle.model.specs.Types.{Entry, Feed}
+use Rattle.model.specs.Types.{Entry}
 use Rattle.model.specs.Words.{below, last_or}
 use Rattle.logged_times.specs.declared.lines.KeptLine.{KeptLine}
 

@@ -1,5 +1,6 @@
 //! The bytes of a log.
 ghost use Rattle.std.specs.Prelude.{[], ◌≡◌, ◌⊎◌, IfOk, IfSome, take};
+ghost use Rattle.kept_files.specs.Looking.{OnlyLooks};
 ghost use Rattle.outside.specs.Causes.{Rose};
 ghost use Rattle.night_times.specs.Logs.{IsLog, OneCall, telling};
 
@@ -13,6 +14,7 @@ const FIRST: usize = 65_536;
 const MOST: usize = 33_554_432;
 
 /// The bytes at the front of a file, so many at most. Where the call fails, they are none.
+#[tactic(auto, using(kept_files::proofs::Looked::no_looks, kept_files::proofs::Looked::one_look))]
 fn front_of<F: Folder>(
     alloc: Global,
     folder: &mut F,
@@ -22,6 +24,7 @@ fn front_of<F: Folder>(
     ensures read { IfOk result (λ log. IfSome (F.seen folder.new name.now) (λ file. log.items ≡ take size file)
         ⊎ (Rose (F.faults folder.old) (F.faults folder.new) × (log.items ≡ []))) }
     ensures call { IfOk result (λ log. OneCall (telling F.seen F.becomes F.faults) folder.old folder.new) }
+    ensures looks { OnlyLooks F.seen F.becomes F.faults folder.old folder.new }
 {
     let mut log = vec![in alloc; 0u8; size]?;
     match folder.read_at(name, 0, &mut log) {
@@ -35,13 +38,15 @@ fn front_of<F: Folder>(
 
 /// The bytes of the log of a name, or its first 33,554,432 bytes. Where there is none, and where the call fails, they are
 /// none. A node may write the log meanwhile: it is as the last call found it.
+#[tactic(auto, using(kept_files::proofs::Looked::more_looks))]
 pub(crate) fn read_log<F: Folder>(
     alloc: Global,
     folder: &mut F,
     name: &str,
 ) -> Result<Vec<u8>, NoMemory>
-    ensures { IfOk result (λ log. IsLog (telling F.seen F.becomes F.faults) folder.old folder.new name.now
+    ensures log { IfOk result (λ log. IsLog (telling F.seen F.becomes F.faults) folder.old folder.new name.now
         log.items) }
+    ensures looks { OnlyLooks F.seen F.becomes F.faults folder.old folder.new }
 {
     let log = front_of(alloc, folder, name, FIRST)?;
     if log.len() < FIRST {

@@ -1,6 +1,7 @@
 //! When the entries of a night were kept.
 ghost use Rattle.std.specs.Prelude.{◌≡◌, ◌&&◌, ◌++◌, ◌<◌, ◌==◌, IfOk, OnOk, length};
 ghost use Rattle.std.specs.String.{string_bytes};
+ghost use Rattle.kept_files.specs.Looking.{OnlyLooks};
 ghost use Rattle.model.specs.Network.{node_count};
 ghost use Rattle.report_text.specs.Names.{name_of};
 ghost use Rattle.night_times.specs.Logs.{IsLog, telling};
@@ -27,6 +28,7 @@ fn file_name(alloc: Global, net: &Network, w: &Ws, ending: &str) -> Result<Strin
 }
 
 /// The bytes of the log of a workstation whose name ends so.
+#[tactic(auto, using(kept_files::proofs::Looked::no_looks))]
 fn log_of<F: Folder>(
     alloc: Global,
     folder: &mut F,
@@ -34,14 +36,16 @@ fn log_of<F: Folder>(
     w: &Ws,
     ending: &str,
 ) -> Result<Vec<u8>, NoMemory>
-    ensures { IfOk result (λ log. IsLog (telling F.seen F.becomes F.faults) folder.old folder.new
+    ensures log { IfOk result (λ log. IsLog (telling F.seen F.becomes F.faults) folder.old folder.new
         (name_of net.now w.now ++ ending.now) log.items) }
+    ensures looks { OnlyLooks F.seen F.becomes F.faults folder.old folder.new }
 {
     let file = file_name(alloc, net, w, ending)?;
     read_log(alloc, folder, file.as_str())
 }
 
 /// Takes when the entries of another workstation were kept, by its logs. Without its message file nothing is taken.
+#[tactic(auto, using(kept_files::proofs::Looked::no_looks))]
 fn tell_other<F: Folder>(
     alloc: Global,
     folder: &mut F,
@@ -52,8 +56,9 @@ fn tell_other<F: Folder>(
     known: &mut EntryTimes,
 ) -> Result<(), NoMemory>
     requires { w < node_count net.now }
-    ensures { OnOk result (LearnsOf (telling F.seen F.becomes F.faults) net.now w former.now last.now
+    ensures learns { OnOk result (LearnsOf (telling F.seen F.becomes F.faults) net.now w former.now last.now
         folder.old folder.new known.old known.new) }
+    ensures looks { OnlyLooks F.seen F.becomes F.faults folder.old folder.new }
 {
     let file = file_name(alloc, net, &w, ".msg")?;
     match read_entries(alloc, folder, file.as_str(), net, w) {
@@ -79,6 +84,7 @@ fn is_same(w: Ws, me: Ws) -> bool
 }
 
 /// Takes when the entries of a workstation were kept, where its log is in the folder.
+#[tactic(auto, using(kept_files::proofs::Looked::more_looks))]
 fn tell_station<F: Folder>(
     alloc: Global,
     folder: &mut F,
@@ -89,8 +95,9 @@ fn tell_station<F: Folder>(
     known: &mut EntryTimes,
 ) -> Result<(), NoMemory>
     requires { w < node_count net.now }
-    ensures { OnOk result (Learns (telling F.seen F.becomes F.faults) net.now me entries.now w
+    ensures learns { OnOk result (Learns (telling F.seen F.becomes F.faults) net.now me entries.now w
         folder.old folder.new known.old known.new) }
+    ensures looks { OnlyLooks F.seen F.becomes F.faults folder.old folder.new }
 {
     let former_log = log_of(alloc, folder, net, &w, ".log.1")?;
     let last_log = log_of(alloc, folder, net, &w, ".log")?;
@@ -111,6 +118,7 @@ fn tell_station<F: Folder>(
 /// the folder, or do not tell it.
 ///
 /// `NoMemory` where memory runs out. A call of the folder that fails leaves times unknown.
+#[tactic(auto, using(kept_files::proofs::Looked::no_looks, kept_files::proofs::Looked::more_looks))]
 pub fn read_times<F: Folder>(
     alloc: Global,
     folder: &mut F,
@@ -121,6 +129,7 @@ pub fn read_times<F: Folder>(
     ensures told { IfOk result (AreTimes (telling F.seen F.becomes F.faults) net.now me entries.now
         folder.old folder.new) }
     ensures each { IfOk result (λ times. length times ≡ length entries.now) }
+    ensures looks { OnlyLooks F.seen F.becomes F.faults folder.old folder.new }
 {
     let mut known = EntryTimes::new(alloc);
     for w in 0..net.count() {

@@ -1,4 +1,4 @@
-use Rattle.std.proofs.Common.{ℕ, ◌≡◌, List, length, map, take}
+use Rattle.std.proofs.Common.{◌≡◌, List, length, map, take}
 use Rattle.model.specs.Words.{below}
 use Rattle.logged_times.specs.Tables.{Knows}
 use Rattle.logged_times.specs.Times.{gate_behind, time_at}

@@ -1,4 +1,5 @@
 use Rattle.std.proofs.Common.{IfOk, List, arith, length, subst, ◌∙◌, ◌≡◌}
+use Rattle.kept_files.proofs.Looked.{more_looks, no_looks}
 use Rattle.model.specs.Network.{node_count}
 use Rattle.model.specs.Types.{Entry}
 use Rattle.night_times.specs.Logs.{telling}
@@ -6,19 +7,24 @@ use Rattle.night_times.proofs.Learning.{none_told, one_more_told, times_told}
 use Rattle.night_times.proofs.nights.read_times.Goals as goal
 
 pub loop-w-init : goal.loop-w-init
-loop-w-init g c =
-    none_told (telling g.F.Folder.seen g.F.Folder.becomes g.F.Folder.faults) c.args.net.now c.args.me c.args.entries.now c.args.folder.now c.new-known.result
-    c.new-known.ensures
+loop-w-init g c = (
+  no_looks g.F.Folder.seen g.F.Folder.becomes g.F.Folder.faults c.args.folder.now,
+  none_told (telling g.F.Folder.seen g.F.Folder.becomes g.F.Folder.faults) c.args.net.now c.args.me c.args.entries.now
+      c.args.folder.now c.new-known.result c.new-known.ensures,
+)
 
 pub loop-w-preserved : goal.loop-w-preserved
-loop-w-preserved g c =
-    one_more_told (telling g.F.Folder.seen g.F.Folder.becomes g.F.Folder.faults) c.args.net.now c.args.me c.args.entries.now c.loop-w.w c.args.folder.now
-    c.loop-w.folder c.tell_station.new.folder c.loop-w.known c.tell_station.new.known c.loop-w.invariant
-    c.in_ok-tell_station.ensures
+loop-w-preserved g c = (
+  more_looks g.F.Folder.seen g.F.Folder.becomes g.F.Folder.faults c.args.folder.now c.loop-w.folder
+      c.tell_station.new.folder c.loop-w.invariant.0 c.tell_station.ensures.looks,
+  one_more_told (telling g.F.Folder.seen g.F.Folder.becomes g.F.Folder.faults) c.args.net.now c.args.me
+      c.args.entries.now c.loop-w.w c.args.folder.now c.loop-w.folder c.tell_station.new.folder c.loop-w.known
+      c.tell_station.new.known c.loop-w.invariant.1 c.in_ok-tell_station.ensures.learns,
+)
 
 pub returns-clause-told : goal.returns-clause-told
 returns-clause-told g c =
-    let inv = c.loop-w.invariant in
+    let inv = c.loop-w.invariant.1 in
     let last : c.loop-w.w ≡ node_count c.args.net.now = omega arith in
     times_told (telling g.F.Folder.seen g.F.Folder.becomes g.F.Folder.faults) c.args.net.now c.loop-w.w c.args.me c.args.entries.now c.entries.result.now
     c.args.folder.now c.loop-w.folder inv.0 c.times.result last inv.1 (c.entries.ensures.list ∙ c.kept.ensures) (c.times.ensures.value inv.0 inv.2)

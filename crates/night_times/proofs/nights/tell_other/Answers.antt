@@ -5,8 +5,8 @@ use Rattle.night_times.specs.Logs.{telling}
 use Rattle.night_times.proofs.Learning.{learns_kept, learns_none, learns_refused}
 use Rattle.night_times.proofs.nights.tell_other.Goals as goal
 
-pub returns-in-Ok : goal.returns-in-Ok
-returns-in-Ok g c =
+pub returns-in-Ok-clause-learns : goal.returns-in-Ok-clause-learns
+returns-in-Ok-clause-learns g c =
     let T = telling g.F.Folder.seen g.F.Folder.becomes g.F.Folder.faults in
     let is : c.as_str.result.now ≡ name_of c.args.net.now c.args.w ++ codes ".msg" =
     c.as_str.ensures.value ∙ c.in_ok-file.ensures in
@@ -15,13 +15,13 @@ returns-in-Ok g c =
     c.read_entries.new.folder c.args.known.now c.tell_by_logs.new.self c.entries.result.now c.in-Ok.entries is
     c.read_entries.ensures.looks c.in-Ok.ensures.kept (c.entries.ensures.list ∙ c.kept.ensures))
 
-pub returns-in-Err-Folder : goal.returns-in-Err-Folder
-returns-in-Err-Folder g c =
+pub returns-in-Err-Folder-clause-learns : goal.returns-in-Err-Folder-clause-learns
+returns-in-Err-Folder-clause-learns g c =
     learns_none (telling g.F.Folder.seen g.F.Folder.becomes g.F.Folder.faults) c.args.net.now c.args.w c.args.former.now c.args.last.now c.args.folder.now
     c.read_entries.new.folder c.args.known.now c.read_entries.ensures.looks (c.in-Err-Folder.ensures.cause refl)
 
-pub returns-in-Err-NotThisFile : goal.returns-in-Err-NotThisFile
-returns-in-Err-NotThisFile g c =
+pub returns-in-Err-NotThisFile-clause-learns : goal.returns-in-Err-NotThisFile-clause-learns
+returns-in-Err-NotThisFile-clause-learns g c =
     let is : c.as_str.result.now ≡ name_of c.args.net.now c.args.w ++ codes ".msg" =
     c.as_str.ensures.value ∙ c.in_ok-file.ensures in
     learns_refused (telling g.F.Folder.seen g.F.Folder.becomes g.F.Folder.faults) c.args.net.now c.args.w c.args.former.now c.args.last.now c.as_str.result.now

@@ -1,4 +1,4 @@
-use Rattle.std.proofs.Common.{ℕ, ◌≡◌, ◌++◌, ◌∙◌, ap, arith, map, sym}
+use Rattle.std.proofs.Common.{◌++◌, ◌∙◌, ap, arith, map, sym}
 use Rattle.std.proofs.lemmas.List.{append-nil}
 use Rattle.lemmas.proofs.Lists.{drop_at_end}
 use Rattle.model.specs.Types.{Entry}

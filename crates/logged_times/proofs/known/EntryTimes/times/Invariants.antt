@@ -1,4 +1,4 @@
-use Rattle.std.proofs.Common.{ℕ, ◌≡◌, ◌++◌, List, drop, length, map}
+use Rattle.std.proofs.Common.{◌≡◌, ◌++◌, List, drop, length, map}
 use Rattle.model.specs.Types.{Entry}
 use Rattle.logged_times.specs.Known.{Tells, Timed, known_time}
 use Rattle.logged_times.proofs.known.EntryTimes.times.Given as goal

@@ -1,0 +1,3 @@
+-- The night of a workstation, as replies tell it.
+pub mod Readings
+pub mod Dues

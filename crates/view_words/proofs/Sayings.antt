@@ -14,6 +14,10 @@ use Rattle.workload_defs.specs.Nets.{net_of}
 use Rattle.view_words.specs.Dues.{CallsFor, Due, FileCallsFor}
 use Rattle.view_words.specs.Forms.{Request}
 use Rattle.view_words.specs.Readings.{UnreadCallsFor}
+use Rattle.night_times.specs.Logs.{telling}
+use Rattle.night_views.specs.Dues.{NightCallsFor}
+use Rattle.night_views.specs.declared.replying.NightWish.{NightWish}
+use Rattle.view_words.specs.declared.forms.Asked.TheVariants.{File, Night}
 use Rattle.view_words.specs.declared.forms.Look.{Look}
 
 -- a status with which nothing is said
@@ -64,6 +68,17 @@ module _ {F : Type 0} (S : Folders F) (old new : F) where
   file_speaks look name pattern defs status text (FileCallsFor.shown me entries there read) silent =
       speaks status (λ e. omega (arith, e)) (λ e. omega (arith, e)) silent
 
+  night_speaks : (defs : Defs) (name : List ℕ) (wish : NightWish) (status : Status) (text : List ℕ)
+      → NightCallsFor (telling S.seen S.becomes S.faults) defs name wish old new status text → IsSilent status → ⊥
+  night_speaks defs name wish status text (NightCallsFor.unknown none) silent =
+      speaks status (λ e. omega (arith, e)) (λ e. omega (arith, e)) silent
+  night_speaks defs name wish status text (NightCallsFor.failed me there rose) silent =
+      speaks status (λ e. omega (arith, e)) (λ e. omega (arith, e)) silent
+  night_speaks defs name wish status text (NightCallsFor.other_file me place there other) silent =
+      speaks status (λ e. omega (arith, e)) (λ e. omega (arith, e)) silent
+  night_speaks defs name wish status text (NightCallsFor.told me entries times there night) silent =
+      speaks status (λ e. omega (arith, e)) (λ e. omega (arith, e)) silent
+
   names_speak : (defs : Defs) (names : List (List ℕ)) (wish : Wish) (status : Status) (text : List ℕ)
       → NamesCallFor S defs names wish old new status text → IsSilent status → ⊥
   names_speak defs names wish status text (NamesCallFor.unknown unknown) silent =
@@ -77,8 +92,10 @@ module _ {F : Type 0} (S : Folders F) (old new : F) where
 
   request_speaks : (request : Request) (defs : Defs) (status : Status) (text : List ℕ)
       → CallsFor S request defs old new status text → IsSilent status → ⊥
-  request_speaks (Request.of_name look name pattern) defs status text calls silent =
+  request_speaks (Request.of_name (File look) name pattern) defs status text calls silent =
       file_speaks look name pattern defs status text calls silent
+  request_speaks (Request.of_name (Night wish) name pattern) defs status text calls silent =
+      night_speaks defs name wish status text calls silent
   request_speaks (Request.of_names wish names) defs status text calls silent =
       names_speak defs names wish status text calls silent
 

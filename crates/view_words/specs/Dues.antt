@@ -6,6 +6,8 @@ use Rattle.merged_words.specs.Readings.{Folders, HasRead}
 use Rattle.merged_words.specs.Texts.{other_file_line}
 use Rattle.model.specs.History.{view_of}
 use Rattle.model.specs.Types.{Entry, Net}
+use Rattle.night_times.specs.Logs.{telling}
+use Rattle.night_views.specs.Dues.{NightCallsFor}
 use Rattle.outside.specs.Causes.{Rose}
 use Rattle.outside.specs.Streams.{Stream}
 use Rattle.replies.specs.declared.statuses.Status.{Status}
@@ -16,6 +18,7 @@ use Rattle.workload_defs.specs.Nets.{net_of}
 use Rattle.workload_defs.specs.Stations.{number_of}
 use Rattle.view_words.specs.Forms.{Request, request_of}
 use Rattle.view_words.specs.Readings.{GivesDefs, IsOther, UnreadCallsFor}
+use Rattle.view_words.specs.declared.forms.Asked.TheVariants.{File, Night}
 use Rattle.view_words.specs.declared.forms.Look.{Look}
 use Rattle.view_words.specs.declared.forms.Look.TheVariants.{Kept, Why}
 
@@ -38,7 +41,9 @@ pub data FileCallsFor {F : Type 0} (S : Folders F) (look : Look) (name : List �
 
 -- what a request calls for, by definitions that were read and by a folder between two moments
 abbrev pub CallsFor : {F : Type 0} → Folders F → Request → Defs → F → F → Status → List ℕ → Type 0
-CallsFor S (Request.of_name look name pattern) defs old new = FileCallsFor S look name pattern defs old new
+CallsFor S (Request.of_name (File look) name pattern) defs old new = FileCallsFor S look name pattern defs old new
+CallsFor S (Request.of_name (Night wish) name pattern) defs old new =
+    NightCallsFor (telling S.seen S.becomes S.faults) defs name wish old new
 CallsFor S (Request.of_names wish names) defs old new = NamesCallFor S defs names wish old new
 
 -- all causes, in their order: words without a form, an input that gives no definitions, and what is requested

@@ -3,6 +3,7 @@ ghost use Rattle.std.specs.Prelude.{◌≡◌};
 ghost use Rattle.view_words.specs.Forms as spec;
 
 use merged_words::Wish;
+use night_views::NightWish;
 
 /// What is asked about a workstation.
 #[derive(Clone, Copy)]
@@ -13,16 +14,31 @@ pub(crate) enum Look {
     Why,
 }
 
+/// What is asked of one workstation.
+#[derive(Clone, Copy)]
+pub(crate) enum Asked {
+    /// What its file shows.
+    File(Look),
+    /// What its night was.
+    Night(NightWish),
+}
+
 /// What the first word asks of one workstation. None where it is no such word.
-#[tactic(auto, unfolding(crate::specs::Forms::look_of))]
-pub(crate) fn looked(word: &str) -> Option<Look>
-    ensures { result ≡ spec.look_of word.now }
+#[tactic(auto, unfolding(crate::specs::Forms::asked_of))]
+pub(crate) fn asked(word: &str) -> Option<Asked>
+    ensures { result ≡ spec.asked_of word.now }
 {
     if word == "kept" {
-        return Some(Look::Kept);
+        return Some(Asked::File(Look::Kept));
     }
     if word == "why" {
-        return Some(Look::Why);
+        return Some(Asked::File(Look::Why));
+    }
+    if word == "log" {
+        return Some(Asked::Night(NightWish::Log));
+    }
+    if word == "runs" {
+        return Some(Asked::Night(NightWish::Runs));
     }
     None
 }

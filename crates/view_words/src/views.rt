@@ -12,7 +12,7 @@ ghost use Rattle.view_words.specs.Dues.{Due};
 ghost use Rattle.view_words.specs.Forms.{one_named, patterned, request_of};
 ghost use Rattle.view_words.specs.declared.outcomes.Unsaid.TheVariants.{SourceFailed as Unread_};
 
-use crate::forms::{Look, looked, wished};
+use crate::forms::{Asked, Look, asked, wished};
 use crate::outcomes::{Unsaid, refused};
 use crate::requests::{reply_by_name, reply_by_names};
 use base_types::Text;
@@ -40,8 +40,8 @@ fn reply_alone<I: Source, F: Folder>(
     ensures untouched { one_named word.now name.now [] ≡ None
         → (input.new ≡ input.old) × (folder.new ≡ folder.old) }
 {
-    match looked(word.as_str()) {
-        Some(look) => reply_by_name(alloc, look, name, None, input, folder),
+    match asked(word.as_str()) {
+        Some(wanted) => reply_by_name(alloc, wanted, name, None, input, folder),
         None => refused(alloc),
     }
 }
@@ -67,7 +67,8 @@ fn reply_with_pattern<I: Source, F: Folder>(
 {
     if word.as_str() == "why" {
         let pattern = Text::of_upper(alloc, pattern.as_str())?;
-        return reply_by_name(alloc, Look::Why, name, Some(&pattern), input, folder);
+        let wanted = Asked::File(Look::Why);
+        return reply_by_name(alloc, wanted, name, Some(&pattern), input, folder);
     }
     refused(alloc)
 }
@@ -147,14 +148,16 @@ fn reply<I: Source, F: Folder>(
 
 /// Does all that the program does, and ends with its exit status.
 ///
-/// The words are `kept NAME`, `why NAME` or `why NAME PATTERN`, or with one name or several `history NAME..` or
-/// `audit NAME..`. It reads definitions from the input, finds each workstation NAME, and reads its
+/// The words are `kept NAME`, `why NAME`, `why NAME PATTERN`, `log NAME` or `runs NAME`, or with one name or several
+/// `history NAME..` or `audit NAME..`. It reads definitions from the input, finds each workstation NAME, and reads its
 /// message file `NAME.msg` in the folder. What is shown is due by the entries that the file keeps:
 ///
 /// - `kept`: a line for each entry, in the order kept: the line that the report of a run has for it.
 /// - `why`: what each stream that is not released or not ended and each job in HOLD, FENCE or READY lacks. With PATTERN,
 ///   which is read in upper case, only of those whose name `W#STREAM` or `W#STREAM.JOB` is of the pattern, where an `@`
 ///   stands for any characters.
+/// - `log`: a line for each entry in words, with its time where the logs of its maker in the folder tell it.
+/// - `runs`: a line for each launch of each job, with its begin and end, the seconds between and the return code.
 /// - `history`: one history of all the files, as a text that an audit reads.
 /// - `audit`: whether that history is sound.
 ///

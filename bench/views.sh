@@ -86,5 +86,7 @@ printf '%s entries, %s bytes\n' "$(wc -l < entries)" "$(wc -c < M.msg)"
 measure kept M
 measure why M
 measure why M 'M#S3000@'
+measure log M
+measure runs M
 measure history M
 measure audit M

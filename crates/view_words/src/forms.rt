@@ -25,7 +25,7 @@ pub(crate) enum Asked {
 
 /// What the first word asks of one workstation. None where it is no such word.
 #[tactic(auto, unfolding(crate::specs::Forms::asked_of))]
-pub(crate) fn asked(word: &str) -> Option<Asked>
+pub(crate) fn asked_by(word: &str) -> Option<Asked>
     ensures { result ≡ spec.asked_of word.now }
 {
     if word == "kept" {

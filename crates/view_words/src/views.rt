@@ -12,7 +12,7 @@ ghost use Rattle.view_words.specs.Dues.{Due};
 ghost use Rattle.view_words.specs.Forms.{one_named, patterned, request_of};
 ghost use Rattle.view_words.specs.declared.outcomes.Unsaid.TheVariants.{SourceFailed as Unread_};
 
-use crate::forms::{Asked, Look, asked, wished};
+use crate::forms::{Asked, Look, asked_by, wished};
 use crate::outcomes::{Unsaid, refused};
 use crate::requests::{reply_by_name, reply_by_names};
 use base_types::Text;
@@ -40,7 +40,7 @@ fn reply_alone<I: Source, F: Folder>(
     ensures untouched { one_named word.now name.now [] ≡ None
         → (input.new ≡ input.old) × (folder.new ≡ folder.old) }
 {
-    match asked(word.as_str()) {
+    match asked_by(word.as_str()) {
         Some(wanted) => reply_by_name(alloc, wanted, name, None, input, folder),
         None => refused(alloc),
     }

@@ -8,7 +8,7 @@ pub returns-in-Some-clause-due : goal.returns-in-Some-clause-due
 returns-in-Some-clause-due g c = λ words is.
     c.reply_by_name.ensures.due words (is
     ∙ alone_requests c.as_str.result.now c.args.word.now c.args.name.now c.asked_by.result (Some c.in-Some.wanted)
-    c.as_str.ensures.value c.asked_by.ensures c.in-Some.is)
+    c.as_str.ensures c.asked_by.ensures c.in-Some.is)
 
 pub returns-in-None-clause-due : goal.returns-in-None-clause-due
 returns-in-None-clause-due g c = λ words is.
@@ -17,4 +17,4 @@ returns-in-None-clause-due g c = λ words is.
     refused_due (folders F.seen F.becomes F.faults) words (I.stream c.args.input.now) (I.stream c.args.input.now)
     c.args.folder.now c.args.folder.now c.refused.result c.refused.ensures.due (is
     ∙ alone_requests c.as_str.result.now c.args.word.now c.args.name.now c.asked_by.result None
-    c.as_str.ensures.value c.asked_by.ensures c.in-None.is)
+    c.as_str.ensures c.asked_by.ensures c.in-None.is)

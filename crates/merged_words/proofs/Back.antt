@@ -1,6 +1,6 @@
 -- The text of a history is read back, since the comments behind it are skipped.
 use Rattle.std.proofs.Common.{[], ℕ, ◌+◌, ◌++◌, ◌||◌, ◌∙◌, ◌∷◌, ◌≡◌, Bool, List, None, Ok, Option, Some, ap, append-nil, append_assoc}
-use Rattle.std.proofs.Common.{codes, decimal, eqb, false, flat_map, if◌then◌else◌, length, map, refl, sym}
+use Rattle.std.proofs.Common.{codes, decimal, eqb, flat_map, if◌then◌else◌, length, map, refl, sym}
 use Rattle.std.specs.List.{AllByRecursion, cons_option, list_any}
 use Rattle.std.specs.Option.{option_map_or}
 use Rattle.std.specs.Prelude.{Err, Result, filter_map, unwrap_or}
@@ -16,7 +16,7 @@ use Rattle.history_laws.proofs.Lines.{each_line, line_first}
 use Rattle.history_laws.proofs.Rows.{entry_lacks, entry_words}
 use Rattle.history_laws.proofs.Whole.{history_back}
 use Rattle.history_script.specs.Fronts.{At}
-use Rattle.history_script.specs.Histories.{entry_at, fault_from, fault_of, history_in, is_start, lines_behind, read_of}
+use Rattle.history_script.specs.Histories.{entry_at, fault_from, fault_of, is_start, lines_behind, read_of}
 use Rattle.history_script.specs.Histories.{start_at, with_rows}
 use Rattle.history_script.specs.Printed.{entry_line, head_text, history_text}
 use Rattle.history_script.specs.Rows.{form_of, row_of}

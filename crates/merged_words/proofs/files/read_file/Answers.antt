@@ -1,4 +1,4 @@
-use Rattle.std.proofs.Common.{Err, IfSome, Some, ap, subst, sym, ◌<◌, ◌≡◌, ◌∙◌, ℕ}
+use Rattle.std.proofs.Common.{Err, IfSome, ap, subst, sym, ◌<◌, ◌≡◌, ◌∙◌, ℕ}
 use Rattle.entry_files.specs.Entries.{IsRefused}
 use Rattle.kept_files.specs.Growth.{OnlyKeepsMore}
 use Rattle.kept_files.specs.declared.faults.FileFault.{FileFault}

@@ -1,4 +1,4 @@
-use Rattle.std.proofs.Common.{Err, IsTrue, ap, subst, sym, ◌∙◌}
+use Rattle.std.proofs.Common.{Err, IsTrue, ap, ◌∙◌}
 use Rattle.lemmas.proofs.Results.{if_ok}
 use Rattle.history_script.specs.Histories.{is_inside}
 use Rattle.merged_feeds.proofs.Entries.{all_of_history}

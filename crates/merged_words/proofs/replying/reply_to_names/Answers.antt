@@ -1,4 +1,4 @@
-use Rattle.std.proofs.Common.{Err, List, ap, subst, sym, ◌≡◌, ◌≢◌, ◌∙◌}
+use Rattle.std.proofs.Common.{Err, List, ap, subst, sym, ◌≢◌}
 use Rattle.lemmas.proofs.Results.{if_ok}
 use Rattle.kept_files.proofs.Looked.{no_looks}
 use Rattle.merged_feeds.specs.Files.{AreFitFiles, ArePlaced}

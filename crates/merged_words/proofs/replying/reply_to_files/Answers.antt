@@ -10,11 +10,12 @@ use Rattle.merged_words.proofs.Calls.{differ_called, no_order_called}
 use Rattle.merged_words.proofs.replying.reply_to_files.Goals as goal
 
 pub reply_to_history-requires : goal.reply_to_history-requires
-reply_to_history-requires c = (
-  c.in-Ok.ensures.fit c.requires.fit,
-  all_of_history (λ (e : Entry). IsTrue (is_inside c.args.net.now e)) c.args.files.now c.in-Ok.history c.requires.placed
-      c.requires.inside c.in-Ok.ensures.history,
-)
+reply_to_history-requires c =
+    record {
+      fit = c.in-Ok.ensures.fit c.requires.fit;
+      inside = all_of_history (λ (e : Entry). IsTrue (is_inside c.args.net.now e)) c.args.files.now c.in-Ok.history
+          c.requires.placed c.requires.inside c.in-Ok.ensures.history;
+    }
 
 pub returns-in-Ok-clause-due : goal.returns-in-Ok-clause-due
 returns-in-Ok-clause-due c =

@@ -37,11 +37,12 @@ returns-in_err-net-clause-looks g c =
 
 pub reply_to_files-requires : goal.reply_to_files-requires
 reply_to_files-requires g c =
-    let same = sym c.as_slice.ensures in (
-      subst ArePlaced same c.in-Ok.ensures.placed,
-      subst AreFitFiles same c.in-Ok.ensures.fit,
-      subst (AreInsideFiles c.in_ok-net.net) same c.in-Ok.ensures.inside,
-    )
+    let same = sym c.as_slice.ensures in
+    record {
+      placed = subst ArePlaced same c.in-Ok.ensures.placed;
+      fit = subst AreFitFiles same c.in-Ok.ensures.fit;
+      inside = subst (AreInsideFiles c.in_ok-net.net) same c.in-Ok.ensures.inside;
+    }
 
 pub returns-in-Ok-clause-due : goal.returns-in-Ok-clause-due
 returns-in-Ok-clause-due g c =

@@ -2,5 +2,5 @@ pub mod Comments
 pub mod Back
 pub mod Told
 pub mod Inside
-pub mod Reads
+pub mod FilesRead
 pub mod Calls

@@ -7,7 +7,7 @@ use Rattle.model.specs.Network.{node_count}
 use Rattle.model.specs.Types.{Net}
 use Rattle.merged_words.specs.Readings.{IsOther, folders}
 use Rattle.merged_words.proofs.Inside.{inside_restored}
-use Rattle.merged_words.proofs.Reads.{file_read, file_refused, found_inside_net}
+use Rattle.merged_words.proofs.FilesRead.{file_read, file_refused, found_inside_net}
 use Rattle.merged_words.proofs.files.read_file.Goals as goal
 
 pub returns-in_default-clause-unknown : goal.returns-in_default-clause-unknown

@@ -6,7 +6,7 @@ use Rattle.merged_feeds.specs.declared.files.NodeFile.{NodeFile}
 use Rattle.model.specs.Fit.{AreFitEntries}
 use Rattle.model.specs.Sound.{Each, HasItsPlace}
 use Rattle.merged_words.specs.Readings.{AreInside, AreInsideFiles, AreRead, folders}
-use Rattle.merged_words.proofs.Reads.{failed_there, looks_on, no_files, one_more_file, other_there, read_all, read_further, read_nothing}
+use Rattle.merged_words.proofs.FilesRead.{failed_there, looks_on, no_files, one_more_file, other_there, read_all, read_further, read_nothing}
 use Rattle.merged_words.proofs.files.read_files.Goals as goal
 
 pub loop-name-init : goal.loop-name-init

@@ -57,31 +57,31 @@ comments_skipped net (p ∷ ps) =
 
 no_faults : {X : Type 0} (net : Net) (above : List HistoryRow) (xs : List X) → fault_from net above (skips xs) ≡ None
 no_faults net above [] = refl
-no_faults {X} net above (x ∷ xs) =
-    row_without net above (skips xs) row.Skipped refl ∙ no_faults {X} net (above ++ row.Skipped ∷ []) xs
+no_faults net above (x ∷ xs) =
+    row_without net above (skips xs) row.Skipped refl ∙ no_faults net (above ++ row.Skipped ∷ []) xs
 
 same_faults : {X : Type 0} (net : Net) (above rows : List HistoryRow) (xs : List X)
     → fault_from net above (rows ++ skips xs) ≡ fault_from net above rows
-same_faults {X} net above [] xs = no_faults {X} net above xs
-same_faults {X} net above (r ∷ rows) xs =
+same_faults net above [] xs = no_faults net above xs
+same_faults net above (r ∷ rows) xs =
     ap (option_map_or (λ (k : HistoryKind). Some (length above, k)) (fault_of net (list_any is_start above) r))
-    (same_faults {X} net (above ++ r ∷ []) rows xs)
+    (same_faults net (above ++ r ∷ []) rows xs)
 
 no_meaning : {X Y : Type 0} (f : HistoryRow → Option Y) (xs : List X) → f row.Skipped ≡ None → filter_map f (skips xs) ≡ []
 no_meaning f [] none = refl
-no_meaning {X} {Y} f (x ∷ xs) none =
-    ap (λ (o : Option Y). cons_option o (filter_map f (skips xs))) none ∙ no_meaning {X} {Y} f xs none
+no_meaning f (x ∷ xs) none =
+    ap (λ (o : Option Y). cons_option o (filter_map f (skips xs))) none ∙ no_meaning f xs none
 
 same_meaning : {X Y : Type 0} (f : HistoryRow → Option Y) (rows : List HistoryRow) (xs : List X) → f row.Skipped ≡ None
     → filter_map f (rows ++ skips xs) ≡ filter_map f rows
-same_meaning {X} {Y} f rows xs none =
-    filter_map-append f rows (skips xs) ∙ ap (λ (l : List Y). filter_map f rows ++ l) (no_meaning {X} {Y} f xs none)
+same_meaning f rows xs none =
+    filter_map-append f rows (skips xs) ∙ ap (λ (l : List Y). filter_map f rows ++ l) (no_meaning f xs none)
     ∙ append-nil (filter_map f rows)
 
 same_history : {X : Type 0} (line : ℕ) (net : Net) (rows : List HistoryRow) (xs : List X)
     → with_rows line (rows ++ skips xs) net ≡ with_rows line rows net
-same_history {X} line net rows xs =
-    let faults : fault_from net [] (rows ++ skips xs) ≡ fault_from net [] rows = same_faults {X} net [] rows xs in
+same_history line net rows xs =
+    let faults : fault_from net [] (rows ++ skips xs) ≡ fault_from net [] rows = same_faults net [] rows xs in
     let entries : filter_map (entry_at net) (rows ++ skips xs) ≡ filter_map (entry_at net) rows =
     same_meaning (entry_at net) rows xs refl in
     let starts : filter_map (start_at net) (rows ++ skips xs) ≡ filter_map (start_at net) rows =

@@ -228,6 +228,7 @@ module _ {F : Type 0} (S : Folders F) (defs : Defs) where
   pub other_there : (names : List (List ℕ)) (i place : ℕ) (name : List ℕ) (files : List NodeFile) (old mid new : F)
       → slice_get names i ≡ Some name → AreRead S defs (take i names) files old mid → Looks S old mid → Looks S mid new
       → IsOther S defs name place mid new → HasOther S defs names place old new
+  unfolding reached
   other_there names i place name files old mid new there r before looks other =
       record {
         number = i;

@@ -45,7 +45,6 @@ fn said(alloc: Global, found: Audit, entries: usize) -> Result<Reply, NoMemory>
 }
 
 /// What an audit of a history calls for.
-#[tactic(auto, using(crate::proofs::Calls::too_many_called))]
 pub(crate) fn reply_to_audit(
     alloc: Global,
     net: &Network,

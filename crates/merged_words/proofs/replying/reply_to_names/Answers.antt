@@ -59,8 +59,8 @@ returns-in-Ok-clause-due g c =
     (subst (λ (n : Net). FilesCallFor n c.as_slice.result.now wish r.status r.text) c.in_ok-net.ensures h)))
     c.reply_to_files.ensures.due
 
-pub returns-in-Err-clause-due : goal.returns-in-Err-clause-due
-returns-in-Err-clause-due g c =
+pub returns-clause-due : goal.returns-clause-due
+returns-clause-due g c =
     let S = folders g.F.Folder.seen g.F.Folder.becomes g.F.Folder.faults in
     let defs = c.args.workload.now in
     let names = c.args.names.now in
@@ -73,7 +73,7 @@ returns-in-Err-clause-due g c =
     (λ e. c.in-Err.ensures.unknown (ap Err e)) (λ e. c.in-Err.ensures.failed (ap Err e))
     (λ place e. c.in-Err.ensures.other place (ap Err e)) is) c.reply_unread.ensures
 
-pub returns-in-Err-clause-said : goal.returns-in-Err-clause-said
-returns-in-Err-clause-said g c =
+pub returns-clause-said : goal.returns-clause-said
+returns-clause-said g c =
     if_ok (IsReplyTo c.in-Err.why) (λ (r : Reply). r.status ≢ SinkFailed) c.reply_unread.result (reply_said c.in-Err.why)
     c.reply_unread.ensures

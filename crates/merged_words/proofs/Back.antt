@@ -69,12 +69,12 @@ same_faults net above (r ∷ rows) xs =
 
 no_meaning : {X Y : Type 0} (f : HistoryRow → Option Y) (xs : List X) → f row.Skipped ≡ None → filter_map f (skips xs) ≡ []
 no_meaning f [] none = refl
-no_meaning f (x ∷ xs) none =
+no_meaning {Y = Y} f (x ∷ xs) none =
     ap (λ (o : Option Y). cons_option o (filter_map f (skips xs))) none ∙ no_meaning f xs none
 
 same_meaning : {X Y : Type 0} (f : HistoryRow → Option Y) (rows : List HistoryRow) (xs : List X) → f row.Skipped ≡ None
     → filter_map f (rows ++ skips xs) ≡ filter_map f rows
-same_meaning f rows xs none =
+same_meaning {Y = Y} f rows xs none =
     filter_map-append f rows (skips xs) ∙ ap (λ (l : List Y). filter_map f rows ++ l) (no_meaning f xs none)
     ∙ append-nil (filter_map f rows)
 

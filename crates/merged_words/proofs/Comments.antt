@@ -61,7 +61,7 @@ short_there files (e ∷ G) all = go (is_first_lacking files e) (short_there fil
     go : (b : Bool) → AllByRecursion IsShortPlace (map feed_place (filter (is_first_lacking files) G))
         → AllByRecursion IsShortPlace
         (map feed_place (cond b (e ∷ filter (is_first_lacking files) G) (filter (is_first_lacking files) G)))
-    go true rest = (omega (arith, all.0.place), rest)
+    go true rest = (omega (arith, all.0.place_), rest)
     go false rest = rest
 
 pub short_places : (files : List NodeFile) (G : List Entry) → All InRange G

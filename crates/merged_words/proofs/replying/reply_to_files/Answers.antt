@@ -28,15 +28,17 @@ returns-in-Ok-clause-due c =
 
 pub returns-in_ok-differ_text-in-Err-Differ-clause-due : goal.returns-in_ok-differ_text-in-Err-Differ-clause-due
 returns-in_ok-differ_text-in-Err-Differ-clause-due c =
+    let said = rw c.in-Err-Differ.field-0-is at c.in_ok-differ_text-in-Err-Differ.ensures in
     differ_called c.args.net.now c.args.files.now c.args.wish c.in-Err-Differ.at c.refused.result
     (c.in-Err-Differ.ensures.differ c.in-Err-Differ.at (ap Err c.in-Err-Differ.field-0-is)) c.refused.ensures.status
-    (c.refused.ensures.text ∙ c.in_ok-differ_text-in-Err-Differ.ensures
+    (c.refused.ensures.text ∙ said
     ∙ ap (λ (n : Net). differ_line n c.in-Err-Differ.at) c.net.ensures.value)
 
 pub returns-in_ok-no_order_text-in-Err-NoOrder-clause-due : goal.returns-in_ok-no_order_text-in-Err-NoOrder-clause-due
 returns-in_ok-no_order_text-in-Err-NoOrder-clause-due c =
+    let said = rw c.in-Err-NoOrder.field-0-is at c.in_ok-no_order_text-in-Err-NoOrder.ensures in
     no_order_called c.args.net.now c.args.files.now c.args.wish c.in-Err-NoOrder.at c.refused-in-Err-NoOrder.result
     (c.in-Err-NoOrder.ensures.alike c.in-Err-NoOrder.at (ap Err c.in-Err-NoOrder.field-0-is))
     (c.in-Err-NoOrder.ensures.no_order c.in-Err-NoOrder.at (ap Err c.in-Err-NoOrder.field-0-is)) c.refused-in-Err-NoOrder.ensures.status
-    (c.refused-in-Err-NoOrder.ensures.text ∙ c.in_ok-no_order_text-in-Err-NoOrder.ensures
+    (c.refused-in-Err-NoOrder.ensures.text ∙ said
     ∙ ap (λ (n : Net). no_order_line n c.in-Err-NoOrder.at) c.net-in-Err-NoOrder.ensures.value)

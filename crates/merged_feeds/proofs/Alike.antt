@@ -1,8 +1,8 @@
 -- Whether files keep the same at each place.
-use Rattle.std.proofs.Common.{[], ℕ, ◌+◌, ◌++◌, ◌<◌, ◌∙◌, ◌∷◌, ◌≡◌, ◌⊎◌, List, Some, ap, arith, inl, inr, length, refl, subst, sym}
+use Rattle.std.proofs.Common.{[], ℕ, ◌+◌, ◌++◌, ◌<◌, ◌∙◌, ◌∷◌, ◌≡◌, List, Some, ap, arith, inl, inr, length, refl, subst, sym}
 use Rattle.std.proofs.Common.{take}
 use Rattle.std.specs.Prelude.{slice_get}
-use Rattle.lemmas.proofs.Lists.{take_further, take_whole}
+use Rattle.lemmas.proofs.Lists.{take_further}
 use Rattle.lemmas.proofs.Options.{some_same}
 use Rattle.model.specs.Types.{Body, Entry, Feed}
 use Rattle.model.specs.History.{list_of}

@@ -1,6 +1,6 @@
 -- Entries by the places of their feeds.
-use Rattle.std.proofs.Common.{[], ℕ, ◌+◌, ◌++◌, ◌<◌, ◌∙◌, ◌∷◌, ◌≡◌, ◌≢◌, ◌⊎◌, List, Some, ap, arith, drop, false, inl, inr, length}
-use Rattle.std.proofs.Common.{length-append, refl, subst, suc, sym, take, take-append-drop, true, zero}
+use Rattle.std.proofs.Common.{[], ℕ, ◌+◌, ◌++◌, ◌∙◌, ◌∷◌, ◌≡◌, ◌≢◌, ◌⊎◌, List, Some, ap, arith, drop, false, inl, inr, length}
+use Rattle.std.proofs.Common.{length-append, subst, suc, sym, take, take-append-drop, true, zero}
 use Rattle.std.proofs.lemmas.Option.{slice_get-get_or}
 use Rattle.std.specs.List.{All}
 use Rattle.std.specs.Prelude.{slice_get, slice_index_or}
@@ -16,7 +16,6 @@ use Rattle.merged_feeds.specs.Causes.{StandsBehindItsCauses}
 use Rattle.merged_feeds.specs.Files.{AreFromFiles, ArePlaced, IsKept}
 use Rattle.merged_feeds.specs.Merges.{HasTheLongest, IsHistoryOf}
 use Rattle.merged_feeds.specs.Walks.{DiffersFrom, IsOtherKept}
-use Rattle.merged_feeds.specs.declared.files.FeedPlace.{FeedPlace}
 use Rattle.merged_feeds.specs.declared.files.NodeFile.{NodeFile}
 use Rattle.merged_feeds.proofs.Listed.{placed_at}
 use Rattle.merged_feeds.proofs.Kept.{kept_by, pushed_here}

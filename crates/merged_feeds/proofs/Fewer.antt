@@ -1,5 +1,5 @@
 -- What is left of the lists gets less with each entry that is taken.
-use Rattle.std.proofs.Common.{[], ℕ, ◌+◌, ◌-◌, ◌<◌, ◌≤◌, ◌∙◌, ◌∷◌, ◌≡◌, ◌||◌, Bool, List, None, Option, Some, ap, arith, false, inl, inr, length}
+use Rattle.std.proofs.Common.{[], ℕ, ◌+◌, ◌-◌, ◌<◌, ◌≤◌, ◌∙◌, ◌∷◌, ◌≡◌, ◌||◌, Bool, List, Option, Some, ap, arith, false, inl, inr, length}
 use Rattle.std.proofs.Common.{refl, subst, suc, sym, true, zero}
 use Rattle.std.proofs.lemmas.List.Sums.{sum_by-cons}
 use Rattle.std.specs.Option.{option_map_or}
@@ -8,9 +8,8 @@ use Rattle.lemmas.proofs.Lists.{found_within}
 use Rattle.lemmas.proofs.Booleans.{neither_left, neither_right}
 use Rattle.lemmas.proofs.Numbers.{below_or_last}
 use Rattle.lemmas.proofs.Options.{some_same}
-use Rattle.model.specs.Types.{Body, Entry, Feed}
+use Rattle.model.specs.Types.{Entry}
 use Rattle.model.specs.History.{list_of}
-use Rattle.model.specs.Words.{nth}
 use Rattle.merged_feeds.specs.Walks.{AreStill, IsNoLess, IsPut, IsStep, IsStill, Moves, Runs, RunsSoFar, StandsStill}
 use Rattle.merged_feeds.specs.Walks.{TakesNext, left, left_in}
 use Rattle.merged_feeds.specs.declared.files.NodeFile.{NodeFile}

@@ -1,5 +1,5 @@
 -- What walks over files find at a place of a feed.
-use Rattle.std.proofs.Common.{[], ℕ, ◌+◌, ◌<◌, ◌≤◌, ◌∙◌, ◌∷◌, ◌≡◌, ◌≢◌, Bool, List, None, Some, false, inl, inr, length, not, subst, sym}
+use Rattle.std.proofs.Common.{ℕ, ◌+◌, ◌<◌, ◌≤◌, ◌∙◌, ◌≡◌, ◌≢◌, Bool, List, None, Some, false, inl, inr, length, not, subst, sym}
 use Rattle.std.proofs.Common.{take, true}
 use Rattle.std.specs.Bool.{Decides}
 use Rattle.std.specs.Prelude.{slice_get}
@@ -11,10 +11,10 @@ use Rattle.model.specs.Types.{Body, Feed}
 use Rattle.model.specs.History.{list_of}
 use Rattle.model.specs.Words.{nth}
 use Rattle.merged_feeds.specs.Files.{AreAlike, AreAlikeAt, IsKept}
-use Rattle.merged_feeds.specs.Walks.{AnotherIsKept, Differ, KeepsOther}
+use Rattle.merged_feeds.specs.Walks.{AnotherIsKept, Differ}
 use Rattle.merged_feeds.specs.declared.files.NodeFile.{NodeFile}
 use Rattle.merged_feeds.proofs.Alike.{only_further}
-use Rattle.merged_feeds.proofs.Kept.{kept_by, kept_nowhere}
+use Rattle.merged_feeds.proofs.Kept.{kept_nowhere}
 
 module _ (files : List NodeFile) (f : Feed) (place : ℕ) where
   pub kept_in_none : (b : Body) → IsKept (take 0 files) f place b → ⊥

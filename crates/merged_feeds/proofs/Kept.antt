@@ -1,5 +1,5 @@
 -- What files keep at the places of feeds.
-use Rattle.std.proofs.Common.{[], ℕ, ◌+◌, ◌++◌, ◌∙◌, ◌∷◌, ◌≡◌, ◌⊎◌, List, Some, ap, arith, inl, inr, length, refl, subst, sym, take}
+use Rattle.std.proofs.Common.{[], ℕ, ◌+◌, ◌++◌, ◌∙◌, ◌∷◌, ◌≡◌, ◌⊎◌, List, Some, ap, inl, inr, length, refl, subst, sym, take}
 use Rattle.std.specs.Prelude.{slice_get}
 use Rattle.model.specs.Types.{Body, Entry, Feed}
 use Rattle.model.specs.History.{list_of}

@@ -1,5 +1,5 @@
 -- The lists of feeds that files have.
-use Rattle.std.proofs.Common.{[], ℕ, ◌+◌, ◌++◌, ◌<◌, ◌∙◌, ◌∷◌, ◌≡◌, ◌⊎◌, List, Some, ap, append_assoc, arith, inl, inr, length, refl}
+use Rattle.std.proofs.Common.{[], ℕ, ◌+◌, ◌++◌, ◌<◌, ◌∙◌, ◌∷◌, ◌≡◌, List, Some, ap, append_assoc, inl, inr, length}
 use Rattle.std.proofs.Common.{subst, suc, sym, take, zero}
 use Rattle.std.proofs.lemmas.List.{append-nil}
 use Rattle.std.specs.Prelude.{slice_get}
@@ -11,7 +11,7 @@ use Rattle.model.specs.History.{list_of}
 use Rattle.model.specs.Sound.{Each, EachFrom, HasItsPlace}
 use Rattle.model_laws.proofs.Feeds.{pushed_cases}
 use Rattle.merged_feeds.specs.Merges.{BeginsWith}
-use Rattle.merged_feeds.specs.Walks.{AreHeads, AreHeadsOf, IsAmong}
+use Rattle.merged_feeds.specs.Walks.{AreHeadsOf, IsAmong}
 use Rattle.merged_feeds.specs.declared.files.NodeFile.{NodeFile}
 use Rattle.merged_feeds.specs.declared.heads.Head.{Head}
 

@@ -1,6 +1,6 @@
 -- Items of lists by their places.
-use Rattle.std.proofs.Common.{[], ℕ, ◌+◌, ◌++◌, ◌<◌, ◌≤◌, ◌∙◌, ◌∷◌, ◌≡◌, ◌⊎◌, Bool, List, None, Option, Some, add-one, ap, arith}
-use Rattle.std.proofs.Common.{drop, inl, inr, length, refl, subst, suc, sym, take, take-append-drop, true, zero}
+use Rattle.std.proofs.Common.{[], ℕ, ◌+◌, ◌++◌, ◌≤◌, ◌∙◌, ◌∷◌, ◌≡◌, ◌⊎◌, Bool, List, Some, add-one, ap, arith}
+use Rattle.std.proofs.Common.{drop, inl, inr, length, refl, suc, sym, take, take-append-drop, true, zero}
 use Rattle.std.proofs.lemmas.List.{append-nil}
 use Rattle.std.specs.List.{list_all}
 use Rattle.std.specs.Prelude.{slice_get}

@@ -1,5 +1,5 @@
 -- What the maker of an entry made before it.
-use Rattle.std.proofs.Common.{[], ℕ, ◌+◌, ◌++◌, ◌<◌, ◌==◌, ◌≤◌, ◌∙◌, ◌∷◌, ◌≡◌, ◌⊎◌, Bool, List, None, Option, Some, ap, arith, drop, eq-eqb}
+use Rattle.std.proofs.Common.{[], ℕ, ◌+◌, ◌<◌, ◌==◌, ◌≤◌, ◌∙◌, ◌∷◌, ◌≡◌, ◌⊎◌, Bool, List, None, Option, Some, ap, arith, drop, eq-eqb}
 use Rattle.std.proofs.Common.{get_or, inl, inr, refl, true}
 use Rattle.std.proofs.Common.{length, length-append, subst, sym, take, take-append-drop}
 use Rattle.std.proofs.lemmas.Bool.{cases_lt}

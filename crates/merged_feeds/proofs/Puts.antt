@@ -3,13 +3,13 @@ use Rattle.std.proofs.Common.{[], ℕ, ◌+◌, ◌++◌, ◌∙◌, ◌∷◌, 
 use Rattle.std.proofs.Common.{subst, sym}
 use Rattle.std.specs.Prelude.{slice_get}
 use Rattle.lemmas.proofs.Options.{some_same}
-use Rattle.model.specs.Types.{Body, Entry, Feed}
+use Rattle.model.specs.Types.{Entry, Feed}
 use Rattle.model.specs.History.{list_of}
 use Rattle.model.specs.Sound.{Each}
 use Rattle.model.specs.World.{Origin}
 use Rattle.model_laws.proofs.Feeds.{pushed-length, pushed_cases}
 use Rattle.model_laws.proofs.Places.{each_with}
-use Rattle.merged_feeds.specs.Causes.{IsInOrderOfCauses, StandsBehindItsCauses}
+use Rattle.merged_feeds.specs.Causes.{StandsBehindItsCauses}
 use Rattle.merged_feeds.specs.Walks.{IsNoLess, IsPut, TakesNext}
 use Rattle.merged_feeds.specs.declared.files.NodeFile.{NodeFile}
 use Rattle.merged_feeds.proofs.Kept.{from_nothing, from_push, kept_by}

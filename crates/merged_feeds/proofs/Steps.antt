@@ -1,5 +1,5 @@
 -- One step of a walk: what a list has next is taken, or the list stands still.
-use Rattle.std.proofs.Common.{[], ℕ, ◌+◌, ◌++◌, ◌<◌, ◌≤◌, ◌∙◌, ◌∷◌, ◌≡◌, Bool, List, None, Option, Some, ap, arith, false, length, refl, subst}
+use Rattle.std.proofs.Common.{[], ℕ, ◌+◌, ◌++◌, ◌≤◌, ◌∙◌, ◌∷◌, ◌≡◌, Bool, List, None, Option, Some, ap, arith, false, length, refl, subst}
 use Rattle.std.proofs.Common.{sym, true}
 use Rattle.std.specs.Prelude.{slice_get}
 use Rattle.lemmas.proofs.Lists.{found_within}

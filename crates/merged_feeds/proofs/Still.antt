@@ -1,10 +1,10 @@
 -- Where all lists stand still, no order of causes has more than what was taken.
-use Rattle.std.proofs.Common.{[], ℕ, ◌+◌, ◌++◌, ◌<◌, ◌≤◌, ◌∙◌, ◌∷◌, ◌≡◌, ◌⊎◌, Bool, List, None, Option, Some, ap, append_assoc}
+use Rattle.std.proofs.Common.{[], ℕ, ◌+◌, ◌++◌, ◌≤◌, ◌∷◌, ◌≡◌, ◌⊎◌, List, None, Option, Some, ap, append_assoc}
 use Rattle.std.proofs.Common.{arith, inl, inr, length, length-append, refl, subst, suc, sym, true}
 use Rattle.std.proofs.lemmas.Bool.{cases_lt}
 use Rattle.std.proofs.lemmas.List.{append-nil}
 use Rattle.std.specs.Option.{option_map_or}
-use Rattle.std.specs.Prelude.{is_some, nat_le, slice_get}
+use Rattle.std.specs.Prelude.{is_some, nat_le}
 use Rattle.lemmas.proofs.Numbers.{le_told, le_true}
 use Rattle.model.specs.Types.{Body, Entry, Events, Feed, Obj}
 use Rattle.model.specs.Catalogue.{owner}
@@ -15,10 +15,10 @@ use Rattle.model_laws.proofs.Feeds.{pushed_cases}
 use Rattle.model_laws.proofs.Growth.{Grows, owned_grows}
 use Rattle.merged_feeds.specs.Causes.{HasItsCauses, IsBehindItsMakers, IsInOrderOfCauses, OrderAt}
 use Rattle.merged_feeds.specs.Causes.{StandsBehindItsCauses, counts_in}
-use Rattle.merged_feeds.specs.Causes.{has_document, is_order_there, objects_in, order_of}
+use Rattle.merged_feeds.specs.Causes.{has_document, objects_in, order_of}
 use Rattle.merged_feeds.specs.Files.{AreAlike, AreFromFiles, IsKept}
 use Rattle.merged_feeds.specs.Merges.{BeginsWith}
-use Rattle.merged_feeds.specs.Walks.{AreHeads, AreStill, IsAmong, IsNoLess, next_in}
+use Rattle.merged_feeds.specs.Walks.{AreHeads, AreStill, IsAmong, IsNoLess}
 use Rattle.merged_feeds.specs.declared.files.NodeFile.{NodeFile}
 use Rattle.merged_feeds.specs.declared.heads.Head.{Head}
 use Rattle.merged_feeds.proofs.Kept.{from_front, last_kept}

@@ -1,13 +1,13 @@
 -- What is due, by what was taken.
-use Rattle.std.proofs.Common.{[], ℕ, ◌+◌, ◌++◌, ◌<◌, ◌≤◌, ◌∙◌, ◌∷◌, ◌≡◌, ◌⊎◌, List, Some, ap, arith, inl, inr, length, refl, subst}
+use Rattle.std.proofs.Common.{[], ℕ, ◌≤◌, ◌∙◌, ◌∷◌, ◌≡◌, ◌⊎◌, List, Some, ap, arith, inl, inr, length, refl, subst}
 use Rattle.std.proofs.Common.{suc, sym}
 use Rattle.std.specs.Prelude.{slice_get}
 use Rattle.lemmas.proofs.Lists.{found_within, got_below}
 use Rattle.model.specs.Types.{Body, Entry, Feed}
 use Rattle.model.specs.History.{list_of}
 use Rattle.model.specs.Words.{nth}
-use Rattle.merged_feeds.specs.Files.{AreAlike, AreFromFiles, IsKept}
-use Rattle.merged_feeds.specs.Merges.{BeginsWith, HasNoOrder, HasTheLongest, IsHistoryOf}
+use Rattle.merged_feeds.specs.Files.{AreAlike}
+use Rattle.merged_feeds.specs.Merges.{BeginsWith, HasNoOrder, IsHistoryOf}
 use Rattle.merged_feeds.specs.Walks.{AreHeads, AreStill, IsAllTaken, IsAmong, IsLeft, IsPut}
 use Rattle.merged_feeds.specs.declared.files.FeedPlace.{FeedPlace}
 use Rattle.merged_feeds.specs.declared.files.NodeFile.{NodeFile}

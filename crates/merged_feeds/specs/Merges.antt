@@ -1,11 +1,11 @@
 -- What is due of several files of one network: their history, or why there is none.
 use Rattle.std.specs.List.{list_any}
-use Rattle.std.specs.Prelude.{[], ℕ, ◌&&◌, ◌++◌, ◌+◌, ◌<◌, ◌==◌, ◌≡◌, ◌≢◌, ◌≤◌, ◌⊎◌, Bool, List, Some, filter, length}
+use Rattle.std.specs.Prelude.{[], ℕ, ◌&&◌, ◌++◌, ◌+◌, ◌<◌, ◌==◌, ◌≡◌, ◌≢◌, ◌⊎◌, Bool, List, Some, filter, length}
 use Rattle.std.specs.Prelude.{map, slice_get}
 use Rattle.model.specs.Types.{Body, Entry, Feed}
 use Rattle.model.specs.History.{list_of, maker}
 use Rattle.merged_feeds.specs.Causes.{IsInOrderOfCauses}
-use Rattle.merged_feeds.specs.Files.{AreAlike, AreAlikeAt, AreFromFiles, IsKept}
+use Rattle.merged_feeds.specs.Files.{AreAlikeAt, AreFromFiles, IsKept}
 use Rattle.merged_feeds.specs.declared.files.FeedPlace.{FeedPlace}
 use Rattle.merged_feeds.specs.declared.files.NodeFile.{NodeFile}
 

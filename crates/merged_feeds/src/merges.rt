@@ -1,5 +1,5 @@
 //! The history of several files.
-ghost use Rattle.std.specs.Prelude.{◌≡◌, IfOk};
+ghost use Rattle.std.specs.Prelude.{IfOk};
 ghost use Rattle.std.specs.Result.{IsErrOf};
 ghost use Rattle.model.specs.Fit.{AreFitEntries};
 ghost use Rattle.merged_feeds.specs.Files.{AreAlike, AreFitFiles, ArePlaced};

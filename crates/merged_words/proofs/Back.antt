@@ -1,6 +1,6 @@
 -- The text of a history is read back, since the comments behind it are skipped.
 use Rattle.std.proofs.Common.{[], ℕ, ◌+◌, ◌++◌, ◌||◌, ◌∙◌, ◌∷◌, ◌≡◌, Bool, List, None, Ok, Option, Some, ap, append-nil, append_assoc}
-use Rattle.std.proofs.Common.{codes, decimal, eqb, false, flat_map, if◌then◌else◌, length, map, refl, sym}
+use Rattle.std.proofs.Common.{codes, decimal, eqb, flat_map, if◌then◌else◌, length, map, refl, sym}
 use Rattle.std.specs.List.{AllByRecursion, cons_option, list_any}
 use Rattle.std.specs.Option.{option_map_or}
 use Rattle.std.specs.Prelude.{Err, Result, filter_map, unwrap_or}
@@ -16,7 +16,7 @@ use Rattle.history_laws.proofs.Lines.{each_line, line_first}
 use Rattle.history_laws.proofs.Rows.{entry_lacks, entry_words}
 use Rattle.history_laws.proofs.Whole.{history_back}
 use Rattle.history_script.specs.Fronts.{At}
-use Rattle.history_script.specs.Histories.{entry_at, fault_from, fault_of, history_in, is_start, lines_behind, read_of}
+use Rattle.history_script.specs.Histories.{entry_at, fault_from, fault_of, is_start, lines_behind, read_of}
 use Rattle.history_script.specs.Histories.{start_at, with_rows}
 use Rattle.history_script.specs.Printed.{entry_line, head_text, history_text}
 use Rattle.history_script.specs.Rows.{form_of, row_of}
@@ -57,31 +57,31 @@ comments_skipped net (p ∷ ps) =
 
 no_faults : {X : Type 0} (net : Net) (above : List HistoryRow) (xs : List X) → fault_from net above (skips xs) ≡ None
 no_faults net above [] = refl
-no_faults {X} net above (x ∷ xs) =
-    row_without net above (skips xs) row.Skipped refl ∙ no_faults {X} net (above ++ row.Skipped ∷ []) xs
+no_faults net above (x ∷ xs) =
+    row_without net above (skips xs) row.Skipped refl ∙ no_faults net (above ++ row.Skipped ∷ []) xs
 
 same_faults : {X : Type 0} (net : Net) (above rows : List HistoryRow) (xs : List X)
     → fault_from net above (rows ++ skips xs) ≡ fault_from net above rows
-same_faults {X} net above [] xs = no_faults {X} net above xs
-same_faults {X} net above (r ∷ rows) xs =
+same_faults net above [] xs = no_faults net above xs
+same_faults net above (r ∷ rows) xs =
     ap (option_map_or (λ (k : HistoryKind). Some (length above, k)) (fault_of net (list_any is_start above) r))
-    (same_faults {X} net (above ++ r ∷ []) rows xs)
+    (same_faults net (above ++ r ∷ []) rows xs)
 
 no_meaning : {X Y : Type 0} (f : HistoryRow → Option Y) (xs : List X) → f row.Skipped ≡ None → filter_map f (skips xs) ≡ []
 no_meaning f [] none = refl
-no_meaning {X} {Y} f (x ∷ xs) none =
-    ap (λ (o : Option Y). cons_option o (filter_map f (skips xs))) none ∙ no_meaning {X} {Y} f xs none
+no_meaning {Y = Y} f (x ∷ xs) none =
+    ap (λ (o : Option Y). cons_option o (filter_map f (skips xs))) none ∙ no_meaning f xs none
 
 same_meaning : {X Y : Type 0} (f : HistoryRow → Option Y) (rows : List HistoryRow) (xs : List X) → f row.Skipped ≡ None
     → filter_map f (rows ++ skips xs) ≡ filter_map f rows
-same_meaning {X} {Y} f rows xs none =
-    filter_map-append f rows (skips xs) ∙ ap (λ (l : List Y). filter_map f rows ++ l) (no_meaning {X} {Y} f xs none)
+same_meaning {Y = Y} f rows xs none =
+    filter_map-append f rows (skips xs) ∙ ap (λ (l : List Y). filter_map f rows ++ l) (no_meaning f xs none)
     ∙ append-nil (filter_map f rows)
 
 same_history : {X : Type 0} (line : ℕ) (net : Net) (rows : List HistoryRow) (xs : List X)
     → with_rows line (rows ++ skips xs) net ≡ with_rows line rows net
-same_history {X} line net rows xs =
-    let faults : fault_from net [] (rows ++ skips xs) ≡ fault_from net [] rows = same_faults {X} net [] rows xs in
+same_history line net rows xs =
+    let faults : fault_from net [] (rows ++ skips xs) ≡ fault_from net [] rows = same_faults net [] rows xs in
     let entries : filter_map (entry_at net) (rows ++ skips xs) ≡ filter_map (entry_at net) rows =
     same_meaning (entry_at net) rows xs refl in
     let starts : filter_map (start_at net) (rows ++ skips xs) ≡ filter_map (start_at net) rows =

@@ -1,6 +1,7 @@
 -- What names and files call for, by their parts.
-use Rattle.std.proofs.Common.{[], ◌≡◌, ◌≢◌, ℕ, List, ap, length, refl, subst, sym, ◌∙◌}
+use Rattle.std.proofs.Common.{[], ◌<◌, ◌≡◌, ◌≢◌, ℕ, List, ap, arith, length, refl, subst, sym, ◌∙◌}
 use Rattle.std.specs.Prelude.{◌↔◌}
+use Rattle.base_types.specs.declared.LimitName.TheVariants as limit
 use Rattle.composer_parser.specs.declared.Defs.{Defs}
 use Rattle.event_audit.specs.Items.{IsFirstWrong}
 use Rattle.event_audit.specs.declared.findings.Audit.{Audit}
@@ -12,8 +13,9 @@ use Rattle.merged_feeds.specs.declared.files.FeedPlace.{FeedPlace}
 use Rattle.merged_feeds.specs.declared.files.NodeFile.{NodeFile}
 use Rattle.model.specs.Sound.{IsSound}
 use Rattle.model.specs.Types.{Entry, Net, Start}
+use Rattle.replies.specs.Texts.{limit_line, limit_word}
 use Rattle.replies.specs.declared.statuses.Status.{Status}
-use Rattle.replies.specs.declared.statuses.Status.TheVariants.{NotSound, RecordRefused, SinkFailed, Success}
+use Rattle.replies.specs.declared.statuses.Status.TheVariants.{LimitPassed, NotSound, RecordRefused, SinkFailed, Success}
 use Rattle.merged_words.specs.Dues.{FilesCallFor, HistoryCallsFor, NamesCallFor}
 use Rattle.merged_words.specs.Readings.{AreKnown, Folders, HasFailed, HasOther, HasUnknown}
 use Rattle.merged_words.specs.Replies.{IsReplyTo, IsVerdict}
@@ -66,6 +68,12 @@ audit_called net files G entries starts found n r e s len sound wrong is =
     (λ m same. subst (λ (x : List Entry). IsFirstWrong net x [] m) e
     (subst (λ (y : List Start). IsFirstWrong net entries y m) s (wrong m same)))
     (subst (λ (k : ℕ). IsVerdict found k r) (len ∙ ap length e) is)
+
+-- places that are not counted
+pub too_many_called : (net : Net) (files : List NodeFile) (G : List Entry) (text : List ℕ) → 4294967295 < length G
+    → text ≡ limit_line (limit_word limit.Places) 4294967295 → HistoryCallsFor net files G Audited LimitPassed text
+too_many_called net files G text many is =
+    subst (HistoryCallsFor net files G Audited LimitPassed) (sym is) (HistoryCallsFor.too_many (omega (arith, many)))
 
 pub verdict_said : (found : Audit) (entries : ℕ) (r : Reply) → IsVerdict found entries r → r.status ≢ SinkFailed
 verdict_said audit.Sound entries r is e = let h : Success ≡ SinkFailed = sym is.0 ∙ e in cc

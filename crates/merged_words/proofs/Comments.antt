@@ -56,15 +56,13 @@ comment_free net printable p short =
 short_there : (files : List NodeFile) (G : List Entry) → AllByRecursion InRange G
     → AllByRecursion IsShortPlace (map feed_place (filter (is_first_lacking files) G))
 short_there files [] all = tt
-short_there files (e ∷ G) all = go (is_first_lacking files e)
+short_there files (e ∷ G) all = go (is_first_lacking files e) (short_there files G all.1)
   where
-    rest : AllByRecursion IsShortPlace (map feed_place (filter (is_first_lacking files) G))
-    rest = short_there files G all.1
-
-    go : (b : Bool) → AllByRecursion IsShortPlace
+    go : (b : Bool) → AllByRecursion IsShortPlace (map feed_place (filter (is_first_lacking files) G))
+        → AllByRecursion IsShortPlace
         (map feed_place (cond b (e ∷ filter (is_first_lacking files) G) (filter (is_first_lacking files) G)))
-    go true = (omega (arith, all.0.place), rest)
-    go false = rest
+    go true rest = (omega (arith, all.0.place_), rest)
+    go false rest = rest
 
 pub short_places : (files : List NodeFile) (G : List Entry) → All InRange G
     → AllByRecursion IsShortPlace (places_lacking files G)

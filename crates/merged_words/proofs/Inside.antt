@@ -1,5 +1,5 @@
 -- Entries that name workstations of the network alone.
-use Rattle.std.proofs.Common.{[], ℕ, ◌+◌, ◌++◌, ◌==◌, ◌∷◌, ◌≡◌, Bool, List, None, Option, Some, cond, false, length, refl, true}
+use Rattle.std.proofs.Common.{[], ℕ, ◌+◌, ◌++◌, ◌==◌, ◌∷◌, ◌≡◌, Bool, List, None, Some, cond, false, length, refl, true}
 use Rattle.std.specs.List.{All, AllByRecursion}
 use Rattle.std.proofs.lemmas.List.Elements.{All-from_recursion}
 use Rattle.std.proofs.lemmas.List.Sums.{list_all-from_AllPass}

@@ -1,5 +1,6 @@
 pub mod Comments
 pub mod Back
+pub mod Told
 pub mod Inside
-pub mod Reads
+pub mod FilesRead
 pub mod Calls

@@ -1,9 +1,11 @@
 -- Which status and which text the files of several workstations call for.
-use Rattle.std.specs.Prelude.{[], ℕ, ◌≡◌, ◌≤◌, ◌^◌, List, codes, length}
+use Rattle.std.specs.Prelude.{[], ℕ, ◌≡◌, ◌≤◌, ◌^◌, List, Ok, codes, length}
 use Rattle.base_types.specs.declared.LimitName.TheVariants as limit
 use Rattle.composer_parser.specs.declared.Defs.{Defs}
 use Rattle.event_audit.specs.Items.{IsFirstWrong}
+use Rattle.history_laws.specs.Printables.{as_printed}
 use Rattle.history_laws.specs.Returns.{AreTold}
+use Rattle.history_script.specs.Histories.{read_of}
 use Rattle.merged_feeds.specs.Files.{AreAlike}
 use Rattle.merged_feeds.specs.Merges.{DifferFirstAt, HasNoOrder, IsHistoryOf}
 use Rattle.merged_feeds.specs.declared.files.FeedPlace.{FeedPlace}
@@ -49,3 +51,9 @@ pub data NamesCallFor {F : Type 0} (S : Folders F) (defs : Defs) (names : List (
       → NamesCallFor S defs names wish old new OtherFile (other_file_line place)
   read : {status : Status} {text : List ℕ} (files : List NodeFile) → AreRead S defs names files old new
       → FilesCallFor (net_of defs) files wish status text → NamesCallFor S defs names wish old new status text
+
+-- the text is read to a history of the files, over the network but for FULLSTATUS of managers
+pub record IsReadToHistory (net : Net) (files : List NodeFile) (text : List ℕ) : Type 0 where
+  pub history : List Entry
+  pub merged : IsHistoryOf files history
+  pub read : read_of text ≡ Ok (record { net = as_printed net; entries = history; starts = [] })

@@ -1,5 +1,5 @@
 -- What is replied where there is no history, and to a verdict.
-use Rattle.std.specs.Prelude.{[], ℕ, ◌≡◌, List, codes}
+use Rattle.std.specs.Prelude.{[], ℕ, ◌≡◌, codes}
 use Rattle.event_audit.specs.declared.findings.Audit.{Audit}
 use Rattle.event_audit.specs.declared.findings.Audit.TheVariants.{Not, Sound}
 use Rattle.replies.specs.declared.statuses.Status.TheVariants.{DiskFailed, NotSound, OtherFile, Success, WordsRefused}

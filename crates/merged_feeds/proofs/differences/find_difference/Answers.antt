@@ -4,7 +4,6 @@ use Rattle.model.specs.Types.{Entry}
 use Rattle.model.specs.Sound.{Each, HasItsPlace}
 use Rattle.merged_feeds.specs.Files.{AreAlike}
 use Rattle.merged_feeds.specs.Walks.{DiffersFrom, IsLike}
-use Rattle.merged_feeds.specs.declared.files.NodeFile.{NodeFile}
 use Rattle.merged_feeds.proofs.Alike.{alike_further, alike_nothing, differs_of}
 use Rattle.merged_feeds.proofs.differences.find_difference.Goals as goal
 

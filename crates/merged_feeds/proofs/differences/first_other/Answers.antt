@@ -1,6 +1,5 @@
-use Rattle.std.proofs.Common.{List, subst, sym, take}
+use Rattle.std.proofs.Common.{subst, sym, take}
 use Rattle.lemmas.proofs.Lists.{get_there, take_further, take_none, take_whole}
-use Rattle.model.specs.Types.{Entry}
 use Rattle.merged_feeds.specs.Walks.{IsLike}
 use Rattle.merged_feeds.proofs.Alike.{like_nothing, like_push}
 use Rattle.merged_feeds.proofs.Entries.{differs_here}

@@ -1,4 +1,4 @@
-use Rattle.std.proofs.Common.{sym, ◌∙◌}
+use Rattle.std.proofs.Common.{◌∙◌}
 use Rattle.lemmas.proofs.Options.{none_some}
 use Rattle.model.specs.History.{list_of}
 use Rattle.merged_feeds.proofs.Found.{other_here, same_here}

@@ -1,6 +1,4 @@
-use Rattle.std.proofs.Common.{[], ◌∙◌, ◌∷◌, ap, refl}
-use Rattle.std.specs.Prelude.{slice_get}
-use Rattle.lemmas.proofs.Lists.{get_last}
+use Rattle.std.proofs.Common.{[], ◌∷◌}
 use Rattle.lemmas.proofs.Results.{after_ok}
 use Rattle.merged_feeds.proofs.Listed.{begins_same, pushed_among}
 use Rattle.merged_feeds.proofs.heads.add_head.Goals as goal

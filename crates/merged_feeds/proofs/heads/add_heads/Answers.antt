@@ -1,4 +1,4 @@
-use Rattle.std.proofs.Common.{◌≤◌, arith, subst}
+use Rattle.std.proofs.Common.{subst}
 use Rattle.lemmas.proofs.Lists.{get_there, take_whole}
 use Rattle.merged_feeds.specs.Walks.{AreHeadsOf}
 use Rattle.merged_feeds.proofs.Listed.{begins_same, begins_then, heads_further, heads_nothing}

@@ -1,8 +1,6 @@
 use Rattle.std.proofs.Common.{◌∙◌, arith, subst, sym}
 use Rattle.lemmas.proofs.Lists.{found_within, get_there}
-use Rattle.model.specs.Types.{Entry}
 use Rattle.model.specs.Sound.{Each, HasItsPlace}
-use Rattle.std.proofs.Common.{List}
 use Rattle.merged_feeds.specs.Walks.{AreHeadsOf}
 use Rattle.merged_feeds.proofs.Listed.{below_further}
 use Rattle.merged_feeds.proofs.heads.heads_of.Goals as goal

@@ -1,4 +1,4 @@
-use Rattle.std.proofs.Common.{List, ◌∙◌, ◌≡◌, ap, arith, length, subst, sym}
+use Rattle.std.proofs.Common.{List, ◌∙◌, ap, sym}
 use Rattle.std.specs.Prelude.{slice_get}
 use Rattle.lemmas.proofs.Lists.{get_there}
 use Rattle.model.specs.Types.{Entry}

@@ -4,7 +4,6 @@ use Rattle.lemmas.proofs.Lists.{found_within, get_there}
 use Rattle.lemmas.proofs.Numbers.{below_or_last}
 use Rattle.lemmas.proofs.Options.{some_same}
 use Rattle.merged_feeds.specs.Walks.{IsAllTaken}
-use Rattle.merged_feeds.specs.declared.heads.Head.{Head}
 use Rattle.merged_feeds.proofs.orders.first_left.Goals as goal
 
 pub loop-head-init : goal.loop-head-init

@@ -1,4 +1,4 @@
-use Rattle.std.proofs.Common.{ap, arith, length, subst, sym, ◌∙◌, ◌≡◌}
+use Rattle.std.proofs.Common.{ap, arith, length, sym, ◌∙◌, ◌≡◌}
 use Rattle.lemmas.proofs.Lists.{found_within, get_there}
 use Rattle.lemmas.proofs.Options.{some_same}
 use Rattle.model.specs.History.{list_of}

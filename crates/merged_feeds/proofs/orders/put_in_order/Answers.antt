@@ -1,6 +1,6 @@
-use Rattle.std.proofs.Common.{Bool, List, ◌≡◌, false, refl, subst, sym, true}
+use Rattle.std.proofs.Common.{List, false, subst, sym, true}
 use Rattle.model.specs.Types.{Entry}
-use Rattle.merged_feeds.specs.Walks.{AreStill, IsPut, IsWalked, Moves}
+use Rattle.merged_feeds.specs.Walks.{AreStill, IsPut}
 use Rattle.merged_feeds.proofs.Made.{zeros_before}
 use Rattle.merged_feeds.proofs.Puts.{put_nothing}
 use Rattle.merged_feeds.proofs.orders.put_in_order.Goals as goal

@@ -1,4 +1,4 @@
-use Rattle.std.proofs.Common.{Bool, ◌+◌, ℕ, arith, false, subst, sym}
+use Rattle.std.proofs.Common.{Bool, ◌+◌, arith, false, subst, sym}
 use Rattle.lemmas.proofs.Lists.{get_there}
 use Rattle.merged_feeds.specs.Walks.{Moves}
 use Rattle.merged_feeds.proofs.Fewer.{AreStillBelow, all_still, move_begins, move_one, move_then, still_further}

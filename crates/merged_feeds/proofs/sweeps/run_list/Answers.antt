@@ -1,7 +1,6 @@
-use Rattle.std.proofs.Common.{ℕ, Bool, List, arith, false, length, refl, subst, true}
+use Rattle.std.proofs.Common.{Bool, arith, false, refl, subst, true}
 use Rattle.lemmas.proofs.Lists.{got_below}
-use Rattle.model.specs.Types.{Entry}
-use Rattle.merged_feeds.specs.Walks.{IsStep, IsStepOf}
+use Rattle.merged_feeds.specs.Walks.{IsStepOf}
 use Rattle.merged_feeds.proofs.Fewer.{fewer_next, run_begins, run_ends, run_further, run_nowhere}
 use Rattle.merged_feeds.proofs.sweeps.run_list.Goals as goal
 

@@ -1,4 +1,4 @@
-use Rattle.std.proofs.Common.{Bool, false, subst, sym}
+use Rattle.std.proofs.Common.{Bool, subst, sym}
 use Rattle.merged_feeds.specs.Walks.{Moves}
 use Rattle.merged_feeds.proofs.Fewer.{move_begins, move_then}
 use Rattle.merged_feeds.proofs.sweeps.run_lists.Goals as goal

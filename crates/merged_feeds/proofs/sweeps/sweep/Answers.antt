@@ -1,4 +1,4 @@
-use Rattle.std.proofs.Common.{Bool, List, ◌≡◌, refl, false, subst, sym, true}
+use Rattle.std.proofs.Common.{Bool, List, ◌≡◌, refl, false, subst, true}
 use Rattle.lemmas.proofs.Results.{if_ok}
 use Rattle.model.specs.Types.{Entry}
 use Rattle.merged_feeds.specs.Walks.{AreStill, Moves}

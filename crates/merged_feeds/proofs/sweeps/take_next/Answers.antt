@@ -1,10 +1,7 @@
-use Rattle.std.proofs.Common.{[], ℕ, ◌+◌, ◌++◌, ◌∙◌, ◌∷◌, ◌≡◌, List, None, Option, Some, ap, arith, false, length, refl, subst, sym, true}
-use Rattle.std.specs.Prelude.{slice_get}
+use Rattle.std.proofs.Common.{[], ℕ, ◌+◌, ◌++◌, ◌∙◌, ◌∷◌, ◌≡◌, None, Some, ap, arith, false, length, refl, subst, sym, true}
 use Rattle.lemmas.proofs.Lists.{get_there}
-use Rattle.model.specs.Types.{Body, Entry}
 use Rattle.model.specs.History.{list_of}
-use Rattle.model.specs.Words.{nth}
-use Rattle.merged_feeds.specs.Walks.{AreBehind, TakesNext, next_in}
+use Rattle.merged_feeds.specs.Walks.{AreBehind, TakesNext}
 use Rattle.merged_feeds.proofs.Kept.{kept_by}
 use Rattle.merged_feeds.proofs.Made.{ahead_of, before_on, behind_all}
 use Rattle.merged_feeds.proofs.Puts.{no_less_next}

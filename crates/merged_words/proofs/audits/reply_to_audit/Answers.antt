@@ -1,4 +1,4 @@
-use Rattle.std.proofs.Common.{List, ◌≢◌}
+use Rattle.std.proofs.Common.{List, arith, ◌≢◌}
 use Rattle.lemmas.proofs.Results.{if_ok}
 use Rattle.merged_feeds.specs.declared.files.NodeFile.{NodeFile}
 use Rattle.replies.specs.declared.statuses.Status.TheVariants.{SinkFailed}
@@ -6,8 +6,13 @@ use Rattle.merged_words.specs.Dues.{HistoryCallsFor}
 use Rattle.merged_words.specs.Replies.{IsVerdict}
 use Rattle.merged_words.specs.declared.replying.Reply.{Reply}
 use Rattle.merged_words.specs.declared.replying.Wish.TheVariants.{Audit}
-use Rattle.merged_words.proofs.Calls.{audit_called, verdict_said}
+use Rattle.merged_words.proofs.Calls.{audit_called, too_many_called, verdict_said}
 use Rattle.merged_words.proofs.audits.reply_to_audit.Goals as goal
+
+pub returns-then-history-gt-MOST-clause-due : goal.returns-then-history-gt-MOST-clause-due
+returns-then-history-gt-MOST-clause-due c = λ files.
+    too_many_called c.args.net.now files c.args.history.now c.in_ok-limit_text.field-0
+    (omega (arith, c.if-history-gt-MOST.true)) c.in_ok-limit_text.ensures
 
 pub returns-clause-due : goal.returns-clause-due
 returns-clause-due c =

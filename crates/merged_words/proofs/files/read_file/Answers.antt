@@ -1,4 +1,4 @@
-use Rattle.std.proofs.Common.{Err, IfSome, Some, ap, subst, sym, ◌<◌, ◌≡◌, ◌∙◌, ℕ}
+use Rattle.std.proofs.Common.{Err, IfSome, ap, subst, sym, ◌<◌, ◌≡◌, ◌∙◌, ℕ}
 use Rattle.entry_files.specs.Entries.{IsRefused}
 use Rattle.kept_files.specs.Growth.{OnlyKeepsMore}
 use Rattle.kept_files.specs.declared.faults.FileFault.{FileFault}
@@ -7,7 +7,7 @@ use Rattle.model.specs.Network.{node_count}
 use Rattle.model.specs.Types.{Net}
 use Rattle.merged_words.specs.Readings.{IsOther, folders}
 use Rattle.merged_words.proofs.Inside.{inside_restored}
-use Rattle.merged_words.proofs.Reads.{file_read, file_refused, found_inside_net}
+use Rattle.merged_words.proofs.FilesRead.{file_read, file_refused, found_inside_net}
 use Rattle.merged_words.proofs.files.read_file.Goals as goal
 
 pub returns-in_default-clause-unknown : goal.returns-in_default-clause-unknown
@@ -23,14 +23,14 @@ returns-in_err-file-clause-looks g c =
 
 pub read_entries-requires : goal.read_entries-requires
 read_entries-requires g c =
-    subst (λ (net : Net). c.in-Some.owner < node_count net) (sym c.requires)
+    subst (λ (net : Net). c.in-Some.owner < node_count net) (sym c.requires.net)
     (found_inside_net c.args.workload.now c.args.name.now c.in-Some.owner (sym c.in-Some.ensures))
 
 pub returns-in-Ok-clause-read : goal.returns-in-Ok-clause-read
 returns-in-Ok-clause-read g c =
     file_read (folders g.F.Folder.seen g.F.Folder.becomes g.F.Folder.faults) c.args.workload.now c.args.net.now
     c.args.name.now c.as_str.result.now (record { owner = c.in-Some.owner; kept = c.in-Ok.kept }) c.args.folder.now
-    c.read_entries.new.folder c.requires (c.as_str.ensures.value ∙ c.in_ok-file.ensures) (sym c.in-Some.ensures)
+    c.read_entries.new.folder c.requires.net (c.as_str.ensures.value ∙ c.in_ok-file.ensures) (sym c.in-Some.ensures)
     c.in-Ok.ensures.kept c.in-Ok.ensures.front
 
 pub returns-in-Ok-clause-inside : goal.returns-in-Ok-clause-inside
@@ -50,7 +50,7 @@ returns-in-Err-NotThisFile-clause-other g c = λ place same.
     → IfSome (S.seen new bytes) (IsRefused c.args.net.now me fault))
     c.in-Err-NotThisFile.field-0-is c.in-Err-NotThisFile.ensures.refused in
     subst (λ (n : ℕ). IsOther S c.args.workload.now c.args.name.now n old new) is
-    (file_refused S c.args.workload.now c.args.net.now c.args.name.now bytes me c.in-Err-NotThisFile.place old new c.requires
+    (file_refused S c.args.workload.now c.args.net.now c.args.name.now bytes me c.in-Err-NotThisFile.place old new c.requires.net
     (c.as_str.ensures.value ∙ c.in_ok-file.ensures) (sym c.in-Some.ensures) other)
 
 pub returns-in-Err-Folder-clause-failed : goal.returns-in-Err-Folder-clause-failed

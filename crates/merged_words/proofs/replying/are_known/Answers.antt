@@ -1,6 +1,6 @@
 use Rattle.std.proofs.Common.{sym}
 use Rattle.lemmas.proofs.Lists.{get_there}
-use Rattle.merged_words.proofs.Reads.{known_all, known_further, known_nothing}
+use Rattle.merged_words.proofs.FilesRead.{known_all, known_further, known_nothing}
 use Rattle.merged_words.proofs.replying.are_known.Goals as goal
 
 pub loop-name-init : goal.loop-name-init

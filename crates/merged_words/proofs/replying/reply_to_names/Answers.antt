@@ -1,4 +1,4 @@
-use Rattle.std.proofs.Common.{Err, List, ap, subst, sym, ◌≡◌, ◌≢◌, ◌∙◌}
+use Rattle.std.proofs.Common.{Err, List, ap, subst, sym, ◌≢◌}
 use Rattle.lemmas.proofs.Results.{if_ok}
 use Rattle.kept_files.proofs.Looked.{no_looks}
 use Rattle.merged_feeds.specs.Files.{AreFitFiles, ArePlaced}
@@ -37,11 +37,12 @@ returns-in_err-net-clause-looks g c =
 
 pub reply_to_files-requires : goal.reply_to_files-requires
 reply_to_files-requires g c =
-    let same = sym c.as_slice.ensures in (
-      subst ArePlaced same c.in-Ok.ensures.placed,
-      subst AreFitFiles same c.in-Ok.ensures.fit,
-      subst (AreInsideFiles c.in_ok-net.net) same c.in-Ok.ensures.inside,
-    )
+    let same = sym c.as_slice.ensures in
+    record {
+      placed = subst ArePlaced same c.in-Ok.ensures.placed;
+      fit = subst AreFitFiles same c.in-Ok.ensures.fit;
+      inside = subst (AreInsideFiles c.in_ok-net.net) same c.in-Ok.ensures.inside;
+    }
 
 pub returns-in-Ok-clause-due : goal.returns-in-Ok-clause-due
 returns-in-Ok-clause-due g c =
@@ -58,8 +59,8 @@ returns-in-Ok-clause-due g c =
     (subst (λ (n : Net). FilesCallFor n c.as_slice.result.now wish r.status r.text) c.in_ok-net.ensures h)))
     c.reply_to_files.ensures.due
 
-pub returns-in-Err-clause-due : goal.returns-in-Err-clause-due
-returns-in-Err-clause-due g c =
+pub returns-clause-due : goal.returns-clause-due
+returns-clause-due g c =
     let S = folders g.F.Folder.seen g.F.Folder.becomes g.F.Folder.faults in
     let defs = c.args.workload.now in
     let names = c.args.names.now in
@@ -72,7 +73,7 @@ returns-in-Err-clause-due g c =
     (λ e. c.in-Err.ensures.unknown (ap Err e)) (λ e. c.in-Err.ensures.failed (ap Err e))
     (λ place e. c.in-Err.ensures.other place (ap Err e)) is) c.reply_unread.ensures
 
-pub returns-in-Err-clause-said : goal.returns-in-Err-clause-said
-returns-in-Err-clause-said g c =
+pub returns-clause-said : goal.returns-clause-said
+returns-clause-said g c =
     if_ok (IsReplyTo c.in-Err.why) (λ (r : Reply). r.status ≢ SinkFailed) c.reply_unread.result (reply_said c.in-Err.why)
     c.reply_unread.ensures

@@ -4,7 +4,7 @@ use Rattle.entry_files.specs.Entries.{IsRefused}
 use Rattle.kept_files.specs.Growth.{OnlyKeepsMore}
 use Rattle.kept_files.specs.declared.faults.FileFault.{FileFault}
 use Rattle.merged_words.specs.Readings.{folders}
-use Rattle.merged_words.proofs.Reads.{found_inside_net}
+use Rattle.merged_words.proofs.FilesRead.{found_inside_net}
 use Rattle.model.specs.Network.{node_count}
 use Rattle.model.specs.Types.{Net}
 use Rattle.view_words.specs.Dues.{text_of}

@@ -1,10 +1,10 @@
 -- Files that are read one after the other.
-use Rattle.std.proofs.Common.{[], ℕ, ◌+◌, ◌++◌, ◌<◌, ◌≤◌, ◌∙◌, ◌∷◌, ◌≡◌, IfSome, List, None, Option, Some, ap, arith, bytes_eq, inl, inr}
-use Rattle.std.proofs.Common.{length, length-append, refl, subst, sym, take}
+use Rattle.std.proofs.Common.{[], ℕ, ◌+◌, ◌++◌, ◌<◌, ◌≤◌, ◌∙◌, ◌∷◌, ◌≡◌, IfSome, List, Some, ap, arith, bytes_eq, inl, inr}
+use Rattle.std.proofs.Common.{length, length-append, subst, sym, take}
 use Rattle.std.proofs.lemmas.List.{length-map}
 use Rattle.std.proofs.lemmas.Option.{slice_get_within}
 use Rattle.std.specs.Prelude.{slice_get}
-use Rattle.lemmas.proofs.Lists.{found_within, get_there, take_further, take_none, take_whole}
+use Rattle.lemmas.proofs.Lists.{found_within, take_further, take_none, take_whole}
 use Rattle.lemmas.proofs.Options.{none_some}
 use Rattle.composer_parser.specs.declared.CpuDef.{CpuDef}
 use Rattle.composer_parser.specs.declared.Defs.{Defs}
@@ -20,7 +20,7 @@ use Rattle.outside.specs.Causes.{Rose}
 use Rattle.workload_defs.specs.Nets.{net_of, node_of}
 use Rattle.workload_defs.specs.Stations.{number_of, stations}
 use Rattle.workload_defs.proofs.Lists.{first_there}
-use Rattle.merged_words.specs.Readings.{AreKnown, AreRead, Folders, HasFailed, HasOther, HasRead, HasUnknown, IsFileOf}
+use Rattle.merged_words.specs.Readings.{AreKnown, AreRead, Folders, HasFailed, HasOther, IsFileOf}
 use Rattle.merged_words.specs.Readings.{IsOther, IsReached, Looks, file_of}
 
 -- a workstation that is found is one of the network
@@ -228,6 +228,7 @@ module _ {F : Type 0} (S : Folders F) (defs : Defs) where
   pub other_there : (names : List (List ℕ)) (i place : ℕ) (name : List ℕ) (files : List NodeFile) (old mid new : F)
       → slice_get names i ≡ Some name → AreRead S defs (take i names) files old mid → Looks S old mid → Looks S mid new
       → IsOther S defs name place mid new → HasOther S defs names place old new
+  unfolding reached
   other_there names i place name files old mid new there r before looks other =
       record {
         number = i;

@@ -1,5 +1,5 @@
 -- Which status and which text are due.
-use Rattle.std.specs.Prelude.{[], ℕ, ◌++◌, ◌≡◌, List, None, Option, Some, codes, flat_map}
+use Rattle.std.specs.Prelude.{[], ℕ, ◌≡◌, List, None, Option, Some, codes, flat_map}
 use Rattle.composer_parser.specs.declared.Defs.{Defs}
 use Rattle.merged_words.specs.Dues.{NamesCallFor}
 use Rattle.merged_words.specs.Readings.{Folders, HasRead}

@@ -5,11 +5,9 @@ use Rattle.std.specs.Char.{to_ascii_uppercase}
 use Rattle.std.specs.Str.{bytes_eq}
 use Rattle.merged_words.specs.declared.replying.Wish.{Wish}
 use Rattle.merged_words.specs.declared.replying.Wish.TheVariants.{Audit, History}
-use Rattle.night_views.specs.declared.replying.NightWish.{NightWish}
 use Rattle.night_views.specs.declared.replying.NightWish.TheVariants.{Log, Runs}
 use Rattle.view_words.specs.declared.forms.Asked.{Asked}
 use Rattle.view_words.specs.declared.forms.Asked.TheVariants.{File, Night}
-use Rattle.view_words.specs.declared.forms.Look.{Look}
 use Rattle.view_words.specs.declared.forms.Look.TheVariants.{Kept, Why}
 
 -- what the first word asks of one workstation

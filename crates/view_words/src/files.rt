@@ -1,9 +1,8 @@
 //! What the file of a workstation calls for.
-ghost use Rattle.std.specs.Prelude.{◌<◌, ◌≡◌, ◌≢◌, IfErr, IfOk, IfSome, List, Some};
+ghost use Rattle.std.specs.Prelude.{◌<◌, ◌≡◌, ◌≢◌, IfOk, Some};
 ghost use Rattle.std.specs.Option.{option_copied};
 ghost use Rattle.std.specs.Result.{IsErrOf};
 ghost use Rattle.std.specs.String.{string_bytes};
-ghost use Rattle.kept_files.specs.Growth.{OnlyKeepsMore};
 ghost use Rattle.kept_files.specs.Looking.{OnlyLooks};
 ghost use Rattle.merged_words.specs.Readings.{file_of, folders};
 ghost use Rattle.model.specs.Network.{node_count};

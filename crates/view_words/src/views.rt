@@ -1,6 +1,5 @@
 //! The call.
-ghost use Rattle.std.specs.Prelude.{◌∷◌, ◌≡◌, ◌≢◌, ◌⊎◌, [], IfErr, IfOk, List, None, Option, Some, ℕ};
-ghost use Rattle.std.specs.Option.{option_copied};
+ghost use Rattle.std.specs.Prelude.{◌∷◌, ◌≡◌, ◌≢◌, ◌⊎◌, [], IfOk, List, None, Some, ℕ};
 ghost use Rattle.std.specs.Result.{IsErrOf};
 ghost use Rattle.kept_files.specs.Looking.{OnlyLooks};
 ghost use Rattle.merged_words.specs.Readings.{folders};

@@ -16,8 +16,7 @@ use Rattle.night_texts.specs.Lines.{log_of, timed_line}
 use Rattle.night_texts.specs.Marks.{marks_of}
 use Rattle.moment_texts.specs.Moments.{moment_text}
 use Rattle.night_texts.specs.Names.{job_called, job_text, numbered, stream_called, stream_text}
-use Rattle.night_texts.specs.Runs.{end_text, job_runs, marked_run, member_runs, numbered_job_runs, plan_runs}
-use Rattle.night_texts.specs.Runs.{run_heads, run_line, run_lines, runs_of}
+use Rattle.night_texts.specs.Runs.{all_runs, end_text, job_runs, marked_run, run_heads, run_line, run_lines, runs_of}
 use Rattle.night_texts.specs.Sayings.{launch_text, says}
 use Rattle.night_texts.specs.Times.{span_text}
 
@@ -144,10 +143,19 @@ second_run =
 ran : runs_of two
     (plan ∷ own 1 (Launched 1 1 []) ∷ own 2 (Ended 1 1 (pos 8) false) ∷ own 3 (Launched 1 2 []) ∷ [])
     (None ∷ None ∷ None ∷ None ∷ [])
-    ≡ run_heads ++ (((first_run ++ (second_run ++ [])) ++ []) ++ [])
-unfolding everything two a_job night entry plan own name_of job_text marks_of job_runs marked_run member_runs
-    numbered_job_runs plan_runs run_line run_lines runs_of span_text end_text first_run second_run
+    ≡ run_heads ++ ((first_run ++ (second_run ++ [])) ++ [])
+unfolding everything two a_job night entry plan own name_of job_text marks_of job_runs marked_run all_runs run_line
+    run_lines runs_of span_text end_text first_run second_run
 ran = refl
+
+-- a job that the next plan does not carry
+ran_before : runs_of two
+    (plan ∷ own 1 (Launched 1 1 []) ∷ own 2 (Ended 1 1 (pos 8) false) ∷ entry (Events 0) 2 (NewPlan 13 [] [] []) ∷ [])
+    (None ∷ None ∷ None ∷ None ∷ [])
+    ≡ run_heads ++ ((first_run ++ []) ++ [])
+unfolding everything two a_job night entry plan own name_of job_text marks_of job_runs marked_run all_runs run_line
+    run_lines runs_of span_text end_text first_run
+ran_before = refl
 
 lasted : span_text (Some 180483) (Some 180584)
     ≡ moment_text 180483 ++ codes "\t" ++ moment_text 180584 ++ codes "\t" ++ decimal 101

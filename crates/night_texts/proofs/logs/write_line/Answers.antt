@@ -12,6 +12,7 @@ returns c =
       c.in_ok-write_saying.ensures,
       c.in_ok-write.ensures.bytes,
       c.name.ensures,
+      c.net.ensures.value,
       c.maker.ensures,
       c.in_ok-write_time.ensures,
     )

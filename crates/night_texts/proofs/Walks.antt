@@ -1,6 +1,6 @@
 -- Walks over entries beside their times, and over marks.
 use Rattle.std.proofs.Common.{[], ℕ, ◌+◌, ◌++◌, ◌∙◌, ◌∷◌, ◌≡◌, ◌≤◌, Bool, List, None, Option, Some, ap, add-one, cond}
-use Rattle.std.proofs.Common.{drop, false, filter_map, flat_map, length, refl, sym, true}
+use Rattle.std.proofs.Common.{drop, false, flat_map, length, refl, sym, true}
 use Rattle.std.proofs.Common.{get_or, slice_get, ◌<◌}
 use Rattle.std.proofs.lemmas.List.{append-nil}
 use Rattle.std.proofs.lemmas.Option.{slice_get-get_or}

@@ -1,6 +1,6 @@
 -- What is told of a small night, worked out: texts from the meaning of the entries, not from the program.
 use Rattle.std.specs.Fmt.{decimal}
-use Rattle.std.specs.Prelude.{◌++◌, ◌≡◌, ℕ, ◌∷◌, [], List, None, Option, Some, codes, false, pos, refl, true}
+use Rattle.std.specs.Prelude.{◌++◌, ◌≡◌, ℕ, ◌∷◌, [], List, None, Some, codes, false, pos, refl, true}
 use Rattle.model.specs.Types.{AddDep, Body, Carry, Command, Declined, Dep, Ended, Entry, Events, Feed, FollowsJob}
 use Rattle.model.specs.Types.{Fulfilled}
 use Rattle.model.specs.Types.{Job, JobDoc, Kill, Launched, Lost, Net, NewPlan, NotRunning, Obeyed, Order, Orders}
@@ -9,7 +9,7 @@ use Rattle.model.specs.Types.{Recovery, Released, StreamDoc}
 use Rattle.model.specs.History.{view_of}
 use Rattle.model.specs.Everything.{everything}
 use Rattle.report_text.specs.Names.{name_of}
-use Rattle.syntax.specs.Quotes.{quoted_text, unquoted}
+use Rattle.syntax.specs.Quotes.{quoted_text}
 use Rattle.night_texts.specs.Commands.{cmd_text, order_from, ordered_behind}
 use Rattle.night_texts.specs.Dependencies.{dep_behind, dep_text, object_dep}
 use Rattle.night_texts.specs.Lines.{log_of, timed_line}

@@ -1,6 +1,6 @@
 -- Walks over entries beside their times, and over marks.
 use Rattle.std.proofs.Common.{[], ℕ, ◌+◌, ◌++◌, ◌∙◌, ◌∷◌, ◌≡◌, ◌≤◌, Bool, List, None, Option, Some, ap, add-one, cond}
-use Rattle.std.proofs.Common.{drop, false, filter_map, flat_map, length, refl, sym, true}
+use Rattle.std.proofs.Common.{drop, false, flat_map, length, refl, sym, true}
 use Rattle.std.proofs.Common.{get_or, slice_get, ◌<◌}
 use Rattle.std.proofs.lemmas.List.{append-nil}
 use Rattle.std.proofs.lemmas.Option.{slice_get-get_or}
@@ -16,7 +16,7 @@ use Rattle.owner_rows.proofs.Keys.{key_tells}
 use Rattle.owner_rows.specs.Tables.{same_key}
 use Rattle.night_texts.specs.Times.{Timed}
 use Rattle.night_texts.specs.Marks.{Key, marks_of, told, under}
-use Rattle.night_texts.specs.Runs.{Marks, plan_runs, run_heads, runs_of}
+use Rattle.night_texts.specs.Runs.{Marks, all_runs, run_heads, runs_of}
 use Rattle.night_texts.specs.Tables.{marks_at}
 use Rattle.night_texts.specs.declared.marks.Mark.{Mark}
 use Rattle.night_texts.specs.declared.tables.MarkTable.{MarkTable}
@@ -134,10 +134,10 @@ marks_whole q entries times i whole now h before =
 -- the text of all launches, by a table that tells of all entries
 pub runs_told : (net : Net) (kept entries : List Entry) (times : List (Option ℕ)) (table : MarkTable)
     (before text bytes : List ℕ) → entries ≡ kept → marks_at table ≡ (λ q. marks_of q (zip entries times))
-    → before ≡ [] → text ≡ before ++ (run_heads ++ plan_runs net (view_of kept) (marks_at table)) → bytes ≡ text
+    → before ≡ [] → text ≡ before ++ (run_heads ++ all_runs net (view_of kept) (marks_at table)) → bytes ≡ text
     → bytes ≡ runs_of net kept times
 unfolding runs_of
 runs_told net kept entries times table before text bytes same marks none is whole =
-    whole ∙ is ∙ ap (λ l. l ++ (run_heads ++ plan_runs net (view_of kept) (marks_at table))) none
-    ∙ ap (λ (m : Marks). run_heads ++ plan_runs net (view_of kept) m)
+    whole ∙ is ∙ ap (λ l. l ++ (run_heads ++ all_runs net (view_of kept) (marks_at table))) none
+    ∙ ap (λ (m : Marks). run_heads ++ all_runs net (view_of kept) m)
     (marks ∙ ap (λ (l : List Entry). λ (q : Key). marks_of q (zip l times)) same)

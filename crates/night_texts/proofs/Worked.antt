@@ -1,6 +1,6 @@
 -- What is told of a small night, worked out: texts from the meaning of the entries, not from the program.
 use Rattle.std.specs.Fmt.{decimal}
-use Rattle.std.specs.Prelude.{◌++◌, ◌≡◌, ℕ, ◌∷◌, [], List, None, Option, Some, codes, false, pos, refl, true}
+use Rattle.std.specs.Prelude.{◌++◌, ◌≡◌, ℕ, ◌∷◌, [], List, None, Some, codes, false, pos, refl, true}
 use Rattle.model.specs.Types.{AddDep, Body, Carry, Command, Declined, Dep, Ended, Entry, Events, Feed, FollowsJob}
 use Rattle.model.specs.Types.{Fulfilled}
 use Rattle.model.specs.Types.{Job, JobDoc, Kill, Launched, Lost, Net, NewPlan, NotRunning, Obeyed, Order, Orders}
@@ -9,15 +9,14 @@ use Rattle.model.specs.Types.{Recovery, Released, StreamDoc}
 use Rattle.model.specs.History.{view_of}
 use Rattle.model.specs.Everything.{everything}
 use Rattle.report_text.specs.Names.{name_of}
-use Rattle.syntax.specs.Quotes.{quoted_text, unquoted}
+use Rattle.syntax.specs.Quotes.{quoted_text}
 use Rattle.night_texts.specs.Commands.{cmd_text, order_from, ordered_behind}
 use Rattle.night_texts.specs.Dependencies.{dep_behind, dep_text, object_dep}
 use Rattle.night_texts.specs.Lines.{log_of, timed_line}
 use Rattle.night_texts.specs.Marks.{marks_of}
 use Rattle.moment_texts.specs.Moments.{moment_text}
 use Rattle.night_texts.specs.Names.{job_called, job_text, numbered, stream_called, stream_text}
-use Rattle.night_texts.specs.Runs.{end_text, job_runs, marked_run, member_runs, numbered_job_runs, plan_runs}
-use Rattle.night_texts.specs.Runs.{run_heads, run_line, run_lines, runs_of}
+use Rattle.night_texts.specs.Runs.{all_runs, end_text, job_runs, marked_run, run_heads, run_line, run_lines, runs_of}
 use Rattle.night_texts.specs.Sayings.{launch_text, says}
 use Rattle.night_texts.specs.Times.{span_text}
 
@@ -144,10 +143,19 @@ second_run =
 ran : runs_of two
     (plan ∷ own 1 (Launched 1 1 []) ∷ own 2 (Ended 1 1 (pos 8) false) ∷ own 3 (Launched 1 2 []) ∷ [])
     (None ∷ None ∷ None ∷ None ∷ [])
-    ≡ run_heads ++ (((first_run ++ (second_run ++ [])) ++ []) ++ [])
-unfolding everything two a_job night entry plan own name_of job_text marks_of job_runs marked_run member_runs
-    numbered_job_runs plan_runs run_line run_lines runs_of span_text end_text first_run second_run
+    ≡ run_heads ++ ((first_run ++ (second_run ++ [])) ++ [])
+unfolding everything two a_job night entry plan own name_of job_text marks_of job_runs marked_run all_runs run_line
+    run_lines runs_of span_text end_text first_run second_run
 ran = refl
+
+-- a job that the next plan does not carry
+ran_before : runs_of two
+    (plan ∷ own 1 (Launched 1 1 []) ∷ own 2 (Ended 1 1 (pos 8) false) ∷ entry (Events 0) 2 (NewPlan 13 [] [] []) ∷ [])
+    (None ∷ None ∷ None ∷ None ∷ [])
+    ≡ run_heads ++ ((first_run ++ []) ++ [])
+unfolding everything two a_job night entry plan own name_of job_text marks_of job_runs marked_run all_runs run_line
+    run_lines runs_of span_text end_text first_run
+ran_before = refl
 
 lasted : span_text (Some 180483) (Some 180584)
     ≡ moment_text 180483 ++ codes "\t" ++ moment_text 180584 ++ codes "\t" ++ decimal 101

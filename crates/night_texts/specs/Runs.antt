@@ -1,12 +1,11 @@
--- When each job of the plan ran.
+-- When each job ran.
 use Rattle.std.specs.Fmt.{decimal, signed_decimal}
 use Rattle.std.specs.List.{zip}
-use Rattle.std.specs.Option.{option_map_or}
 use Rattle.std.specs.Prelude.{[], ℕ, ◌++◌, ◌==◌, ◌∷◌, Bool, List, None, Option, Some, codes, false, find}
 use Rattle.std.specs.Prelude.{flat_map, option_and_then}
-use Rattle.model.specs.Types.{Entry, JobDoc, Net, StreamDoc}
+use Rattle.model.specs.Types.{Entry, Net}
 use Rattle.model.specs.History.{View, view_of}
-use Rattle.model.specs.Catalogue.{StreamJob, job, members, stream}
+use Rattle.model.specs.Catalogue.{StreamJob, jobs}
 use Rattle.report_text.specs.Bodies.{end_word}
 use Rattle.night_texts.specs.Marks.{Key, marks_of}
 use Rattle.night_texts.specs.Names.{job_text}
@@ -70,21 +69,14 @@ Marks = Key → List Mark
 unfoldable pub job_runs : Net → Marks → StreamJob → List ℕ
 job_runs net marks p = run_lines net p (marks (p.doc.ws, p.doc.no))
 
--- those of the job of a document, of a member, and of all members
-unfoldable pub numbered_job_runs : Net → View → Marks → JobDoc → List ℕ
-numbered_job_runs net V marks d = option_map_or (job_runs net marks) (job V d.no) []
-
-unfoldable pub member_runs : Net → View → Marks → ℕ → List ℕ
-member_runs net V marks s =
-    option_map_or (λ (d : StreamDoc). flat_map (numbered_job_runs net V marks) d.jobs) (stream V s) []
-
-unfoldable pub plan_runs : Net → View → Marks → List ℕ
-plan_runs net V marks = flat_map (member_runs net V marks) (members V)
+-- those of all jobs, plan by plan
+unfoldable pub all_runs : Net → View → Marks → List ℕ
+all_runs net V marks = flat_map (job_runs net marks) (jobs V)
 
 -- what names the columns
 abbrev pub run_heads : List ℕ
 run_heads = codes "job\tlaunch\tbegin\tend\tseconds\trc\toutcome\n"
 
--- the launches of the jobs of the plan, in its order, where each entry has its time
+-- the launches of all jobs, where each entry has its time
 unfoldable pub runs_of : Net → List Entry → List (Option ℕ) → List ℕ
-runs_of net kept times = run_heads ++ plan_runs net (view_of kept) (λ q. marks_of q (zip kept times))
+runs_of net kept times = run_heads ++ all_runs net (view_of kept) (λ q. marks_of q (zip kept times))

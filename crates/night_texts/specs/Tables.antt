@@ -2,7 +2,6 @@
 use Rattle.std.specs.Prelude.{[], List, unwrap_or}
 use Rattle.indexmap.specs.IndexMap.{get}
 use Rattle.owner_rows.specs.Tables.{same_key}
-use Rattle.night_texts.specs.Times.{Timed}
 use Rattle.night_texts.specs.Marks.{Key}
 use Rattle.night_texts.specs.declared.marks.Mark.{Mark}
 use Rattle.night_texts.specs.declared.tables.MarkTable.{MarkTable}

@@ -1,5 +1,5 @@
 use Rattle.night_texts.proofs.Walks.{runs_told}
-use Rattle.night_texts.proofs.plans.print_runs.Goals as goal
+use Rattle.night_texts.proofs.jobs.print_runs.Goals as goal
 
 pub returns-in-Ok : goal.returns-in-Ok
 returns-in-Ok c =

@@ -9,8 +9,7 @@ use Rattle.night_times.proofs.nights.read_times.Goals as goal
 pub loop-w-init : goal.loop-w-init
 loop-w-init g c =
     let told = none_told (telling g.F.Folder.seen g.F.Folder.becomes g.F.Folder.faults) c.args.net.now c.args.me
-    c.args.entries.now c.args.folder.now c.new-known.result c.new-known.ensures in
-    (
+    c.args.entries.now c.args.folder.now c.new-known.result c.new-known.ensures in (
       no_looks g.F.Folder.seen g.F.Folder.becomes g.F.Folder.faults c.args.folder.now,
       told.0,
       told.1,
@@ -22,8 +21,7 @@ loop-w-preserved g c =
     let inv = c.loop-w.invariant in
     let told = one_more_told (telling g.F.Folder.seen g.F.Folder.becomes g.F.Folder.faults) c.args.net.now c.args.me
     c.args.entries.now c.loop-w.w c.args.folder.now c.loop-w.folder c.tell_station.new.folder c.loop-w.known
-    c.tell_station.new.known (inv.1, inv.2, inv.3) c.in_ok-tell_station.ensures.learns in
-    (
+    c.tell_station.new.known (inv.1, inv.2, inv.3) c.in_ok-tell_station.ensures.learns in (
       more_looks g.F.Folder.seen g.F.Folder.becomes g.F.Folder.faults c.args.folder.now c.loop-w.folder
           c.tell_station.new.folder inv.0 c.tell_station.ensures.looks,
       told.0,

@@ -97,18 +97,20 @@ fn reply_to_file<F: Folder>(
     let file = file_name(alloc, name)?;
     match read_entries(alloc, folder, file.as_str(), &net, me) {
         Ok(entries) => reply_to_entries(alloc, wish, &net, me, &entries, folder),
-        Err(FileFault::NotThisFile(place)) => {
-            let text = other_file(alloc, place)?;
-            Ok(NightReply {
-                status: Status::OtherFile,
-                text,
-            })
-        }
-        Err(FileFault::Folder) => Ok(NightReply {
-            status: Status::DiskFailed,
-            text: Items::new(alloc),
-        }),
-        Err(FileFault::NoMemory) => Err(NoMemory),
+        Err(fault) => match fault {
+            FileFault::NotThisFile(place) => {
+                let text = other_file(alloc, place)?;
+                Ok(NightReply {
+                    status: Status::OtherFile,
+                    text,
+                })
+            }
+            FileFault::Folder => Ok(NightReply {
+                status: Status::DiskFailed,
+                text: Items::new(alloc),
+            }),
+            FileFault::NoMemory => Err(NoMemory),
+        },
     }
 }
 

@@ -67,6 +67,7 @@ fn reply_to_entries<F: Folder>(
 ) -> Result<NightReply, NoMemory>
     ensures told { IfOk result (IsTold (telling F.seen F.becomes F.faults) net.now me entries.now wish
         folder.old folder.new) }
+    ensures said { IfOk result (λ r. r.status ≢ SinkFailed) }
     ensures looks { OnlyLooks F.seen F.becomes F.faults folder.old folder.new }
 {
     let times = read_times(alloc, folder, net, me, entries)?;

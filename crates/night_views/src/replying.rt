@@ -1,8 +1,7 @@
 //! What is replied to a word and the name of a workstation.
-ghost use Rattle.std.specs.Prelude.{◌++◌, ◌<◌, ◌≡◌, ◌≢◌, IfOk, Some};
+ghost use Rattle.std.specs.Prelude.{◌≡◌, ◌≢◌, IfOk, Some};
 ghost use Rattle.std.specs.String.{string_bytes};
 ghost use Rattle.kept_files.specs.Looking.{OnlyLooks};
-ghost use Rattle.model.specs.Network.{node_count};
 ghost use Rattle.night_times.specs.Logs.{telling};
 ghost use Rattle.replies.specs.declared.statuses.Status.TheVariants.{SinkFailed};
 ghost use Rattle.workload_defs.specs.Nets.{net_of};

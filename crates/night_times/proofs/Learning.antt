@@ -6,6 +6,7 @@ use Rattle.std.proofs.lemmas.List.{append-nil, nil_from_length}
 use Rattle.entry_files.specs.Entries.{IsRefused, KeepsEntries}
 use Rattle.kept_files.specs.Growth.{OnlyKeepsMore}
 use Rattle.kept_files.specs.Looking.{OnlyLooks}
+use Rattle.kept_files.specs.declared.faults.FileFault.{FileFault}
 use Rattle.kept_files.specs.declared.faults.FileFault.TheVariants.{NotThisFile}
 use Rattle.lemmas.proofs.Booleans.{and_parts}
 use Rattle.lemmas.proofs.Results.{if_ok}
@@ -59,11 +60,13 @@ module _ {F : Type 0} (T : Telling F) (net : Net) (w : ℕ) where
         adds = adds_none known;
       }
 
-  pub learns_refused : (former last name : List ℕ) (old new : F) (known : EntryTimes) (place : ℕ)
-      → name ≡ name_of net w ++ codes ".msg" → OnlyLooks T.seen T.becomes T.faults old new
-      → (OnlyKeepsMore (T.becomes old) w name → IfSome (T.seen new name) (IsRefused net w (NotThisFile place)))
+  pub learns_refused : (former last name : List ℕ) (old new : F) (known : EntryTimes) (fault : FileFault) {place : ℕ}
+      → fault ≡ NotThisFile place → name ≡ name_of net w ++ codes ".msg" → OnlyLooks T.seen T.becomes T.faults old new
+      → (OnlyKeepsMore (T.becomes old) w name → IfSome (T.seen new name) (IsRefused net w fault))
       → LearnsOf T net w former last old new known known
-  learns_refused former last name old new known place is looks refused =
+  learns_refused former last name old new known fault {place} other is looks refused =
+      let named = subst
+      (λ (n : List ℕ). OnlyKeepsMore (T.becomes old) w n → IfSome (T.seen new n) (IsRefused net w fault)) is refused in
       record {
         own = [];
         tells = FileTells.none old new (record {
@@ -71,8 +74,8 @@ module _ {F : Type 0} (T : Telling F) (net : Net) (w : ℕ) where
           cause = inr (
             place,
             subst
-                (λ (n : List ℕ). OnlyKeepsMore (T.becomes old) w n
-                → IfSome (T.seen new n) (IsRefused net w (NotThisFile place))) is refused,
+                (λ (f : FileFault). OnlyKeepsMore (T.becomes old) w (name_of net w ++ codes ".msg")
+                → IfSome (T.seen new (name_of net w ++ codes ".msg")) (IsRefused net w f)) other named,
           );
         });
         adds = adds_none known;

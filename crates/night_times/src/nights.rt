@@ -63,9 +63,11 @@ fn tell_other<F: Folder>(
     let file = file_name(alloc, net, &w, ".msg")?;
     match read_entries(alloc, folder, file.as_str(), net, w) {
         Ok(entries) => known.tell_by_logs(w, entries.kept().entries(), former, last),
-        Err(FileFault::NoMemory) => Err(NoMemory),
-        Err(FileFault::Folder) => Ok(()),
-        Err(FileFault::NotThisFile(_)) => Ok(()),
+        Err(fault) => match fault {
+            FileFault::NotThisFile(_) => Ok(()),
+            FileFault::Folder => Ok(()),
+            FileFault::NoMemory => Err(NoMemory),
+        },
     }
 }
 

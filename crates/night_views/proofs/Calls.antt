@@ -1,5 +1,5 @@
 -- What the file of a workstation calls for, by its parts.
-use Rattle.std.proofs.Common.{[], ℕ, ◌<◌, ◌≡◌, Err, IfSome, List, None, Ok, Option, Result, Some, ap, arith}
+use Rattle.std.proofs.Common.{[], ℕ, ◌<◌, ◌≡◌, Err, IfSome, List, None, Ok, Result, Some, ap, arith}
 use Rattle.std.proofs.Common.{bytes_eq, codes, length, subst, sym}
 use Rattle.std.specs.Prelude.{IfOk}
 use Rattle.std.proofs.lemmas.List.{length-map}
@@ -18,7 +18,7 @@ use Rattle.replies.specs.declared.statuses.Status.TheVariants.{DiskFailed, Other
 use Rattle.workload_defs.specs.Nets.{net_of, node_of}
 use Rattle.workload_defs.specs.Stations.{number_of, stations}
 use Rattle.workload_defs.proofs.Lists.{first_there}
-use Rattle.night_views.specs.Dues.{IsTold, NightCallsFor, other_file_line, text_of}
+use Rattle.night_views.specs.Dues.{IsTold, NightCallsFor, other_file_line}
 use Rattle.night_views.specs.Readings.{HasRead, IsOther, file_of}
 use Rattle.night_views.specs.declared.replying.NightReply.{NightReply}
 use Rattle.night_views.specs.declared.replying.NightWish.{NightWish}

@@ -1,8 +1,7 @@
 //! What is replied to a word and the name of a workstation.
-ghost use Rattle.std.specs.Prelude.{◌++◌, ◌<◌, ◌≡◌, ◌≢◌, IfOk, Some};
+ghost use Rattle.std.specs.Prelude.{◌≡◌, ◌≢◌, IfOk, Some};
 ghost use Rattle.std.specs.String.{string_bytes};
 ghost use Rattle.kept_files.specs.Looking.{OnlyLooks};
-ghost use Rattle.model.specs.Network.{node_count};
 ghost use Rattle.night_times.specs.Logs.{telling};
 ghost use Rattle.replies.specs.declared.statuses.Status.TheVariants.{SinkFailed};
 ghost use Rattle.workload_defs.specs.Nets.{net_of};
@@ -67,6 +66,7 @@ fn reply_to_entries<F: Folder>(
 ) -> Result<NightReply, NoMemory>
     ensures told { IfOk result (IsTold (telling F.seen F.becomes F.faults) net.now me entries.now wish
         folder.old folder.new) }
+    ensures said { IfOk result (λ r. r.status ≢ SinkFailed) }
     ensures looks { OnlyLooks F.seen F.becomes F.faults folder.old folder.new }
 {
     let times = read_times(alloc, folder, net, me, entries)?;
@@ -97,18 +97,20 @@ fn reply_to_file<F: Folder>(
     let file = file_name(alloc, name)?;
     match read_entries(alloc, folder, file.as_str(), &net, me) {
         Ok(entries) => reply_to_entries(alloc, wish, &net, me, &entries, folder),
-        Err(FileFault::NotThisFile(place)) => {
-            let text = other_file(alloc, place)?;
-            Ok(NightReply {
-                status: Status::OtherFile,
-                text,
-            })
-        }
-        Err(FileFault::Folder) => Ok(NightReply {
-            status: Status::DiskFailed,
-            text: Items::new(alloc),
-        }),
-        Err(FileFault::NoMemory) => Err(NoMemory),
+        Err(fault) => match fault {
+            FileFault::NotThisFile(place) => {
+                let text = other_file(alloc, place)?;
+                Ok(NightReply {
+                    status: Status::OtherFile,
+                    text,
+                })
+            }
+            FileFault::Folder => Ok(NightReply {
+                status: Status::DiskFailed,
+                text: Items::new(alloc),
+            }),
+            FileFault::NoMemory => Err(NoMemory),
+        },
     }
 }
 

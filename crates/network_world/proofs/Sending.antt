@@ -9,7 +9,7 @@ use Rattle.std.proofs.lemmas.List.{length-map}
 use Rattle.std.proofs.lemmas.Option.{slice_get-map}
 use Rattle.std.specs.Prelude.{is_ok, slice_get, slice_set}
 use Rattle.lemmas.proofs.Lists.{drop_here, got_below}
-use Rattle.lemmas.proofs.Options.{map_some}
+use Rattle.lemmas.proofs.Options.{map_some, none_some}
 use Rattle.lemmas.proofs.Results.{after_ok, on_ok}
 use Rattle.base_types.specs.Grown.{Grown}
 use Rattle.model.specs.Types.{Launch, Out, Packet, Send}
@@ -130,9 +130,6 @@ packet_put lanes new to p there none = go (slice_get lanes to) refl
       where
         clash : (b : ℕ) (m : raw.Lane) → to ≡ b → slice_get lanes b ≡ Some m → ⊥
         clash b m same at_b = none_some (sym (subst (λ (c : ℕ). slice_get lanes c ≡ None) same e) ∙ at_b)
-          where
-            none_some : {X : Type 0} {x : X} → None ≡ Some x → ⊥
-            none_some c = cc
 
     somebody : (l : raw.Lane) → slice_get lanes to ≡ Some l → GetsPacket lanes to p l new
         → HaveMore (Send to p ∷ []) lanes new
@@ -298,9 +295,6 @@ module _ {T E : Type 0} (old new : List raw.Lane) (to : ℕ) (r : Result T E)
     where
       clash : (b : ℕ) (l : raw.Lane) → to ≡ b → slice_get old b ≡ Some l → ⊥
       clash b l same e = none_some (sym (subst (λ (c : ℕ). slice_get old c ≡ None) same is) ∙ e)
-        where
-          none_some : {X : Type 0} {x : X} → None ≡ Some x → ⊥
-          none_some c = cc
 
   somewhere : (p : Packet) (outs : List Out) (l m : raw.Lane) → new ≡ slice_set old to m → 8 ≤ m.packets.spare
       → HaveRoomBut (Send to p ∷ outs) old → HaveRoomBut outs new

@@ -13,6 +13,9 @@ use owner_fold::Owners;
 pub(crate) fn next_issuer(net: &Network, o: &Owners, me: Ws) -> Option<Ws>
     ensures { result ≡ spec.next_issuer net.now (view_of o.now) me }
 {
+    if !o.has_orders() {
+        return None;
+    }
     for a in 0..net.count() {
         if has_next_order(o, me, Ws(a)) {
             return Some(Ws(a));

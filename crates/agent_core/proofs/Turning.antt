@@ -267,7 +267,7 @@ turn_taken old held new t e live launch kill outs k one on is l x o =
 abbrev pub sends_from : NodeState → ℕ → List Out
 sends_from n i = sends_among n (numbers_from i (node_count (present_in n) - i))
 
-one_more : {X : Type 0} (f : ℕ → List X) (q : ℕ → Bool) (i : ℕ) (rest : List ℕ)
+pub one_more : {X : Type 0} (f : ℕ → List X) (q : ℕ → Bool) (i : ℕ) (rest : List ℕ)
     → flat_map f (filter q (i ∷ rest)) ≡ flat_map f (filter q (i ∷ [])) ++ flat_map f (filter q rest)
 one_more {X} f q i rest = go (q i)
   where

@@ -1,9 +1,9 @@
 -- What a node gives out.
 use Rattle.std.specs.Option.{option_map_or}
 use Rattle.std.specs.Prelude.{[], if◌then◌else◌, ℕ, ◌&&◌, ◌++◌, ◌∷◌, Bool, List, false, filter, flat_map}
-use Rattle.std.specs.Prelude.{length, map}
+use Rattle.std.specs.Prelude.{length, map, nat_lt}
 use Rattle.model.specs.Types.{Ack, Body, Entry, Events, Kill, Launch, Launched, LiveJob, Obeyed, Out, Send}
-use Rattle.model.specs.Network.{are_neighbours}
+use Rattle.model.specs.Network.{are_neighbours, node_count}
 use Rattle.model.specs.History.{View}
 use Rattle.model.specs.Catalogue.{StreamJob, job}
 use Rattle.model.specs.Facts.{open_launch}
@@ -20,6 +20,10 @@ answer_to node from e =
 -- a neighbour whose link is up
 abbrev pub is_reached : NodeState → ℕ → Bool
 is_reached node m = are_neighbours (present_in node) node.me m && is_up node.mail m
+
+-- the workstations of the network to which the own end of the link is up, ascending
+abbrev pub linked : NodeState → List ℕ
+linked node = filter (λ m. nat_lt m (node_count node.net)) node.mail.up
 
 -- what goes to one of them
 abbrev pub sends_to : NodeState → ℕ → List Out

@@ -14,6 +14,9 @@ use owner_fold::Owners;
 use std::alloc::Global;
 use std::marker::Model;
 
+/// Of fewer workstations all feeds are looked at as fast as those that were listed.
+const FEW: u16 = 5;
+
 /// A node of a network.
 pub struct Agent {
     pub(crate) alloc: Global,
@@ -123,11 +126,14 @@ impl Agent {
     }
 
     /// Finds the feeds that may go to each neighbour, where they are not known. One that passes on its own events alone
-    /// needs no such list. Where memory runs out they stay unknown.
+    /// needs no such list, nor does one in a network of few. Where memory runs out they stay unknown.
     pub(crate) fn list_feeds(&mut self)
         ensures { self.new ≡ self.old }
     {
-        if !self.listed.is_empty() || passes_own_alone(&self.present, self.me) {
+        if !self.listed.is_empty() || self.present.count() < FEW {
+            return;
+        }
+        if passes_own_alone(&self.present, self.me) {
             return;
         }
         match listed_feeds(self.alloc, &self.present, &self.owners, self.me) {

@@ -1,5 +1,5 @@
 //! A turn.
-ghost use Rattle.std.specs.Prelude.{◌≡◌, ◌<◌, ◌≤◌, ◌*◌, ◌+◌, ◌++◌, ◌∷◌, [], IfOk, IfSome, None, Some, true};
+ghost use Rattle.std.specs.Prelude.{◌≡◌, ◌<◌, ◌≤◌, ◌*◌, ◌+◌, ◌++◌, ◌∷◌, [], IfOk, IfSome, None, Some, length, true};
 ghost use Rattle.std.specs.Option.{option_map_or, option_to_list};
 ghost use Rattle.model.specs.Types as types;
 ghost use Rattle.model.specs.Types.{Events};
@@ -11,7 +11,7 @@ ghost use Rattle.model.specs.Turn as spec;
 ghost use Rattle.ready_index.specs.Standing.{IsIndexOf};
 ghost use Rattle.mailman_core.specs.Listed.{IsListed};
 ghost use Rattle.agent_core.specs.Nodes.{present_in, view_in};
-ghost use Rattle.agent_core.specs.Sending.{is_reached, kill_by, launch_by, live_with, sends_among, sends_to};
+ghost use Rattle.agent_core.specs.Sending.{is_reached, kill_by, launch_by, linked, live_with, sends_among, sends_to};
 ghost use Rattle.agent_core.specs.Steps.{IsKept, IsStep, IsTurnBody, Keeps};
 
 use crate::agents::Agent;
@@ -209,26 +209,30 @@ impl Agent {
 
     /// Puts what goes to the neighbours whose links are up at the end of a list with room for eight to each.
     fn put_sends(&self, outs: &mut Growing<Out>)
-        requires { node_count self.now.net * 8 ≤ outs.old.spare }
+        requires { length (linked self.now) * 8 ≤ outs.old.spare }
         ensures { outs.new.items ≡ outs.old.items ++ sends_among self.now (below (node_count (present_in self.now))) }
     {
-        for m in 0..self.net().count() {
-            self.put_sends_to(Ws(m), outs);
+        let count = self.net().count();
+        for m in self.mail.links() {
+            if *m < count {
+                self.put_sends_to(Ws(*m), outs);
+            }
         }
     }
 
     /// The most sends of a turn.
     fn most_sends(&self) -> u32
-        ensures value { result ≡ node_count self.now.net * 8 }
+        ensures value { length (linked self.now) * 8 ≤ result }
         ensures few { result ≤ 2048 }
     {
-        u32::from(self.defined().count()) * 8
+        let most = usize::from(self.defined().count());
+        most.min(self.mail.links().len()) as u32 * 8
     }
 
     /// An empty list with room for a launch or a kill, and for all sends.
     fn room_for_turn(&self) -> Result<Growing<Out>, NoMemory>
         ensures items { IfOk result (λ outs. outs.items ≡ []) }
-        ensures room { IfOk result (λ outs. node_count self.now.net * 8 + 2 ≤ outs.spare) }
+        ensures room { IfOk result (λ outs. length (linked self.now) * 8 + 2 ≤ outs.spare) }
     {
         let mut outs = Growing::new(self.alloc);
         outs.reserve(self.most_sends() + 2)?;

@@ -1,10 +1,10 @@
-use Rattle.std.proofs.Common.{◌*◌, ◌∙◌, ◌≤◌, arith, subst, sym}
-use Rattle.model.specs.Types.{Net}
+use Rattle.std.proofs.Common.{◌∙◌, ap, arith, length}
 use Rattle.std.specs.Option.{option_to_list}
 use Rattle.model.specs.Words.{below}
 use Rattle.model.specs.Network.{node_count}
 use Rattle.agent_core.specs.Nodes.{present_in}
 use Rattle.agent_core.specs.Sending.{sends_among}
+use Rattle.agent_core.proofs.Linked.{linked_same}
 use Rattle.agent_core.proofs.Turning.{three, turn_taken}
 use Rattle.agent_core.proofs.agents.Agent.turn_with.Goals as goal
 
@@ -19,9 +19,15 @@ put-requires-2 c = omega (arith, c.in_ok-outs.ensures.room, c.put.ensures.room)
 
 pub put_sends-requires : goal.put_sends-requires
 put_sends-requires c =
-    subst (λ (net : Net). node_count net * 8 ≤ c.put-2.new.outs.spare)
-    (sym (c.set_live.ensures.net_ ∙ c.in_ok-hold.ensures.ok.net_))
-    (omega (arith, c.in_ok-outs.ensures.room, c.put.ensures.room, c.put-2.ensures.room))
+    omega (
+      arith,
+      c.in_ok-outs.ensures.room,
+      c.put.ensures.room,
+      c.put-2.ensures.room,
+      ap length
+      (linked_same c.args.self.now c.set_live.new.self (c.set_live.ensures.net_ ∙ c.in_ok-hold.ensures.ok.net_)
+      (c.set_live.ensures.mail_ ∙ c.in_ok-hold.ensures.ok.mail_)),
+    )
 
 pub returns : goal.returns
 returns c =

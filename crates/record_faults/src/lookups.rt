@@ -8,7 +8,7 @@ ghost use Rattle.record_faults.specs.Noted.{IsSameNamed};
 use crate::keys::Keys;
 use crate::names::Names;
 use crate::picks::{begins_stream, job_of, prompt_of, resource_of};
-use crate::stations::{Found, add_station, unlinked};
+use crate::stations::{Stations, add_station, unlinked};
 use base_types::{NoMemory, Text};
 use record_rows::{DepRow, Row};
 use std::alloc::Global;
@@ -16,7 +16,7 @@ use std::marker::Model;
 
 /// What is known of a record beside its rows.
 pub struct Named<'a> {
-    pub(crate) stations: Vec<Found<'a>>,
+    pub(crate) stations: Stations<'a>,
     pub(crate) resources: Keys<'a>,
     pub(crate) prompts: Names<'a>,
 }
@@ -36,7 +36,7 @@ impl<'a> Model for Named<'a> {
 
     ghost Value = { known.Named };
 
-    ghost view = { λ n. record { stations = n.stations.items; resources = n.resources; prompts = n.prompts } };
+    ghost view = { λ n. record { stations = n.stations; resources = n.resources; prompts = n.prompts } };
 }
 
 /// The jobs before the next stream or section.
@@ -68,7 +68,7 @@ impl<'a> Named<'a> {
             prompts.note(prompt_of(row))?;
         }
         Ok(Named {
-            stations,
+            stations: Stations::of(alloc, stations)?,
             resources,
             prompts,
         })
@@ -80,7 +80,7 @@ impl<'a> Named<'a> {
         ensures { IfOk result (λ n. n ≡ known.named_by names.now) }
     {
         Ok(Named {
-            stations: unlinked(alloc, names)?,
+            stations: Stations::of(alloc, unlinked(alloc, names)?)?,
             resources: Keys::new(alloc),
             prompts: Names::new(alloc),
         })

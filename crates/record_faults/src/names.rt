@@ -43,7 +43,7 @@ impl<'a> Names<'a> {
     }
 
     /// Puts a name, which may be there already.
-    fn put(&mut self, name: &'a Text) -> Result<(), NoMemory>
+    pub(crate) fn put(&mut self, name: &'a Text) -> Result<(), NoMemory>
         ensures { OnOk result ((n : List ℕ) → has_name self.new n ≡ (has_name self.old n || bytes_eq n name.now)) }
     {
         match self.set.insert(name) {

@@ -1,9 +1,11 @@
 //! The workstations that rows define.
-ghost use Rattle.std.specs.Prelude.{◌≡◌, ◌++◌, [], IfOk, OnOk, map, option_map};
+ghost use Rattle.std.specs.Prelude.{◌≡◌, ◌++◌, [], ℕ, IfOk, List, OnOk, map, option_map};
 ghost use Rattle.std.specs.List.{cons_option};
 ghost use Rattle.std.specs.Option.{option_copied};
 ghost use Rattle.record_faults.specs.Known as spec;
+ghost use Rattle.record_faults.specs.Known.{has_name};
 
+use crate::names::Names;
 use base_types::{NoMemory, Text};
 use record_rows::Row;
 use std::alloc::Global;
@@ -28,6 +30,12 @@ impl<'a> Model for Found<'a> {
 }
 
 impl<'a> Found<'a> {
+    fn name(&self) -> &'a Text
+        ensures { result.now ≡ self.now.name }
+    {
+        self.name
+    }
+
     fn hop(&self) -> Option<&'a Text>
         ensures { option_map (λ h. h.now) result ≡ self.now.hop }
     {
@@ -79,11 +87,64 @@ pub(crate) fn unlinked<'a>(alloc: Global, names: &'a [Text]) -> Result<Vec<Found
     Ok(all)
 }
 
-/// Whether a workstation has the name.
-pub(crate) fn is_station(all: &[Found<'_>], name: &Text) -> bool
-    ensures { result ≡ spec.is_station all.now name.now }
+/// The names of workstations.
+fn names_of<'a>(alloc: Global, all: &[Found<'a>]) -> Result<Names<'a>, NoMemory>
+    ensures { IfOk result (λ names. (n : List ℕ) → has_name names n ≡ spec.is_station all.now n) }
 {
-    all.iter().any(|s| s.name == name)
+    let mut names = Names::new(alloc);
+    for s in all {
+        names.put(s.name())?;
+    }
+    Ok(names)
+}
+
+/// Workstations in order, with their names beside them. A contract sees the workstations.
+pub(crate) struct Stations<'a> {
+    list: Vec<Found<'a>>,
+    names: Names<'a>,
+}
+
+impl<'a> Drop for Stations<'a> {
+    fn drop(self) {
+        let Stations {
+            list: _list,
+            names: _names,
+        } = self;
+    }
+}
+
+impl<'a> Model for Stations<'a> {
+    ghost use Rattle.std.specs.Prelude.{◌≡◌, ℕ, List};
+    ghost use Rattle.record_faults.specs.Known.{Station, has_name, is_station};
+
+    ghost Value = { List Station };
+
+    ghost view = { λ s. s.list.items };
+
+    ghost invariant = { λ s. (n : List ℕ) → has_name s.names n ≡ is_station s.list.items n };
+}
+
+impl<'a> Stations<'a> {
+    /// These workstations. The only error is that memory ran out.
+    pub(crate) fn of(alloc: Global, list: Vec<Found<'a>>) -> Result<Stations<'a>, NoMemory>
+        ensures { IfOk result (λ s. s ≡ list.items) }
+    {
+        let names = names_of(alloc, &list)?;
+        Ok(Stations { list, names })
+    }
+
+    pub(crate) fn list(&self) -> &[Found<'a>]
+        ensures { result.now ≡ self.now }
+    {
+        &self.list
+    }
+
+    /// Whether a workstation has the name, by one look-up.
+    pub(crate) fn has(&self, name: &'a Text) -> bool
+        ensures { result ≡ spec.is_station self.now name.now }
+    {
+        self.names.has(name)
+    }
 }
 
 /// The first workstation of the name.

@@ -5,7 +5,7 @@ ghost use Rattle.record_faults.specs.Faults as spec;
 use crate::above::Above;
 use crate::kinds::ScriptKind;
 use crate::picks::is_next;
-use crate::stations::{Found, ends_at_master, is_manager, is_master, is_station};
+use crate::stations::{Stations, ends_at_master, is_manager, is_master};
 use base_types::Text;
 use record_rows::{CutRow, DepRow, Row, StepRow, is_in_range};
 
@@ -20,29 +20,29 @@ fn cuts_next(cut: &CutRow) -> bool
 
 /// No form, or a crash in the master's `next` at another workstation.
 #[tactic(auto, unfolding(crate::specs::Faults::is_bad_line))]
-fn is_bad_line(all: &[Found<'_>], row: &Row) -> bool
+fn is_bad_line<'a>(all: &Stations<'a>, row: &'a Row) -> bool
     ensures { result ≡ spec.is_bad_line all.now row.now }
 {
     match row {
         Row::NoForm => true,
-        Row::Step(StepRow::CrashIn(ws, _, cut)) => cuts_next(cut) && !is_master(all, ws),
+        Row::Step(StepRow::CrashIn(ws, _, cut)) => cuts_next(cut) && !is_master(all.list(), ws),
         _ => false,
     }
 }
 
-fn lacks(all: &[Found<'_>], name: &Text) -> bool
+fn lacks<'a>(all: &Stations<'a>, name: &'a Text) -> bool
     ensures { result ≡ spec.lacks all.now name.now }
 {
-    !is_station(all, name)
+    !all.has(name)
 }
 
-fn lacks_one(all: &[Found<'_>], a: &Text, b: &Text) -> bool
+fn lacks_one<'a>(all: &Stations<'a>, a: &'a Text, b: &'a Text) -> bool
     ensures { result ≡ (spec.lacks all.now a.now || spec.lacks all.now b.now) }
 {
     lacks(all, a) || lacks(all, b)
 }
 
-fn cut_is_unknown(all: &[Found<'_>], ws: &Text, cut: &CutRow) -> bool
+fn cut_is_unknown<'a>(all: &Stations<'a>, ws: &'a Text, cut: &'a CutRow) -> bool
     ensures { result ≡ spec.cut_is_unknown all.now ws.now cut.now }
 {
     match cut {
@@ -52,7 +52,7 @@ fn cut_is_unknown(all: &[Found<'_>], ws: &Text, cut: &CutRow) -> bool
 }
 
 #[tactic(auto, unfolding(crate::specs::Faults::step_is_unknown))]
-fn step_is_unknown(all: &[Found<'_>], step: &StepRow) -> bool
+fn step_is_unknown<'a>(all: &Stations<'a>, step: &'a StepRow) -> bool
     ensures { result ≡ spec.step_is_unknown all.now step.now }
 {
     match step {
@@ -72,7 +72,7 @@ fn step_is_unknown(all: &[Found<'_>], step: &StepRow) -> bool
 
 /// The network lacks the workstation.
 #[tactic(auto, unfolding(crate::specs::Faults::lacks_station))]
-fn lacks_station(all: &[Found<'_>], row: &Row) -> bool
+fn lacks_station<'a>(all: &Stations<'a>, row: &'a Row) -> bool
     ensures { result ≡ spec.lacks_station all.now row.now }
 {
     match row {
@@ -89,11 +89,11 @@ fn lacks_station(all: &[Found<'_>], row: &Row) -> bool
 
 /// The hop is no manager, or the chain of hops does not end at the master.
 #[tactic(auto, unfolding(crate::specs::Faults::is_bad_tree))]
-fn is_bad_tree(all: &[Found<'_>], row: &Row) -> bool
+fn is_bad_tree<'a>(all: &Stations<'a>, row: &'a Row) -> bool
     ensures { result ≡ spec.is_bad_tree all.now row.now }
 {
     match row {
-        Row::Station(s) => !(is_manager(all, &s.hop) && ends_at_master(all, &s.hop)),
+        Row::Station(s) => !(is_manager(all.list(), &s.hop) && ends_at_master(all.list(), &s.hop)),
         _ => false,
     }
 }
@@ -111,7 +111,7 @@ pub(crate) struct Asked {
 
 /// The first fault of a row.
 pub(crate) fn fault<'a>(
-    all: &[Found<'a>],
+    all: &Stations<'a>,
     above: &Above<'a>,
     asked: Asked,
     row: &'a Row,

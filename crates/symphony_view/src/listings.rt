@@ -256,5 +256,7 @@ fn write_job(
     write_job_name(out, ws, parent.name.as_str(), doc)?;
     let state = job_word(state_of_job(net, o, parent, doc));
     let late = late_word(is_shown_late_at(o, doc.ws, &Obj::Job(doc.no)));
-    write!(out, "{state} {}{late}\n", launches(o, doc))
+    write_texts(out, state, " ")?;
+    write!(out, "{}", launches(o, doc))?;
+    write_texts(out, late, "\n")
 }

@@ -1,4 +1,5 @@
 -- What a step of a node owes.
+use Rattle.std.specs.Bool.{then_some}
 use Rattle.std.specs.Option.{option_to_list}
 use Rattle.std.specs.Prelude.{[], ℕ, ◌+◌, ◌++◌, ◌∷◌, ◌≡◌, Err, List, None, Ok, Option, Result, Some, false, length}
 use Rattle.std.specs.Prelude.{true}
@@ -17,6 +18,7 @@ use Rattle.agent_core.specs.Nodes.{NodeState, present_in, session_in, view_in}
 use Rattle.agent_core.specs.declared.faults.StepFault.{StepFault}
 use Rattle.agent_core.specs.declared.faults.StepFault.TheVariants.{Carry, NoDep, NoMemory, NoProcess, NotInNetwork}
 use Rattle.agent_core.specs.declared.faults.StepFault.TheVariants.{NotMaster, NotNeighbour, PlaceSpent, TooLong}
+use Rattle.agent_core.specs.declared.faults.Receipt.{Receipt}
 use Rattle.agent_core.specs.declared.faults.Step.{Step}
 
 -- what the definitions say of this node and input
@@ -57,6 +59,15 @@ IsRefused old input f new = IsDue old input f × (new ≡ old)
 abbrev pub IsStep : NodeState → Input → Result Step StepFault → NodeState → Type 0
 IsStep old input (Ok s) new = IsTaken old input s new
 IsStep old input (Err f) new = IsRefused old input f new
+
+-- mail that was handed over, as a step: the entry is kept, or none
+abbrev pub step_by : Entry → Receipt → Step
+step_by e r = record { kept = then_some r.kept e; outs = r.outs }
+
+-- what mail owes that is handed over
+abbrev pub IsReceipt : NodeState → ℕ → Entry → Result Receipt StepFault → NodeState → Type 0
+IsReceipt old from e (Ok r) new = IsTaken old (Input.Mail from e) (step_by e r) new
+IsReceipt old from e (Err f) new = IsRefused old (Input.Mail from e) f new
 
 -- a step that keeps nothing and gives nothing out
 abbrev pub quiet : Step

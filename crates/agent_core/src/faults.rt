@@ -12,6 +12,13 @@ pub struct Step {
     pub outs: Outs,
 }
 
+/// What a node does with mail that is handed over: whether it keeps the entry, and what it gives out.
+#[derive(Drop)]
+pub struct Receipt {
+    pub kept: bool,
+    pub outs: Outs,
+}
+
 /// Why a node refuses an input, in the order in which the causes are tested.
 #[derive(Clone, Copy, Debug)]
 pub enum StepFault {

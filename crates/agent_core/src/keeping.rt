@@ -1,17 +1,27 @@
 //! Entries that the node keeps.
-ghost use Rattle.std.specs.Prelude.{◌≡◌, ◌+◌, length, unwrap_or, OnOk, OnErr};
-ghost use Rattle.model.specs.Types.{Events};
+ghost use Rattle.std.specs.Prelude.{◌≡◌, ◌+◌, ◌++◌, ◌<◌, ◌∷◌, [], List, length, unwrap_or, OnOk, OnErr};
+ghost use Rattle.model.specs.Types.{Entry as Taken, Events};
 ghost use Rattle.model.specs.History.{list_of};
 ghost use Rattle.agent_core.specs.Nodes.{view_in};
 ghost use Rattle.agent_core.specs.Steps.{HoldsOneMore, IsKeeping, IsOwnEntry, LivesOn};
 
 use crate::agents::Agent;
 use crate::faults::{Step, StepFault};
-use base_types::{Body, Entry, Feed, Items, Live, NoMemory};
+use base_types::{Body, Copied, Entry, Feed, Items, Live, NoMemory};
 use entry_checks::entry_size;
 use mailman_core::forget_feeds;
 use manager_switch::present_after;
 use network_tree::Network;
+use owner_fold::Owners;
+
+/// The entry that was taken last, where one was.
+pub(crate) fn last_of(o: &Owners) -> &Entry
+    requires { 0 < length o.now }
+    ensures { (before : List Taken) (e : Taken) → o.now ≡ before ++ e ∷ [] → result.now ≡ e }
+{
+    let taken = o.kept().entries();
+    &taken[taken.len() - 1]
+}
 
 /// Puts the network after a switch in the place of the one before it, where there is one.
 fn put_network(present: &mut Network, after: Option<Network>)
@@ -51,16 +61,26 @@ impl Agent {
         self.own_entry(&feed, body)
     }
 
-    /// Takes an entry that is the next of its feed. Where memory runs out nothing changes.
+    /// Takes a copy of an entry that is the next of its feed. Where memory runs out nothing changes.
     pub(crate) fn hold(&mut self, e: &Entry) -> Result<(), NoMemory>
         requires { e.now.place ≡ length (list_of self.old.kept e.now.feed) + 1 }
         ensures ok { OnOk result (HoldsOneMore self.old e.now self.new) }
         ensures err { OnErr result (self.new ≡ self.old) }
     {
-        let after = present_after(self.alloc, &self.present, e)?;
-        self.owners.take(e)?;
-        self.tracker.follow(&self.net, &self.owners, self.me, e);
-        forget_feeds(&mut self.listed, after.is_some(), e);
+        self.hold_own(e.copy()?)
+    }
+
+    /// Takes an entry that is the next of its feed. Where memory runs out nothing changes.
+    pub(crate) fn hold_own(&mut self, e: Entry) -> Result<(), NoMemory>
+        requires { e.place ≡ length (list_of self.old.kept e.feed) + 1 }
+        ensures ok { OnOk result (HoldsOneMore self.old e self.new) }
+        ensures err { OnErr result (self.new ≡ self.old) }
+    {
+        let after = present_after(self.alloc, &self.present, &e)?;
+        self.owners.take_own(e)?;
+        let taken = last_of(&self.owners);
+        self.tracker.follow(&self.net, &self.owners, self.me, taken);
+        forget_feeds(&mut self.listed, after.is_some(), taken);
         put_network(&mut self.present, after);
         self.idle_until = None;
         Ok(())

@@ -1,6 +1,7 @@
 //! Mail from a neighbour.
-ghost use Rattle.std.specs.Prelude.{◌≡◌, ◌≤◌, ◌∷◌, ◌++◌, ◌+◌, [], IfOk, None, Ok, Some, length, nat_lt, true};
+ghost use Rattle.std.specs.Prelude.{◌≡◌, ◌≤◌, ◌∷◌, ◌++◌, ◌+◌, [], IfErr, IfOk, None, Ok, OnErr, Some, length, nat_lt, true};
 ghost use Rattle.std.specs.List.{list_all};
+ghost use Rattle.std.specs.Option.{option_to_list};
 ghost use Rattle.model.specs.Types as types;
 ghost use Rattle.model.specs.Network.{node_count};
 ghost use Rattle.model.specs.History.{list_of};
@@ -9,10 +10,11 @@ ghost use Rattle.model.specs.NewEntry as entries;
 ghost use Rattle.model.specs.StepFaults as faults;
 ghost use Rattle.agent_core.specs.Nodes.{present_in, view_in};
 ghost use Rattle.agent_core.specs.Sending.{answer_to};
-ghost use Rattle.agent_core.specs.Steps.{IsFault, IsStep, Makes, due, step_at};
+ghost use Rattle.agent_core.specs.Steps.{IsDue, IsFault, IsReceipt, IsStep, Makes, due, effect_in, step_at, step_by};
 
 use crate::agents::Agent;
-use crate::faults::{Step, StepFault};
+use crate::faults::{Receipt, Step, StepFault};
+use crate::keeping::last_of;
 use base_types::{Copied, Entry, Growing, NoMemory, Out, Packet, Ws};
 use entry_checks::{entry_size, is_entry_inside};
 use mailman_core::{accepts, acknowledgement};
@@ -132,6 +134,70 @@ impl Agent {
         } else {
             self.passed(from, e)
         }
+    }
+
+    /// Mail that is handed over, and is kept.
+    fn accepted_own(&mut self, from: Ws, e: Entry) -> Result<Receipt, StepFault>
+        requires made { Makes self.old (types.Input.Mail from e) (Some e) }
+        requires next { e.place ≡ length (list_of self.old.kept e.feed) + 1 }
+        ensures { IsReceipt self.old from e result self.new }
+    {
+        let mut outs = self.room_for_answer()?;
+        self.hold_own(e)?;
+        self.put_answer(from, last_of(&self.owners), &mut outs);
+        Ok(Receipt {
+            kept: true,
+            outs: outs.into_items(),
+        })
+    }
+
+    /// Mail that is handed over, and is not kept.
+    fn passed_own(&self, from: Ws, e: &Entry) -> Result<Receipt, StepFault>
+        requires { Makes self.now (types.Input.Mail from e.now) None }
+        ensures { IsReceipt self.now from e.now result self.now }
+    {
+        let mut outs = self.room_for_answer()?;
+        self.put_answer(from, e, &mut outs);
+        Ok(Receipt {
+            kept: false,
+            outs: outs.into_items(),
+        })
+    }
+
+    /// Mail that is handed over, and has no fault.
+    fn answered_own(&mut self, from: Ws, e: Entry) -> Result<Receipt, StepFault>
+        requires { step_at self.old (types.Input.Mail from e) ≡ Ok (due self.old (types.Input.Mail from e)) }
+        ensures { IsReceipt self.old from e result self.new }
+    {
+        if self.accepts(&e) {
+            self.accepted_own(from, e)
+        } else {
+            self.passed_own(from, &e)
+        }
+    }
+
+    /// Mail that is handed over, by what it owes as a whole.
+    fn received(&mut self, from: Ws, e: Entry) -> Result<Receipt, StepFault>
+        ensures { IsReceipt self.old from e result self.new }
+    {
+        match self.mail_fault(from, &e) {
+            Some(fault) => Err(fault),
+            None => self.answered_own(from, e),
+        }
+    }
+
+    /// Takes an entry that a neighbour sent and that is handed over, as `step` does, and tells whether it keeps it. No copy
+    /// of it is made.
+    pub fn receive(&mut self, from: Ws, e: Entry) -> Result<Receipt, StepFault>
+        ensures taken { IfOk result (λ r. step_at self.old (types.Input.Mail from e) ≡ Ok (effect_in (step_by e r) self.new)) }
+        ensures kept { IfOk result (λ r. self.new.kept ≡ self.old.kept ++ option_to_list (step_by e r).kept) }
+        ensures refused { IfErr result (λ f. IsDue self.old (types.Input.Mail from e) f) }
+        ensures err { OnErr result (self.new ≡ self.old) }
+        ensures net { self.new.net ≡ self.old.net }
+        ensures me { self.new.me ≡ self.old.me }
+    {
+        self.renew()?;
+        self.received(from, e)
     }
 
     /// A neighbour sent an entry.

@@ -6,4 +6,5 @@ pub mod Parts
 pub mod Lanes
 pub mod Journals
 pub mod Moves
+pub mod Arrivals
 pub mod Deliveries

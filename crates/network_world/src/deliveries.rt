@@ -10,7 +10,7 @@ ghost use Rattle.network_world.specs.Stations.{Lane as Sent, lane_of};
 
 use crate::laws::{counts_are_small, packets_have_entries, steps_keep_all};
 use crate::refusals::StepRefused;
-use crate::sites::{mark_at, take_at};
+use crate::sites::{mark_at, take_handed_at};
 use crate::worlds::World;
 use base_types::{Body, Copied, Entry, Feed, Input, Packet, Ws};
 
@@ -95,10 +95,10 @@ impl World {
         steps_keep_all();
         counts_are_small();
         let input = self.brought(a, b, k)?;
-        let step = take_at(&mut self.journal, &mut self.stations, b, &input)?;
+        let weighed = take_handed_at(&mut self.journal, &mut self.stations, b, input)?;
         mark_at(&mut self.stations, a, b, k);
         self.journal
-            .note_mailed(b, step.outs.as_slice(), &step.kept);
+            .note_brought(b, weighed.outs.as_slice(), weighed.size);
         Ok(())
     }
 }

@@ -1,6 +1,7 @@
 //! What is written of a world: its history, its starts, and what is counted.
-ghost use Rattle.std.specs.Prelude.{◌≡◌, ◌+◌, ◌++◌, ◌∷◌, ◌<◌, ◌≤◌, ◌^◌, [], IfErr, None, OnOk, count_by, filter_map, length};
+ghost use Rattle.std.specs.Prelude.{◌≡◌, ◌+◌, ◌++◌, ◌∷◌, ◌<◌, ◌≤◌, ◌^◌, [], IfErr, None, OnOk, Option, count_by, filter_map, length, unwrap_or};
 ghost use Rattle.std.specs.Option.{option_map_or, option_to_list};
+ghost use Rattle.model.specs.Types.{Entry as Made};
 ghost use Rattle.model.specs.Sizes.{entry_size as size_of};
 ghost use Rattle.model.specs.World.{Origin, history_with, is_send, start_in};
 ghost use Rattle.network_world.specs.Journals.{CanNote, HasRoom, HasNoted, HasStarts, IsLimitDue, seen};
@@ -156,5 +157,19 @@ impl Journal {
     {
         self.note_outs(w, outs);
         self.kept += weight(made);
+    }
+
+    /// Writes down a step of w that gave this out and kept an entry of so many bytes, which came by mail, or none. There is
+    /// room for it.
+    pub(crate) fn note_brought(&mut self, w: Ws, outs: &[Out], size: Option<u32>)
+        requires starts { length (filter_map (start_in w) outs.now) ≤ self.old.starts.spare }
+        requires taken { self.old.taken + 1 < 2 ^ 32 }
+        requires sent { self.old.sent + count_by is_send outs.now < 2 ^ 32 }
+        requires kept { self.old.kept + unwrap_or size 0 < 2 ^ 32 }
+        ensures { (made : Option Made) → unwrap_or size 0 ≡ option_map_or size_of made 0
+            → HasNoted Origin.Mailed w outs.now made (seen self.old) (seen self.new) }
+    {
+        self.note_outs(w, outs);
+        self.kept += size.unwrap_or(0);
     }
 }

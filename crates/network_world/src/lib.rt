@@ -10,6 +10,7 @@
 //! what it had kept before.
 #![tactic(auto)]
 
+mod arrivals;
 mod copies;
 mod deliveries;
 mod holds;

@@ -1,9 +1,11 @@
 //! What is done at one of the stations.
 ghost use Rattle.std.specs.Prelude.{◌≡◌, ◌<◌, IfErr, IfOk, OnErr, OnOk, Some, length, slice_get};
+ghost use Rattle.network_world.specs.Arrivals.{HasBroughtAt};
 ghost use Rattle.network_world.specs.Journals.{HasRoom, seen};
 ghost use Rattle.network_world.specs.Stations.{Station as Seen};
 ghost use Rattle.network_world.specs.Moves.{HasRestartedAt, HasStoppedAt, HasTakenAt, IsInputDue, IsMarkedAt, IsRestorable};
 
+use crate::arrivals::Weighed;
 use crate::journals::Journal;
 use crate::refusals::StepRefused;
 use crate::stations::Station;
@@ -29,6 +31,29 @@ pub(crate) fn take_at(
     journal.make_room()?;
     match stations.get_mut(usize::from(w.0)) {
         Some(station) => station.take(input),
+        None => unreachable!(),
+    }
+}
+
+/// The node of w takes an input that is handed over, and what it sends goes to the ends of its lanes. There is room then to
+/// write of it.
+pub(crate) fn take_handed_at(
+    journal: &mut Journal,
+    stations: &mut Items<Station>,
+    w: Ws,
+    input: Input,
+) -> Result<Weighed, StepRefused>
+    requires { w < length stations.old }
+    ensures written { seen journal.new ≡ seen journal.old }
+    ensures room { OnOk result (HasRoom journal.new) }
+    ensures taken { IfOk result (λ told. (t : Seen) → slice_get stations.old w ≡ Some t
+        → HasBroughtAt stations.old w t input told stations.new) }
+    ensures refused { IfErr result (λ r. (t : Seen) → slice_get stations.old w ≡ Some t → IsInputDue t input r) }
+    ensures err { OnErr result (stations.new ≡ stations.old) }
+{
+    journal.make_room()?;
+    match stations.get_mut(usize::from(w.0)) {
+        Some(station) => station.take_handed(input),
         None => unreachable!(),
     }
 }

@@ -3,10 +3,12 @@ ghost use Rattle.std.specs.Prelude.{◌≡◌, ◌<◌, IfErr, IfOk, None, OnErr
 ghost use Rattle.std.specs.Option.{option_copied};
 ghost use Rattle.model.specs.Network.{node_count};
 ghost use Rattle.model.specs.Restore.{restore_fault};
+ghost use Rattle.network_world.specs.Arrivals.{HasBrought};
 ghost use Rattle.network_world.specs.Lanes as spec;
 ghost use Rattle.network_world.specs.Moves.{GoesOn, HasStopped, HasTaken, IsAgain, IsInputDue, IsMarkedTo, IsNew, IsRestorable};
 ghost use Rattle.network_world.specs.Moves as moves;
 
+use crate::arrivals::{Weighed, take_handed};
 use crate::copies::copied_entries;
 use crate::lanes::{Lane, keep_room, make_room, mark_lane, put_sends};
 use crate::laws::lanes_get_few;
@@ -112,6 +114,26 @@ impl Station {
                 put_sends(&mut self.lanes, step.outs.as_slice());
                 self.roomy = keep_room(&mut self.lanes, step.outs.as_slice()).is_ok();
                 Ok(step)
+            }
+            Err(fault) => Err(refusal(fault)),
+        }
+    }
+
+    /// The node takes an input that is handed over, and what it sends goes to the ends of the lanes.
+    pub(crate) fn take_handed(&mut self, input: Input) -> Result<Weighed, StepRefused>
+        ensures taken { IfOk result (λ w. HasBrought self.old input w self.new) }
+        ensures refused { IfErr result (λ r. IsInputDue self.old input r) }
+        ensures err { OnErr result (self.new ≡ self.old) }
+    {
+        lanes_get_few();
+        let roomy = self.roomy;
+        self.roomy = false;
+        make_room(&mut self.lanes, roomy)?;
+        match take_handed(&mut self.node, input) {
+            Ok(weighed) => {
+                put_sends(&mut self.lanes, weighed.outs.as_slice());
+                self.roomy = keep_room(&mut self.lanes, weighed.outs.as_slice()).is_ok();
+                Ok(weighed)
             }
             Err(fault) => Err(refusal(fault)),
         }

@@ -1,7 +1,8 @@
 #!/usr/bin/env bash
 # Prints how many seconds of processor time the worst texts take that the limits allow, each of nearly 16 MB: dates,
-# offsets, runs of free days, lists, circles, chains, names and nesting for `compile` and `plan`, records without steps
-# for `replay`, and a history for `audit`. A word that takes more than LIMIT seconds, 100 where nothing is set, is ended,
+# offsets, free days, runs of them, lists, circles, chains, names and nesting for `compile` and `plan`, records without
+# steps for `replay`, and histories for `audit`. A history is made of a record by the program itself, and where that takes
+# longer than LIMIT the audit is left out. A word that takes more than LIMIT seconds, 100 where nothing is set, is ended,
 # and told with its status. It judges nothing.
 # Usage: bench/hostile.sh [PROGRAM [BYTES [KIND..]]]; without a program it builds the one of this repository.
 set -eu
@@ -69,13 +70,37 @@ text() {
     }
     if (kind ~ /^run_/) {
       # the plan is for the day before a run of free days, in which no date stands
-      put("$CALENDAR\nHOLIDAYS\n"); dates(1971, half); put("C 12/31/9999\n")
+      # (`past`: a shorter run, behind which the next day of the rule stands)
+      most = half
+      if (kind == "run_weekly_past") most = 73000
+      if (kind == "run_daily_past") most = 6900
+      put("$CALENDAR\nHOLIDAYS\n"); dates(1971, most); put("C 12/31/9999\n")
       if (kind == "run_dates") again("ON C FDPREV", bytes)
       if (kind == "run_streams") streams("ON C FDPREV", bytes)
       if (kind == "run_offsets") again("ON C -999 WEEKDAYS FDPREV", bytes)
       if (kind == "run_weekly") again("ON RUNCYCLE A VALIDFROM 01/01/1970 \"FREQ=WEEKLY;INTERVAL=999;BYDAY=MO\" FDPREV", bytes)
+      if (kind == "run_weekly_past") again("ON RUNCYCLE A VALIDFROM 01/05/1970 \"FREQ=WEEKLY;INTERVAL=999;BYDAY=MO\" FDPREV", bytes)
+      if (kind == "run_daily_past") again("ON RUNCYCLE A VALIDFROM 01/01/1970 \"FREQ=DAILY;INTERVAL=999\" FDPREV", bytes)
       if (kind == "run_monthly") again("ON RUNCYCLE A VALIDFROM 02/01/1970 \"FREQ=MONTHLY;INTERVAL=12;BYMONTHDAY=31\" FDPREV", bytes)
       if (kind == "run_daily") again("ON RUNCYCLE A VALIDFROM 01/01/1970 \"FREQ=DAILY;INTERVAL=999\" FDPREV", bytes)
+    }
+    # 200 calendars in 200 streams, each of which names all of them
+    if (kind == "offsets_many") {
+      put("$CALENDAR\n")
+      for (c = 1; c <= 200; c++) { put("C" c "\n"); dates(1970 + c % 50 * 150, (bytes - 1000000) * c / 200) }
+      for (s = 1; s <= 200; s++) {
+        put("SCHEDULE S" s "\n")
+        for (c = 1; c <= 200 && size + 40 < bytes; c++) put("ON C" c " +999 WORKDAYS\n")
+        put(":\nEND\n")
+      }
+    }
+    # free days of their own for each stream
+    if (kind == "free_days") { put("$CALENDAR\nC\n"); dates(1970, half); streams("FREEDAYS C ON WORKDAYS EXCEPT EVERYDAY", bytes) }
+    if (kind == "free_offsets") { put("$CALENDAR\nC\n"); dates(1970, half); streams("FREEDAYS C ON C +999 WORKDAYS", bytes) }
+    if (kind == "free_many") {
+      put("$CALENDAR\n")
+      for (c = 0; c < 200; c++) { put("C" c "\n"); dates(1970 + c % 50 * 150, half * (c + 1) / 200) }
+      for (s = 0; size + 60 < bytes; s++) put("SCHEDULE S" s " FREEDAYS C" s % 200 " ON C" (s + 1) % 200 " +999 WORKDAYS :\nEND\n")
     }
     if (kind == "rules") again("ON \"FREQ=MONTHLY;BYMONTHDAY=31,31,31,31\"", bytes)
     if (kind == "items") { put("SCHEDULE S ON MO"); while (size + 20 < bytes) put(",\nTU"); put(" :\nEND\n") }
@@ -121,6 +146,7 @@ text() {
     if (kind == "resources") { put("$RESOURCE\n"); for (j = 1; size + 60 < bytes; j++) put("M#R" j " 1\n") }
     if (kind == "prompts") { put("$PROMPT\n"); for (j = 1; size + 60 < bytes; j++) put("P" j " \"a\"\n") }
     if (kind == "domains") for (s = 1; size + 60 < bytes; s++) put("DOMAIN D" s " MANAGER M PARENT D" (s + 1) " END\n")
+    if (kind == "domains_down") for (s = 1; size + 60 < bytes; s++) put("DOMAIN D" s " MANAGER M PARENT D" (s > 1 ? s - 1 : "") " END\n")
     if (kind == "cpus") for (s = 1; size + 90 < bytes; s++) put("CPUNAME C" s " OS UNIX NODE a DOMAIN D FOR MAESTRO TYPE FTA END\n")
     if (kind == "flags") {
       put("CPUNAME N OS UNIX NODE a DOMAIN D FOR MAESTRO TYPE FTA\n")
@@ -178,8 +204,109 @@ record() {
         for (f = 0; f < 32; f++) put("ask P" (s * 32 + f) % 65535 "\nneeds 1 R" (s * 32 + f) % 65535 "\n")
       }
     }
+    # each workstation hangs below the next one, and the last below the master
+    if (kind == "plan_hops") {
+      put("$NETWORK\nws M\n")
+      for (w = 1; size + 70 < bytes; w++) put("ws W" w " W" (w + 1) " manager\n")
+      put("ws W" w " M manager\n$PLAN\n")
+    }
+    # hops that go round among the last ones
+    if (kind == "plan_round") {
+      put("$NETWORK\nws M\n")
+      for (w = 1; size + 70 < bytes; w++) put("ws W" w " Z manager\n")
+      put("ws Y Z manager\nws Z Y manager\n$PLAN\n")
+    }
+    # 256 workstations, and each line names the last one
+    if (kind == "plan_last") {
+      put("$NETWORK\nws M\n")
+      for (w = 1; w < 256; w++) put("ws W" w " M\n")
+      put("$PLAN\nstream W255 S\n")
+      for (j = 0; size + 70 < bytes; j++) put("job W255 J" j "\n")
+    }
+    if (kind == "plan_sections") {
+      put("$NETWORK\nws M\n")
+      while (size + 60 < bytes) put("$PLAN\nstream M S\njob M J\n")
+    }
+    if (kind == "plan_names") {
+      put("$NETWORK\nws M\n$PLAN\n")
+      for (s = 0; size + 70 < bytes; s++) put("stream M S" s "\n")
+    }
+    if (kind == "plan_own") {
+      # a stream of many jobs, each of which follows one that stands far below
+      put("$NETWORK\nws M\n$PLAN\nstream M S\n")
+      for (j = 0; size * 2 < bytes; j++) put("job M J" j "\n")
+      put("job M K\n")
+      for (k = 1; size + 70 < bytes; k++) put("job M K" k "\nfollows J" (j - k) "\n")
+    }
+    if (kind == "plan_conditions") {
+      # conditions as deep as a text may be
+      put("$NETWORK\nws M\n$PLAN\nstream M S\n")
+      open = shut = ""
+      for (i = 0; i < 2000; i++) { open = open "("; shut = shut ")" }
+      for (j = 0; size + 4100 < bytes; j++) put("job M J" j "\nsucc \"" open "RC=0" shut "\"\n")
+    }
+    if (kind == "plan_texts") {
+      put("$NETWORK\nws M\n$PLAN\nstream M S\n")
+      text = ""
+      for (i = 0; i < 4096; i++) text = text "\\\""
+      for (j = 0; size + 8300 < bytes; j++) put("job M J" j "\ndo \"" text "\"\n")
+    }
     if (kind == "plan_comments") { put("$NETWORK\nws M\n$PLAN\n"); while (size + 60 < bytes) put("\n") }
     put("$STEPS\n")
+  }'
+}
+
+# steps KIND: a record whose history is audited
+steps() {
+  awk -v kind="$1" -v bytes="$bytes" "$shared"'BEGIN {
+    # an entry takes some 80 bytes of a history, and a plan of one job 250
+    put("$NETWORK\nws M\n")
+    if (kind == "history_carried") {
+      # a plan of many streams, and plans of none that carry them all
+      put("carryforward all\n$PLAN\n")
+      n = int(bytes / 40000)
+      for (s = 0; s < 4090 && size < bytes; s++) put("stream M S" s "\njob M J\n")
+      for (p = 0; p < n; p++) put("$PLAN\n")
+      put("$STEPS\n")
+      for (p = 0; p <= n; p++) put("next\n")
+    }
+    if (kind == "history_follows") {
+      # plans whose jobs all follow their last ones, as large as an entry may be
+      put("carryforward no\n")
+      for (p = 1; p <= 2; p++) {
+        put("$PLAN\nstream M S\n")
+        for (j = 0; j < 16340 && size + 1000 < bytes * p / 2; j++) {
+          put("job M J" j "\n")
+          for (f = 10; f < 50; f++) put("follows K" f "\n")
+        }
+        for (f = 10; f < 50; f++) put("job M K" f "\n")
+      }
+      put("$STEPS\nnext\nnext\n")
+    }
+    if (kind == "history_needs") {
+      # open launches, each of which needs nothing of 64 resources. They are an eightieth of those that an input may have,
+      # since the time grows with their square
+      for (r = 10; r < 74; r++) put("res M R" r " 1\n")
+      put("$PLAN\nstream M S\n")
+      n = int(bytes / 80000)
+      for (j = 0; j < n; j++) {
+        put("job M J" j " prio 101\n")
+        for (r = 10; r < 74; r++) put("needs 0 R" r "\n")
+      }
+      put("$STEPS\nnext\n")
+      for (t = 0; t < n + 2; t++) put("turn M 1\n")
+    }
+    if (kind == "history_orders") {
+      put("$PLAN\nstream M S\njob M J\n$STEPS\nnext\n")
+      for (o = 0; o < bytes / 90; o++) put("type M fence M;" o % 100 "\n")
+    }
+    if (kind == "history_reruns") {
+      put("$PLAN\nstream M S\njob M J\n")
+      for (j = 0; j < 64; j++) put("job M K" j "\nfollows J\n")
+      put("$STEPS\nnext\n")
+      for (t = 1; t < bytes / 400; t++) put("turn M " t "\nturn M " t "\nreap M 0\ntype M rerun M#S.J\nturn M " t "\n")
+    }
+    if (kind == "history_starts") put("$PLAN\nstream M S\njob M J\n$STEPS\nnext\nturn M 1\nturn M 1\nstarted M 1\n")
   }'
 }
 
@@ -187,6 +314,12 @@ record() {
 limited() (
   ulimit -t "$limit"
   exec "$program" "$@" < "$folder/text" > "$folder/out" 2> /dev/null
+)
+
+# history_of: the history of the record, as the text; it fails where that takes too long
+history_of() (
+  ulimit -t "$limit"
+  exec "$program" history < "$folder/record" > "$folder/text"
 )
 
 # measure NAME WORD..: what the program takes with these words
@@ -199,10 +332,13 @@ measure() {
     "$([ "$status" -eq 0 ] || echo ", status $status $(head -c 60 "$folder/out" | head -n 1)")"
 }
 
-kinds=${*:-dates calendars used taken_out offsets offsets_back offsets_days offsets_free run_dates run_streams run_offsets \
-  run_weekly run_monthly run_daily rules items chain chain_up circle circles job_chain job_circle follows too_many list \
-  clauses_alone nesting conditions jobs resources prompts domains cpus flags same comments word text marks clauses \
-  plan_lists plan_streams plan_prompts plan_comments plan_definitions history}
+kinds=${*:-dates calendars used taken_out offsets offsets_back offsets_days offsets_free offsets_many free_days \
+  free_offsets free_many run_dates run_streams run_offsets run_weekly run_weekly_past run_monthly run_daily \
+  run_daily_past rules items chain chain_up circle circles job_chain job_circle follows too_many list \
+  clauses_alone nesting conditions jobs resources prompts domains domains_down cpus flags same comments word text \
+  marks clauses plan_lists plan_streams plan_prompts plan_comments plan_definitions plan_hops plan_round plan_last \
+  plan_sections plan_names plan_own plan_conditions plan_texts history history_carried history_follows \
+  history_needs history_orders history_reruns history_starts}
 for kind in $kinds; do
   case $kind in
     plan_definitions)
@@ -214,9 +350,19 @@ for kind in $kinds; do
       record "$kind" > "$folder/text"
       measure "$kind" replay
       ;;
-    history)
-      "$program" sample "$((bytes / 215 < 16000 ? bytes / 215 : 16000))" 7 > "$folder/record"
-      "$program" history < "$folder/record" > "$folder/text" || true
+    history*)
+      if [ "$kind" = history ]; then
+        "$program" sample "$((bytes / 215 < 2000 ? bytes / 215 : 2000))" 7 > "$folder/record"
+      else
+        steps "$kind" > "$folder/record"
+      fi
+      if ! history_of; then
+        echo "$kind: no history"
+        continue
+      fi
+      if [ "$kind" = history_starts ]; then
+        awk -v bytes="$bytes" 'BEGIN { for (size = 1000; size < bytes; size += 12) print "start M 1 1" }' >> "$folder/text"
+      fi
       measure "$kind" audit
       ;;
     run_*)

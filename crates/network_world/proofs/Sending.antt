@@ -2,17 +2,21 @@
 use Rattle.std.proofs.Common.{◌≡◌, ◌≢◌, ◌∷◌, ◌+◌, ◌<◌, ◌≤◌, ◌++◌, ◌∙◌, [], ℕ, Bool, List, None, Option, Some, ap, append-nil}
 use Rattle.std.proofs.Common.{append_assoc, arith, cond, drop, eqb, false, get_or, inl, inr, length, length-append, map, option_map}
 use Rattle.std.proofs.Common.{refl, subst, suc, sym, take, take_all, true, zero}
+use Rattle.std.proofs.Common.{Err, Ok, OnOk, Result}
 use Rattle.std.proofs.lemmas.Bool.{eq-eqb}
 use Rattle.std.proofs.lemmas.Bool.Decides.{eqb_tells}
 use Rattle.std.proofs.lemmas.List.{length-map}
 use Rattle.std.proofs.lemmas.Option.{slice_get-map}
-use Rattle.std.specs.Prelude.{slice_get, slice_set}
-use Rattle.lemmas.proofs.Lists.{drop_here}
-use Rattle.lemmas.proofs.Options.{map_some}
+use Rattle.std.specs.Prelude.{is_ok, slice_get, slice_set}
+use Rattle.lemmas.proofs.Lists.{drop_here, got_below}
+use Rattle.lemmas.proofs.Options.{map_some, none_some}
+use Rattle.lemmas.proofs.Results.{after_ok, on_ok}
+use Rattle.base_types.specs.Grown.{Grown}
 use Rattle.model.specs.Types.{Launch, Out, Packet, Send}
 use Rattle.model.specs.World.{packets_to}
 use Rattle.network_world.specs.Stations.{Lane}
-use Rattle.network_world.specs.Lanes.{GetsPacket, HasMore, HasRoomAt, HaveMore, HaveRoom, HaveRoomFor, seen}
+use Rattle.network_world.specs.Lanes.{GetsPacket, HasMore, HasRoomAt, HaveMore, HaveRoom, HaveRoomBut, HaveRoomFor, IsMarked}
+use Rattle.network_world.specs.Lanes.{seen}
 use Rattle.network_world.specs.Moves.{LanesGrow}
 use Rattle.network_world.specs.declared.lanes.Lane as raw
 use Rattle.network_world.proofs.Lists.{map_set_same, set_elsewhere, set_length, set_there}
@@ -126,9 +130,6 @@ packet_put lanes new to p there none = go (slice_get lanes to) refl
       where
         clash : (b : ℕ) (m : raw.Lane) → to ≡ b → slice_get lanes b ≡ Some m → ⊥
         clash b m same at_b = none_some (sym (subst (λ (c : ℕ). slice_get lanes c ≡ None) same e) ∙ at_b)
-          where
-            none_some : {X : Type 0} {x : X} → None ≡ Some x → ⊥
-            none_some c = cc
 
     somebody : (l : raw.Lane) → slice_get lanes to ≡ Some l → GetsPacket lanes to p l new
         → HaveMore (Send to p ∷ []) lanes new
@@ -221,6 +222,108 @@ room_all lanes i h room = λ b l e. room b l (omega (arith, h, within lanes b l 
 pub room_enough : (outs : List Out) (lanes : List raw.Lane) → HaveRoom 8 lanes
     → ((to : ℕ) → length (packets_to to outs) ≤ 8) → HaveRoomFor outs lanes
 room_enough outs lanes room few = λ b l e. omega (arith, room b l e, few b)
+
+-- a lane whose packet was delivered has the same room
+pub room_marked : (old new : List raw.Lane) (to k : ℕ) → to < length old
+    → ((l : raw.Lane) → slice_get old to ≡ Some l → IsMarked old to k l new) → HaveRoom 8 old → HaveRoom 8 new
+room_marked old new to k below mark room =
+    let place = got_below old to below in
+    let marked = mark place.0 place.1 in
+    λ b n e.
+    let at_b : slice_get (slice_set old to marked.0) b ≡ Some n =
+    ap (λ (ls : List raw.Lane). slice_get ls b) (sym marked.1) ∙ e in
+    elim (eqb_tells b to) [
+      | inl same ↦ subst (λ (m : raw.Lane). 8 ≤ m.packets.spare)
+          (set_there old to marked.0 n
+          (subst (λ (c : ℕ). slice_get (slice_set old to marked.0) c ≡ Some n) same.1 at_b))
+          (omega (arith, room to place.0 place.1, ap (λ (g : Grown Packet). g.spare) marked.2))
+      | inr other ↦ room b n (sym (set_elsewhere old to b marked.0 other.1) ∙ at_b)
+    ]
+
+-- lanes to whose ends packets came lack no room but for these
+pub room_but : (outs : List Out) (old new : List raw.Lane) → HaveRoom 8 old → HaveMore outs old new
+    → HaveRoomBut outs new
+room_but outs old new room more = λ b n e. let k = more.each b n e in omega (arith, room b k.0 k.1, k.2.less)
+
+-- what goes to nobody takes no room
+pub room_passed : (out : Out) (outs : List Out) (lanes : List raw.Lane)
+    → ((b : ℕ) → packets_to b (out ∷ []) ≡ []) → HaveRoomBut (out ∷ outs) lanes → HaveRoomBut outs lanes
+room_passed out outs lanes nothing room =
+    λ b l e. omega (arith, room b l e, count_append b (out ∷ []) outs, ap length (nothing b))
+
+-- all have room again
+none_left : (outs : List Out) (i b : ℕ) → length outs ≤ i → length (packets_to b (drop i outs)) ≡ 0
+none_left [] zero b h = refl
+none_left [] (suc i) b h = refl
+none_left (out ∷ outs) zero b h = absurd (omega (arith, h))
+none_left (out ∷ outs) (suc i) b h = none_left outs i b (omega (arith, h))
+
+pub room_regained : (outs : List Out) (i : ℕ) (lanes : List raw.Lane) → length outs ≤ i
+    → HaveRoomBut (drop i outs) lanes → HaveRoom 8 lanes
+room_regained outs i lanes h room = λ b l e. omega (arith, room b l e, none_left outs i b h)
+
+-- what stands behind a success that is tested
+pub tested : {T E P : Type 0} (r : Result T E) → OnOk r P → is_ok r ≡ true → P
+tested (Ok x) p e = p
+tested (Err x) p e = cc
+
+-- room was made in the lane to a workstation, where there is such a lane
+module _ {T E : Type 0} (old new : List raw.Lane) (to : ℕ) (r : Result T E)
+    (there : (l : raw.Lane) → slice_get old to ≡ Some l
+    → (m : raw.Lane) × HasRoomAt old to l m new × OnOk r (8 ≤ m.packets.spare))
+    (none : slice_get old to ≡ None → new ≡ old) where
+  pub lanes_same : map seen new ≡ map seen old
+  lanes_same = go (slice_get old to) refl
+    where
+      go : (o : Option raw.Lane) → slice_get old to ≡ o → map seen new ≡ map seen old
+      go None e = ap (map seen) (none e)
+      go (Some l) e = let t = there l e in room_same old new to l t.0 e t.1
+
+  -- all others have the room that they had
+  nowhere : (p : Packet) (outs : List Out) → slice_get old to ≡ None → HaveRoomBut (Send to p ∷ outs) old
+      → HaveRoomBut outs old
+  nowhere p outs is room = λ b l e.
+      elim (eqb_tells to b) [
+        | inl same ↦ absurd (clash b l same.1 e)
+        | inr other ↦ omega (
+          arith,
+          room b l e,
+          count_append b (Send to p ∷ []) outs,
+          ap length (sent_elsewhere to b p other.1),
+        )
+      ]
+    where
+      clash : (b : ℕ) (l : raw.Lane) → to ≡ b → slice_get old b ≡ Some l → ⊥
+      clash b l same e = none_some (sym (subst (λ (c : ℕ). slice_get old c ≡ None) same is) ∙ e)
+
+  somewhere : (p : Packet) (outs : List Out) (l m : raw.Lane) → new ≡ slice_set old to m → 8 ≤ m.packets.spare
+      → HaveRoomBut (Send to p ∷ outs) old → HaveRoomBut outs new
+  somewhere p outs l m is more room = λ b n e.
+      let at_b : slice_get (slice_set old to m) b ≡ Some n = ap (λ (ls : List raw.Lane). slice_get ls b) (sym is) ∙ e in
+      elim (eqb_tells b to) [
+        | inl same ↦ let enough : 8 ≤ n.packets.spare =
+            subst (λ (k : raw.Lane). 8 ≤ k.packets.spare)
+            (set_there old to m n (subst (λ (c : ℕ). slice_get (slice_set old to m) c ≡ Some n) same.1 at_b)) more in
+            omega (arith, enough)
+        | inr other ↦ omega (
+          arith,
+          room b n (sym (set_elsewhere old to b m other.1) ∙ at_b),
+          count_append b (Send to p ∷ []) outs,
+          ap length (sent_elsewhere to b p (λ c. other.1 (sym c))),
+        )
+      ]
+
+  pub room_again : (p : Packet)
+      → OnOk r ((outs : List Out) → HaveRoomBut (Send to p ∷ outs) old → HaveRoomBut outs new)
+  room_again p = go (slice_get old to) refl
+    where
+      go : (o : Option raw.Lane) → slice_get old to ≡ o
+          → OnOk r ((outs : List Out) → HaveRoomBut (Send to p ∷ outs) old → HaveRoomBut outs new)
+      go None is =
+          on_ok r (λ outs room. subst (λ (ls : List raw.Lane). HaveRoomBut outs ls) (sym (none is)) (nowhere p outs is room))
+      go (Some l) is =
+          let t = there l is in
+          after_ok r t.2 (λ more outs room. somewhere p outs l t.0 t.1.0 more room)
 
 -- what is no send goes to nobody
 pub sends_nothing : (out : Out) → ((to : ℕ) (p : Packet) → out ≡ Send to p → ⊥) → (b : ℕ)

@@ -24,6 +24,11 @@ abbrev pub HaveRoomFor : List Out → List raw.Lane → Type 0
 HaveRoomFor outs lanes =
     (b : ℕ) (l : raw.Lane) → slice_get lanes b ≡ Some l → length (packets_to b outs) ≤ l.packets.spare
 
+-- each lane has room for eight packets, once those that went to its workstation have room again
+abbrev pub HaveRoomBut : List Out → List raw.Lane → Type 0
+HaveRoomBut outs lanes =
+    (b : ℕ) (l : raw.Lane) → slice_get lanes b ≡ Some l → 8 ≤ l.packets.spare + length (packets_to b outs)
+
 -- a lane to whose end these packets came, for which it had room
 pub record HasMore (more : List Packet) (old new : raw.Lane) : Type 0 where
   pub packets_ : new.packets.items ≡ old.packets.items ++ more

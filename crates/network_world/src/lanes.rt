@@ -1,8 +1,9 @@
 //! The packets from one workstation to another.
-ghost use Rattle.std.specs.Prelude.{◌≡◌, ◌∷◌, ◌<◌, ◌≤◌, ◌^◌, [], None, Some, OnOk, length, map, slice_get};
+ghost use Rattle.std.specs.Prelude.{◌≡◌, ◌∷◌, ◌<◌, ◌≤◌, ◌^◌, [], List, None, Some, OnOk, length, map, slice_get, true};
 ghost use Rattle.std.specs.Option.{option_copied};
+ghost use Rattle.model.specs.Types.{Out as Given};
 ghost use Rattle.model.specs.Words.{nth};
-ghost use Rattle.network_world.specs.Lanes.{GetsPacket, HasMore, HaveMore, HaveRoom, HaveRoomFor, HasRoomAt, IsMarked, seen};
+ghost use Rattle.network_world.specs.Lanes.{GetsPacket, HasMore, HasRoomAt, HaveMore, HaveRoom, HaveRoomBut, HaveRoomFor, IsMarked, seen};
 ghost use Rattle.network_world.specs.declared.lanes.Lane.{Lane as Raw};
 
 use base_types::{Growing, Items, NoMemory, Out, Packet, Ws};
@@ -60,11 +61,11 @@ impl Lane {
     }
 }
 
-/// Makes room in one lane. The packets stay, whatever comes.
+/// Makes room in one lane, where there is such a lane. The packets stay, whatever comes.
 fn make_room_at(lanes: &mut Items<Lane>, i: usize) -> Result<(), NoMemory>
-    requires { i < length lanes.old }
-    ensures { (l : Raw) → slice_get lanes.old i ≡ Some l
+    ensures there { (l : Raw) → slice_get lanes.old i ≡ Some l
         → (m : Raw) × HasRoomAt lanes.old i l m lanes.new × OnOk result (8 ≤ m.packets.spare) }
+    ensures none { slice_get lanes.old i ≡ None → lanes.new ≡ lanes.old }
 {
     match lanes.get_mut(i) {
         Some(lane) => lane.packets.reserve(ROOM),
@@ -72,13 +73,42 @@ fn make_room_at(lanes: &mut Items<Lane>, i: usize) -> Result<(), NoMemory>
     }
 }
 
-/// Makes room in each lane for what a step may send. The packets stay, whatever comes.
-pub(crate) fn make_room(lanes: &mut Items<Lane>) -> Result<(), NoMemory>
+/// Makes room in each lane for what a step may send, where it is not known that there is such room. The packets stay,
+/// whatever comes.
+pub(crate) fn make_room(lanes: &mut Items<Lane>, roomy: bool) -> Result<(), NoMemory>
+    requires { roomy ≡ true → HaveRoom 8 lanes.old }
     ensures same { map seen lanes.new ≡ map seen lanes.old }
     ensures room { OnOk result (HaveRoom 8 lanes.new) }
 {
+    if roomy {
+        return Ok(());
+    }
     for i in 0..lanes.len() {
         make_room_at(lanes, i)?;
+    }
+    Ok(())
+}
+
+/// Makes room again in the lane to which this went, where there is one. The packets stay, whatever comes.
+fn keep_room_for(lanes: &mut Items<Lane>, out: &Out) -> Result<(), NoMemory>
+    ensures same { map seen lanes.new ≡ map seen lanes.old }
+    ensures room { OnOk result ((outs : List Given) → HaveRoomBut (out.now ∷ outs) lanes.old → HaveRoomBut outs lanes.new) }
+{
+    match out {
+        Out::Send(to, _packet) => make_room_at(lanes, usize::from(to.0)),
+        _ => Ok(()),
+    }
+}
+
+/// Makes room again in the lanes to which this went, so that each has room for what a step may send. The packets stay,
+/// whatever comes.
+pub(crate) fn keep_room(lanes: &mut Items<Lane>, outs: &[Out]) -> Result<(), NoMemory>
+    requires { HaveRoomBut outs.now lanes.old }
+    ensures same { map seen lanes.new ≡ map seen lanes.old }
+    ensures room { OnOk result (HaveRoom 8 lanes.new) }
+{
+    for out in outs {
+        keep_room_for(lanes, out)?;
     }
     Ok(())
 }

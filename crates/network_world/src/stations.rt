@@ -8,7 +8,7 @@ ghost use Rattle.network_world.specs.Moves.{GoesOn, HasStopped, HasTaken, IsAgai
 ghost use Rattle.network_world.specs.Moves as moves;
 
 use crate::copies::copied_entries;
-use crate::lanes::{Lane, make_room, mark_lane, put_sends};
+use crate::lanes::{Lane, keep_room, make_room, mark_lane, put_sends};
 use crate::laws::lanes_get_few;
 use crate::refusals::{StepRefused, refusal};
 use agent_core::{Agent, RestoreFault, Step};
@@ -21,16 +21,20 @@ use std::marker::Model;
 pub(crate) struct Station {
     pub(crate) node: Agent,
     pub(crate) lanes: Items<Lane>,
+    /// Whether it is known that each lane has room for what a step may send.
+    pub(crate) roomy: bool,
 }
 
 impl Model for Station {
-    ghost use Rattle.std.specs.Prelude.{map};
-    ghost use Rattle.network_world.specs.Lanes.{seen};
+    ghost use Rattle.std.specs.Prelude.{◌≡◌, map, true};
+    ghost use Rattle.network_world.specs.Lanes.{HaveRoom, seen};
     ghost use Rattle.network_world.specs.Stations.{Station as Seen};
 
     ghost Value = { Seen };
 
     ghost view = { λ a. record { node = a.node; lanes = map seen a.lanes } };
+
+    ghost invariant = { λ a. a.roomy ≡ true → HaveRoom 8 a.lanes };
 }
 
 /// Written out, so that dropping one is a call for whoever owns it.
@@ -39,6 +43,7 @@ impl Drop for Station {
         let Station {
             node: _node,
             lanes: _lanes,
+            roomy: _roomy,
         } = self;
     }
 }
@@ -78,7 +83,11 @@ impl Station {
     {
         let node = restored(alloc, net, w, &[])?;
         let lanes = new_lanes(alloc, net.count())?;
-        Ok(Station { node, lanes })
+        Ok(Station {
+            node,
+            lanes,
+            roomy: false,
+        })
     }
 
     /// What went to a workstation. None where there is no such workstation.
@@ -95,10 +104,13 @@ impl Station {
         ensures err { OnErr result (self.new ≡ self.old) }
     {
         lanes_get_few();
-        make_room(&mut self.lanes)?;
+        let roomy = self.roomy;
+        self.roomy = false;
+        make_room(&mut self.lanes, roomy)?;
         match self.node.step(input) {
             Ok(step) => {
                 put_sends(&mut self.lanes, step.outs.as_slice());
+                self.roomy = keep_room(&mut self.lanes, step.outs.as_slice()).is_ok();
                 Ok(step)
             }
             Err(fault) => Err(refusal(fault)),

@@ -10,6 +10,7 @@
 mod above;
 mod conditions;
 mod counts;
+mod hops;
 mod keys;
 mod kinds;
 mod lookups;

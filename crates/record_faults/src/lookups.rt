@@ -3,8 +3,10 @@ ghost use Rattle.std.specs.Prelude.{◌≡◌, ℕ, List, IfOk, option_map};
 ghost use Rattle.record_faults.specs.Known as known;
 ghost use Rattle.record_faults.specs.Known.{has_name};
 ghost use Rattle.record_faults.specs.Faults as spec;
+ghost use Rattle.record_faults.specs.Hops.{AreHops};
 ghost use Rattle.record_faults.specs.Noted.{IsSameNamed};
 
+use crate::hops::hop_places;
 use crate::keys::Keys;
 use crate::names::Names;
 use crate::picks::{begins_stream, job_of, prompt_of, resource_of};
@@ -17,14 +19,18 @@ use std::marker::Model;
 /// What is known of a record beside its rows.
 pub struct Named<'a> {
     pub(crate) stations: Vec<Found<'a>>,
+    /// The place of the hop of each workstation.
+    pub(crate) hops: Vec<usize>,
     pub(crate) resources: Keys<'a>,
     pub(crate) prompts: Names<'a>,
+    ghost hops_there: { AreHops stations.items hops.items },
 }
 
 impl<'a> Drop for Named<'a> {
     fn drop(self) {
         let Named {
             stations: _stations,
+            hops: _hops,
             resources: _resources,
             prompts: _prompts,
         } = self;
@@ -67,8 +73,10 @@ impl<'a> Named<'a> {
             resources.note(resource_of(row))?;
             prompts.note(prompt_of(row))?;
         }
+        let hops = hop_places(alloc, stations.as_slice())?;
         Ok(Named {
             stations,
+            hops,
             resources,
             prompts,
         })
@@ -79,8 +87,11 @@ impl<'a> Named<'a> {
     pub fn of_names(alloc: Global, names: &'a [Text]) -> Result<Named<'a>, NoMemory>
         ensures { IfOk result (λ n. n ≡ known.named_by names.now) }
     {
+        let stations = unlinked(alloc, names)?;
+        let hops = hop_places(alloc, stations.as_slice())?;
         Ok(Named {
-            stations: unlinked(alloc, names)?,
+            stations,
+            hops,
             resources: Keys::new(alloc),
             prompts: Names::new(alloc),
         })

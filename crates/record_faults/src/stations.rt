@@ -1,5 +1,5 @@
 //! The workstations that rows define.
-ghost use Rattle.std.specs.Prelude.{◌≡◌, ◌++◌, [], IfOk, OnOk, map, option_map};
+ghost use Rattle.std.specs.Prelude.{◌≡◌, ◌++◌, [], IfOk, OnOk, bytes_eq, is_none, map, option_map};
 ghost use Rattle.std.specs.List.{cons_option};
 ghost use Rattle.std.specs.Option.{option_copied};
 ghost use Rattle.record_faults.specs.Known as spec;
@@ -28,10 +28,32 @@ impl<'a> Model for Found<'a> {
 }
 
 impl<'a> Found<'a> {
-    fn hop(&self) -> Option<&'a Text>
+    pub(crate) fn name(&self) -> &'a Text
+        ensures { result.now ≡ self.now.name }
+    {
+        self.name
+    }
+
+    pub(crate) fn hop(&self) -> Option<&'a Text>
         ensures { option_map (λ h. h.now) result ≡ self.now.hop }
     {
         self.hop
+    }
+
+    /// Whether it is the master, which has no hop.
+    pub(crate) fn is_top(&self) -> bool
+        ensures { result ≡ is_none self.now.hop }
+    {
+        match self.hop {
+            Some(_) => false,
+            None => true,
+        }
+    }
+
+    pub(crate) fn is_called(&self, name: &Text) -> bool
+        ensures { result ≡ bytes_eq self.now.name name.now }
+    {
+        self.name == name
     }
 }
 
@@ -106,23 +128,6 @@ pub(crate) fn is_manager(all: &[Found<'_>], name: &Text) -> bool
         Some(s) => s.manager,
         None => false,
     }
-}
-
-/// Whether the chain of hops from a name on ends at the master.
-pub(crate) fn ends_at_master<'a>(all: &[Found<'a>], name: &'a Text) -> bool
-    ensures { result ≡ spec.ends_at_master all.now name.now }
-{
-    let mut at = name;
-    for _place in 0..all.len() {
-        let Some(s) = station_at(all, at) else {
-            return false;
-        };
-        match s.hop() {
-            Some(hop) => at = hop,
-            None => return true,
-        }
-    }
-    false
 }
 
 /// Whether the name is that of the master.

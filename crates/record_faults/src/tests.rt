@@ -1,11 +1,13 @@
 //! The faults of a row, kind by kind.
 ghost use Rattle.std.specs.Prelude.{◌≡◌, ◌||◌};
 ghost use Rattle.record_faults.specs.Faults as spec;
+ghost use Rattle.record_faults.specs.Hops.{AreHops};
 
 use crate::above::Above;
+use crate::hops::ends_at_master;
 use crate::kinds::ScriptKind;
 use crate::picks::is_next;
-use crate::stations::{Found, ends_at_master, is_manager, is_master, is_station};
+use crate::stations::{Found, is_manager, is_master, is_station};
 use base_types::Text;
 use record_rows::{CutRow, DepRow, Row, StepRow, is_in_range};
 
@@ -89,11 +91,12 @@ fn lacks_station(all: &[Found<'_>], row: &Row) -> bool
 
 /// The hop is no manager, or the chain of hops does not end at the master.
 #[tactic(auto, unfolding(crate::specs::Faults::is_bad_tree))]
-fn is_bad_tree(all: &[Found<'_>], row: &Row) -> bool
+fn is_bad_tree(all: &[Found<'_>], hops: &[usize], row: &Row) -> bool
+    requires { AreHops all.now hops.now }
     ensures { result ≡ spec.is_bad_tree all.now row.now }
 {
     match row {
-        Row::Station(s) => !(is_manager(all, &s.hop) && ends_at_master(all, &s.hop)),
+        Row::Station(s) => !(is_manager(all, &s.hop) && ends_at_master(all, hops, &s.hop)),
         _ => false,
     }
 }
@@ -112,10 +115,12 @@ pub(crate) struct Asked {
 /// The first fault of a row.
 pub(crate) fn fault<'a>(
     all: &[Found<'a>],
+    hops: &[usize],
     above: &Above<'a>,
     asked: Asked,
     row: &'a Row,
 ) -> Option<ScriptKind>
+    requires { AreHops all.now hops.now }
     ensures { result ≡ spec.fault_by all.now above.now asked.lacks_item asked.lacks_condition asked.ends row.now }
 {
     if asked.ends || is_bad_line(all, row) {
@@ -130,7 +135,7 @@ pub(crate) fn fault<'a>(
     if !is_in_range(row) || asked.lacks_condition || above.is_beyond(row) {
         return Some(ScriptKind::OutOfRange);
     }
-    if is_bad_tree(all, row) {
+    if is_bad_tree(all, hops, row) {
         return Some(ScriptKind::BadTree);
     }
     if above.has_no_plan(row) {

@@ -50,7 +50,7 @@ fn judged<'a>(
         lacks_item: named.lacks_item(jobs, above.ws(), row),
         lacks_condition: lacks_condition(alloc, row)?,
     };
-    Ok(fault(&named.stations, above, asked, row))
+    Ok(fault(&named.stations, &named.hops, above, asked, row))
 }
 
 /// The jobs of the stream in which the row behind this one stands.

@@ -1,6 +1,8 @@
 //! Names that rows define, by their numbers.
-ghost use Rattle.std.specs.Prelude.{◌≡◌, ◌<◌, ◌≤◌, ◌++◌, ◌∷◌, [], OnOk, false, length};
-ghost use Rattle.record_faults.specs.Known.{has_key, has_name};
+ghost use Rattle.std.specs.Prelude.{◌≡◌, ◌<◌, ◌≤◌, ◌++◌, ◌∷◌, ℕ, List, [], OnOk, Some, bytes_eq, false, length, option_map};
+ghost use Rattle.std.specs.List.{cons_option};
+ghost use Rattle.record_faults.specs.Known.{Key, has_key, has_name, key_eq};
+ghost use Rattle.record_script.specs.Counted.{IsNext};
 ghost use Rattle.record_script.specs.Numbers as spec;
 
 use base_types::{NoMemory, Text};
@@ -47,6 +49,17 @@ impl<'a> Names<'a> {
         match self.set.insert(name) {
             Ok(_) => Ok(()),
             Err(_) => Err(NoMemory),
+        }
+    }
+
+    /// Adds a name that is not there, where there is one.
+    pub(crate) fn add_some(&mut self, name: Option<&'a Text>) -> Result<(), NoMemory>
+        requires { (n : List ℕ) → option_map (λ t. t.now) name ≡ Some n → IsNext bytes_eq self.old n }
+        ensures { OnOk result (self.new ≡ self.old ++ cons_option (option_map (λ t. t.now) name.entry) []) }
+    {
+        match name {
+            Some(name) => self.add(name),
+            None => Ok(()),
         }
     }
 
@@ -102,6 +115,18 @@ impl<'a> Keys<'a> {
         match self.set.insert((ws, name)) {
             Ok(_) => Ok(()),
             Err(_) => Err(NoMemory),
+        }
+    }
+
+    /// Adds a name on a workstation that is not there, where there is one.
+    pub(crate) fn add_some(&mut self, key: Option<(&'a Text, &'a Text)>) -> Result<(), NoMemory>
+        requires { (k : Key) → option_map (λ t. (t.0.now, t.1.now)) key ≡ Some k → IsNext key_eq self.old k }
+        ensures { OnOk result
+            (self.new ≡ self.old ++ cons_option (option_map (λ t. (t.0.now, t.1.now)) key.entry) []) }
+    {
+        match key {
+            Some((ws, name)) => self.add(ws, name),
+            None => Ok(()),
         }
     }
 

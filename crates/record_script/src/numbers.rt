@@ -1,6 +1,5 @@
 //! The numbers of what a record names.
-ghost use Rattle.std.specs.Prelude.{◌≡◌, IfOk, bytes_eq, filter_map};
-ghost use Rattle.record_faults.specs.Known as known;
+ghost use Rattle.std.specs.Prelude.{◌≡◌, IfOk, bytes_eq};
 ghost use Rattle.record_script.specs.Numbers as spec;
 ghost use Rattle.record_script.specs.Counted.{AreNew, AreNumbers};
 
@@ -36,20 +35,6 @@ impl<'a> Model for Numbers<'a> {
     ghost view = { λ n. record { stations = n.stations; resources = n.resources; prompts = n.prompts } };
 }
 
-/// The workstations that rows define.
-fn stations<'a>(alloc: Global, rows: &'a [Row]) -> Result<Names<'a>, NoMemory>
-    requires { AreNew bytes_eq (filter_map known.station_name rows.now) }
-    ensures { IfOk result (λ names. names ≡ filter_map known.station_name rows.now) }
-{
-    let mut names = Names::new(alloc);
-    for row in rows {
-        if let Some(name) = station_name(row) {
-            names.add(name)?;
-        }
-    }
-    Ok(names)
-}
-
 /// Workstations that are defined elsewhere.
 fn listed<'a>(alloc: Global, list: &'a [Text]) -> Result<Names<'a>, NoMemory>
     requires { AreNew bytes_eq list.now }
@@ -62,43 +47,20 @@ fn listed<'a>(alloc: Global, list: &'a [Text]) -> Result<Names<'a>, NoMemory>
     Ok(names)
 }
 
-/// The resources that rows define.
-fn resources<'a>(alloc: Global, rows: &'a [Row]) -> Result<Keys<'a>, NoMemory>
-    requires { AreNew known.key_eq (filter_map known.resource_of rows.now) }
-    ensures { IfOk result (λ keys. keys ≡ filter_map known.resource_of rows.now) }
-{
-    let mut keys = Keys::new(alloc);
-    for row in rows {
-        if let Some((ws, name)) = resource_of(row) {
-            keys.add(ws, name)?;
-        }
-    }
-    Ok(keys)
-}
-
-/// The prompts that rows define.
-fn prompts<'a>(alloc: Global, rows: &'a [Row]) -> Result<Names<'a>, NoMemory>
-    requires { AreNew bytes_eq (filter_map known.prompt_of rows.now) }
-    ensures { IfOk result (λ names. names ≡ filter_map known.prompt_of rows.now) }
-{
-    let mut names = Names::new(alloc);
-    for row in rows {
-        if let Some(name) = prompt_of(row) {
-            names.add(name)?;
-        }
-    }
-    Ok(names)
-}
-
 impl<'a> Numbers<'a> {
-    /// The numbers of what rows name. The only error is that memory ran out.
+    /// The numbers of what rows name, in one pass over them. The only error is that memory ran out.
     pub(crate) fn of_rows(alloc: Global, rows: &'a [Row]) -> Result<Numbers<'a>, NoMemory>
         requires { AreNumbers rows.now }
         ensures { IfOk result (λ n. n ≡ spec.numbered rows.now) }
     {
-        let stations = stations(alloc, rows)?;
-        let resources = resources(alloc, rows)?;
-        let prompts = prompts(alloc, rows)?;
+        let mut stations = Names::new(alloc);
+        let mut resources = Keys::new(alloc);
+        let mut prompts = Names::new(alloc);
+        for row in rows {
+            stations.add_some(station_name(row))?;
+            resources.add_some(resource_of(row))?;
+            prompts.add_some(prompt_of(row))?;
+        }
         Ok(Numbers {
             stations,
             resources,

@@ -3,6 +3,7 @@ use Rattle.std.proofs.lemmas.List.{length-map}
 use Rattle.network_world.specs.Lanes.{seen}
 use Rattle.network_world.specs.Stations.{Station}
 use Rattle.network_world.specs.Moves.{IsMarkedTo}
+use Rattle.network_world.proofs.Sending.{room_marked}
 use Rattle.network_world.proofs.Stopped.{station_marked}
 use Rattle.network_world.proofs.stations.Station.mark.Goals as goal
 
@@ -10,6 +11,14 @@ pub mark_lane-requires : goal.mark_lane-requires
 mark_lane-requires c =
     subst (λ (n : ℕ). c.args.to < n) (length-map c.self.inside.lanes seen)
     (subst (λ (s : Station). c.args.to < length s.lanes) (sym c.self.view_is) c.requires)
+
+pub invariant_of-self : goal.invariant_of-self
+invariant_of-self c =
+    λ known.
+    room_marked c.self.inside.lanes c.mark_lane.new.lanes c.args.to c.args.k
+    (subst (λ (n : ℕ). c.args.to < n) (length-map c.self.inside.lanes seen)
+    (subst (λ (s : Station). c.args.to < length s.lanes) (sym c.self.view_is) c.requires)) c.mark_lane.ensures
+    (c.self.invariant known)
 
 pub returns : goal.returns
 returns c =
